@@ -1,0 +1,24 @@
+# kcount: a proved counter of the words of length k in sequence reads.
+PREFIX ?= /usr/local
+DESTDIR ?=
+
+.PHONY: build demo test install clean
+
+# Proves the program and everything below it, and builds it as bin/kcount.
+build:
+	cd crates/kcount && rt run -- --version > /dev/null
+	install -D crates/kcount/out/kcount bin/kcount
+
+# Counts the words of length 4 in a small FASTA file.
+demo: build
+	./bin/kcount count -m 4 --print dump --column < examples/reads.fa
+
+# The gate: every proof from nothing, the edits that must fail, the tests and the program's stored run.
+test:
+	rt ci
+
+install: build
+	install -D bin/kcount $(DESTDIR)$(PREFIX)/bin/kcount
+
+clean:
+	rm -rf bin crates/*/out

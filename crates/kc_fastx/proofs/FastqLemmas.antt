@@ -1,0 +1,218 @@
+-- The quality lines and the FASTQ records that were taken so far, and what one more makes of them.
+use Rattle.std.proofs.Common.{◌≡◌, ℕ, ◌+◌, ◌<◌, ◌≤◌, true, false, List, [], ◌∷◌, ◌++◌, length, take, refl, sym, ap, subst, ◌∙◌, arith, Some, inl, inr, ⊎_elim, ◌⊎◌}
+use Rattle.std.specs.List.{concat, list_all}
+use Rattle.std.proofs.lemmas.Bool.{cases_lt}
+use Rattle.std.proofs.lemmas.List.{append_assoc, length-append, take-append-le, take_at}
+use Rattle.std.proofs.lemmas.List.Folds.{list_all-append}
+use Rattle.kc_fastx.specs.declared.faults.FastxFault.{FastxFault}
+use Rattle.kc_fastx.specs.declared.faults.FastxFault.TheVariants.{BadStart, BadBase, BadQuality, LongQuality, Truncated, TooLong, Read as ReadFailed, Memory}
+use Rattle.kc_fastx.specs.Lines.{Line, Cursor, begins_with, line_count, skip_blanks}
+use Rattle.kc_fastx.specs.Reads.{Read, is_quality_byte, read_of}
+use Rattle.kc_fastx.specs.Records.{Records, BeginsWithSequence, SequenceFails, FirstFault, ends_or_begins_with}
+use Rattle.kc_fastx.specs.Fastq.{BeginsWithFastqTitle, HasPlus, BeginsWithQuality, HasShortQuality, IsFastqBody, IsFastqRecord, QualityFails, FastqBodyFails, FastqFails}
+use Rattle.kc_fastx.specs.ReadsOf.{IsFastq}
+use Rattle.kc_fastx.specs.Steps.{UnlessMemory}
+use Rattle.kc_fastx.proofs.SequenceLemmas.{TakesLine, line_count-more, joined-push, both_true}
+use Rattle.kc_fastx.proofs.FastaLemmas.{Records-push}
+
+-- from `start` on, the lines up to `now` are quality lines that join to at most `need` bytes, every front to fewer
+pub record QualitySoFar (need : ℕ) (start now : Cursor) (quals : List ℕ) : Type 0 where
+  pub taken : List Line
+  pub split : start.left ≡ taken ++ now.left
+  pub joined : quals ≡ concat taken
+  pub accepted : list_all is_quality_byte quals ≡ true
+  pub fits : length quals ≤ need
+  pub fronts_shorter : (i : ℕ) → i < length taken → length (concat (take i taken)) < need
+  pub counted : line_count now ≡ line_count start
+
+pub quality_none : (need : ℕ) (start : Cursor) → QualitySoFar need start start []
+quality_none need start = record {
+  taken = [];
+  split = refl;
+  joined = refl;
+  accepted = refl;
+  fits = omega arith;
+  fronts_shorter = λ i h. absurd (omega arith);
+  counted = refl;
+}
+
+last_or_below : (i n : ℕ) → i < n + 1 → (i < n) ⊎ (n ≡ i)
+last_or_below i n h = ⊎_elim (λ (lt : i < n). inl lt) (λ (le : n ≤ i). inr (omega arith)) (cases_lt i n)
+
+-- a front of the lines and one more is a front of the lines, or all of them
+front_shorter : (need : ℕ) (taken : List Line) (line : Line) → ((i : ℕ) → i < length taken → length (concat (take i taken)) < need)
+    → length (concat taken) < need → (i : ℕ) → i < length (taken ++ line ∷ []) → length (concat (take i (taken ++ line ∷ []))) < need
+front_shorter need taken line below here i h =
+    ⊎_elim
+    (λ (lt : i < length taken). let le : i ≤ length taken = omega arith in rw (take-append-le i taken (line ∷ []) le) (below i lt))
+    (λ (e : length taken ≡ i). rw (take_at taken (line ∷ []) i e) here)
+    (last_or_below i (length taken) (omega (arith, length-append taken (line ∷ []))))
+
+pub quality_more : (need : ℕ) (start now next : Cursor) (quals : List ℕ) (line : Line) → QualitySoFar need start now quals
+    → length quals < need → TakesLine now next line → list_all is_quality_byte line ≡ true → length quals + length line ≤ need
+    → QualitySoFar need start next (quals ++ line)
+quality_more need start now next quals line before short step good fits = record {
+  taken = before.taken ++ line ∷ [];
+  split = before.split ∙ ap (λ rest. before.taken ++ rest) step.left ∙ sym (append_assoc before.taken (line ∷ []) next.left);
+  joined = joined-push quals before.taken line before.joined;
+  accepted = list_all-append is_quality_byte quals line ∙ both_true (list_all is_quality_byte quals) (list_all is_quality_byte line) before.accepted good;
+  fits = omega (arith, length-append quals line);
+  fronts_shorter = front_shorter need before.taken line before.fronts_shorter (subst (λ qs. length qs < need) before.joined short);
+  counted = line_count-more now next line step ∙ before.counted;
+}
+
+-- the quality is whole
+pub quality_all : (need : ℕ) (start now : Cursor) (quals : List ℕ) → QualitySoFar need start now quals → need ≤ length quals
+    → BeginsWithQuality need start.left quals now.left
+quality_all need start now quals before enough = record {
+  taken = before.taken;
+  split = before.split;
+  joined = before.joined;
+  accepted = before.accepted;
+  long_enough = omega (arith, before.fits);
+  fronts_shorter = before.fronts_shorter;
+}
+
+-- the quality is still too short
+pub quality_short : (need : ℕ) (start now : Cursor) (quals : List ℕ) (rest : List Line) → QualitySoFar need start now quals → length quals < need
+    → now.left ≡ rest → HasShortQuality need start.left quals rest
+quality_short need start now quals rest before short e = record {
+  taken = before.taken;
+  split = before.split ∙ ap (λ rest. before.taken ++ rest) e;
+  joined = before.joined;
+  accepted = before.accepted;
+  short = short;
+}
+
+-- what a reader's part tells of its fault, another tells of it too
+pub unless_memory : (P Q : FastxFault → Type 0) → ((fault : FastxFault) → P fault → Q fault) → (fault : FastxFault) → UnlessMemory P fault → UnlessMemory Q fault
+unless_memory P Q f Memory p = tt
+unless_memory P Q f (BadStart number) p = f (BadStart number) p
+unless_memory P Q f (BadBase number) p = f (BadBase number) p
+unless_memory P Q f (BadQuality number) p = f (BadQuality number) p
+unless_memory P Q f (LongQuality number) p = f (LongQuality number) p
+unless_memory P Q f (Truncated number) p = f (Truncated number) p
+unless_memory P Q f TooLong p = f TooLong p
+unless_memory P Q f ReadFailed p = f ReadFailed p
+
+-- the sequence, and the line with `+` where it ends
+pub has_plus : (start middle after : Cursor) (bases : List ℕ) (plus : Line) → BeginsWithSequence 43 start.left bases middle.left
+    → ends_or_begins_with 43 middle.left ≡ true → middle.left ≡ plus ∷ after.left → HasPlus start.left bases after.left
+has_plus start middle after bases plus sequence at e = record {
+  plus = plus;
+  sequence = subst (λ rest. BeginsWithSequence 43 start.left bases rest) e sequence;
+  is_plus = subst (λ ls. ends_or_begins_with 43 ls ≡ true) e at;
+}
+
+pub fastq_body : (start after end : Cursor) (bases quals : List ℕ) → HasPlus start.left bases after.left
+    → BeginsWithQuality (length bases) after.left quals end.left → IsFastqBody start.left (read_of bases (Some quals)) end.left
+fastq_body start after end bases quals front quality = record { after = after.left; front = front; quals = quals; quality = quality; has_quals = refl }
+
+-- a sequence that fails makes the record fail
+pub body_fails-sequence : (count : ℕ) (body : List Line) (fault : FastxFault) → SequenceFails count 43 body fault → FastqBodyFails count body fault
+body_fails-sequence count body (BadBase number) h = h
+body_fails-sequence count body (BadStart number) h = h
+body_fails-sequence count body (BadQuality number) h = absurd h
+body_fails-sequence count body (LongQuality number) h = absurd h
+body_fails-sequence count body (Truncated number) h = absurd h
+body_fails-sequence count body TooLong h = h
+body_fails-sequence count body ReadFailed h = h
+body_fails-sequence count body Memory h = h
+
+-- so does a quality
+pub body_fails-quality : (count : ℕ) (body : List Line) (bases : List ℕ) (after : List Line) → HasPlus body bases after → (fault : FastxFault)
+    → QualityFails count (length bases) after fault → FastqBodyFails count body fault
+body_fails-quality count body bases after front (BadBase number) h = absurd h
+body_fails-quality count body bases after front (BadStart number) h = h
+body_fails-quality count body bases after front (BadQuality number) h = (bases, after, front, h)
+body_fails-quality count body bases after front (LongQuality number) h = (bases, after, front, h)
+body_fails-quality count body bases after front (Truncated number) h = inr (bases, after, front, h)
+body_fails-quality count body bases after front TooLong h = h
+body_fails-quality count body bases after front ReadFailed h = h
+body_fails-quality count body bases after front Memory h = h
+
+-- the lines end behind the sequence
+pub body_fails-end : (start middle : Cursor) (bases : List ℕ) → BeginsWithSequence 43 start.left bases middle.left → middle.left ≡ []
+    → line_count middle ≡ line_count start → FastqBodyFails (line_count start) start.left (Truncated middle.taken)
+body_fails-end start middle bases sequence e counted =
+    inl (bases, subst (λ rest. BeginsWithSequence 43 start.left bases rest) e sequence, omega (arith, ap length e, counted))
+
+-- from `start` on stand whole records that say these reads, and `now` is past the blank lines behind them
+pub record FastqSoFar (start now : Cursor) (reads : List Read) : Type 0 where
+  pub here : List Line
+  pub so_far : Records IsFastqRecord start.left reads here
+  pub past_blanks : now.left ≡ skip_blanks here
+  pub counted : line_count now ≡ line_count start
+
+pub fastq_none : (start now : Cursor) → now.left ≡ skip_blanks start.left → line_count now ≡ line_count start → FastqSoFar start now []
+fastq_none start now e counted = record { here = start.left; so_far = refl; past_blanks = e; counted = counted }
+
+pub fastq_title : (start now next : Cursor) (reads : List Read) (title : Line) (before : FastqSoFar start now reads) → now.left ≡ title ∷ next.left
+    → begins_with 64 title ≡ true → BeginsWithFastqTitle before.here next.left
+fastq_title start now next reads title before e is = record { title = title; whole = sym before.past_blanks ∙ e; is_title = is }
+
+-- one record more, and the blank lines behind it
+pub fastq_more : (start now next after past : Cursor) (reads : List Read) (title : Line) (read : Read) → FastqSoFar start now reads
+    → TakesLine now next title → begins_with 64 title ≡ true → IsFastqBody next.left read after.left → line_count after ≡ line_count next
+    → past.left ≡ skip_blanks after.left → line_count past ≡ line_count after → FastqSoFar start past (reads ++ read ∷ [])
+fastq_more start now next after past reads title read before step is body same e counted =
+    let one : IsFastqRecord before.here read after.left =
+    record { body = next.left; title = fastq_title start now next reads title before step.left is; record_body = body } in
+    record {
+      here = after.left;
+      so_far = Records-push IsFastqRecord start.left reads before.here read after.left before.so_far one;
+      past_blanks = e;
+      counted = counted ∙ same ∙ line_count-more now next title step ∙ before.counted;
+    }
+
+-- no line is left behind the blank ones
+pub fastq_all : (start now : Cursor) (reads : List Read) → FastqSoFar start now reads → now.left ≡ [] → IsFastq start.left reads
+fastq_all start now reads before e = record { rest = before.here; records = before.so_far; ends = sym before.past_blanks ∙ e }
+
+-- a line that is no title stands where one is due
+pub fastq_bad_start : (start now next : Cursor) (reads : List Read) (line : Line) → FastqSoFar start now reads → TakesLine now next line
+    → begins_with 64 line ≡ false → FirstFault IsFastqRecord (FastqFails (line_count start)) start.left (BadStart next.taken)
+fastq_bad_start start now next reads line before step is = (
+  reads,
+  before.here,
+  before.so_far,
+  (
+    next.left,
+    record { line = line; whole = sym before.past_blanks ∙ step.left; no_title = is },
+    line_count-more now next line step ∙ before.counted,
+  ),
+)
+
+fastq_fails-body : (count : ℕ) (ls body : List Line) → BeginsWithFastqTitle ls body → (fault : FastxFault) → FastqBodyFails count body fault → FastqFails count ls fault
+fastq_fails-body count ls body title (BadStart number) h = absurd h
+fastq_fails-body count ls body title (BadBase number) h = (body, title, h)
+fastq_fails-body count ls body title (BadQuality number) h = (body, title, h)
+fastq_fails-body count ls body title (LongQuality number) h = (body, title, h)
+fastq_fails-body count ls body title (Truncated number) h = (body, title, h)
+fastq_fails-body count ls body title TooLong h = (body, title, h)
+fastq_fails-body count ls body title ReadFailed h = (body, title, h)
+fastq_fails-body count ls body title Memory h = (body, title, h)
+
+-- a record that fails behind its title
+pub fastq_fails : (start now next : Cursor) (reads : List Read) (title : Line) → FastqSoFar start now reads → TakesLine now next title
+    → begins_with 64 title ≡ true → (fault : FastxFault) → FastqBodyFails (line_count next) next.left fault
+    → FirstFault IsFastqRecord (FastqFails (line_count start)) start.left fault
+fastq_fails start now next reads title before step is fault fails = (
+  reads,
+  before.here,
+  before.so_far,
+  fastq_fails-body (line_count start) before.here next.left (fastq_title start now next reads title before step.left is) fault
+      (subst (λ count. FastqBodyFails count next.left fault) (line_count-more now next title step ∙ before.counted) fails),
+)
+
+-- no line is made: blank lines are passed over, and a record's lines are taken
+pub length-skip_blanks : (ls : List Line) → length (skip_blanks ls) ≤ length ls
+length-skip_blanks [] = omega arith
+length-skip_blanks ([] ∷ ls) = omega (arith, length-skip_blanks ls)
+length-skip_blanks ((b ∷ bs) ∷ ls) = omega arith
+
+pub length-body : (body : List Line) (read : Read) (rest : List Line) → IsFastqBody body read rest → length rest ≤ length body
+length-body body read rest record_body =
+    let s = record_body.front.sequence in
+    let q = record_body.quality in
+    omega (arith, ap length s.split, length-append s.sequence (record_body.front.plus ∷ record_body.after), ap length q.split, length-append q.taken rest)

@@ -1,0 +1,11 @@
+pub mod Walks
+pub mod LineLemmas
+pub mod SequenceLemmas
+pub mod FastaLemmas
+pub mod FastqLemmas
+pub mod CountLemmas
+pub mod ReadsOfLemmas
+pub mod SourceLemmas
+pub mod AnswerLemmas
+pub mod Plain
+pub mod AllReadsLemmas

@@ -1,0 +1,50 @@
+-- What a reader of one format says is what the definition says of the bytes.
+use Rattle.std.proofs.Common.{◌≡◌, ℕ, Bool, true, false, List, length, MatchBool, subst}
+use Rattle.kc_fastx.specs.declared.faults.FastxFault.{FastxFault}
+use Rattle.kc_fastx.specs.Lines.{Cursor, lines, line_count, next_begins_with}
+use Rattle.kc_fastx.specs.Records.{FirstFault}
+use Rattle.kc_fastx.specs.Fastq.{IsFastqRecord, FastqFails}
+use Rattle.kc_fastx.specs.ReadsOf.{text_lines, HasFault}
+use Rattle.kc_fastx.specs.Sources.{Seen, TakesAll, RefusesFor}
+use Rattle.kc_fastx.specs.declared.faults.FastxFault.TheVariants.{BadStart, BadBase, BadQuality, LongQuality, Truncated, TooLong, Read as ReadFailed, Memory}
+
+pub at_true : (b : Bool) (P Q : Type 0) → b ≡ true → P → MatchBool b P Q
+at_true true P Q e p = p
+at_true false P Q e p = cc
+
+pub at_false : (b : Bool) (P Q : Type 0) → b ≡ false → Q → MatchBool b P Q
+at_false true P Q e q = cc
+at_false false P Q e q = q
+
+-- where the first line is no FASTA title, a fault of FASTQ is that of the bytes
+pub fault-fastq : (bytes : List ℕ) (start : Cursor) → start.left ≡ text_lines bytes → line_count start ≡ length (lines bytes)
+    → next_begins_with 62 start.left ≡ false → (fault : FastxFault) → FirstFault IsFastqRecord (FastqFails (line_count start)) start.left fault → HasFault bytes fault
+fault-fastq bytes start e counted is fault h =
+    at_false (next_begins_with 62 (text_lines bytes)) _ _ (subst (λ ls. next_begins_with 62 ls ≡ false) e is)
+    (subst (λ ls. FirstFault IsFastqRecord (FastqFails (length (lines bytes))) ls fault) e
+    (subst (λ count. FirstFault IsFastqRecord (FastqFails count) start.left fault) counted h))
+
+not_either : (b : Bool) (P Q : Type 0) → (P → ⊥) → (Q → ⊥) → MatchBool b P Q → ⊥
+not_either true P Q p q h = p h
+not_either false P Q p q h = q h
+
+-- the faults of the reading and of memory are none of the bytes
+no_fault-too_long : (bytes : List ℕ) → HasFault bytes TooLong → ⊥
+no_fault-too_long bytes = not_either (next_begins_with 62 (text_lines bytes)) _ _ (λ h. h.3.2) (λ h. h.3.2)
+
+no_fault-read : (bytes : List ℕ) → HasFault bytes ReadFailed → ⊥
+no_fault-read bytes = not_either (next_begins_with 62 (text_lines bytes)) _ _ (λ h. h.3.2) (λ h. h.3.2)
+
+no_fault-memory : (bytes : List ℕ) → HasFault bytes Memory → ⊥
+no_fault-memory bytes = not_either (next_begins_with 62 (text_lines bytes)) _ _ (λ h. h.3.2) (λ h. h.3.2)
+
+-- a fault of all bytes of a source is why it gave no reads
+pub refuses-fault : (old new : Seen) (limit : ℕ) (bytes : List ℕ) → TakesAll old new limit bytes → (fault : FastxFault) → HasFault bytes fault → RefusesFor old new limit fault
+refuses-fault old new limit bytes all (BadStart number) h = (bytes, all, h)
+refuses-fault old new limit bytes all (BadBase number) h = (bytes, all, h)
+refuses-fault old new limit bytes all (BadQuality number) h = (bytes, all, h)
+refuses-fault old new limit bytes all (LongQuality number) h = (bytes, all, h)
+refuses-fault old new limit bytes all (Truncated number) h = (bytes, all, h)
+refuses-fault old new limit bytes all TooLong h = absurd (no_fault-too_long bytes h)
+refuses-fault old new limit bytes all ReadFailed h = absurd (no_fault-read bytes h)
+refuses-fault old new limit bytes all Memory h = absurd (no_fault-memory bytes h)

@@ -1,0 +1,90 @@
+-- Sanger FASTQ (Cock et al. 2010), with wrapped lines: a title with `@`, the sequence, a line with `+`, and the quality,
+-- which is as long as the sequence, and whose lines may themselves begin with `@` or `+`.
+use Rattle.std.specs.Prelude.{◌≡◌, ℕ, ◌+◌, ◌<◌, true, false, List, [], ◌∷◌, ◌++◌, length, take, Some, ◌⊎◌}
+use Rattle.std.specs.List.{concat, list_all}
+use Rattle.kc_fastx.specs.declared.faults.FastxFault.{FastxFault}
+use Rattle.kc_fastx.specs.declared.faults.FastxFault.TheVariants.{BadStart, BadBase, BadQuality, LongQuality, Truncated}
+use Rattle.kc_fastx.specs.Reads.{Read, is_quality_byte}
+use Rattle.kc_fastx.specs.Lines.{Line, begins_with, skip_blanks}
+use Rattle.kc_fastx.specs.Records.{BeginsWithSequence, SequenceFails, IsLineNumber}
+
+-- the lines, but for blank ones in front, are a title, whose text is not kept, and then the body
+pub record BeginsWithFastqTitle (ls body : List Line) : Type 0 where
+  pub title : Line
+  pub whole : skip_blanks ls ≡ title ∷ body
+  pub is_title : begins_with 64 title ≡ true
+
+-- the body begins with the sequence and a line that begins with `+`; the other lines come behind it
+pub record HasPlus (body : List Line) (bases : List ℕ) (after : List Line) : Type 0 where
+  pub plus : Line
+  pub sequence : BeginsWithSequence 43 body bases (plus ∷ after)
+  pub is_plus : begins_with 43 plus ≡ true
+
+-- the lines begin with quality lines, which are `need` bytes long together, while every proper front of them is shorter
+pub record BeginsWithQuality (need : ℕ) (ls : List Line) (quals : List ℕ) (rest : List Line) : Type 0 where
+  pub taken : List Line
+  pub split : ls ≡ taken ++ rest
+  pub joined : quals ≡ concat taken
+  pub accepted : list_all is_quality_byte quals ≡ true
+  pub long_enough : length quals ≡ need
+  pub fronts_shorter : (i : ℕ) → i < length taken → length (concat (take i taken)) < need
+
+-- the body of a record: the sequence, the line with `+`, and the quality
+pub record IsFastqBody (body : List Line) (read : Read) (rest : List Line) : Type 0 where
+  pub after : List Line
+  pub front : HasPlus body read.bases after
+  pub quals : List ℕ
+  pub quality : BeginsWithQuality (length read.bases) after quals rest
+  pub has_quals : read.quals ≡ Some quals
+
+-- the lines begin with a record: a title and its body
+pub record IsFastqRecord (ls : List Line) (read : Read) (rest : List Line) : Type 0 where
+  pub body : List Line
+  pub title : BeginsWithFastqTitle ls body
+  pub record_body : IsFastqBody body read rest
+
+-- quality lines that are still shorter than `need` together; the rest comes behind them
+pub record HasShortQuality (need : ℕ) (ls : List Line) (quals : List ℕ) (rest : List Line) : Type 0 where
+  pub taken : List Line
+  pub split : ls ≡ taken ++ rest
+  pub joined : quals ≡ concat taken
+  pub accepted : list_all is_quality_byte quals ≡ true
+  pub short : length quals < need
+
+-- how quality lines fail, where there are `count` lines in all: behind lines that are still too short stands one with a
+-- byte that is no quality, or else one that makes them too long, or none
+abbrev pub QualityFails : ℕ → ℕ → List Line → FastxFault → Type 0
+QualityFails count need ls (BadQuality number) =
+    (quals : List ℕ) × (line : Line) × (more : List Line) × HasShortQuality need ls quals (line ∷ more)
+    × (list_all is_quality_byte line ≡ false) × IsLineNumber count more number
+QualityFails count need ls (LongQuality number) =
+    (quals : List ℕ) × (line : Line) × (more : List Line) × HasShortQuality need ls quals (line ∷ more)
+    × (list_all is_quality_byte line ≡ true) × (need < length quals + length line) × IsLineNumber count more number
+QualityFails count need ls (Truncated number) = (quals : List ℕ) × HasShortQuality need ls quals [] × (number ≡ count)
+QualityFails count need ls _ = ⊥
+
+-- the quality behind a sequence and its line with `+` fails
+abbrev pub FailsBehindPlus : ℕ → List Line → FastxFault → Type 0
+FailsBehindPlus count body fault =
+    (bases : List ℕ) × (after : List Line) × HasPlus body bases after × QualityFails count (length bases) after fault
+
+-- how a record fails behind its title, where there are `count` lines in all: by its sequence, by its quality, or because
+-- the lines end before the one with `+`
+abbrev pub FastqBodyFails : ℕ → List Line → FastxFault → Type 0
+FastqBodyFails count body (BadBase number) = SequenceFails count 43 body (BadBase number)
+FastqBodyFails count body (BadQuality number) = FailsBehindPlus count body (BadQuality number)
+FastqBodyFails count body (LongQuality number) = FailsBehindPlus count body (LongQuality number)
+FastqBodyFails count body (Truncated number) =
+    ((bases : List ℕ) × BeginsWithSequence 43 body bases [] × (number ≡ count)) ⊎ FailsBehindPlus count body (Truncated number)
+FastqBodyFails count body _ = ⊥
+
+-- where a title is due stands a line that is neither blank nor a title
+pub record HasBadStart (ls more : List Line) : Type 0 where
+  pub line : Line
+  pub whole : skip_blanks ls ≡ line ∷ more
+  pub no_title : begins_with 64 line ≡ false
+
+-- how the record at the front of the lines fails, where there are `count` lines in all
+abbrev pub FastqFails : ℕ → List Line → FastxFault → Type 0
+FastqFails count ls (BadStart number) = (more : List Line) × HasBadStart ls more × IsLineNumber count more number
+FastqFails count ls fault = (body : List Line) × BeginsWithFastqTitle ls body × FastqBodyFails count body fault

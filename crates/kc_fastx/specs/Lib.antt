@@ -1,0 +1,9 @@
+pub mod Fasta
+pub mod Fastq
+pub mod Lines
+pub mod Numbers
+pub mod Reads
+pub mod ReadsOf
+pub mod Records
+pub mod Sources
+pub mod Steps

@@ -1,0 +1,30 @@
+-- What a sequence read is: its bases and, where its format has them, a quality for each base.
+use Rattle.std.specs.Prelude.{◌≡◌, ℕ, Bool, true, ◌&&◌, ◌||◌, ◌==◌, nat_le, List, length, Option, None, Some}
+use Rattle.std.specs.List.{list_all}
+
+-- a read: its bases, as they stand in the file, and none or its quality bytes
+pub record Read : Type 0 where
+  pub bases : List ℕ
+  pub quals : Option (List ℕ)
+
+-- a byte that a sequence line may hold: a letter, `.`, `-` or `*`
+abbrev pub is_sequence_byte : ℕ → Bool
+is_sequence_byte b = nat_le 65 b && nat_le b 90 || nat_le 97 b && nat_le b 122 || b == 46 || b == 45 || b == 42
+
+-- a byte that stands for a score from 0 to 93: `!` to `~` (Cock et al. 2010, Sanger FASTQ)
+abbrev pub is_quality_byte : ℕ → Bool
+is_quality_byte q = nat_le 33 q && nat_le q 126
+
+-- a base each has one quality byte, where there are any
+abbrev pub has_quality_each : List ℕ → Option (List ℕ) → Bool
+has_quality_each bases None = true
+has_quality_each bases (Some quals) = length quals == length bases && list_all is_quality_byte quals
+
+-- what every read keeps: its bases are sequence bytes, and each has a quality byte where there are any
+pub record IsRead (read : Read) : Type 0 where
+  pub bases : list_all is_sequence_byte read.bases ≡ true
+  pub quals : has_quality_each read.bases read.quals ≡ true
+
+-- the read of these bases and qualities
+abbrev pub read_of : List ℕ → Option (List ℕ) → Read
+read_of bases quals = record { bases = bases; quals = quals }

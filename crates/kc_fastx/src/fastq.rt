@@ -1,0 +1,73 @@
+// Sanger FASTQ.
+ghost use Rattle.std.specs.Prelude.{◌≡◌, true, [], IfOk, IfErr, OnOk};
+ghost use Rattle.kc_fastx.specs.Lines.{line_count};
+ghost use Rattle.kc_fastx.specs.Records.{FirstFault};
+ghost use Rattle.kc_fastx.specs.Fastq.{IsFastqRecord, IsFastqBody, FastqFails, FastqBodyFails, BeginsWithQuality, QualityFails};
+ghost use Rattle.kc_fastx.specs.ReadsOf.{IsFastq};
+ghost use Rattle.kc_fastx.specs.Steps.{UnlessMemory};
+
+use crate::faults::FastxFault;
+use crate::line_cursor::{LineCursor, does_begin_with};
+use crate::reads::{SeqRead, are_quality_bytes};
+use crate::sequences::take_sequence;
+use std::alloc::Global;
+
+// The reads of the lines that are left.
+pub(crate) fn parse_fastq(
+    alloc: Global,
+    lines: &mut LineCursor<'_>,
+) -> Result<Vec<SeqRead>, FastxFault>
+    ensures ok { IfOk result (λ reads. IsFastq lines.old.left reads.items) }
+    ensures err { IfErr result (UnlessMemory (FirstFault IsFastqRecord (FastqFails (line_count lines.old)) lines.old.left)) }
+{
+    let mut reads = Vec::new(alloc);
+    lines.pass_blanks();
+    'records: while let Some(title) = lines.next_line() {
+        if !does_begin_with(title, b'@') {
+            return Err(FastxFault::BadStart(lines.taken()));
+        }
+        reads.push(take_record(alloc, lines)?)?;
+        lines.pass_blanks();
+    }
+    Ok(reads)
+}
+
+// Takes the sequence, the line with `+` and the quality of a record whose title was taken.
+fn take_record(alloc: Global, lines: &mut LineCursor<'_>) -> Result<SeqRead, FastxFault>
+    ensures ok { IfOk result (λ read. IsFastqBody lines.old.left read lines.new.left) }
+    ensures counted { OnOk result (line_count lines.new ≡ line_count lines.old) }
+    ensures err { IfErr result (UnlessMemory (FastqBodyFails (line_count lines.old) lines.old.left)) }
+{
+    let bases = take_sequence(alloc, lines, b'+')?;
+    let Some(_plus) = lines.next_line() else {
+        return Err(FastxFault::Truncated(lines.taken()));
+    };
+    let quals = take_quality(alloc, lines, bases.len())?;
+    Ok(SeqRead::with_quals(bases, quals))
+}
+
+// Takes quality lines while they are shorter than `need` together, and joins them.
+fn take_quality(
+    alloc: Global,
+    lines: &mut LineCursor<'_>,
+    need: usize,
+) -> Result<Vec<u8>, FastxFault>
+    ensures ok { IfOk result (λ quals. BeginsWithQuality need lines.old.left quals.items lines.new.left) }
+    ensures counted { OnOk result (line_count lines.new ≡ line_count lines.old) }
+    ensures err { IfErr result (UnlessMemory (QualityFails (line_count lines.old) need lines.old.left)) }
+{
+    let mut quals = Vec::with_capacity(alloc, need)?;
+    'lines: while quals.len() < need {
+        let Some(line) = lines.next_line() else {
+            return Err(FastxFault::Truncated(lines.taken()));
+        };
+        if !are_quality_bytes(line) {
+            return Err(FastxFault::BadQuality(lines.taken()));
+        }
+        if line.len() > need - quals.len() {
+            return Err(FastxFault::LongQuality(lines.taken()));
+        }
+        quals.extend_from_slice(line)?;
+    }
+    Ok(quals)
+}

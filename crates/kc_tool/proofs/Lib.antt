@@ -1,0 +1,5 @@
+pub mod Digits
+pub mod Dumps
+pub mod Maps
+pub mod Sources
+pub mod Writing

@@ -1,0 +1,12 @@
+-- Numbers counted in a map.
+use Rattle.std.specs.Prelude.{ℕ, ◌<◌, IfSome, unwrap_or}
+use Rattle.std.specs.Ordering.{nat_cmp}
+use Rattle.std.specs.BTreeMap.{BTreeMap, get}
+
+-- how often the map has counted the number n
+abbrev pub counted : BTreeMap ℕ ℕ → ℕ → ℕ
+counted counts n = unwrap_or (get nat_cmp counts n) 0
+
+-- each number that the map has stands there with a count of at least 1
+abbrev pub HasNoZeros : BTreeMap ℕ ℕ → Type 0
+HasNoZeros counts = (n : ℕ) → IfSome (get nat_cmp counts n) (λ count. 0 < count)

@@ -1,0 +1,10 @@
+pub mod AllReads
+pub mod Asked
+pub mod Counting
+pub mod Counts
+pub mod DumpText
+pub mod FaultLines
+pub mod Numbers
+pub mod Settings
+pub mod Sinks
+pub mod Tallies

@@ -1,0 +1,152 @@
+//! What the options of a command ask for.
+ghost use Rattle.std.specs.Prelude.{◌≡◌, ◌≤◌, ◌^◌, true, false};
+
+use kc_word::{K, Rule};
+use std::marker::Model;
+
+/// The greatest count that a dump can bound, which no count passes.
+pub const GREATEST_COUNT: u64 = 1 << 62;
+
+/// The least quality byte, which every quality passes.
+pub const FLOOR: u8 = b'!';
+
+/// The positions of a batch where nothing else is asked for.
+pub const BATCH_SIZE: u64 = 65_536;
+
+/// How a dump is laid out, and which rows it shows.
+#[derive(Clone, Copy, Debug, PartialEq, Eq)]
+pub struct Dump {
+    /// A row is one line, `WORD COUNT`; else it is two, `>COUNT` and `WORD`.
+    pub column: bool,
+    /// In columns, a tab stands in place of the blank.
+    pub tab: bool,
+    /// The least count that is shown.
+    pub lower: u64,
+    /// The greatest count that is shown.
+    pub upper: u64,
+}
+
+impl Dump {
+    /// A dump of all rows, in two lines each.
+    pub fn in_lines() -> Dump
+        ensures { result ≡ record { column = false; tab = false; lower = 0; upper = 2 ^ 62 } }
+    {
+        Dump {
+            column: false,
+            tab: false,
+            lower: 0,
+            upper: GREATEST_COUNT,
+        }
+    }
+
+    /// A dump of all rows, in columns with a blank between them.
+    pub fn in_columns() -> Dump
+        ensures { result ≡ record { column = true; tab = false; lower = 0; upper = 2 ^ 62 } }
+    {
+        Dump {
+            column: true,
+            ..Dump::in_lines()
+        }
+    }
+
+    /// The same dump of the rows with a count from `lower` to `upper`, both of which count.
+    pub fn between(self, lower: u64, upper: u64) -> Dump
+        ensures { result ≡ record self { lower = lower; upper = upper } }
+    {
+        Dump {
+            lower,
+            upper,
+            ..self
+        }
+    }
+}
+
+/// How to count, and what to write.
+#[derive(Clone, Copy, Debug, PartialEq, Eq)]
+pub struct Options {
+    k: K,
+    both: bool,
+    floor: u8,
+    batch: u64,
+    dump: Dump,
+}
+
+impl Model for Options {
+    ghost use Rattle.kc_tool.specs.Asked.{Asked, IsWithinLimits};
+
+    ghost Value = { Asked };
+
+    ghost view = { λ o. record { k = o.k; both = o.both; floor = o.floor; batch = o.batch; dump = o.dump } };
+
+    ghost invariant = { λ o. IsWithinLimits (record { k = o.k; both = o.both; floor = o.floor; batch = o.batch; dump = o.dump }) };
+
+    ghost inverse = { λ a. record { k = a.k; both = a.both; floor = a.floor; batch = a.batch; dump = a.dump } };
+}
+
+impl Options {
+    ghost use Rattle.kc_tool.specs.Asked.{rule_of};
+
+    /// To count the words of length `k` on one strand, of bases of every quality, and write this dump of them. A batch
+    /// has 65,536 positions.
+    pub fn new(k: K, dump: Dump) -> Options
+        ensures { result ≡ record { k = k; both = false; floor = 33; batch = 65536; dump = dump } }
+    {
+        Options {
+            k,
+            both: false,
+            floor: FLOOR,
+            batch: BATCH_SIZE,
+            dump,
+        }
+    }
+
+    /// The same, with a word counted under its canonical form where both strands count.
+    pub fn with_both(self, both: bool) -> Options
+        ensures { result ≡ record self { both = both } }
+    {
+        let options = self;
+        Options { both, ..options }
+    }
+
+    /// The same, of bases whose quality byte is at least `floor`. Condition: it is 33 to 126.
+    pub fn with_floor(self, floor: u8) -> Options
+        requires low { 33 ≤ floor }
+        requires high { floor ≤ 126 }
+        ensures { result ≡ record self { floor = floor } }
+    {
+        let options = self;
+        Options { floor, ..options }
+    }
+
+    /// The same, in batches of `batch` positions. Condition: it is 1 to 2^36.
+    pub fn with_batch(self, batch: u64) -> Options
+        requires low { 1 ≤ batch }
+        requires high { batch ≤ 2 ^ 36 }
+        ensures { result ≡ record self { batch = batch } }
+    {
+        let options = self;
+        Options { batch, ..options }
+    }
+
+    /// By which rule the words count.
+    pub fn rule(&self) -> Rule
+        ensures { result ≡ rule_of self.now }
+    {
+        Rule::new(self.k, self.both, self.floor)
+    }
+
+    /// The positions of a batch, at least 1.
+    pub fn batch(&self) -> u64
+        ensures size { result ≡ self.now.batch }
+        ensures some { 1 ≤ self.now.batch }
+    {
+        self.batch
+    }
+
+    /// The dump that is written.
+    pub fn dump(&self) -> Dump
+        ensures { result ≡ self.now.dump }
+    {
+        self.dump
+    }
+}

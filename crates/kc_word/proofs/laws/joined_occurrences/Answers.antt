@@ -1,0 +1,5 @@
+use Rattle.kc_word.proofs.Tallies.{occurrences-append}
+use Rattle.kc_word.proofs.laws.joined_occurrences.Goals as goal
+
+pub returns : goal.returns
+returns c = occurrences-append

@@ -1,0 +1,7 @@
+use Rattle.std.proofs.Common.{◌≡◌, ◌-◌, true}
+use Rattle.std.specs.List.{list_all, range_with_len}
+use Rattle.kc_word.specs.Occurrences.{is_usable}
+use Rattle.kc_word.proofs.slow.form_at.Given as goal
+
+abbrev pub invariant-loop-place : goal.invariant-loop-place
+invariant-loop-place l = list_all (λ j. is_usable l.rule l.read j) (range_with_len l.position (l.place - l.position)) ≡ true

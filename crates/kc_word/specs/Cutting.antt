@@ -1,0 +1,66 @@
+-- Cleaned pieces, and how they are cut into numbered batches of as many positions each.
+-- Source: this project's own; a batch is what one worker counts at a time.
+use Rattle.std.specs.Prelude.{ℕ, Bool, ◌+◌, ◌-◌, ◌*◌, ◌/◌, ◌==◌, ◌||◌, nat_lt, min, List, [], ◌∷◌, ◌++◌, length, map, slice_range, slice_index, None, if◌then◌else◌, sum_by}
+use Rattle.std.specs.List.{range_with_len, list_all}
+use Rattle.std.specs.Char.{to_ascii_uppercase}
+use Rattle.kc_fastx.specs.Reads.{Read, read_of}
+use Rattle.kc_word.specs.Base.{is_base}
+use Rattle.kc_word.specs.Rule.{CountingRule}
+use Rattle.kc_word.specs.Occurrences.{is_usable, position_count}
+
+-- the letter N, which stands for a base that is not usable
+abbrev pub unusable : ℕ
+unusable = 78
+
+-- the bytes of a piece: bases and N
+abbrev pub are_piece_bytes : List ℕ → Bool
+are_piece_bytes bytes = list_all (λ byte. is_base byte || byte == unusable) bytes
+
+-- a base in upper case, and N for any other byte
+abbrev pub cleaned_letter : ℕ → ℕ
+cleaned_letter byte = if is_base (to_ascii_uppercase byte) then to_ascii_uppercase byte else unusable
+
+-- the base j of a read as it stands in its piece: in upper case where it is usable, and else N
+abbrev pub cleaned_base : CountingRule → Read → ℕ → ℕ
+cleaned_base rule read j = if is_usable rule read j then to_ascii_uppercase (slice_index read.bases j) else unusable
+
+-- the piece of a read
+unfoldable pub cleaned : CountingRule → Read → List ℕ
+cleaned rule read = map (λ j. cleaned_base rule read j) (range_with_len 0 (length read.bases))
+
+-- pieces, each as a read without qualities
+abbrev pub as_reads : List (List ℕ) → List Read
+as_reads pieces = map (λ piece. read_of piece None) pieces
+
+-- a batch: its number, and its pieces
+pub record NumberedPieces : Type 0 where
+  pub number : ℕ
+  pub pieces : List (List ℕ)
+
+-- the positions from p to before q of a piece, as one piece: the bytes from p to the end of the last word. Nothing where there is no position
+unfoldable pub stretch : ℕ → List ℕ → ℕ → ℕ → List (List ℕ)
+stretch k piece p q = if nat_lt p q then slice_range piece p (q + k - 1) ∷ [] else []
+
+-- The positions of all pieces are numbered in order. These are the stretches of the pieces whose positions are numbered from `low` to before `high`,
+-- where `first` is the number of the first position of the first piece.
+unfoldable pub stretches : ℕ → ℕ → ℕ → ℕ → List (List ℕ) → List (List ℕ)
+stretches k low high first [] = []
+stretches k low high first (piece ∷ pieces) =
+    stretch k piece (low - first) (min (position_count k (length piece)) (high - first))
+    ++ stretches k low high (first + position_count k (length piece)) pieces
+
+-- how many positions the pieces have
+abbrev pub position_total : ℕ → List (List ℕ) → ℕ
+position_total k pieces = sum_by (λ piece. position_count k (length piece)) pieces
+
+-- how many batches of `size` positions there are, of which the last may have fewer
+abbrev pub batch_count : ℕ → ℕ → List (List ℕ) → ℕ
+batch_count k size pieces = (position_total k pieces + size - 1) / size
+
+-- batch i: the positions numbered from i * size to before (i + 1) * size
+abbrev pub batch_of : ℕ → ℕ → List (List ℕ) → ℕ → NumberedPieces
+batch_of k size pieces i = record { number = i; pieces = stretches k (i * size) ((i + 1) * size) 0 pieces }
+
+-- all batches of a cutting, in order
+unfoldable pub cutting : ℕ → ℕ → List (List ℕ) → List NumberedPieces
+cutting k size pieces = map (λ i. batch_of k size pieces i) (range_with_len 0 (batch_count k size pieces))

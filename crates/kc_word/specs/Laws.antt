@@ -1,0 +1,57 @@
+-- What holds of words, occurrences and tallies, whatever the reads are.
+use Rattle.std.specs.Prelude.{◌≡◌, ℕ, ◌+◌, ◌^◌, ◌<◌, ◌≤◌, List, ◌++◌, length, sum_by, All, count_by, ◌==◌}
+use Rattle.std.specs.Ordering.{nat_cmp}
+use Rattle.std.specs.Cmp.Lexicographic.{slice_cmp}
+use Rattle.kc_fastx.specs.Reads.{Read}
+use Rattle.kc_word.specs.Word.{number, text, reverse_complement, canonical}
+use Rattle.kc_word.specs.Rule.{CountingRule}
+use Rattle.kc_word.specs.Occurrences.{occurrences, words_of}
+use Rattle.kc_word.specs.Tally.{count_of, IsTally}
+
+-- a number below 4 ^ k is the number of its text
+abbrev pub NumberOfText : Type 0
+NumberOfText = (k n : ℕ) → n < 4 ^ k → number (text k n) ≡ n
+
+-- the order of the numbers is the order of the texts
+abbrev pub OrderOfTexts : Type 0
+OrderOfTexts = (k m n : ℕ) → m < 4 ^ k → n < 4 ^ k → slice_cmp nat_cmp (text k m) (text k n) ≡ nat_cmp m n
+
+-- read back from the other strand twice, a word is itself
+abbrev pub ReversedTwice : Type 0
+ReversedTwice = (k n : ℕ) → reverse_complement (reverse_complement (text k n)) ≡ text k n
+
+-- a word and its reverse complement have one canonical form
+abbrev pub OneCanonicalForm : Type 0
+OneCanonicalForm = (k n : ℕ) → canonical (reverse_complement (text k n)) ≡ canonical (text k n)
+
+-- the tally of given reads is one finite map: two lists of rows that are its rows are equal
+abbrev pub OneTally : Type 0
+OneTally = (rule : CountingRule) (reads : List Read) (rows others : List (ℕ × ℕ)) → IsTally rule reads rows → IsTally rule reads others → rows ≡ others
+
+-- in reads that are joined each word occurs as often as in both parts together
+abbrev pub JoinedOccurrences : Type 0
+JoinedOccurrences = (rule : CountingRule) (reads more : List Read) (word : List ℕ) → occurrences rule (reads ++ more) word ≡ occurrences rule reads word + occurrences rule more word
+
+-- the tally of reads that are joined is the sum of the tallies of both parts
+abbrev pub JoinedTally : Type 0
+JoinedTally = (rule : CountingRule) (reads more : List Read) (rows others sums : List (ℕ × ℕ)) → IsTally rule reads rows → IsTally rule more others → IsTally rule (reads ++ more) sums
+    → (n : ℕ) → n < 4 ^ rule.k → count_of sums n ≡ count_of rows n + count_of others n
+
+-- the counts of a tally add up to the number of all words, and are together at most the number of bases
+abbrev pub TallyTotal : Type 0
+TallyTotal = (rule : CountingRule) (reads : List Read) (rows : List (ℕ × ℕ)) → IsTally rule reads rows → sum_by (λ row. row.1) rows ≡ length (words_of rule reads)
+
+abbrev pub BoundedTally : Type 0
+BoundedTally = (rule : CountingRule) (reads : List Read) (rows : List (ℕ × ℕ)) → 1 ≤ rule.k → IsTally rule reads rows → sum_by (λ row. row.1) rows ≤ sum_by (λ read. length read.bases) reads
+
+-- the number of each word of the reads is below 4 ^ k
+abbrev pub WordsAreBelow : Type 0
+WordsAreBelow = (rule : CountingRule) (reads : List Read) → All (λ word. word < 4 ^ rule.k) (words_of rule reads)
+
+-- a word occurs as often as its number stands in the list of all words
+abbrev pub WordsAreCounted : Type 0
+WordsAreCounted = (rule : CountingRule) (reads : List Read) (n : ℕ) → n < 4 ^ rule.k → count_by (λ word. word == n) (words_of rule reads) ≡ occurrences rule reads (text rule.k n)
+
+-- the reads have at most as many words as bases
+abbrev pub WordsAreFew : Type 0
+WordsAreFew = (rule : CountingRule) (reads : List Read) → 1 ≤ rule.k → length (words_of rule reads) ≤ sum_by (λ read. length read.bases) reads

@@ -1,0 +1,45 @@
+ghost use Rattle.std.specs.Prelude.{◌≡◌, ◌≤◌, SomeIff};
+
+use std::marker::Model;
+
+/// The length of a word, from 1 to 31 bases.
+#[derive(Clone, Copy, PartialEq, Eq, Debug)]
+pub struct K {
+    bases: u32,
+}
+
+impl Model for K {
+    ghost use Rattle.std.specs.Prelude.{ℕ, ◌≤◌};
+
+    ghost Value = { ℕ };
+
+    ghost view = { λ k. k.bases };
+
+    ghost invariant = { λ k. (1 ≤ k.bases) × (k.bases ≤ 31) };
+
+    ghost inverse = { λ n. record { bases = n } };
+}
+
+impl K {
+    /// The greatest length of a word.
+    pub const MOST: u32 = 31;
+
+    /// A length of `n` bases, where `n` is 1 to 31.
+    pub fn new(n: u32) -> Option<K>
+        ensures { SomeIff result ((1 ≤ n) × (n ≤ 31)) n }
+    {
+        if n < 1 || n > K::MOST {
+            return None;
+        }
+        Some(K { bases: n })
+    }
+
+    /// The number of bases.
+    pub fn get(self) -> u32
+        ensures value { result ≡ self }
+        ensures some { 1 ≤ self }
+        ensures fits { self ≤ 31 }
+    {
+        self.bases
+    }
+}

@@ -1,0 +1,54 @@
+//! Laws of words, occurrences and tallies. Each is the contract of a function that does nothing.
+ghost use Rattle.kc_word.specs.Laws.{NumberOfText, OrderOfTexts, ReversedTwice, OneCanonicalForm, OneTally, JoinedOccurrences, JoinedTally, TallyTotal, BoundedTally, WordsAreBelow, WordsAreCounted, WordsAreFew};
+
+/// A number below 4^k is the number of its text.
+pub fn number_of_text()
+    ensures { NumberOfText }
+{}
+
+/// The order of the numbers is the order of the texts.
+pub fn order_of_texts()
+    ensures { OrderOfTexts }
+{}
+
+/// Read back from the other strand twice, a word is itself.
+pub fn reversed_twice()
+    ensures { ReversedTwice }
+{}
+
+/// A word and its reverse complement have one canonical form.
+pub fn one_canonical_form()
+    ensures { OneCanonicalForm }
+{}
+
+/// The tally of given reads is one finite map.
+pub fn one_tally()
+    ensures { OneTally }
+{}
+
+/// In reads that are joined each word occurs as often as in both parts together.
+pub fn joined_occurrences()
+    ensures { JoinedOccurrences }
+{}
+
+/// The tally of reads that are joined is the sum of the tallies of both parts.
+pub fn joined_tally()
+    ensures { JoinedTally }
+{}
+
+/// The counts of a tally add up to the number of all words.
+pub fn tally_total()
+    ensures { TallyTotal }
+{}
+
+/// The counts of a tally are together at most as many as the bases of the reads.
+pub fn bounded_tally()
+    ensures { BoundedTally }
+{}
+
+/// The list of all words of the reads counts their occurrences.
+pub fn words_of_reads()
+    ensures below { WordsAreBelow }
+    ensures counted { WordsAreCounted }
+    ensures few { WordsAreFew }
+{}

@@ -1,0 +1,108 @@
+//! A plain and slow count, straight from the definitions: each number below 4^k is looked for at each
+//! position of each read. It is there to compute small examples.
+ghost use Rattle.std.specs.Prelude.{◌≡◌, ◌+◌, ◌^◌, ◌<◌, ◌≤◌, length, sum_by, Some, None, IfOk, IfSome, IfNone};
+ghost use Rattle.kc_word.specs.Word.{text};
+ghost use Rattle.kc_word.specs.Occurrences.{is_usable, form_at, counts_under, occurrences_in, occurrences};
+ghost use Rattle.kc_word.specs.Tally.{IsTally};
+
+use crate::letter::{NO_BASE, code_of};
+use crate::rule::Rule;
+use crate::word::{Word, canonical, pack};
+use kc_fastx::SeqRead;
+use std::alloc::{AllocError, Global};
+
+/// The tally of the reads: each word that occurs and its occurrences, in the order of the words.
+/// Condition: the reads have fewer than 2^64 bases.
+pub fn tally(alloc: Global, reads: &[SeqRead], rule: &Rule) -> Result<Vec<(u64, u64)>, AllocError>
+    requires { sum_by (λ read. length read.bases) reads.now < 2 ^ 64 }
+    ensures { IfOk result (λ rows. IsTally rule.now reads.now rows.items) }
+{
+    let mut rows = Vec::new(alloc);
+    for number in 0..1u64 << (2 * rule.k().get()) {
+        let count = occurrences(reads, rule, Word(number));
+        if count > 0 {
+            rows.push((number, count))?;
+        }
+    }
+    Ok(rows)
+}
+
+/// The occurrences of a word in the reads. Conditions: the word is below 4^k, and the reads have fewer
+/// than 2^64 bases.
+pub fn occurrences(reads: &[SeqRead], rule: &Rule, word: Word) -> u64
+    requires below { word.0 < 4 ^ rule.now.k }
+    requires fits { sum_by (λ read. length read.bases) reads.now < 2 ^ 64 }
+    ensures { result ≡ occurrences rule.now reads.now (text rule.now.k word.0) }
+{
+    let mut count = 0u64;
+    for read in reads {
+        count += occurrences_in(read, rule, word);
+    }
+    count
+}
+
+// at how many positions of the read the word stands
+fn occurrences_in(read: &SeqRead, rule: &Rule, word: Word) -> u64
+    requires { word.0 < 4 ^ rule.now.k }
+    ensures value { result ≡ occurrences_in rule.now read.now (text rule.now.k word.0) }
+    ensures most { result ≤ length read.now.bases }
+{
+    let k = rule.k().get() as usize;
+    let mut count = 0u64;
+    for position in 0..(read.bases().len() + 1).saturating_sub(k) {
+        if stands_at(read, rule, word, position) {
+            count += 1;
+        }
+    }
+    count
+}
+
+// whether the position counts under this word
+fn stands_at(read: &SeqRead, rule: &Rule, word: Word, position: usize) -> bool
+    requires { word.0 < 4 ^ rule.now.k }
+    ensures { result ≡ counts_under rule.now read.now (text rule.now.k word.0) position }
+{
+    match form_at(read, rule, position) {
+        Some(found) => found.0 == word.0,
+        None => false,
+    }
+}
+
+// the form under which a position counts, if it does
+fn form_at(read: &SeqRead, rule: &Rule, position: usize) -> Option<Word>
+    ensures none { IfNone result (form_at rule.now read.now position ≡ None) }
+    ensures some { IfSome result (λ word. form_at rule.now read.now position ≡ Some (text rule.now.k word.0)) }
+    ensures below { IfSome result (λ word. word.0 < 4 ^ rule.now.k) }
+{
+    let k = rule.k();
+    let count = k.get() as usize;
+    let bases = read.bases();
+    if bases.len() < count || bases.len() - count < position {
+        return None;
+    }
+    let end = position + count;
+    for place in position..end {
+        if !is_usable(read, rule, place) {
+            return None;
+        }
+    }
+    let word = pack(&bases[position..end], k)?;
+    let counted = if rule.both() {
+        canonical(word, k)
+    } else {
+        word
+    };
+    Some(counted)
+}
+
+// whether the base is one of ACGTacgt and its quality, where it has one, reaches the floor
+fn is_usable(read: &SeqRead, rule: &Rule, place: usize) -> bool
+    requires { place < length read.now.bases }
+    ensures { result ≡ is_usable rule.now read.now place }
+{
+    let known = code_of(read.bases()[place]) != NO_BASE;
+    match read.quals() {
+        None => known,
+        Some(quals) => known && quals[place] >= rule.floor(),
+    }
+}
