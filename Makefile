@@ -2,7 +2,7 @@
 PREFIX ?= /usr/local
 DESTDIR ?=
 
-.PHONY: build demo test install clean
+.PHONY: build demo memory test install clean
 
 # Proves the program and everything below it, and builds it as bin/kcount.
 build:
@@ -13,8 +13,13 @@ build:
 demo: build
 	./bin/kcount count -m 4 --print dump --column < examples/reads.fa
 
-# The gate: every proof from nothing, the edits that must fail, the tests and the program's stored run.
-test:
+# Refuses each growth of memory in turn.
+memory: build
+	tests/memory.sh
+
+# The gate: every proof from nothing, the edits that must fail, the tests and the program's stored run. Before it, the
+# growths are refused, which the gate can't do.
+test: memory
 	rt ci
 
 install: build

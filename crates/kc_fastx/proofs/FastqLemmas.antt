@@ -11,7 +11,7 @@ use Rattle.kc_fastx.specs.Reads.{Read, is_quality_byte, read_of}
 use Rattle.kc_fastx.specs.Records.{Records, BeginsWithSequence, SequenceFails, FirstFault, ends_or_begins_with}
 use Rattle.kc_fastx.specs.Fastq.{BeginsWithFastqTitle, HasPlus, BeginsWithQuality, HasShortQuality, IsFastqBody, IsFastqRecord, QualityFails, FastqBodyFails, FastqFails}
 use Rattle.kc_fastx.specs.ReadsOf.{IsFastq}
-use Rattle.kc_fastx.specs.Steps.{UnlessMemory}
+use Rattle.kc_fastx.specs.Faults.{UnlessMemory}
 use Rattle.kc_fastx.proofs.SequenceLemmas.{TakesLine, line_count-more, joined-push, both_true}
 use Rattle.kc_fastx.proofs.FastaLemmas.{Records-push}
 

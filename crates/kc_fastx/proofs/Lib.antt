@@ -9,3 +9,4 @@ pub mod SourceLemmas
 pub mod AnswerLemmas
 pub mod Plain
 pub mod AllReadsLemmas
+pub mod PlainAnswers

@@ -16,13 +16,13 @@ use Rattle.kc_fastx.proofs.FastqLemmas.{length-skip_blanks, length-body}
 use Rattle.kc_fastx.specs.ReadsOf.{IsFastq, IsReadsOf, text_lines}
 
 -- the bases, and the lines behind them; or the lines behind a bad one
-pub sequence_of : ℕ → List ℕ → List Line → Result (List ℕ × List Line) (List Line)
+unfoldable pub sequence_of : ℕ → List ℕ → List Line → Result (List ℕ × List Line) (List Line)
 sequence_of stop bases [] = Ok (bases, [])
 sequence_of stop bases (line ∷ ls) =
     cond (begins_with stop line) (Ok (bases, line ∷ ls)) (cond (list_all is_sequence_byte line) (sequence_of stop (bases ++ line) ls) (Err ls))
 
 -- the qualities, and the lines behind them
-pub quality_of : ℕ → ℕ → List ℕ → List Line → Result (List ℕ × List Line) FastxFault
+unfoldable pub quality_of : ℕ → ℕ → List ℕ → List Line → Result (List ℕ × List Line) FastxFault
 quality_of count need quals [] = cond (leb need (length quals)) (Ok (quals, [])) (Err (Truncated count))
 quality_of count need quals (line ∷ ls) =
     cond (leb need (length quals)) (Ok (quals, line ∷ ls))
@@ -43,20 +43,20 @@ bad_base count (Ok x) = Ok x
 bad_base count (Err more) = Err (BadBase (count - length more))
 
 -- one FASTQ record behind its title, and the lines behind it
-pub body_of : ℕ → List Line → Result (Read × List Line) FastxFault
+unfoldable pub body_of : ℕ → List Line → Result (Read × List Line) FastxFault
 body_of count body =
     on_ok (λ front. first_of (Err (Truncated count))
     (λ plus after. on_ok (λ quality. Ok (read_of front.0 (Some quality.0), quality.1)) (quality_of count (length front.0) [] after)) front.1)
     (bad_base count (sequence_of 43 [] body))
 
 -- the reads of FASTA lines, of which there are at most `fuel`
-pub fasta_of : ℕ → ℕ → List Line → Result (List Read) FastxFault
+unfoldable pub fasta_of : ℕ → ℕ → List Line → Result (List Read) FastxFault
 fasta_of count zero ls = Ok []
 fasta_of count (suc fuel) ls =
     first_of (Ok []) (λ title body. on_ok (λ sequence. on_ok (λ reads. Ok (read_of sequence.0 None ∷ reads)) (fasta_of count fuel sequence.1)) (bad_base count (sequence_of 62 [] body))) ls
 
 -- the same of FASTQ
-pub fastq_of : ℕ → ℕ → List Line → Result (List Read) FastxFault
+unfoldable pub fastq_of : ℕ → ℕ → List Line → Result (List Read) FastxFault
 fastq_of count zero ls = Ok []
 fastq_of count (suc fuel) ls =
     first_of (Ok [])
@@ -65,7 +65,7 @@ fastq_of count (suc fuel) ls =
     (Err (BadStart (count - length body))))
     (skip_blanks ls)
 
-pub reads_of : List ℕ → Result (List Read) FastxFault
+unfoldable pub reads_of : List ℕ → Result (List Read) FastxFault
 reads_of bytes =
     let ls = text_lines bytes in let count = length (lines bytes) in
     cond (next_begins_with 62 ls) (fasta_of count (length ls) ls) (fastq_of count (length ls) ls)

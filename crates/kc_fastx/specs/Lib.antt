@@ -1,9 +1,8 @@
 pub mod Fasta
 pub mod Fastq
+pub mod Faults
 pub mod Lines
-pub mod Numbers
 pub mod Reads
 pub mod ReadsOf
 pub mod Records
 pub mod Sources
-pub mod Steps

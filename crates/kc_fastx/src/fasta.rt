@@ -1,9 +1,9 @@
 // FASTA.
-ghost use Rattle.std.specs.Prelude.{◌≡◌, true, [], IfOk, IfErr, OnOk};
+ghost use Rattle.std.specs.Prelude.{◌≡◌, true, [], IfOk, IfErr};
 ghost use Rattle.kc_fastx.specs.Lines.{line_count};
 ghost use Rattle.kc_fastx.specs.Records.{Records, FirstFault, ends_or_begins_with};
 ghost use Rattle.kc_fastx.specs.Fasta.{IsFastaRecord, FastaFails};
-ghost use Rattle.kc_fastx.specs.Steps.{UnlessMemory};
+ghost use Rattle.kc_fastx.specs.Faults.{UnlessMemory};
 
 use crate::faults::FastxFault;
 use crate::line_cursor::LineCursor;

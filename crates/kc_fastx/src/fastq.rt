@@ -1,10 +1,10 @@
 // Sanger FASTQ.
-ghost use Rattle.std.specs.Prelude.{◌≡◌, true, [], IfOk, IfErr, OnOk};
+ghost use Rattle.std.specs.Prelude.{◌≡◌, IfOk, IfErr, OnOk};
 ghost use Rattle.kc_fastx.specs.Lines.{line_count};
 ghost use Rattle.kc_fastx.specs.Records.{FirstFault};
 ghost use Rattle.kc_fastx.specs.Fastq.{IsFastqRecord, IsFastqBody, FastqFails, FastqBodyFails, BeginsWithQuality, QualityFails};
 ghost use Rattle.kc_fastx.specs.ReadsOf.{IsFastq};
-ghost use Rattle.kc_fastx.specs.Steps.{UnlessMemory};
+ghost use Rattle.kc_fastx.specs.Faults.{UnlessMemory};
 
 use crate::faults::FastxFault;
 use crate::line_cursor::{LineCursor, does_begin_with};

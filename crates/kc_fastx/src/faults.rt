@@ -1,7 +1,7 @@
 ghost use Rattle.std.specs.Prelude.{◌≡◌};
 ghost use Rattle.kc_fastx.specs.declared.faults.FastxFault.{FastxFault};
 ghost use Rattle.kc_fastx.specs.declared.faults.FastxFault.TheVariants.{Memory};
-ghost use Rattle.kc_fastx.specs.Numbers.{fault_number};
+ghost use Rattle.kc_fastx.specs.Faults.{fault_number};
 
 use std::alloc::{AllocError, AllocFailed};
 use thiserror::Error;

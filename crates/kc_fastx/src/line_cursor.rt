@@ -1,5 +1,5 @@
 // The lines of a byte string, taken one after another.
-ghost use Rattle.std.specs.Prelude.{◌≡◌, ◌+◌, ◌^◌, ◌<◌, ◌↔◌, false, true, [], ◌∷◌, length, IsTrue, IsSome, IfSome, IfNone};
+ghost use Rattle.std.specs.Prelude.{◌≡◌, ◌+◌, ◌^◌, ◌<◌, false, true, [], ◌∷◌, length, IfSome, IfNone};
 ghost use Rattle.std.specs.Str.Lines.{strip_carriage_return};
 ghost use Rattle.kc_fastx.specs.Lines.{begins_with, lines, line_count, next_begins_with, skip_blanks};
 ghost use Rattle.kc_fastx.specs.Records.{ends_or_begins_with};

@@ -1,7 +1,7 @@
-ghost use Rattle.std.specs.Prelude.{◌≡◌, ◌^◌, ◌<◌, ◌≤◌, length, IfOk, IfErr};
+ghost use Rattle.std.specs.Prelude.{◌^◌, ◌<◌, ◌≤◌, length, IfOk, IfErr};
 ghost use Rattle.kc_fastx.specs.ReadsOf.{HasReads, HasFault, base_count};
 ghost use Rattle.kc_fastx.specs.Sources.{GivesReads, TakesAll, TakingFails, RefusesFor};
-ghost use Rattle.kc_fastx.specs.Steps.{UnlessMemory};
+ghost use Rattle.kc_fastx.specs.Faults.{UnlessMemory};
 
 use crate::fasta::parse_fasta;
 use crate::fastq::parse_fastq;

@@ -1,7 +1,7 @@
-ghost use Rattle.std.specs.Prelude.{◌≡◌, ◌↔◌, true, take, vec_len, Some, None, IsTrue, IsSome, IfSome};
+ghost use Rattle.std.specs.Prelude.{◌≡◌, ◌↔◌, true, vec_len, Some, None, IsSome, IfSome};
 ghost use Rattle.std.specs.List.{list_all};
 ghost use Rattle.std.specs.Option.{option_copied, option_map};
-ghost use Rattle.kc_fastx.specs.Reads.{Read, is_sequence_byte, is_quality_byte, has_quality_each};
+ghost use Rattle.kc_fastx.specs.Reads.{Read, is_sequence_byte, is_quality_byte};
 
 use std::marker::Model;
 

@@ -2,7 +2,7 @@
 ghost use Rattle.std.specs.Prelude.{◌≡◌, true, IfOk, IfErr, OnOk};
 ghost use Rattle.kc_fastx.specs.Lines.{line_count};
 ghost use Rattle.kc_fastx.specs.Records.{BeginsWithSequence, SequenceFails, ends_or_begins_with};
-ghost use Rattle.kc_fastx.specs.Steps.{UnlessMemory};
+ghost use Rattle.kc_fastx.specs.Faults.{UnlessMemory};
 
 use crate::faults::FastxFault;
 use crate::line_cursor::LineCursor;

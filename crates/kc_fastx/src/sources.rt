@@ -61,7 +61,8 @@ impl Source for FromBytes<'_> {
     }
 }
 
-/// A source over any reader of std. It tells its bytes where the reader does.
+/// A source over any reader of std. It tells its bytes where the reader does. Each error of the reader is a failure, also an
+/// interruption: nothing is tried again.
 #[derive(Drop)]
 pub struct FromRead<R: Read> {
     pub reader: R,

@@ -1,19 +1,19 @@
 -- Counting in a map.
-use Rattle.std.proofs.Common.{◌≡◌, ℕ, ◌+◌, ◌^◌, ◌<◌, ◌≤◌, Bool, true, false, cond, List, [], ◌∷◌, ◌++◌, length, get_or, take, Some, refl, sym, ◌∙◌, ap, subst, arith, append_assoc, append-nil, length-append, add-one, take-suc}
+use Rattle.std.proofs.Common.{◌≡◌, ℕ, ◌+◌, ◌^◌, ◌<◌, ◌≤◌, Bool, true, false, cond, List, [], ◌∷◌, ◌++◌, length, get_or, take, drop, Some, refl, sym, ◌∙◌, ap, subst, arith, append-nil, length-append, add-one, take-suc}
 use Rattle.std.specs.Prelude.{◌==◌, count_by, All, unwrap_or, if◌then◌else◌, IfSome, map}
-use Rattle.std.specs.List.{AllByRecursion}
+use Rattle.std.specs.List.{AllByRecursion, flat_map}
 use Rattle.std.specs.Map.{lookup}
 use Rattle.std.specs.BTreeMap.{BTreeMap, is_at, get, IsOrdered}
 use Rattle.std.specs.Ordering.{nat_cmp}
-use Rattle.std.proofs.lemmas.List.Sums.{sum_by-cons, sum_by-append, sum_by-take-le, count_by-le-length}
-use Rattle.std.proofs.lemmas.List.{take_all}
+use Rattle.std.proofs.lemmas.List.Sums.{sum_by-cons, sum_by-append, count_by-le-length}
+use Rattle.std.proofs.lemmas.List.{take_all, take-append-drop}
+use Rattle.std.proofs.lemmas.Grind.{flat_map-append}
 use Rattle.std.proofs.lemmas.List.Elements.{recursion_from_All}
 use Rattle.std.proofs.lemmas.Bool.Decides.{nat_tests}
 use Rattle.kc_fastx.specs.Reads.{Read}
-use Rattle.kc_fastx.specs.ReadsOf.{base_count}
 use Rattle.kc_word.specs.Rule.{CountingRule}
 use Rattle.kc_word.specs.Word.{text}
-use Rattle.kc_word.specs.Occurrences.{words_of, words_in, occurrences}
+use Rattle.kc_word.specs.Occurrences.{words_of, occurrences}
 use Rattle.std.proofs.lemmas.Map.Keys.{IsStrictlyIncreasing-from_sorted}
 use Rattle.std.proofs.lemmas.Map.Entries.{btree_map_get_place}
 use Rattle.std.proofs.lemmas.Cmp.{nat_cmp_total}
@@ -55,13 +55,6 @@ counted_more words more old new h step kept = record {
   counts = λ n. step n ∙ ap (λ v. v + count_by (λ word. word == n) more) (h.counts n) ∙ sym (sum_by-append (λ word. cond (word == n) 1 0) words more);
   present = kept h.present;
 }
-
--- The words of the reads, read by read.
-pub words_of-push : (rule : CountingRule) (reads : List Read) (read : Read) → words_of rule (reads ++ read ∷ []) ≡ words_of rule reads ++ words_in rule read
-unfolding words_of
-words_of-push rule [] read = append-nil (words_in rule read)
-words_of-push rule (first ∷ reads) read =
-    ap (λ v. words_in rule first ++ v) (words_of-push rule reads read) ∙ sym (append_assoc (words_in rule first) (words_of rule reads) (words_in rule read))
 
 -- the rows of a map and what it gives for a number
 count_of-entries : (entries : List (ℕ × ℕ)) (n : ℕ) → count_of entries n ≡ unwrap_or (lookup (is_at (nat_cmp n)) entries) 0
@@ -118,20 +111,40 @@ nothing_counted store empty = record {
 pub are_rows : (rule : CountingRule) (reads : List Read) (rows : List (ℕ × ℕ)) → IsTally rule reads rows → AreRows rule.k rows
 are_rows rule reads rows t = record { rising = t.rising; words = t.words; present = t.present }
 
--- The counts of a part of the reads leave room for the words of one more.
-pub room_for : (rule : CountingRule) (reads : List Read) (store : BTreeMap ℕ ℕ) (i : ℕ) (read : Read) → i < length reads → read ≡ get_or reads i read
-    → HasCounted (words_of rule (take i reads)) store → length (words_of rule (take (i + 1) reads)) ≤ base_count (take (i + 1) reads)
-    → base_count reads ≤ 2 ^ 36 → (n : ℕ) → counted store n + length (words_in rule read) ≤ 2 ^ 62
-room_for rule reads store i read within is h few small n =
-    let next : take (i + 1) reads ≡ take i reads ++ read ∷ [] = rw (add-one, take-suc reads i read within) (ap (λ v. take i reads ++ v ∷ []) (sym is)) in
-    let joined : length (words_of rule (take (i + 1) reads)) ≡ length (words_of rule (take i reads)) + length (words_in rule read) =
-    ap (λ v. length (words_of rule v)) next ∙ ap length (words_of-push rule (take i reads) read) ∙ length-append (words_of rule (take i reads)) (words_in rule read) in
-    let count : counted store n ≤ length (words_of rule (take i reads)) = rw (h.counts n) (count_by-le-length (λ word. word == n) (words_of rule (take i reads))) in
-    omega (arith, joined, count, few, small, sum_by-take-le (λ read. length read.bases) reads (i + 1))
+-- One more part of a list, whose parts have words of their own.
+flat_map-more : {X : Type 0} (words : X → List ℕ) (parts : List X) (i : ℕ) (part : X) → i < length parts → part ≡ get_or parts i part
+    → flat_map words (take (i + 1) parts) ≡ flat_map words (take i parts) ++ words part
+flat_map-more words parts i part within is =
+    rw (add-one, take-suc parts i part within, ← is) (flat_map-append words (take i parts) (part ∷ []) ∙ ap (λ v. flat_map words (take i parts) ++ v) (append-nil (words part)))
 
--- The same, where the reads were gone over to their end.
-pub tally_of_all : (rule : CountingRule) (reads : List Read) (i : ℕ) (store : BTreeMap ℕ ℕ) → length reads ≤ i → IsOrdered nat_cmp store → HasCounted (words_of rule (take i reads)) store
+-- The words of one more part were counted.
+pub counted_part : {X : Type 0} (words : X → List ℕ) (parts : List X) (i : ℕ) (part : X) (old new : BTreeMap ℕ ℕ) → i < length parts → part ≡ get_or parts i part
+    → HasCounted (flat_map words (take i parts)) old
+    → ((n : ℕ) → counted new n ≡ counted old n + count_by (λ word. word == n) (words part)) → (HasNoZeros old → HasNoZeros new)
+    → HasCounted (flat_map words (take (i + 1) parts)) new
+counted_part words parts i part old new within is h step kept =
+    subst (λ v. HasCounted v new) (sym (flat_map-more words parts i part within is)) (counted_more (flat_map words (take i parts)) (words part) old new h step kept)
+
+-- The counts of the parts so far leave room for one more part, where all parts together have few words.
+pub room_for : {X : Type 0} (words : X → List ℕ) (parts : List X) (i : ℕ) (part : X) (store : BTreeMap ℕ ℕ) → i < length parts → part ≡ get_or parts i part
+    → HasCounted (flat_map words (take i parts)) store → length (flat_map words parts) ≤ 2 ^ 36 → (n : ℕ) → counted store n + length (words part) ≤ 2 ^ 62
+room_for words parts i part store within is h few n =
+    let so_far = flat_map words (take i parts) in
+    let later = flat_map words (drop (i + 1) parts) in
+    let more : length (flat_map words (take (i + 1) parts)) ≡ length so_far + length (words part) =
+    ap length (flat_map-more words parts i part within is) ∙ length-append so_far (words part) in
+    let all : length (flat_map words parts) ≡ length (flat_map words (take (i + 1) parts)) + length later =
+    ap (λ v. length (flat_map words v)) (sym (take-append-drop (i + 1) parts))
+    ∙ ap length (flat_map-append words (take (i + 1) parts) (drop (i + 1) parts)) ∙ length-append (flat_map words (take (i + 1) parts)) later in
+    let count : counted store n ≤ length so_far = rw (h.counts n) (count_by-le-length (λ word. word == n) so_far) in
+    omega (arith, more, all, count, few)
+
+-- The rows of a map that has counted the parts to their end, where the words of the parts are those of the reads.
+pub tally_of_parts : {X : Type 0} (words : X → List ℕ) (parts : List X) (rule : CountingRule) (reads : List Read) (i : ℕ) (store : BTreeMap ℕ ℕ)
+    → length parts ≤ i → flat_map words parts ≡ words_of rule reads → IsOrdered nat_cmp store → HasCounted (flat_map words (take i parts)) store
     → All (λ word. word < 4 ^ rule.k) (words_of rule reads)
     → ((n : ℕ) → n < 4 ^ rule.k → count_by (λ word. word == n) (words_of rule reads) ≡ occurrences rule reads (text rule.k n))
     → IsTally rule reads store.entries
-tally_of_all rule reads i store past ordered h = tally_rows rule reads store ordered (subst (λ v. HasCounted (words_of rule v) store) (take_all i reads past) h)
+tally_of_parts words parts rule reads i store past same ordered h =
+    let whole : flat_map words (take i parts) ≡ words_of rule reads = ap (flat_map words) (take_all i parts past) ∙ same in
+    tally_rows rule reads store ordered (subst (λ v. HasCounted v store) whole h)

@@ -7,7 +7,7 @@ use Rattle.std.specs.Io.KnownBytes.{Consumes, IsAtEnd}
 use Rattle.kc_fastx.specs.Reads.{Read}
 use Rattle.kc_fastx.specs.ReadsOf.{HaveReads, HasReads, base_count}
 use Rattle.kc_fastx.specs.Sources.{Seen, GivesReads, RefusesFor}
-use Rattle.kc_fastx.specs.Steps.{UnlessMemory}
+use Rattle.kc_fastx.specs.Faults.{UnlessMemory}
 use Rattle.kc_fastx.specs.declared.faults.FastxFault.{FastxFault}
 use Rattle.kc_fastx.specs.declared.faults.FastxFault.TheVariants.{BadStart, BadBase, BadQuality, LongQuality, Truncated, TooLong, Read as ReadFailed, Memory}
 use Rattle.kc_tool.specs.AllReads.{most_bytes, AreBytesOf, ReadsSources, FailsAt}

@@ -4,7 +4,7 @@ use Rattle.std.specs.List.{concat}
 use Rattle.kc_fastx.specs.Reads.{Read}
 use Rattle.kc_fastx.specs.ReadsOf.{HaveReads}
 use Rattle.kc_fastx.specs.Sources.{Seen, RefusesFor}
-use Rattle.kc_fastx.specs.Steps.{UnlessMemory}
+use Rattle.kc_fastx.specs.Faults.{UnlessMemory}
 use Rattle.kc_fastx.specs.declared.faults.FastxFault.{FastxFault}
 use Rattle.kc_tool.specs.declared.faults.ToolFault.{ToolFault}
 use Rattle.kc_tool.specs.declared.faults.ToolFault.TheVariants.{Fastx, Memory}

@@ -1,5 +1,10 @@
--- Numbers counted in a map.
-use Rattle.std.specs.Prelude.{ℕ, ◌<◌, IfSome, unwrap_or}
+-- Numbers counted in a map, batch by batch.
+use Rattle.std.specs.Prelude.{ℕ, ◌<◌, List, IfSome, unwrap_or}
+use Rattle.std.specs.Global.{Global}
+use Rattle.std.specs.declared.sync.Arc.{Arc}
+use Rattle.kc_word.specs.Rule.{CountingRule}
+use Rattle.kc_word.specs.Cutting.{NumberedPieces, as_reads}
+use Rattle.kc_word.specs.Occurrences.{words_of}
 use Rattle.std.specs.Ordering.{nat_cmp}
 use Rattle.std.specs.BTreeMap.{BTreeMap, get}
 
@@ -10,3 +15,7 @@ counted counts n = unwrap_or (get nat_cmp counts n) 0
 -- each number that the map has stands there with a count of at least 1
 abbrev pub HasNoZeros : BTreeMap ℕ ℕ → Type 0
 HasNoZeros counts = (n : ℕ) → IfSome (get nat_cmp counts n) (λ count. 0 < count)
+
+-- the words of a shared batch
+abbrev pub batch_words : CountingRule → Arc NumberedPieces Global → List ℕ
+batch_words rule batch = words_of rule (as_reads batch.value.pieces)

@@ -1,16 +1,20 @@
 //! Counting words.
-ghost use Rattle.std.specs.Prelude.{◌≡◌, ◌≤◌, ◌+◌, ◌^◌, ◌==◌, ℕ, length, OnOk, IfOk, count_by};
+ghost use Rattle.std.specs.Prelude.{◌≡◌, ◌≤◌, ◌+◌, ◌^◌, ◌==◌, ℕ, length, OnOk, IfOk, count_by, map};
+ghost use Rattle.std.specs.List.{flat_map};
 ghost use Rattle.std.specs.BTreeMap.{IsOrdered};
 ghost use Rattle.std.specs.Ordering.{nat_cmp};
-ghost use Rattle.kc_tool.specs.Counting.{counted, HasNoZeros};
+ghost use Rattle.kc_tool.specs.Counting.{counted, HasNoZeros, batch_words};
 ghost use Rattle.kc_fastx.specs.ReadsOf.{base_count};
+ghost use Rattle.kc_word.specs.Occurrences.{words_of};
+ghost use Rattle.kc_word.specs.Cutting.{cleaned};
 ghost use Rattle.kc_word.specs.Tally.{IsTally};
 
 use crate::tallies::Tally;
 use kc_fastx::SeqRead;
-use kc_word::{Rule, laws, read_words};
+use kc_word::{Batch, Piece, Rule, clean, cut, laws, words};
 use std::alloc::{AllocError, Global};
 use std::collections::BTreeMap;
+use std::sync::Arc;
 
 // Counts each word once more.
 fn count_words(counts: &mut BTreeMap<u64, u64>, words: &[u64]) -> Result<(), AllocError>
@@ -36,20 +40,56 @@ fn rows_of(alloc: Global, counts: &BTreeMap<u64, u64>) -> Result<Vec<(u64, u64)>
     Ok(rows)
 }
 
-/// The tally of reads that have at most 2^36 bases together.
-pub(crate) fn tally_of(alloc: Global, reads: &[SeqRead], rule: &Rule) -> Result<Tally, AllocError>
-    requires { base_count reads.now ≤ 2 ^ 36 }
+/// The tally of reads that have at most 2^36 bases together, counted batch after batch of `size` positions.
+/// Condition: the size is at least 1.
+pub(crate) fn tally_of(
+    alloc: Global,
+    reads: &[SeqRead],
+    rule: &Rule,
+    size: u64,
+) -> Result<Tally, AllocError>
+    requires few { base_count reads.now ≤ 2 ^ 36 }
+    requires some { 1 ≤ size }
     ensures tally { IfOk result (λ tally. IsTally rule.now reads.now tally.rows) }
     ensures k { IfOk result (λ tally. tally.k ≡ rule.now.k) }
+{
+    let batches = batches_of(alloc, reads, rule, size)?;
+    let mut counts = BTreeMap::new(alloc);
+    for batch in &batches {
+        count_words(&mut counts, &words(alloc, batch, rule)?)?;
+    }
+    let rows = rows_of(alloc, &counts)?;
+    // what is known of the words of reads
+    laws::words_of_reads();
+    laws::counted_words();
+    Ok(Tally::of_rows(rule.k(), rule.both(), rows))
+}
+
+// The reads cleaned and cut into batches, which have their words.
+fn batches_of(
+    alloc: Global,
+    reads: &[SeqRead],
+    rule: &Rule,
+    size: u64,
+) -> Result<Vec<Arc<Batch>>, AllocError>
+    requires { 1 ≤ size }
+    ensures words { IfOk result (λ batches. flat_map (batch_words rule.now) batches.items ≡ words_of rule.now reads.now) }
+    ensures few { IfOk result (λ batches. length (flat_map (batch_words rule.now) batches.items) ≤ base_count reads.now) }
 {
     let k = rule.k();
     // what is known of a length, and of the words of reads
     let _bases = k.get();
     laws::words_of_reads();
-    let mut counts = BTreeMap::new(alloc);
+    cut(alloc, clean_all(alloc, reads, rule)?, k, size)
+}
+
+// The pieces of the reads.
+fn clean_all(alloc: Global, reads: &[SeqRead], rule: &Rule) -> Result<Vec<Piece>, AllocError>
+    ensures { IfOk result (λ pieces. pieces.items ≡ map (λ read. cleaned rule.now read) reads.now) }
+{
+    let mut pieces = Vec::with_capacity(alloc, reads.len())?;
     for read in reads {
-        count_words(&mut counts, &read_words(alloc, read, rule)?)?;
+        pieces.push(clean(alloc, read, rule)?)?;
     }
-    let rows = rows_of(alloc, &counts)?;
-    Ok(Tally::of_rows(k, rule.both(), rows))
+    Ok(pieces)
 }

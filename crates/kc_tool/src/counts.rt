@@ -29,6 +29,6 @@ pub fn count_reads<H, R: Source + Drop, W: Sink>(
     ensures refused { IfErr result (λ fault. fault ≢ ToolFault.Write → LeavesUnwritten R.seen sources.items (W.seen writer.old) (W.seen writer.new) fault) }
 {
     let reads = read_sources(alloc, sources)?;
-    let tally = tally_of(alloc, &reads, &options.rule())?;
+    let tally = tally_of(alloc, &reads, &options.rule(), options.batch())?;
     write_dump(writer, &tally, &options.dump())
 }

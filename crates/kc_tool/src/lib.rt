@@ -18,6 +18,7 @@ pub use arguments::options;
 pub use counts::count_reads;
 pub use dumping::write_dump;
 pub use faults::{OptionName, ToolFault, write_fault};
+pub use kc_word::K;
 pub use running::program;
 pub use settings::{Dump, Options};
 pub use sinks::{Sink, ToVec, ToWrite};

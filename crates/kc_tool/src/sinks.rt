@@ -72,10 +72,8 @@ impl ToVec {
         ensures bytes { result.bytes ≡ bytes }
         ensures failures { result.failures.count ≡ 0 }
     {
-        ToVec {
-            bytes,
-            failures: Failures::none(),
-        }
+        let failures = Failures::none();
+        ToVec { bytes, failures }
     }
 }
 

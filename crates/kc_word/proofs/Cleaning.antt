@@ -1,5 +1,5 @@
 -- A cleaned read: as long as the read, with the same words at the same positions.
-use Rattle.std.proofs.Common.{◌≡◌, ℕ, zero, suc, ◌+◌, ◌<◌, ◌≤◌, ⊎_elim, Bool, true, false, ◌&&◌, ◌||◌, cond, eqb, leb, List, [], ◌∷◌, ◌++◌, map, length, get_or, take, drop, Some, None, option_map, filter_map, sum_by, count_by, Result, Ok, Err, IfOk, eqb-true, refl, ap, sym, ◌∙◌, arith}
+use Rattle.std.proofs.Common.{◌≡◌, ℕ, zero, suc, ◌+◌, ◌-◌, ◌<◌, ◌≤◌, ⊎_elim, Bool, true, false, ◌&&◌, ◌||◌, cond, eqb, leb, List, [], ◌∷◌, ◌++◌, map, length, get_or, take, drop, Some, None, option_map, filter_map, sum_by, count_by, Result, Ok, Err, IfOk, eqb-true, refl, ap, sym, ◌∙◌, arith}
 use Rattle.std.proofs.lemmas.Bool.{cases_Bool, cases_lt, cond-true, cond-false, cond_both, and_parts, and_from, and_left, and_right, or_left, le-leb, lt-leb}
 use Rattle.std.proofs.lemmas.List.{length-map, get_or-map, drop_more}
 use Rattle.std.proofs.lemmas.List.Sums.{sum_by-cons}
@@ -187,3 +187,20 @@ words_of-cleaned rule [] = refl
 words_of-cleaned rule (read ∷ reads) =
     ap (λ xs. xs ++ flat_map (λ r. words_in rule r) (as_reads (map (λ r. cleaned rule r) reads))) (words_in-cleaned rule read)
     ∙ ap (λ xs. words_in rule read ++ xs) (words_of-cleaned rule reads)
+
+-- ---- a part of a piece
+
+list_all-drop : {X : Type 0} (p : X → Bool) (n : ℕ) (xs : List X) → list_all p xs ≡ true → list_all p (drop n xs) ≡ true
+list_all-drop p zero xs h = h
+list_all-drop p (suc n) [] h = refl
+list_all-drop p (suc n) (x ∷ xs) h = list_all-drop p n xs (and_parts (p x) (list_all p xs) h).1
+
+list_all-take : {X : Type 0} (p : X → Bool) (n : ℕ) (xs : List X) → list_all p xs ≡ true → list_all p (take n xs) ≡ true
+list_all-take p zero xs h = refl
+list_all-take p (suc n) [] h = refl
+list_all-take p (suc n) (x ∷ xs) h =
+    let parts = and_parts (p x) (list_all p xs) h in
+    and_from (p x) _ parts.0 (list_all-take p n xs parts.1)
+
+pub are_piece_bytes-part : (bytes : List ℕ) (from to : ℕ) → are_piece_bytes bytes ≡ true → are_piece_bytes (take (to - from) (drop from bytes)) ≡ true
+are_piece_bytes-part bytes from to h = list_all-take _ (to - from) (drop from bytes) (list_all-drop _ from bytes h)

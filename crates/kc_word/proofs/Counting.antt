@@ -1,6 +1,6 @@
 -- The words of a piece as they are pushed, one byte after another.
-use Rattle.std.proofs.Common.{◌≡◌, ℕ, ◌+◌, ◌-◌, ◌*◌, ◌/◌, ◌%◌, ◌^◌, ◌<◌, ◌≤◌, min, ⊎_elim, ◌⊎◌, Bool, true, false, cond, List, [], ◌∷◌, ◌++◌, length, get_or, take, None, option_to_list, option_map, filter_map, ap, sym, ◌∙◌, subst, arith, bit_and, lit<, pow-suc, mul-le-mul_right}
-use Rattle.std.proofs.lemmas.List.{take_more, append-nil, append_assoc, take_all, length-take-le, length_push}
+use Rattle.std.proofs.Common.{◌≡◌, ℕ, ◌+◌, ◌-◌, ◌*◌, ◌/◌, ◌%◌, ◌^◌, ◌<◌, ◌≤◌, min, ⊎_elim, ◌⊎◌, Bool, true, false, cond, List, [], ◌∷◌, ◌++◌, length, get_or, take, None, option_to_list, option_map, filter_map, refl, ap, sym, ◌∙◌, subst, arith, bit_and, lit<, pow-suc, mul-le-mul_right}
+use Rattle.std.proofs.lemmas.List.{map_push, take_more, append-nil, append_assoc, take_all, length-take-le, length_push}
 use Rattle.std.proofs.lemmas.Bool.{cases_lt, cond-true, cond-false}
 use Rattle.std.proofs.lemmas.Nat.{one_shl, and_mask, shl_whole, pow_pos}
 use Rattle.std.proofs.Math.Nat.{pow-le-pow_right}
@@ -9,9 +9,11 @@ use Rattle.std.specs.Char.{to_ascii_uppercase}
 use Rattle.kc_fastx.specs.Reads.{read_of}
 use Rattle.kc_word.specs.Base.{is_base, code}
 use Rattle.kc_word.specs.Rule.{CountingRule}
-use Rattle.std.specs.List.{range_with_len}
+use Rattle.std.specs.List.{range_with_len, flat_map}
 use Rattle.kc_word.specs.Word.{number}
-use Rattle.kc_word.specs.Occurrences.{words_in, form_at}
+use Rattle.kc_word.specs.Occurrences.{words_in, words_of, form_at}
+use Rattle.kc_word.specs.Cutting.{as_reads}
+use Rattle.std.proofs.lemmas.List.Concat.{flat_map-append}
 use Rattle.kc_word.proofs.Windows.{word_of, last_window, words_push, words_in-windows}
 use Rattle.kc_word.proofs.Rolling.{IsRolled, IsRolled-none, IsRolled-more, IsRolled-forward-lt, IsRolled-backward-lt, word_of-rolled, word_of-broken}
 
@@ -124,3 +126,19 @@ word-lesser both b word less forward same h e = e ∙ sym (cond-true both less f
 
 pub word-forward : (both b : Bool) (word less forward : ℕ) → b ≡ both → b ≡ false → word ≡ forward → word ≡ cond both less forward
 word-forward both b word less forward same h e = e ∙ sym (cond-false both less forward (sym same ∙ h))
+
+-- ---- the words of one piece after another
+
+pub words_of-none : (rule : CountingRule) → words_of rule (as_reads []) ≡ []
+unfolding words_of
+words_of-none rule = refl
+
+pub words_of-more : (rule : CountingRule) (pieces : List (List ℕ)) (i : ℕ) (piece : List ℕ) (words after : List ℕ) → i < length pieces → piece ≡ get_or pieces i piece → words ≡ words_of rule (as_reads (take i pieces)) → after ≡ words ++ words_in rule (read_of piece None)
+    → after ≡ words_of rule (as_reads (take (i + 1) pieces))
+unfolding words_of
+words_of-more rule pieces i piece words after h is before push =
+    push ∙ ap (λ xs. xs ++ words_in rule (read_of piece None)) before
+    ∙ ap (λ xs. flat_map (λ read. words_in rule read) (as_reads (take i pieces)) ++ xs) (sym (append-nil (words_in rule (read_of piece None))))
+    ∙ sym (flat_map-append (λ read. words_in rule read) (as_reads (take i pieces)) (read_of piece None ∷ []))
+    ∙ ap (flat_map (λ read. words_in rule read)) (sym (map_push (λ p. read_of p None) (take i pieces) piece))
+    ∙ ap (λ ps. flat_map (λ read. words_in rule read) (as_reads ps)) (ap (λ p. take i pieces ++ p ∷ []) is ∙ sym (take_more pieces i piece h))

@@ -10,3 +10,7 @@ pub mod Counting
 pub mod Tallies
 pub mod Looking
 pub mod Rows
+pub mod Cuttings
+pub mod Taking
+pub mod Batching
+mod Worked

@@ -146,3 +146,18 @@ words_push k both bytes byte =
     ∙ filter_map-append (word_of both) (windows k bytes) (last_window k (bytes ++ byte ∷ []) ∷ [])
     ∙ ap (λ xs. filter_map (word_of both) (windows k bytes) ++ xs) (filter_map-one (word_of both) (last_window k (bytes ++ byte ∷ []))))
     (cases_lt (length bytes + 1) k)
+
+-- the word of a window, in the form under which it counts, where all its bytes are bases
+unfoldable pub window_form : Bool → List ℕ → Option (List ℕ)
+window_form both window = cond (are_bases (map to_ascii_uppercase window)) (Some (form both (map to_ascii_uppercase window))) None
+
+pub form_at-window_form : (rule : CountingRule) (bytes : List ℕ) (p : ℕ) → p + rule.k ≤ length bytes → form_at rule (read_of bytes None) p ≡ window_form rule.both (take rule.k (drop p bytes))
+unfolding form_at word_at window_form
+form_at-window_form rule bytes p h =
+    ap (λ b. option_map (form rule.both) (cond (b && list_all (λ j. is_usable rule (read_of bytes None) j) (range_with_len p rule.k)) (Some (map to_ascii_uppercase (take rule.k (drop p bytes)))) None)) (le-leb (p + rule.k) (length bytes) h)
+    ∙ ap (λ b. option_map (form rule.both) (cond b (Some (map to_ascii_uppercase (take rule.k (drop p bytes)))) None)) (usable-window rule bytes rule.k p h)
+    ∙ through (are_bases (map to_ascii_uppercase (take rule.k (drop p bytes)))) (map to_ascii_uppercase (take rule.k (drop p bytes)))
+  where
+    through : (b : Bool) (w : List ℕ) → option_map (form rule.both) (cond b (Some w) None) ≡ cond b (Some (form rule.both w)) None
+    through true w = refl
+    through false w = refl

@@ -5,6 +5,7 @@ use Rattle.std.proofs.lemmas.List.{map_push, length_push, length-map, length-rev
 use Rattle.std.proofs.lemmas.Int.Digits.{number_push, number_lt}
 use Rattle.std.specs.Int.Digits.{number_from_digits, AllBelowBase}
 use Rattle.std.specs.List.{list_all}
+use Rattle.std.specs.Char.{to_ascii_uppercase}
 use Rattle.std.specs.Ordering.{nat_cmp, is_lt, ordering_then}
 use Rattle.std.specs.declared.cmp.Ordering.{Ordering}
 use Rattle.std.specs.declared.cmp.Ordering.TheVariants.{Less, Equal, Greater}
@@ -301,3 +302,13 @@ text-canonical k n m hn hm e =
       λ less. e ∙ sym (cases ∙ cond-true _ _ _ (lt-ltb (number (reverse_complement word)) (number word) (omega (arith, value, other, less)))),
       λ more. sym (cases ∙ cond-false _ _ _ (le-ltb (number (reverse_complement word)) (number word) (omega (arith, value, other, more)))),
     )
+
+upper-base : (byte : ℕ) → is_base byte ≡ true → to_ascii_uppercase byte ≡ byte
+upper-base = at_base (λ b. to_ascii_uppercase b ≡ b) refl refl refl refl
+
+-- the letters of a word are in upper case
+pub upper-bases : (word : List ℕ) → are_bases word ≡ true → map to_ascii_uppercase word ≡ word
+upper-bases [] h = refl
+upper-bases (x ∷ xs) h =
+    let parts = and_parts (is_base x) (are_bases xs) h in
+    ap (λ y. y ∷ map to_ascii_uppercase xs) (upper-base x parts.0) ∙ ap (λ ys. x ∷ ys) (upper-bases xs parts.1)

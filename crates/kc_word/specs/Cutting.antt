@@ -1,20 +1,25 @@
 -- Cleaned pieces, and how they are cut into numbered batches of as many positions each.
 -- Source: this project's own; a batch is what one worker counts at a time.
-use Rattle.std.specs.Prelude.{ℕ, Bool, ◌+◌, ◌-◌, ◌*◌, ◌/◌, ◌==◌, ◌||◌, nat_lt, min, List, [], ◌∷◌, ◌++◌, length, map, slice_range, slice_index, None, if◌then◌else◌, sum_by}
-use Rattle.std.specs.List.{range_with_len, list_all}
+use Rattle.std.specs.Prelude.{◌≡◌, ℕ, Bool, ◌+◌, ◌-◌, ◌*◌, ◌/◌, ◌==◌, ◌&&◌, ◌||◌, nat_lt, min, List, [], ◌∷◌, ◌++◌, length, map, slice_range, slice_index, None, if◌then◌else◌, sum_by}
+use Rattle.std.specs.List.{range_with_len, list_all, flat_map}
+use Rattle.std.specs.Cmp.Lexicographic.{pointwise}
+use Rattle.std.specs.Str.{bytes_eq}
 use Rattle.std.specs.Char.{to_ascii_uppercase}
 use Rattle.kc_fastx.specs.Reads.{Read, read_of}
 use Rattle.kc_word.specs.Base.{is_base}
 use Rattle.kc_word.specs.Rule.{CountingRule}
-use Rattle.kc_word.specs.Occurrences.{is_usable, position_count}
+use Rattle.kc_word.specs.Occurrences.{is_usable, position_count, occurrences, words_of}
 
 -- the letter N, which stands for a base that is not usable
 abbrev pub unusable : ℕ
 unusable = 78
 
--- the bytes of a piece: bases and N
+-- a byte of a piece: a base or N
+abbrev pub is_piece_byte : ℕ → Bool
+is_piece_byte byte = is_base byte || byte == unusable
+
 abbrev pub are_piece_bytes : List ℕ → Bool
-are_piece_bytes bytes = list_all (λ byte. is_base byte || byte == unusable) bytes
+are_piece_bytes bytes = list_all is_piece_byte bytes
 
 -- a base in upper case, and N for any other byte
 abbrev pub cleaned_letter : ℕ → ℕ
@@ -64,3 +69,18 @@ batch_of k size pieces i = record { number = i; pieces = stretches k (i * size) 
 -- all batches of a cutting, in order
 unfoldable pub cutting : ℕ → ℕ → List (List ℕ) → List NumberedPieces
 cutting k size pieces = map (λ i. batch_of k size pieces i) (range_with_len 0 (batch_count k size pieces))
+
+-- in the batches together each word occurs as often as in the pieces
+abbrev pub KeepsOccurrences : ℕ → List (List ℕ) → List NumberedPieces → Type 0
+KeepsOccurrences k pieces batches = (rule : CountingRule) (word : List ℕ) → rule.k ≡ k → sum_by (λ batch. occurrences rule (as_reads batch.pieces) word) batches ≡ occurrences rule (as_reads pieces) word
+
+-- the words of the batches, one batch after another, are the words of the pieces
+abbrev pub KeepsWords : ℕ → List (List ℕ) → List NumberedPieces → Type 0
+KeepsWords k pieces batches = (rule : CountingRule) → rule.k ≡ k → flat_map (λ batch. words_of rule (as_reads batch.pieces)) batches ≡ words_of rule (as_reads pieces)
+
+-- whether two pieces have the same bytes, and two batches the same number and pieces
+abbrev pub is_same_piece : List ℕ → List ℕ → Bool
+is_same_piece piece other = bytes_eq piece other
+
+abbrev pub is_same_batch : NumberedPieces → NumberedPieces → Bool
+is_same_batch batch other = (batch.number == other.number) && pointwise bytes_eq batch.pieces other.pieces

@@ -1,16 +1,24 @@
 -- What holds of words, occurrences and tallies, whatever the reads are.
-use Rattle.std.specs.Prelude.{◌≡◌, ℕ, ◌+◌, ◌^◌, ◌<◌, ◌≤◌, List, ◌++◌, length, sum_by, All, count_by, ◌==◌}
+use Rattle.std.specs.Prelude.{◌≡◌, ℕ, ◌+◌, ◌^◌, ◌<◌, ◌≤◌, ◌==◌, List, ◌++◌, map, length, sum_by, count_by, IsTrue, All}
+use Rattle.std.specs.List.{flat_map}
+use Rattle.std.specs.Char.{to_ascii_uppercase}
+use Rattle.kc_word.specs.Base.{are_bases}
 use Rattle.std.specs.Ordering.{nat_cmp}
 use Rattle.std.specs.Cmp.Lexicographic.{slice_cmp}
 use Rattle.kc_fastx.specs.Reads.{Read}
 use Rattle.kc_word.specs.Word.{number, text, reverse_complement, canonical}
 use Rattle.kc_word.specs.Rule.{CountingRule}
 use Rattle.kc_word.specs.Occurrences.{occurrences, words_of}
+use Rattle.kc_word.specs.Cutting.{as_reads, cleaned, cutting}
 use Rattle.kc_word.specs.Tally.{count_of, IsTally}
 
 -- a number below 4 ^ k is the number of its text
 abbrev pub NumberOfText : Type 0
 NumberOfText = (k n : ℕ) → n < 4 ^ k → number (text k n) ≡ n
+
+-- the letters of a word below 4 ^ k are bases, and no other word below 4 ^ k has them: `pack` of what `text` writes is the word
+abbrev pub PackedText : Type 0
+PackedText = (k n : ℕ) → n < 4 ^ k → IsTrue (are_bases (map to_ascii_uppercase (text k n))) × ((m : ℕ) → m < 4 ^ k → text k m ≡ map to_ascii_uppercase (text k n) → m ≡ n)
 
 -- the order of the numbers is the order of the texts
 abbrev pub OrderOfTexts : Type 0
@@ -44,14 +52,27 @@ TallyTotal = (rule : CountingRule) (reads : List Read) (rows : List (ℕ × ℕ)
 abbrev pub BoundedTally : Type 0
 BoundedTally = (rule : CountingRule) (reads : List Read) (rows : List (ℕ × ℕ)) → 1 ≤ rule.k → IsTally rule reads rows → sum_by (λ row. row.1) rows ≤ sum_by (λ read. length read.bases) reads
 
+-- the words of all batches of a cutting of cleaned reads are the words of the reads, each position once and in order
+abbrev pub CuttingWords : Type 0
+CuttingWords = (rule : CountingRule) (size : ℕ) (reads : List Read) → 1 ≤ rule.k → 1 ≤ size → flat_map (λ batch. words_of rule (as_reads batch.pieces)) (cutting rule.k size (map (λ read. cleaned rule read) reads)) ≡ words_of rule reads
+
+-- and each word occurs in all batches together as often as in the reads
+abbrev pub CuttingOccurrences : Type 0
+CuttingOccurrences = (rule : CountingRule) (size : ℕ) (reads : List Read) (word : List ℕ) → 1 ≤ rule.k → 1 ≤ size
+    → sum_by (λ batch. occurrences rule (as_reads batch.pieces) word) (cutting rule.k size (map (λ read. cleaned rule read) reads)) ≡ occurrences rule reads word
+
+-- a word below 4 ^ k occurs as often as its number stands among the words of the reads
+abbrev pub CountedWords : Type 0
+CountedWords = (rule : CountingRule) (reads : List Read) (n : ℕ) → n < 4 ^ rule.k → count_by (λ m. m == n) (words_of rule reads) ≡ occurrences rule reads (text rule.k n)
+
 -- the number of each word of the reads is below 4 ^ k
 abbrev pub WordsAreBelow : Type 0
 WordsAreBelow = (rule : CountingRule) (reads : List Read) → All (λ word. word < 4 ^ rule.k) (words_of rule reads)
 
--- a word occurs as often as its number stands in the list of all words
-abbrev pub WordsAreCounted : Type 0
-WordsAreCounted = (rule : CountingRule) (reads : List Read) (n : ℕ) → n < 4 ^ rule.k → count_by (λ word. word == n) (words_of rule reads) ≡ occurrences rule reads (text rule.k n)
-
 -- the reads have at most as many words as bases
 abbrev pub WordsAreFew : Type 0
 WordsAreFew = (rule : CountingRule) (reads : List Read) → 1 ≤ rule.k → length (words_of rule reads) ≤ sum_by (λ read. length read.bases) reads
+
+-- cleaned into pieces, reads have the same words
+abbrev pub CleanedWords : Type 0
+CleanedWords = (rule : CountingRule) (reads : List Read) → words_of rule (as_reads (map (λ read. cleaned rule read) reads)) ≡ words_of rule reads

@@ -5,3 +5,6 @@ pub mod Occurrences
 pub mod Tally
 pub mod Cutting
 pub mod Laws
+pub mod Place
+pub mod Sameness
+pub mod Shared

@@ -1,9 +1,14 @@
 //! Laws of words, occurrences and tallies. Each is the contract of a function that does nothing.
-ghost use Rattle.kc_word.specs.Laws.{NumberOfText, OrderOfTexts, ReversedTwice, OneCanonicalForm, OneTally, JoinedOccurrences, JoinedTally, TallyTotal, BoundedTally, WordsAreBelow, WordsAreCounted, WordsAreFew};
+ghost use Rattle.kc_word.specs.Laws.{NumberOfText, PackedText, OrderOfTexts, ReversedTwice, OneCanonicalForm, OneTally, JoinedOccurrences, JoinedTally, TallyTotal, BoundedTally, CountedWords, CuttingWords, CuttingOccurrences, WordsAreBelow, WordsAreFew, CleanedWords};
 
 /// A number below 4^k is the number of its text.
 pub fn number_of_text()
     ensures { NumberOfText }
+{}
+
+/// `pack` of the letters that `text` writes is the word.
+pub fn packed_text()
+    ensures { PackedText }
 {}
 
 /// The order of the numbers is the order of the texts.
@@ -46,9 +51,24 @@ pub fn bounded_tally()
     ensures { BoundedTally }
 {}
 
-/// The list of all words of the reads counts their occurrences.
+/// A word occurs as often as its number stands among the words of the reads.
+pub fn counted_words()
+    ensures { CountedWords }
+{}
+
+/// The words of all batches of a cutting are the words of the reads, each position once.
+pub fn cutting_words()
+    ensures { CuttingWords }
+{}
+
+/// Each word occurs in all batches of a cutting together as often as in the reads.
+pub fn cutting_occurrences()
+    ensures { CuttingOccurrences }
+{}
+
+/// The words of reads are below 4^k, at most as many as the bases, and those of the cleaned pieces.
 pub fn words_of_reads()
     ensures below { WordsAreBelow }
-    ensures counted { WordsAreCounted }
     ensures few { WordsAreFew }
+    ensures cleaned { CleanedWords }
 {}

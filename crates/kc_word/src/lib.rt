@@ -2,17 +2,22 @@
 //! cut into numbered batches.
 #![tactic(auto)]
 
+mod batch;
 mod k;
 pub mod laws;
 mod letter;
 mod piece;
+mod roll;
 mod rule;
 pub mod slow;
 mod word;
-mod words;
 
+pub use batch::{Batch, cut};
 pub use k::K;
 pub use piece::{Piece, clean};
+pub use roll::{read_words, words};
 pub use rule::Rule;
 pub use word::{Word, canonical, pack, reverse_complement, text};
-pub use words::read_words;
+
+#[cfg(test)]
+mod tests;

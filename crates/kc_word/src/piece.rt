@@ -1,8 +1,10 @@
 //! Reads cleaned into pieces.
-ghost use Rattle.std.specs.Prelude.{◌≡◌, ◌<◌, ◌↔◌, length, slice_index, map, Some, IfOk, IsTrue};
+ghost use Rattle.std.specs.Prelude.{◌≡◌, ◌+◌, ◌^◌, ◌<◌, ◌↔◌, length, slice_index, slice_range, ◌≤◌, map, Some, IfOk, IsTrue};
 ghost use Rattle.kc_fastx.specs.Reads.{read_of};
-ghost use Rattle.kc_word.specs.Cutting.{cleaned, cleaned_letter};
+ghost use Rattle.kc_word.specs.Occurrences.{position_count};
+ghost use Rattle.kc_word.specs.Cutting.{cleaned, cleaned_letter, is_piece_byte};
 
+use crate::k::K;
 use crate::letter::{UNUSABLE, cleaned_letter};
 use crate::rule::Rule;
 use kc_fastx::SeqRead;
@@ -45,9 +47,28 @@ impl Piece {
     /// The byte at place `i`. Condition: `i` is below the length.
     pub fn base(&self, i: u64) -> u8
         requires { i < length self.now }
-        ensures { result ≡ slice_index self.now i }
+        ensures value { result ≡ slice_index self.now i }
+        ensures letter { IsTrue (is_piece_byte result) }
     {
         self.bytes[i as usize]
+    }
+
+    /// How many positions the piece has: the words of k bases begin at 0 to n - k.
+    pub(crate) fn position_count(&self, k: K) -> usize
+        ensures value { result ≡ position_count k (length self.now) }
+        ensures fits { length self.now + 1 < 2 ^ 64 }
+    {
+        (self.bytes.len() + 1).saturating_sub(k.get() as usize)
+    }
+
+    /// The bytes from `from` to before `to`, as a piece.
+    pub(crate) fn part(&self, alloc: Global, from: usize, to: usize) -> Result<Piece, AllocError>
+        requires ordered { from ≤ to }
+        requires within { to ≤ length self.now }
+        ensures { IfOk result (λ part. part ≡ slice_range self.now from to) }
+    {
+        let bytes = Vec::from_slice(alloc, &self.bytes[from..to])?;
+        Ok(Piece { bytes })
     }
 
     /// All bytes, in order.
@@ -56,6 +77,27 @@ impl Piece {
     {
         &self.bytes
     }
+}
+
+/// Equal pieces have the same bytes.
+impl PartialEq for Piece {
+    ghost use Rattle.std.specs.Cmp.{partial_equiv_from_equiv};
+    ghost use Rattle.std.specs.Cmp.Lexicographic.{nat_list_eq_equiv};
+    ghost use Rattle.kc_word.specs.Cutting.{is_same_piece};
+
+    ghost eq = { is_same_piece };
+
+    ghost laws = { partial_equiv_from_equiv nat_list_eq_equiv };
+
+    fn eq(&self, other: &Piece) -> bool {
+        self.bytes.as_slice() == other.bytes.as_slice()
+    }
+}
+
+impl Eq for Piece {
+    ghost use Rattle.std.specs.Cmp.Lexicographic.{nat_list_eq_equiv};
+
+    ghost laws = { nat_list_eq_equiv };
 }
 
 /// The piece of a read: each usable base in upper case at its place, and `N` at every other place.

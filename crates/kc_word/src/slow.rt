@@ -1,6 +1,6 @@
 //! A plain and slow count, straight from the definitions: each number below 4^k is looked for at each
 //! position of each read. It is there to compute small examples.
-ghost use Rattle.std.specs.Prelude.{◌≡◌, ◌+◌, ◌^◌, ◌<◌, ◌≤◌, length, sum_by, Some, None, IfOk, IfSome, IfNone};
+ghost use Rattle.std.specs.Prelude.{◌≡◌, ◌+◌, ◌^◌, ◌<◌, ◌≤◌, length, sum_by, Some, None, SomeIff, IfOk, IfSome, IfNone};
 ghost use Rattle.kc_word.specs.Word.{text};
 ghost use Rattle.kc_word.specs.Occurrences.{is_usable, form_at, counts_under, occurrences_in, occurrences};
 ghost use Rattle.kc_word.specs.Tally.{IsTally};
@@ -12,7 +12,8 @@ use kc_fastx::SeqRead;
 use std::alloc::{AllocError, Global};
 
 /// The tally of the reads: each word that occurs and its occurrences, in the order of the words.
-/// Condition: the reads have fewer than 2^64 bases.
+/// Condition: the reads have fewer than 2^64
+/// bases, which `base_count` tells.
 pub fn tally(alloc: Global, reads: &[SeqRead], rule: &Rule) -> Result<Vec<(u64, u64)>, AllocError>
     requires { sum_by (λ read. length read.bases) reads.now < 2 ^ 64 }
     ensures { IfOk result (λ rows. IsTally rule.now reads.now rows.items) }
@@ -25,6 +26,18 @@ pub fn tally(alloc: Global, reads: &[SeqRead], rule: &Rule) -> Result<Vec<(u64, 
         }
     }
     Ok(rows)
+}
+
+/// How many bases the reads have, where they are fewer than 2^64.
+pub fn base_count(reads: &[SeqRead]) -> Option<u64>
+    ensures { let bases = sum_by (λ read. length read.bases) reads.now in
+        SomeIff result (bases < 2 ^ 64) bases }
+{
+    let mut count = 0u64;
+    for read in reads {
+        count = count.checked_add(read.bases().len() as u64)?;
+    }
+    Some(count)
 }
 
 /// The occurrences of a word in the reads. Conditions: the word is below 4^k, and the reads have fewer

@@ -5,7 +5,7 @@ use Rattle.kc_fastx.specs.Records.{Records, FirstFault}
 use Rattle.kc_fastx.specs.Fasta.{IsFastaRecord}
 use Rattle.kc_fastx.specs.Fastq.{IsFastqRecord, FastqFails}
 use Rattle.kc_fastx.specs.ReadsOf.{IsFastq, HasFault, base_count, text_lines}
-use Rattle.kc_fastx.specs.Steps.{UnlessMemory}
+use Rattle.kc_fastx.specs.Faults.{UnlessMemory}
 use Rattle.kc_fastx.proofs.CountLemmas.{base_count-fasta, base_count-fastq}
 use Rattle.kc_fastx.proofs.FastqLemmas.{unless_memory}
 use Rattle.kc_fastx.proofs.ReadsOfLemmas.{fault-fastq}

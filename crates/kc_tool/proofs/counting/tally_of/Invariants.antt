@@ -1,7 +1,8 @@
 use Rattle.std.proofs.Common.{take}
-use Rattle.kc_word.specs.Occurrences.{words_of}
+use Rattle.std.specs.List.{flat_map}
+use Rattle.kc_tool.specs.Counting.{batch_words}
 use Rattle.kc_tool.proofs.Maps.{HasCounted}
 use Rattle.kc_tool.proofs.counting.tally_of.Given as goal
 
-abbrev pub invariant-loop-read : goal.invariant-loop-read
-invariant-loop-read l = HasCounted (words_of l.rule (take l.read-index l.reads)) l.counts
+abbrev pub invariant-loop-batch : goal.invariant-loop-batch
+invariant-loop-batch l = HasCounted (flat_map (batch_words l.rule) (take l.batch-index l.batch-items)) l.counts

@@ -1,11 +1,12 @@
-use Rattle.kc_word.proofs.Tallies.{All-words_of, times-words_of, length-words_of}
+use Rattle.kc_word.proofs.Cleaning.{words_of-cleaned}
+use Rattle.kc_word.proofs.Tallies.{All-words_of, length-words_of}
 use Rattle.kc_word.proofs.laws.words_of_reads.Goals as goal
 
 pub returns-clause-below : goal.returns-clause-below
 returns-clause-below c = All-words_of
 
-pub returns-clause-counted : goal.returns-clause-counted
-returns-clause-counted c = times-words_of
-
 pub returns-clause-few : goal.returns-clause-few
 returns-clause-few c = length-words_of
+
+pub returns-clause-cleaned : goal.returns-clause-cleaned
+returns-clause-cleaned c = words_of-cleaned

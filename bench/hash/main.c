@@ -1,0 +1,105 @@
+/* The same measurements over the same tables in C. */
+#include <stdint.h>
+#include <stdio.h>
+#include <stdlib.h>
+#include <time.h>
+
+enum { WORDS = 65536, TURNS = 200 };
+
+static uint64_t state;
+
+static uint64_t next_word(void) {
+    uint64_t z = (state += 0x9e3779b97f4a7c15);
+    z = (z ^ (z >> 30)) * 0xbf58476d1ce4e5b9;
+    z = (z ^ (z >> 27)) * 0x94d049bb133111eb;
+    return z ^ (z >> 31);
+}
+
+static int invertible(const uint64_t *columns, int bits) {
+    uint64_t basis[64] = {0};
+    for (int i = 0; i < bits; i++) {
+        uint64_t v = columns[i];
+        while (v) {
+            int top = 63 - __builtin_clzll(v);
+            if (!basis[top]) {
+                basis[top] = v;
+                break;
+            }
+            v ^= basis[top];
+        }
+        if (!v) return 0;
+    }
+    return 1;
+}
+
+struct tables {
+    uint64_t words[8][256];
+};
+
+static __attribute__((noinline)) void build(struct tables *t, const uint64_t *columns) {
+    for (int place = 0; place < 8; place++) {
+        t->words[place][0] = 0;
+        for (int bit = 0; bit < 8; bit++) {
+            int at = 8 * place + bit, width = 1 << bit;
+            uint64_t column = at < 62 ? columns[at] : 0;
+            for (int lower = 0; lower < width; lower++)
+                t->words[place][width + lower] = t->words[place][lower] ^ column;
+        }
+    }
+}
+
+static uint64_t apply(const struct tables *t, uint64_t x) {
+    uint64_t sum = 0;
+    for (int place = 0; place < 8; place++) sum ^= t->words[place][x >> (8 * place) & 255];
+    return sum;
+}
+
+static __attribute__((noinline)) uint64_t sum_of(const struct tables *t, const uint64_t *words, uint64_t turn, int bits) {
+    uint64_t sum = 0;
+    for (int i = 0; i < WORDS; i++) sum += apply(t, (words[i] ^ turn) >> (64 - bits));
+    return sum;
+}
+
+static uint64_t nanos(void) {
+    struct timespec now;
+    clock_gettime(CLOCK_MONOTONIC, &now);
+    return (uint64_t)now.tv_sec * 1000000000 + now.tv_nsec;
+}
+
+int main(void) {
+    static uint64_t words[WORDS];
+    static struct tables tables, built;
+    uint64_t word = 1;
+    for (int i = 0; i < WORDS; i++) words[i] = word = word * 6364136223846793005u + 1442695040888963407u;
+    for (int bits = 42; bits <= 62; bits += 20) {
+        uint64_t columns[62] = {0};
+        for (uint64_t seed = 1; ; seed++) {
+            state = seed;
+            for (int i = 0; i < bits; i++) columns[i] = next_word() & ((UINT64_C(1) << bits) - 1);
+            if (invertible(columns, bits)) break;
+        }
+        build(&tables, columns);
+        uint64_t least = UINT64_MAX, sum = 0;
+        for (int round = 0; round < 7; round++) {
+            uint64_t start = nanos();
+            sum = 0;
+            for (uint64_t turn = 0; turn < TURNS; turn++) sum += sum_of(&tables, words, turn, bits);
+            uint64_t took = nanos() - start;
+            if (took < least) least = took;
+        }
+        printf("apply %d %llu %llu\n", bits, (unsigned long long)least, (unsigned long long)sum);
+        least = UINT64_MAX;
+        for (int round = 0; round < 7; round++) {
+            uint64_t start = nanos();
+            sum = 0;
+            for (uint64_t turn = 0; turn < TURNS; turn++) {
+                build(&built, columns);
+                sum += apply(&built, (turn << 32) >> (64 - bits));
+            }
+            uint64_t took = nanos() - start;
+            if (took < least) least = took;
+        }
+        printf("build %d %llu %llu\n", bits, (unsigned long long)least, (unsigned long long)sum);
+    }
+    return 0;
+}

@@ -1,0 +1,19 @@
+-- The numbers of the faults (our formats page), and what a contract says of them.
+use Rattle.std.specs.Prelude.{ℕ, ⊤}
+use Rattle.kc_fastx.specs.declared.faults.FastxFault.{FastxFault}
+use Rattle.kc_fastx.specs.declared.faults.FastxFault.TheVariants.{BadStart, BadBase, BadQuality, LongQuality, Truncated, TooLong, Read, Memory}
+
+abbrev pub fault_number : FastxFault → ℕ
+fault_number (BadStart line) = 1
+fault_number (BadBase line) = 2
+fault_number (BadQuality line) = 3
+fault_number (LongQuality line) = 4
+fault_number (Truncated line) = 5
+fault_number TooLong = 6
+fault_number Read = 7
+fault_number Memory = 8
+
+-- memory was refused, of which nothing more is said, or the fault is one that `Is` tells
+abbrev pub UnlessMemory : (FastxFault → Type 0) → FastxFault → Type 0
+UnlessMemory Is Memory = ⊤
+UnlessMemory Is fault = Is fault

@@ -1,0 +1,6 @@
+pub mod Bytes
+pub mod Copies
+pub mod Linear
+pub mod RowSteps
+pub mod Words
+pub mod Worked

@@ -1,0 +1,6 @@
+use Rattle.kc_hash.specs.Product.{identity}
+use Rattle.kc_hash.proofs.Copies.{CopiesFront}
+use Rattle.kc_hash.proofs.matrix.Matrix.identity.Given as goal
+
+abbrev pub invariant-loop-place : goal.invariant-loop-place
+invariant-loop-place l = CopiesFront l.bits (identity l.bits) l.columns l.place

@@ -1,0 +1,48 @@
+-- A bit matrix of n columns as the list of its columns, each a number whose bits are the column's, and its product with a
+-- word of n bits (Marçais and Kingsford 2011: a k-mer's bits, as a vector, are multiplied by an invertible matrix).
+use Rattle.std.specs.Prelude.{◌≡◌, ℕ, ◌<◌, ◌^◌, List, [], ◌∷◌, length, map, ◌==◌, slice_index, bit_xor}
+use Rattle.std.specs.List.{filter, range_with_len}
+use Rattle.std.specs.Int.{bit_at}
+
+-- the places of the set bits of x among the lowest n, from the lowest up
+abbrev pub set_bits : ℕ → ℕ → List ℕ
+set_bits n x = filter (λ i. bit_at x i == 1) (range_with_len 0 n)
+
+-- the xor of all these numbers, 0 where there are none
+abbrev pub xor_of : List ℕ → ℕ
+xor_of [] = 0
+xor_of (y ∷ ys) = bit_xor y (xor_of ys)
+
+-- the matrix product: the xor of the columns at the set bits of x
+unfoldable pub product : List ℕ → ℕ → ℕ
+product columns x = xor_of (map (λ i. slice_index columns i) (set_bits (length columns) x))
+
+-- the matrix that leaves every word as it is: column i has bit i alone
+unfoldable pub identity : ℕ → List ℕ
+identity n = map (λ i. 2 ^ i) (range_with_len 0 n)
+
+-- the second matrix undoes the product with the first
+abbrev pub Undoes : List ℕ → List ℕ → Type 0
+Undoes columns other = (x : ℕ) → x < 2 ^ length columns → product other (product columns x) ≡ x
+
+-- the two matrices have as many columns, their products stay below 2 ^ n, and each undoes the other
+pub record AreInverse (columns other : List ℕ) : Type 0 where
+  pub same_bits : length other ≡ length columns
+  pub stays : (x : ℕ) → x < 2 ^ length columns → product columns x < 2 ^ length columns
+  pub stays_back : (x : ℕ) → x < 2 ^ length columns → product other x < 2 ^ length columns
+  pub undoes : Undoes columns other
+  pub undone : Undoes other columns
+
+-- a number below 2 ^ n, not 0, that the matrix maps to 0
+pub record IsInKernel (columns : List ℕ) (x : ℕ) : Type 0 where
+  pub positive : 0 < x
+  pub within : x < 2 ^ length columns
+  pub to_zero : product columns x ≡ 0
+
+-- 0 is the only number below 2 ^ n that the matrix maps to 0
+abbrev pub IsNonsingular : List ℕ → Type 0
+IsNonsingular columns = (x : ℕ) → x < 2 ^ length columns → product columns x ≡ 0 → x ≡ 0
+
+-- the matrix maps no two numbers below 2 ^ n to one
+abbrev pub IsOneToOne : List ℕ → Type 0
+IsOneToOne columns = (x y : ℕ) → x < 2 ^ length columns → y < 2 ^ length columns → product columns x ≡ product columns y → x ≡ y

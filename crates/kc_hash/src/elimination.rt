@@ -1,0 +1,122 @@
+//! The inverse of a matrix, by elimination: row operations, done to the matrix and to the identity side by
+//! side, make the columns of the matrix those of the identity, one after the other.
+
+ghost use Rattle.std.specs.Prelude.{◌≡◌, ℕ, ◌+◌, ◌<◌, ◌≤◌, ◌^◌, List, length, map, slice_index, IfSome, IfNone};
+ghost use Rattle.std.specs.Bool.{OnTrue, OnFalse};
+ghost use Rattle.std.specs.Int.{bit_at};
+ghost use Rattle.kc_hash.specs.Elimination.{row_added, IsReduction, HasUnits};
+ghost use Rattle.kc_hash.specs.Product.{Undoes, AreInverse, IsInKernel, IsNonsingular};
+
+use crate::matrix::Matrix;
+
+/// What there is to undo a matrix.
+#[derive(Clone, Copy, Debug, PartialEq, Eq)]
+pub enum Inverse {
+    /// The inverse of the matrix.
+    Found(Matrix),
+    /// A number, not 0, that the matrix maps to 0; then it has no inverse.
+    Kernel(u64),
+}
+
+impl Matrix {
+    ghost use Rattle.kc_hash.specs.Inverse.{IfFound, IfKernel};
+
+    /// The inverse of the matrix, or a number below `2^bits`, not 0, that it maps to 0.
+    pub fn invert(&self) -> Inverse
+        ensures found { IfFound result (AreInverse self.now) }
+        ensures kernel { IfKernel result (IsInKernel self.now) }
+        ensures found_alone { IfFound result (λ _. IsNonsingular self.now) }
+        ensures kernel_alone { IfKernel result (λ _. (other : List ℕ) → Undoes self.now other → ⊥) }
+    {
+        let bits = self.bits();
+        let mut both = Elimination {
+            reduced: *self,
+            inverse: Matrix::identity(bits),
+        };
+        for place in 0..bits {
+            if !both.clear_column(place) {
+                return Inverse::Kernel(both.reduced.column(place) ^ (1 << place));
+            }
+        }
+        Inverse::Found(both.inverse)
+    }
+}
+
+/// Two matrices to which the same row operations are done. At the start they are a matrix and the identity.
+#[derive(Clone, Copy)]
+struct Elimination {
+    reduced: Matrix,
+    inverse: Matrix,
+    ghost same_bits: { length inverse ≡ length reduced },
+}
+
+impl Elimination {
+    /// Adds the row `row` to each of the rows that are the set bits of `rows`, in both matrices.
+    fn add_row(&mut self, row: u32, rows: u64)
+        requires row_within { row < length self.old.reduced }
+        requires rows_within { rows < 2 ^ length self.old.reduced }
+        ensures reduced { self.new.reduced ≡ map (row_added row rows) self.old.reduced }
+        ensures inverse { self.new.inverse ≡ map (row_added row rows) self.old.inverse }
+    {
+        self.reduced.add_row(row, rows);
+        self.inverse.add_row(row, rows);
+    }
+
+    /// Sets the bit at `place` in the column at `place`, where it is not set by adding a later row to that of
+    /// the place. Columns before it that have only the bit of their own place stay. Where the column has no
+    /// bit at `place` or above, nothing is done and the answer is false.
+    fn set_pivot(&mut self, place: u32) -> bool
+        requires within { place < length self.old.reduced }
+        requires units { HasUnits self.old.reduced place }
+        ensures set { OnTrue result (bit_at (slice_index self.new.reduced place) place ≡ 1) }
+        ensures units { HasUnits self.new.reduced place }
+        ensures bits { length self.new.reduced ≡ length self.old.reduced }
+        ensures kept { (columns : List ℕ) → IsReduction columns self.old.reduced self.old.inverse
+            → IsReduction columns self.new.reduced self.new.inverse }
+        ensures stuck { OnFalse result (slice_index self.new.reduced place < 2 ^ place) }
+    {
+        let Some(row) = pivot(self.reduced.column(place), place) else {
+            return false;
+        };
+        if row != place {
+            self.add_row(row, 1 << place);
+        }
+        true
+    }
+
+    /// Leaves in the column at `place` only the bit at `place`. Columns before it that have only the bit of
+    /// their own place stay. Where the column has no bit at `place` or above, nothing is done and the answer
+    /// is false.
+    fn clear_column(&mut self, place: u32) -> bool
+        requires within { place < length self.old.reduced }
+        requires units { HasUnits self.old.reduced place }
+        ensures cleared { OnTrue result (HasUnits self.new.reduced (place + 1)) }
+        ensures bits { length self.new.reduced ≡ length self.old.reduced }
+        ensures kept { (columns : List ℕ) → IsReduction columns self.old.reduced self.old.inverse
+            → IsReduction columns self.new.reduced self.new.inverse }
+        ensures units { HasUnits self.new.reduced place }
+        ensures stuck { OnFalse result (slice_index self.new.reduced place < 2 ^ place) }
+    {
+        if !self.set_pivot(place) {
+            return false;
+        }
+        let others = self.reduced.column(place) ^ (1 << place);
+        self.add_row(place, others);
+        true
+    }
+}
+
+/// The lowest row from `place` on in which the column has a bit; none where it has no such bit.
+fn pivot(column: u64, place: u32) -> Option<u32>
+    requires { place < 64 }
+    ensures from { IfSome result (λ row. place ≤ row) }
+    ensures set { IfSome result (λ row. bit_at column row ≡ 1) }
+    ensures lowest { IfSome result (λ row. (i : ℕ) → place ≤ i → i < row → bit_at column i ≡ 0) }
+    ensures none { IfNone result (column < 2 ^ place) }
+{
+    let upper = column >> place;
+    if upper == 0 {
+        return None;
+    }
+    Some(place + upper.trailing_zeros())
+}

@@ -1,0 +1,5 @@
+pub mod Weights
+pub mod Steps
+pub mod Seats
+pub mod Distinct
+pub mod Rows

@@ -1,0 +1,224 @@
+//! Seats that draw, one after the other and in threads.
+ghost use Rattle.std.specs.Prelude.{◌≡◌, ◌<◌, ◌≤◌, ◌^◌, [], All, IfOk, length, nat_eq, slice_get, vec_len};
+ghost use Rattle.std.specs.List.{flat_map, IsDistinct};
+ghost use Rattle.kc_run.specs.Tickets.{IsSeatOf, IsDone, answered, AreNumbersBelow};
+
+use crate::law::{each_stands_once, none_is_left_out};
+use crate::{Seat, Tickets};
+use std::alloc::{AllocError, Global};
+use std::process::Abort;
+use std::snapshot::Snapshot;
+use std::sync::Wait;
+use std::test::Fail;
+use std::thread;
+use std::thread::{Promise, PromisedHandle, Scope, Threads};
+
+// A seat of these tickets, which drew until there was no number more, and what it was answered.
+#[derive(Drop)]
+struct Drained(Snapshot<Tickets>);
+
+impl Promise<Result<(Seat, Vec<u64>), AllocError>> for Drained {
+    ghost use Rattle.std.specs.Prelude.{◌≡◌, IfOk};
+    ghost use Rattle.kc_run.specs.Tickets.{IsSeatOf, IsDone, answered};
+
+    ghost kept_by = { λ promise result. IfOk result (λ ended. IsSeatOf promise.0.value ended.0 × IsDone ended.0 × (ended.1.items ≡ answered ended.0)) };
+}
+
+type Draining = PromisedHandle<Result<(Seat, Vec<u64>), AllocError>, Drained>;
+
+fn drain(alloc: Global, tickets: &Tickets, mut seat: Seat) -> Result<(Seat, Vec<u64>), AllocError>
+    requires own { IsSeatOf tickets.now seat }
+    requires fresh { seat.drawn ≡ [] }
+    ensures { IfOk result (λ ended. IsSeatOf tickets.now ended.0 × IsDone ended.0 × (ended.1.items ≡ answered ended.0)) }
+{
+    let mut numbers = Vec::new(alloc);
+    while let Some(number) = tickets.draw(&mut seat) {
+        numbers.push(number)?;
+    }
+    Ok((seat, numbers))
+}
+
+// Starts a thread for each seat, which drains it.
+fn start_all<'s, E>(
+    scope: &Scope<'s, E>,
+    alloc: Global,
+    tickets: &'s Tickets,
+    mut seats: Vec<Seat>,
+) -> Result<Vec<Draining>, AllocError>
+    requires own { All (IsSeatOf tickets.now) seats.items }
+    requires fresh { All (λ seat. seat.drawn ≡ []) seats.items }
+    ensures len { IfOk result (λ threads. vec_len threads ≡ vec_len seats) }
+    ensures promised { IfOk result (λ threads. All (λ thread. thread.promise.0.value ≡ tickets.entry.now) threads.items) }
+{
+    let mut threads = Vec::with_capacity(alloc, seats.len())?;
+    while let Some(seat) = seats.pop() {
+        let promise = Drained(Snapshot::of(tickets));
+        threads.push(scope.spawn_with(promise, move || drain(alloc, tickets, seat))?)?;
+    }
+    Ok(threads)
+}
+
+// The seats of the threads, and what they were answered.
+fn join_all<R: Threads>(
+    rt: &R,
+    alloc: Global,
+    tickets: &Tickets,
+    mut threads: Vec<Draining>,
+) -> Result<(Vec<Seat>, Vec<Vec<u64>>), AllocError>
+    requires { All (λ thread. thread.promise.0.value ≡ tickets.now) threads.items }
+    ensures len { IfOk result (λ ended. vec_len ended.0 ≡ vec_len threads) }
+    ensures own { IfOk result (λ ended. All (IsSeatOf tickets.now) ended.0.items) }
+    ensures done { IfOk result (λ ended. All IsDone ended.0.items) }
+    ensures numbers { IfOk result (λ ended. flat_map (λ v. v.items) ended.1.items ≡ flat_map answered ended.0.items) }
+{
+    let (mut seats, mut all) = (Vec::new(alloc), Vec::new(alloc));
+    while let Some(thread) = threads.pop() {
+        let (seat, numbers) = thread.join(rt)?;
+        seats.push(seat)?;
+        all.push(numbers)?;
+    }
+    Ok((seats, all))
+}
+
+// What threads are answered, each with a seat of its own: each number below the limit, once.
+fn share_out<R: Threads + Wait>(
+    rt: &R,
+    alloc: Global,
+    limit: u64,
+    seats: u32,
+) -> Result<Vec<Vec<u64>>, AllocError>
+    requires limit { limit ≤ 2 ^ 40 }
+    requires seats { (1 ≤ seats) × (seats ≤ 64) }
+    ensures whole { IfOk result (λ all. AreNumbersBelow limit (flat_map (λ v. v.items) all.items)) }
+    ensures distinct { IfOk result (λ all. IsDistinct nat_eq (flat_map (λ v. v.items) all.items)) }
+{
+    let (tickets, row) = Tickets::new(alloc, limit, seats)?;
+    let shared = &tickets;
+    let (row, all) = thread::scope(
+        thread::scope_env(),
+        rt,
+        |scope| -> Result<(Vec<Seat>, Vec<Vec<u64>>), AllocError>
+            requires { All (IsSeatOf shared.now) row.items × All (λ seat. seat.drawn ≡ []) row.items }
+            ensures { IfOk result (λ ended. (vec_len ended.0 ≡ vec_len row) × All (IsSeatOf shared.entry.now) ended.0.items × All IsDone ended.0.items × (flat_map (λ v. v.items) ended.1.items ≡ flat_map answered ended.0.items)) }
+        {
+            let threads = start_all(scope, alloc, shared, row)?;
+            join_all(rt, alloc, shared, threads)
+        },
+    )?;
+    tickets.close(row);
+    each_stands_once();
+    Ok(all)
+}
+
+// What the seat at this place draws next. A seat that is done draws no more.
+fn draw_at(tickets: &Tickets, seats: &mut Vec<Seat>, place: usize) -> Option<u64>
+    requires own { All (IsSeatOf tickets.now) seats.old.items }
+    requires place { place < vec_len seats.old }
+    ensures own { All (IsSeatOf tickets.now) seats.new.items }
+    ensures len { vec_len seats.new ≡ vec_len seats.old }
+{
+    let seat = &mut seats[place];
+    if seat.is_done() {
+        return None;
+    }
+    tickets.draw(seat)
+}
+
+// Each row of `draws` is a seat's place, what it is to be answered, and whether it is done then.
+fn play<R: Abort>(
+    rt: &R,
+    alloc: Global,
+    limit: u64,
+    seats: u32,
+    draws: &[(usize, Option<u64>, bool)],
+) -> Result<(), AllocError>
+    requires limit { limit ≤ 2 ^ 40 }
+    requires seats { (1 ≤ seats) × (seats ≤ 64) }
+{
+    let (tickets, mut row) = Tickets::new(alloc, limit, seats)?;
+    for &(place, number, done) in draws {
+        assert!(rt; place < row.len());
+        assert_eq!(rt;
+            draw_at(&tickets, &mut row, place),
+            number,
+            "of seat {place}"
+        );
+        assert_eq!(rt; row[place].is_done(), done, "of seat {place}");
+    }
+    tickets.close(row);
+    Ok(())
+}
+
+#[test]
+fn numbers_below_the_limit_are_answered_in_turn(rt: HostRuntime) -> Result<(), Fail> {
+    let two = [
+        (0, Some(0), false),
+        (1, Some(1), false),
+        (0, None, true),
+        (1, None, true),
+    ];
+    play(&rt, rt.alloc(), 2, 2, &two)?;
+    play(&rt, rt.alloc(), 0, 1, &[(0, None, true)])?;
+    Ok(())
+}
+
+#[test]
+fn as_many_seats_as_numbers_are_answered(rt: HostRuntime) -> Result<(), Fail> {
+    let (tickets, mut seats) = Tickets::new(rt.alloc(), 3, 64)?;
+    assert_eq!(rt; seats.len(), 64);
+    let (mut some, mut none) = (0u64, 0u64);
+    for place in 0..64 {
+        match draw_at(&tickets, &mut seats, place) {
+            Some(number) => {
+                assert_eq!(rt; number, some);
+                some += 1;
+            }
+            None => none += 1,
+        }
+    }
+    assert_eq!(rt; (some, none), (3, 61));
+    tickets.close(seats);
+    Ok(())
+}
+
+#[test]
+fn threads_are_answered_each_number_once(rt: HostRuntime) -> Result<(), Fail> {
+    let alloc = rt.alloc();
+    let mut all = Vec::new(alloc);
+    for numbers in share_out(&rt, alloc, 1000, 8)? {
+        all.extend_from_slice(numbers.as_slice())?;
+    }
+    all.sort_unstable();
+    let mut want = Vec::new(alloc);
+    for number in 0..1000u64 {
+        want.push(number)?;
+    }
+    assert_eq!(rt; all, want);
+    Ok(())
+}
+
+// Where a number stands among distinct numbers that are all below their own count.
+fn place_of(numbers: &[u64], number: u64) -> usize
+    requires distinct { IsDistinct nat_eq numbers.now }
+    requires below { All (λ x. x < length numbers.now) numbers.now }
+    requires number { number < length numbers.now }
+    ensures { slice_get numbers.now result ≡ Some number }
+{
+    none_is_left_out();
+    for place in 0..numbers.len() {
+        if numbers[place] == number {
+            return place;
+        }
+    }
+    unreachable!()
+}
+
+#[test]
+fn as_many_distinct_numbers_leave_none_out(rt: HostRuntime) {
+    let places = [
+        place_of(&[2, 0, 1], 0),
+        place_of(&[2, 0, 1], 1),
+        place_of(&[2, 0, 1], 2),
+    ];
+    assert_eq!(rt; places, [1, 2, 0]);
+}

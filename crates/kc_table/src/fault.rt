@@ -1,0 +1,13 @@
+//! Why a table takes no new key.
+use thiserror::Error;
+
+/// Why `ready` was refused. Both leave the map as it was.
+#[derive(Clone, Copy, Debug, Drop, Eq, Error, PartialEq)]
+pub enum TableFault {
+    /// The table has no place for the key, and may not grow.
+    #[error("the table is full")]
+    Full,
+    /// A growth was refused.
+    #[error("no memory")]
+    Memory,
+}

@@ -1,0 +1,230 @@
+//! A table of fixed size: rows that hold a key's remainder and probe number, and its count.
+ghost use Rattle.std.specs.Prelude.{◌≡◌, ◌≢◌, ℕ, ◌+◌, ◌<◌, ◌≤◌, ◌^◌, length, true, false, None};
+ghost use Rattle.std.specs.Prelude.{IfOk, IfSome, IfNone, filter, nat_lt};
+ghost use Rattle.std.specs.FinMap.{empty, insert, get};
+ghost use Rattle.kc_table.specs.Slot.{key_in};
+ghost use Rattle.kc_table.specs.Sound.{IsSound, IsFound, IsFree, IsOut, IsTooSmall, IsTight, tag_at, slots_of};
+ghost use Rattle.kc_table.specs.Table.{entries_in};
+ghost use Rattle.kc_table.specs.Probed.{IsProbed};
+
+use crate::fault::TableFault;
+use crate::steps::Steps;
+use std::alloc::{AllocError, Global};
+
+/// A slot. The tag is 0 where the slot is empty; else it is the key's remainder times 64 and one more
+/// than its probe number.
+#[derive(Clone, Copy)]
+pub(crate) struct Row {
+    pub tag: u64,
+    pub count: u64,
+}
+
+/// What a walk over a key's places found: the key, the first place that is free with the key's tag
+/// there, or 63 other keys.
+#[derive(Drop)]
+pub(crate) enum Probe {
+    Found { place: usize },
+    Free { place: usize, tag: u64 },
+    Crowded,
+}
+
+/// A table of 2^log slots for keys of so many bits.
+#[derive(Drop)]
+pub(crate) struct Slots {
+    pub bits: u32,
+    pub log: u32,
+    pub rows: Vec<Row>,
+    ghost sized: { length rows.items ≡ 2 ^ log },
+    ghost sound: { IsSound bits log (tag_at rows.items) },
+}
+
+impl Row {
+    const EMPTY: Row = Row { tag: 0, count: 0 };
+}
+
+impl Slots {
+    ghost use Rattle.kc_table.specs.Held.{held, tags_of, counts_of};
+
+    /// A table whose slots are empty.
+    pub fn empty(alloc: Global, bits: u32, log: u32) -> Result<Slots, AllocError>
+        requires few_bits { bits ≤ 62 }
+        requires few_slots { log ≤ 40 }
+        requires no_wider { log ≤ bits }
+        requires remainder_fits { bits ≤ log + 58 }
+        ensures bits { IfOk result (λ t. t.bits ≡ bits) }
+        ensures log { IfOk result (λ t. t.log ≡ log) }
+        ensures empty { IfOk result (λ t. held t ≡ empty) }
+    {
+        let rows = vec![in alloc; Row::EMPTY; 1 << log]?;
+        Ok(Slots { bits, log, rows })
+    }
+
+    #[inline(always)]
+    fn read(&self, place: usize, steps: &mut Steps) -> u64
+        requires { place < 2 ^ self.now.log }
+        ensures tag { result ≡ tags_of self.now place }
+        ensures counted { steps.new.count ≡ steps.old.count + 1 }
+    {
+        steps.tick();
+        self.rows[place].tag
+    }
+
+    /// Walks over the key's places up to the key itself or a free one. A slot is never emptied, so
+    /// the key stands behind no free place.
+    #[inline(always)]
+    pub fn probe(&self, key: u64, steps: &mut Steps) -> Probe
+        requires { key < 2 ^ self.now.bits }
+        ensures probed { IsProbed self.now.log (tags_of self.now) key result }
+        ensures steps { steps.new.count ≤ steps.old.count + 63 }
+    {
+        let mask = self.rows.len() - 1;
+        let remainder = (key >> self.log) * 64;
+        let mut place = key as usize & mask;
+        for i in 0..63 {
+            place = (place + i) & mask;
+            let wanted = remainder + (i as u64 + 1);
+            let tag = self.read(place, steps);
+            if tag == wanted {
+                return Probe::Found { place };
+            }
+            if tag == 0 {
+                return Probe::Free { place, tag: wanted };
+            }
+        }
+        Probe::Crowded
+    }
+
+    /// Puts a new key at its first free place.
+    #[inline(always)]
+    pub fn put(&mut self, key: u64, place: usize, tag: u64, count: u64)
+        requires in_range { key < 2 ^ self.old.bits }
+        requires free { IsFree self.old.log (tags_of self.old) key place tag }
+        ensures bits { self.new.bits ≡ self.old.bits }
+        ensures log { self.new.log ≡ self.old.log }
+        ensures put { held self.new ≡ insert (held self.old) key count }
+    {
+        self.rows[place] = Row { tag, count };
+    }
+
+    /// Adds one to the number of the key in this slot.
+    #[inline(always)]
+    pub fn count(&mut self, key: u64, place: usize)
+        requires found { IsFound self.old.log (tags_of self.old) key place }
+        requires room { counts_of self.old place < 2 ^ 62 }
+        ensures bits { self.new.bits ≡ self.old.bits }
+        ensures log { self.new.log ≡ self.old.log }
+        ensures counted { held self.new ≡ insert (held self.old) key (counts_of self.old place + 1) }
+    {
+        let row = self.rows[place];
+        self.rows[place] = Row {
+            tag: row.tag,
+            count: row.count + 1,
+        };
+    }
+
+    /// The key in a slot, by its remainder and the home that has this place for its probe number.
+    #[inline(always)]
+    pub fn key_at(&self, place: usize, tag: u64) -> u64
+        requires tag { tag ≡ tags_of self.now place }
+        requires some { tag ≢ 0 }
+        ensures key { result ≡ key_in self.now.log place tag }
+        ensures in_range { result < 2 ^ self.now.bits }
+    {
+        let mask = self.rows.len() - 1;
+        let probe = tag as usize % 64 - 1;
+        let turn = probe * (probe + 1) / 2;
+        // To step back by `turn` round the table is to go forward by `mask` times as much.
+        let home = (place + mask * turn) & mask;
+        (tag / 64 << self.log) + home as u64
+    }
+
+    /// Stores a key that is not stored yet, unless its places are taken.
+    #[inline(always)]
+    pub fn take(&mut self, key: u64, count: u64) -> bool
+        requires in_range { key < 2 ^ self.old.bits }
+        requires new { get (held self.old) key ≡ None }
+        ensures bits { self.new.bits ≡ self.old.bits }
+        ensures log { self.new.log ≡ self.old.log }
+        ensures taken { result ≡ true → held self.new ≡ insert (held self.old) key count }
+        ensures out { result ≡ false → IsOut self.old.log (tags_of self.old) key }
+    {
+        match self.probe(key, &mut Steps::new()) {
+            Probe::Free { place, tag } => {
+                self.put(key, place, tag, count);
+                true
+            }
+            Probe::Crowded => false,
+            Probe::Found { .. } => unreachable!(),
+        }
+    }
+
+    /// The same map in a table of 2^log slots, or None where a key's places are all taken there.
+    pub fn resized(&self, alloc: Global, log: u32) -> Result<Option<Slots>, AllocError>
+        requires few_slots { log ≤ 40 }
+        requires no_wider { log ≤ self.now.bits }
+        requires remainder_fits { self.now.bits ≤ log + 58 }
+        ensures bits { IfOk result (λ r. IfSome r (λ t. t.bits ≡ self.now.bits)) }
+        ensures log { IfOk result (λ r. IfSome r (λ t. t.log ≡ log)) }
+        ensures same { IfOk result (λ r. IfSome r (λ t. held t ≡ held self.now)) }
+        ensures crowded { IfOk result (λ r. IfNone r (IsTooSmall self.now.bits log (held self.now))) }
+    {
+        let mut table = Slots::empty(alloc, self.bits, log)?;
+        for place in 0..self.rows.len() {
+            let row = self.rows[place];
+            if row.tag == 0 {
+                continue;
+            }
+            let key = self.key_at(place, row.tag);
+            if !table.take(key, row.count) {
+                return Ok(None);
+            }
+        }
+        Ok(Some(table))
+    }
+
+    /// The smallest larger table, of up to 2^max_log slots, that takes all keys of this one and one
+    /// new key, whose number is 0.
+    pub fn grown(&self, alloc: Global, key: u64, max_log: u32) -> Result<Slots, TableFault>
+        requires in_range { key < 2 ^ self.now.bits }
+        requires new { get (held self.now) key ≡ None }
+        requires tight { IsTight self.now.bits self.now.log (held self.now) key }
+        requires larger { self.now.log ≤ max_log }
+        requires few_slots { max_log ≤ 40 }
+        requires no_wider { max_log ≤ self.now.bits }
+        ensures bits { IfOk result (λ t. t.bits ≡ self.now.bits) }
+        ensures log { IfOk result (λ t. t.log ≤ max_log) }
+        ensures taken { IfOk result (λ t. held t ≡ insert (held self.now) key 0) }
+        ensures full { result ≡ Err TableFault.Full → IsTight self.now.bits max_log (held self.now) key }
+    {
+        for log in self.log + 1..max_log + 1 {
+            let Ok(resized) = self.resized(alloc, log) else {
+                return Err(TableFault::Memory);
+            };
+            let Some(mut table) = resized else {
+                continue;
+            };
+            if table.take(key, 0) {
+                return Ok(table);
+            }
+        }
+        Err(TableFault::Full)
+    }
+
+    /// Each key whose number is at least 1, with its number.
+    pub fn entries(&self, alloc: Global) -> Result<Vec<(u64, u64)>, AllocError>
+        ensures { IfOk result (λ v. v.items ≡ filter (λ e. nat_lt 0 e.1) (entries_in (slots_of self.now.log self.now.rows.items))) }
+    {
+        let mut entries = Vec::new(alloc);
+        for slot in 0..self.rows.len() {
+            let row = self.rows[slot];
+            if row.tag == 0 {
+                continue;
+            }
+            if row.count == 0 {
+                continue;
+            }
+            entries.push((self.key_at(slot, row.tag), row.count))?;
+        }
+        Ok(entries)
+    }
+}

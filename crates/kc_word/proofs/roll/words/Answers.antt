@@ -1,0 +1,19 @@
+use Rattle.std.proofs.Common.{ℕ, ◌^◌, ◌<◌, ◌++◌, List, take, All, None, ap, sym, ◌∙◌, subst, arith}
+use Rattle.kc_fastx.specs.Reads.{read_of}
+use Rattle.kc_word.specs.Occurrences.{words_in}
+use Rattle.kc_word.specs.Cutting.{as_reads}
+use Rattle.kc_word.proofs.Counting.{words_of-none, words_of-more}
+use Rattle.kc_word.proofs.Tallies.{All-words_of}
+use Rattle.kc_word.proofs.roll.words.Goals as goal
+
+pub loop-part-init : goal.loop-part-init
+loop-part-init c = c.in_ok-words.ensures.items ∙ sym (words_of-none c.args.rule.now)
+
+pub loop-part-preserved : goal.loop-part-preserved
+loop-part-preserved c =
+    words_of-more c.args.rule.now c.pieces-part-items.result.now c.loop-part.part-index c.part-item.result c.loop-part.words.items c.push_words.new.words.items (omega arith) c.part-item.is c.loop-part.invariant
+    (c.in_ok-push_words.ensures ∙ ap (λ bytes. c.loop-part.words.items ++ words_in c.args.rule.now (read_of bytes None)) c.bytes.ensures)
+
+pub returns-clause-below : goal.returns-clause-below
+returns-clause-below c =
+    subst (λ (xs : List ℕ). All (λ n. n < 4 ^ c.args.rule.now.k) xs) (sym c.loop-part.invariant) (All-words_of c.args.rule.now (as_reads (take c.loop-part.part-index c.pieces-part-items.result.now)))

@@ -1,0 +1,282 @@
+// Worked rows of words, pieces, batches and tallies.
+use crate::{
+    Batch, K, Piece, Rule, Word, canonical, clean, cut, pack, read_words, reverse_complement, slow,
+    text, words,
+};
+use kc_fastx::SeqRead;
+use std::alloc::{AllocError, Global};
+use std::sync::Arc;
+use std::test::Fail;
+
+// A rule that takes every quality.
+fn rule_of(k: u32, both: bool) -> Result<Rule, Fail> {
+    let k = K::new(k).ok_or("no length of a word")?;
+    Ok(Rule::new(k, both, b'!'))
+}
+
+fn read_of(alloc: Global, bases: &[u8], quals: Option<&[u8]>) -> Result<SeqRead, Fail> {
+    let bases = Vec::from_slice(alloc, bases)?;
+    let quals = match quals {
+        None => None,
+        Some(quals) => Some(Vec::from_slice(alloc, quals)?),
+    };
+    let read = SeqRead::new(bases, quals).ok_or("no read")?;
+    Ok(read)
+}
+
+fn pieces_of(alloc: Global, texts: &[&[u8]], rule: &Rule) -> Result<Vec<Piece>, Fail> {
+    let mut pieces = Vec::new(alloc);
+    for bases in texts {
+        let read = read_of(alloc, bases, None)?;
+        pieces.push(clean(alloc, &read, rule)?)?;
+    }
+    Ok(pieces)
+}
+
+// The pieces of a batch as one text, with a bar behind each.
+fn shown(alloc: Global, batch: &Batch) -> Result<Vec<u8>, AllocError> {
+    let mut line = Vec::new(alloc);
+    for piece in batch.pieces() {
+        for i in 0..piece.len() {
+            line.push(piece.base(i))?;
+        }
+        line.push(b'|')?;
+    }
+    Ok(line)
+}
+
+#[test]
+fn lengths(rt: HostRuntime) {
+    assert_eq!(rt; K::new(0), None);
+    assert_eq!(rt; K::new(1).map_or(0, |k| k.get()), 1);
+    assert_eq!(rt; K::new(31).map_or(0, |k| k.get()), 31);
+    assert_eq!(rt; K::new(32), None);
+}
+
+#[test]
+fn rules(rt: HostRuntime) -> Result<(), Fail> {
+    let k = K::new(21).ok_or("no length of a word")?;
+    let rule = Rule::new(k, true, b'#');
+    assert_eq!(rt; rule.k(), k);
+    assert_eq!(rt; rule.both(), true);
+    assert_eq!(rt; rule.floor(), 35);
+    Ok(())
+}
+
+#[test]
+fn packed(rt: HostRuntime) -> Result<(), Fail> {
+    let rows: [(&[u8], u32, Option<u64>); 8] = [
+        (b"acgt", 4, Some(27)),
+        (b"GTA", 3, Some(44)),
+        (b"A", 1, Some(0)),
+        (
+            b"TTTTTTTTTTTTTTTTTTTTTTTTTTTTTTT",
+            31,
+            Some(4_611_686_018_427_387_903),
+        ),
+        (b"ACN", 3, None),
+        (b"AC", 3, None),
+        (b"ACGT", 3, None),
+        (b"", 1, None),
+    ];
+    for (bytes, k, want) in rows {
+        let k = K::new(k).ok_or("no length of a word")?;
+        assert_eq!(rt; pack(bytes, k).map(|word| word.0), want);
+    }
+    Ok(())
+}
+
+#[test]
+fn words_of_three(rt: HostRuntime) -> Result<(), Fail> {
+    let k = K::new(3).ok_or("no length of a word")?;
+    let word = pack(b"GTA", k).ok_or("no word")?;
+    let mut letters = [b'-'; 31];
+    text(word, k, &mut letters);
+    assert_eq!(rt;
+        letters.as_slice(),
+        b"GTA----------------------------".as_slice()
+    );
+    assert_eq!(rt; reverse_complement(word, k), Word(49));
+    assert_eq!(rt; canonical(word, k), Word(44));
+    let four = K::new(4).ok_or("no length of a word")?;
+    let palindrome = pack(b"acgt", four).ok_or("no word")?;
+    assert_eq!(rt; reverse_complement(palindrome, four), Word(27));
+    Ok(())
+}
+
+#[test]
+fn cleaned(rt: HostRuntime) -> Result<(), Fail> {
+    let rule = Rule::new(K::new(3).ok_or("no length of a word")?, false, b'#');
+    let rows: [(&[u8], Option<&[u8]>, &[u8]); 4] = [
+        (b"acgtNnR-", None, b"ACGTNNNN"),
+        (b"ACGT", Some(b"II!I"), b"ACNT"),
+        (b"acgn", Some(b"#\"~#"), b"ANGN"),
+        (b"", None, b""),
+    ];
+    for (bases, quals, want) in rows {
+        let read = read_of(rt.alloc(), bases, quals)?;
+        let piece = clean(rt.alloc(), &read, &rule)?;
+        assert_eq!(rt; piece.len(), want.len() as u64);
+        for (i, byte) in want.iter().enumerate() {
+            assert!(rt; (i as u64) < piece.len());
+            assert_eq!(rt; piece.base(i as u64), *byte);
+        }
+        assert_eq!(rt; piece.is_empty(), want.is_empty());
+    }
+    Ok(())
+}
+
+#[test]
+fn batches(rt: HostRuntime) -> Result<(), Fail> {
+    let rule = rule_of(3, false)?;
+    let both = rule_of(3, true)?;
+    let pieces = pieces_of(rt.alloc(), &[b"ACGTA", b"AC", b"NGTN"], &rule)?;
+    let batches = cut(rt.alloc(), pieces, rule.k(), 2)?;
+    let rows: [(&[u8], &[u64], &[u64]); 3] = [
+        (b"ACGT|", &[6, 27], &[6, 6]),
+        (b"GTA|NGT|", &[44], &[44]),
+        (b"GTN|", &[], &[]),
+    ];
+    assert_eq!(rt; batches.len(), 3);
+    for (i, batch) in batches.iter().enumerate() {
+        assert!(rt; i < 3);
+        let (want, one, two) = rows[i];
+        assert_eq!(rt; batch.number(), i as u64);
+        assert_eq!(rt; shown(rt.alloc(), batch)?.as_slice(), want);
+        assert_eq!(rt; words(rt.alloc(), batch, &rule)?.as_slice(), one);
+        assert_eq!(rt; words(rt.alloc(), batch, &both)?.as_slice(), two);
+    }
+    Ok(())
+}
+
+#[test]
+fn batches_of_each_size(rt: HostRuntime) -> Result<(), Fail> {
+    let rule = rule_of(3, false)?;
+    for (i, want) in [8, 4, 3, 2, 2, 2, 2, 1, 1, 1, 1].iter().enumerate() {
+        let size = i as u64 + 1;
+        let pieces = pieces_of(rt.alloc(), &[b"AAAAAAAAAA"], &rule)?;
+        let batches = cut(rt.alloc(), pieces, rule.k(), size)?;
+        assert_eq!(rt; batches.len(), *want);
+        let mut count = 0usize;
+        for batch in &batches {
+            let found = words(rt.alloc(), batch, &rule)?;
+            count = count.saturating_add(found.len());
+            for word in &found {
+                assert_eq!(rt; *word, 0);
+            }
+        }
+        assert_eq!(rt; count, 8);
+    }
+    Ok(())
+}
+
+#[test]
+fn batches_by_value(rt: HostRuntime) -> Result<(), Fail> {
+    let rule = rule_of(3, false)?;
+    let first = cut(
+        rt.alloc(),
+        pieces_of(rt.alloc(), &[b"ACGTA", b"ACG"], &rule)?,
+        rule.k(),
+        2,
+    )?;
+    let second = cut(
+        rt.alloc(),
+        pieces_of(rt.alloc(), &[b"acgta", b"acg"], &rule)?,
+        rule.k(),
+        2,
+    )?;
+    let third = cut(
+        rt.alloc(),
+        pieces_of(rt.alloc(), &[b"ACGTA", b"ACC"], &rule)?,
+        rule.k(),
+        2,
+    )?;
+    assert!(rt; first.len() == 2 && second.len() == 2 && third.len() == 2);
+    assert_eq!(rt; *first[0] == *second[0], true);
+    assert_eq!(rt; *first[1] == *second[1], true);
+    assert_eq!(rt; *first[0] == *third[0], true);
+    assert_eq!(rt; *first[1] == *third[1], false);
+    assert_eq!(rt; *first[0] == *first[1], false);
+    Ok(())
+}
+
+#[test]
+fn no_batches(rt: HostRuntime) -> Result<(), Fail> {
+    let rule = rule_of(5, false)?;
+    for texts in [[].as_slice(), [b"ACGT".as_slice(), b"", b"NNNN"].as_slice()] {
+        let pieces = pieces_of(rt.alloc(), texts, &rule)?;
+        assert_eq!(rt; cut(rt.alloc(), pieces, rule.k(), 65536)?.len(), 0);
+    }
+    Ok(())
+}
+
+// Run with each allocation refused in turn: `rt try --test --fail-alloc N`.
+#[test]
+fn memory_or_the_words(rt: HostRuntime) {
+    match words_of_batches(rt.alloc()) {
+        Ok(found) => assert_eq!(rt; found.as_slice(), [6, 27, 44].as_slice()),
+        Err(AllocError) => {}
+    }
+}
+
+// The words of the read ACGTA, cleaned, cut and counted.
+fn words_of_batches(alloc: Global) -> Result<Vec<u64>, AllocError> {
+    let mut found = Vec::new(alloc);
+    let bases = Vec::from_slice(alloc, b"ACGTA")?;
+    if let (Some(k), Some(read)) = (K::new(3), SeqRead::new(bases, None)) {
+        let rule = Rule::new(k, false, b'!');
+        let mut pieces = Vec::new(alloc);
+        pieces.push(clean(alloc, &read, &rule)?)?;
+        for batch in &cut(alloc, pieces, k, 2)? {
+            found.extend_from_slice(words(alloc, batch, &rule)?.as_slice())?;
+        }
+    }
+    Ok(found)
+}
+
+#[test]
+fn words_of_reads(rt: HostRuntime) -> Result<(), Fail> {
+    let long = b"TTTTTTTTTTTTTTTTTTTTTTTTTTTTTTT".as_slice();
+    let rows: [(&[u8], Option<&[u8]>, u32, bool, &[u64]); 8] = [
+        (b"ACGTA", None, 3, false, &[6, 27, 44]),
+        (b"ACGTA", None, 3, true, &[6, 6, 44]),
+        (b"ACNGT", None, 2, false, &[1, 11]),
+        (b"ACNGT", None, 3, false, &[]),
+        (b"ACGT", Some(b"II!I"), 2, false, &[1, 6, 11]),
+        (long, None, 31, false, &[4_611_686_018_427_387_903]),
+        (long, None, 31, true, &[0]),
+        (b"", None, 5, false, &[]),
+    ];
+    for (bases, quals, k, both, want) in rows {
+        let rule = rule_of(k, both)?;
+        let read = read_of(rt.alloc(), bases, quals)?;
+        assert_eq!(rt; read_words(rt.alloc(), &read, &rule)?.as_slice(), want);
+    }
+    Ok(())
+}
+
+#[test]
+fn tallies(rt: HostRuntime) -> Result<(), Fail> {
+    let rows: [(&[&[u8]], u32, bool, &[(u64, u64)]); 7] = [
+        (&[b"ACGTA"], 3, false, &[(6, 1), (27, 1), (44, 1)]),
+        (&[b"ACGTA"], 3, true, &[(6, 2), (44, 1)]),
+        (&[b"ACGT", b"", b"ac"], 2, false, &[(1, 2), (6, 1), (11, 1)]),
+        (&[b"ACNGT"], 2, false, &[(1, 1), (11, 1)]),
+        (&[b"ACGT"], 4, true, &[(27, 1)]),
+        (&[b"AACGT"], 1, true, &[(0, 3), (1, 2)]),
+        (&[b"AAAAAAAAAA"], 3, false, &[(0, 8)]),
+    ];
+    for (texts, k, both, want) in rows {
+        let rule = rule_of(k, both)?;
+        let mut reads = Vec::new(rt.alloc());
+        for bases in texts {
+            reads.push(read_of(rt.alloc(), bases, None)?)?;
+        }
+        let Some(_) = slow::base_count(&reads) else {
+            return Err(Fail::from("too many bases"));
+        };
+        let found = slow::tally(rt.alloc(), &reads, &rule)?;
+        assert_eq!(rt; found.as_slice(), want);
+    }
+    Ok(())
+}

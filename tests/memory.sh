@@ -1,0 +1,60 @@
+#!/bin/bash
+# Refuses each growth in turn, and looks at what is answered:
+#   tests/memory.sh
+# Each run of the program either does without that growth and writes the whole dump, or writes nothing, says on standard
+# error that there is no memory, and ends with status 1. Tickets and a growing table are asked the same by a test of their
+# crates. It needs bin/kcount, a C compiler and the toolchain.
+set -euo pipefail
+here=$(cd "$(dirname "$0")" && pwd)
+kcount=$here/../bin/kcount
+work=$(mktemp -d)
+trap 'rm -rf "$work"' EXIT
+cc -O2 -shared -fPIC -o "$work/refuse.so" "$here/refuse_memory.c" -ldl
+printf '>a\nACGTA\n>b\nAC\n>c\nNGTN\n' > "$work/reads.fa"
+printf 'ACG 2\nGTA 1\n' > "$work/wanted"
+
+refused=0
+passed=0
+for n in $(seq 1 2000); do
+    status=0
+    REFUSE=$n LD_PRELOAD="$work/refuse.so" "$kcount" count -m 3 -C --batch 2 --print dump --column \
+        < "$work/reads.fa" > "$work/got" 2> "$work/said" || status=$?
+    if [ "$status" = 0 ]; then
+        cmp -s "$work/got" "$work/wanted" || { echo "growth $n refused: status 0 and another dump"; exit 1; }
+        passed=$((passed + 1))
+        [ "$passed" -lt 20 ] || break
+    else
+        [ "$status" = 1 ] || { echo "growth $n refused: status $status"; cat "$work/said"; exit 1; }
+        [ ! -s "$work/got" ] || { echo "growth $n refused: something was written"; exit 1; }
+        grep -qxE 'kcount: (8|46): no memory|Error: .*' "$work/said" || { echo "growth $n refused: $(cat "$work/said")"; exit 1; }
+        refused=$((refused + 1))
+        passed=0
+    fi
+done
+[ "$refused" -gt 0 ] && [ "$passed" -ge 20 ] || { echo "no growth was refused, or there is no end of them"; exit 1; }
+echo "memory: $refused growths refused in turn, each answered as such"
+
+# one test of a crate, with its n-th growth refused
+refused_test() {
+    REFUSE=$3 LD_PRELOAD="$work/refuse.so" "$here/../crates/$1/out/$1_tests" "$2" > "$work/said" 2>&1
+}
+for crate in kc_run kc_table; do
+    (cd "$here/../crates/$crate" && rt test) > "$work/log" 2>&1 || { cat "$work/log"; exit 1; }
+done
+
+# Tickets are made with all their growths or not at all.
+test=tests::as_many_seats_as_numbers_are_answered
+refused=0
+until refused_test kc_run "$test" $((refused + 1)); do
+    refused=$((refused + 1))
+    grep -q AllocError "$work/said" && [ "$refused" -lt 100 ] || { echo "kc_run, growth $refused:"; cat "$work/said"; exit 1; }
+done
+[ "$refused" -gt 0 ] || { echo "kc_run: no growth was refused"; exit 1; }
+echo "memory: $refused growths of tickets refused in turn, then they are made"
+
+# A table that must double has its numbers after a refusal, and takes the key when there is memory.
+test=tests::a_refused_growth_leaves_the_table
+for n in $(seq 1 40); do
+    refused_test kc_table "$test" "$n" || { echo "kc_table, growth $n:"; cat "$work/said"; exit 1; }
+done
+echo "memory: 40 growths of a table refused in turn, and its numbers stay"
