@@ -14,6 +14,7 @@ use Rattle.kc_fastx.specs.Reads.{read_of}
 use Rattle.kc_word.specs.Rule.{CountingRule}
 use Rattle.kc_word.specs.Occurrences.{position_count, counts_under, occurrences_in, occurrences, words_of}
 use Rattle.kc_word.specs.Cutting.{as_reads, NumberedPieces, stretch, stretches, position_total, batch_count, batch_of, cutting}
+use Rattle.kc_word.proofs.Tallies.{length-filter_map}
 use Rattle.kc_word.proofs.Windows.{word_of, windows, words_in-windows, window_form, form_at-window_form}
 
 -- ---- joined lists, cut
@@ -306,3 +307,11 @@ cutting-positions k size pieces some size_some =
 -- and at most as many as the pieces have bytes
 pub position_total-le : (k : ℕ) (pieces : List (List ℕ)) → 1 ≤ k → position_total k pieces ≤ sum_by (λ piece. length piece) pieces
 position_total-le k pieces some = sum_by-le-sum_by (λ piece. position_count k (length piece)) (λ piece. length piece) pieces (λ piece. omega (arith, some))
+
+-- pieces have at most as many words as positions
+pub length-words_of-pieces : (rule : CountingRule) (pieces : List (List ℕ)) → length (words_of rule (as_reads pieces)) ≤ position_total rule.k pieces
+length-words_of-pieces rule pieces =
+    let same = ap length (words_of-windows rule pieces) in
+    let fewer = length-filter_map (word_of rule.both) (flat_map (λ piece. windows rule.k piece) pieces) in
+    let total = length-all_windows rule.k pieces in
+    omega (arith, same, fewer, total)

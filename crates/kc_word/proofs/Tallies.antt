@@ -311,7 +311,7 @@ length-cons_option : {X : Type 0} (o : Option X) (xs : List X) → length (cons_
 length-cons_option None xs = omega arith
 length-cons_option (Some x) xs = omega arith
 
-length-filter_map : {X Y : Type 0} (f : X → Option Y) (xs : List X) → length (filter_map f xs) ≤ length xs
+pub length-filter_map : {X Y : Type 0} (f : X → Option Y) (xs : List X) → length (filter_map f xs) ≤ length xs
 length-filter_map f [] = omega arith
 length-filter_map f (x ∷ xs) =
     let one = length-cons_option (f x) (filter_map f xs) in
@@ -324,7 +324,7 @@ tally_total rule reads rows is =
     sum-of-rows 0 rows (words_of rule reads) (tally-AreRows rule reads rows is).rises (λ n.
     ⊎_elim (λ h. is.counts n h ∙ sym (times-words_of rule reads n h)) (λ h. count_of-beyond (4 ^ rule.k) rows n is.words h ∙ sym (times-beyond rule.k (words_of rule reads) n (words_of-below rule reads) h)) (cases_lt n (4 ^ rule.k)))
 
-length-words_in : (rule : CountingRule) (read : Read) → 1 ≤ rule.k → length (words_in rule read) ≤ length read.bases
+pub length-words_in : (rule : CountingRule) (read : Read) → 1 ≤ rule.k → length (words_in rule read) ≤ length read.bases
 unfolding words_in
 length-words_in rule read some =
     let fewer = length-filter_map (λ p. option_map number (form_at rule read p)) (positions rule read) in

@@ -1,5 +1,5 @@
 -- What holds of words, occurrences and tallies, whatever the reads are.
-use Rattle.std.specs.Prelude.{◌≡◌, ℕ, ◌+◌, ◌^◌, ◌<◌, ◌≤◌, ◌==◌, List, ◌++◌, map, length, sum_by, count_by, IsTrue, All}
+use Rattle.std.specs.Prelude.{◌≡◌, ℕ, ◌+◌, ◌^◌, ◌<◌, ◌≤◌, ◌==◌, List, ◌++◌, map, length, slice_index_or, sum_by, count_by, IsTrue, All}
 use Rattle.std.specs.List.{flat_map}
 use Rattle.std.specs.Char.{to_ascii_uppercase}
 use Rattle.kc_word.specs.Base.{are_bases}
@@ -9,7 +9,7 @@ use Rattle.kc_fastx.specs.Reads.{Read}
 use Rattle.kc_word.specs.Word.{number, text, reverse_complement, canonical}
 use Rattle.kc_word.specs.Rule.{CountingRule}
 use Rattle.kc_word.specs.Occurrences.{occurrences, words_of}
-use Rattle.kc_word.specs.Cutting.{as_reads, cleaned, cutting}
+use Rattle.kc_word.specs.Cutting.{as_reads, cleaned, cutting, NumberedPieces, batch_of, position_total}
 use Rattle.kc_word.specs.Tally.{count_of, IsTally}
 
 -- a number below 4 ^ k is the number of its text
@@ -64,6 +64,22 @@ CuttingOccurrences = (rule : CountingRule) (size : ℕ) (reads : List Read) (wor
 -- a word below 4 ^ k occurs as often as its number stands among the words of the reads
 abbrev pub CountedWords : Type 0
 CountedWords = (rule : CountingRule) (reads : List Read) (n : ℕ) → n < 4 ^ rule.k → count_by (λ m. m == n) (words_of rule reads) ≡ occurrences rule reads (text rule.k n)
+
+-- the batch at place i of a cutting is batch i
+abbrev pub CuttingNumbers : Type 0
+CuttingNumbers = (k size i : ℕ) (pieces : List (List ℕ)) (d : NumberedPieces) → i < length (cutting k size pieces) → slice_index_or (cutting k size pieces) i d ≡ batch_of k size pieces i
+
+-- the batches of a cutting have together as many positions as the pieces
+abbrev pub CuttingPositions : Type 0
+CuttingPositions = (k size : ℕ) (pieces : List (List ℕ)) → 1 ≤ k → 1 ≤ size → sum_by (λ batch. position_total k batch.pieces) (cutting k size pieces) ≡ position_total k pieces
+
+-- pieces have at most as many positions as bytes
+abbrev pub PositionsWithinBytes : Type 0
+PositionsWithinBytes = (k : ℕ) (pieces : List (List ℕ)) → 1 ≤ k → position_total k pieces ≤ sum_by (λ piece. length piece) pieces
+
+-- a read's piece is as long as the read
+abbrev pub CleanedLength : Type 0
+CleanedLength = (rule : CountingRule) (read : Read) → length (cleaned rule read) ≡ length read.bases
 
 -- the number of each word of the reads is below 4 ^ k
 abbrev pub WordsAreBelow : Type 0

@@ -1,5 +1,5 @@
 //! Laws of words, occurrences and tallies. Each is the contract of a function that does nothing.
-ghost use Rattle.kc_word.specs.Laws.{NumberOfText, PackedText, OrderOfTexts, ReversedTwice, OneCanonicalForm, OneTally, JoinedOccurrences, JoinedTally, TallyTotal, BoundedTally, CountedWords, CuttingWords, CuttingOccurrences, WordsAreBelow, WordsAreFew, CleanedWords};
+ghost use Rattle.kc_word.specs.Laws.{NumberOfText, PackedText, OrderOfTexts, ReversedTwice, OneCanonicalForm, OneTally, JoinedOccurrences, JoinedTally, TallyTotal, BoundedTally, CountedWords, CuttingWords, CuttingOccurrences, CuttingNumbers, CuttingPositions, PositionsWithinBytes, CleanedLength, WordsAreBelow, WordsAreFew, CleanedWords};
 
 /// A number below 4^k is the number of its text.
 pub fn number_of_text()
@@ -64,6 +64,26 @@ pub fn cutting_words()
 /// Each word occurs in all batches of a cutting together as often as in the reads.
 pub fn cutting_occurrences()
     ensures { CuttingOccurrences }
+{}
+
+/// The batch at place i of a cutting is batch i.
+pub fn cutting_numbers()
+    ensures { CuttingNumbers }
+{}
+
+/// The batches of a cutting have together as many positions as the pieces.
+pub fn cutting_positions()
+    ensures { CuttingPositions }
+{}
+
+/// Pieces have at most as many positions as bytes.
+pub fn positions_within_bytes()
+    ensures { PositionsWithinBytes }
+{}
+
+/// A read's piece is as long as the read.
+pub fn cleaned_length()
+    ensures { CleanedLength }
 {}
 
 /// The words of reads are below 4^k, at most as many as the bases, and those of the cleaned pieces.

@@ -1,8 +1,8 @@
 //! The words of pieces, rolled along their bytes.
-ghost use Rattle.std.specs.Prelude.{◌≡◌, ◌^◌, ◌<◌, ◌++◌, None, IfOk, OnOk, All};
+ghost use Rattle.std.specs.Prelude.{◌≡◌, ◌^◌, ◌<◌, ◌≤◌, ◌++◌, None, IfOk, OnOk, All, length};
 ghost use Rattle.kc_fastx.specs.Reads.{read_of};
 ghost use Rattle.kc_word.specs.Occurrences.{words_in, words_of};
-ghost use Rattle.kc_word.specs.Cutting.{as_reads};
+ghost use Rattle.kc_word.specs.Cutting.{as_reads, position_total};
 
 use crate::batch::Batch;
 use crate::k::K;
@@ -16,6 +16,7 @@ use std::alloc::{AllocError, Global};
 pub fn read_words(alloc: Global, read: &SeqRead, rule: &Rule) -> Result<Vec<u64>, AllocError>
     ensures words { IfOk result (λ words. words.items ≡ words_in rule.now read.now) }
     ensures below { IfOk result (λ words. All (λ word. word < 4 ^ rule.now.k) words.items) }
+    ensures short { IfOk result (λ words. length words.items ≤ length read.now.bases) }
 {
     let piece = clean(alloc, read, rule)?;
     let mut words = Vec::with_capacity(alloc, piece.bytes().len())?;
@@ -28,6 +29,7 @@ pub fn read_words(alloc: Global, read: &SeqRead, rule: &Rule) -> Result<Vec<u64>
 pub fn words(alloc: Global, batch: &Batch, rule: &Rule) -> Result<Vec<u64>, AllocError>
     ensures words { IfOk result (λ words. words.items ≡ words_of rule.now (as_reads batch.now.pieces)) }
     ensures below { IfOk result (λ words. All (λ word. word < 4 ^ rule.now.k) words.items) }
+    ensures short { IfOk result (λ words. length words.items ≤ position_total rule.now.k batch.now.pieces) }
 {
     let mut words = Vec::with_capacity(alloc, position_count(batch.pieces(), rule.k()))?;
     for part in batch.pieces() {
@@ -48,7 +50,8 @@ fn position_count(pieces: &[Piece], k: K) -> usize {
 // Appends the words of a piece: two numbers are rolled along its bytes, and a word stands wherever the
 // run of bases is as long as a word.
 fn push_words(bytes: &[u8], rule: Rule, words: &mut Vec<u64>) -> Result<(), AllocError>
-    ensures { OnOk result (words.new.items ≡ words.old.items ++ words_in rule (read_of bytes.now None)) }
+    ensures words { OnOk result (words.new.items ≡ words.old.items ++ words_in rule (read_of bytes.now None)) }
+    ensures some { 1 ≤ rule.k }
 {
     let k = rule.k().get();
     let both = rule.both();

@@ -1,13 +1,13 @@
-use Rattle.std.proofs.Common.{◌++◌, ◌<◌, ◌^◌, All, subst, ap, sym, ◌∙◌, None}
+use Rattle.std.proofs.Common.{◌++◌, ◌<◌, ◌^◌, All, length, arith, subst, ap, sym, ◌∙◌, None}
 use Rattle.kc_fastx.specs.Reads.{read_of}
 use Rattle.kc_word.specs.Occurrences.{words_in}
-use Rattle.kc_word.proofs.Tallies.{All-words_in}
+use Rattle.kc_word.proofs.Tallies.{All-words_in, length-words_in}
 use Rattle.kc_word.proofs.Cleaning.{words_in-cleaned}
 use Rattle.kc_word.proofs.roll.read_words.Goals as goal
 
 pub returns-clause-words : goal.returns-clause-words
 returns-clause-words c =
-    c.in_ok-push_words.ensures
+    c.in_ok-push_words.ensures.words
     ∙ ap (λ xs. xs ++ words_in c.args.rule.now (read_of c.bytes-2.result.now None)) c.in_ok-words.ensures.items
     ∙ ap (λ xs. words_in c.args.rule.now (read_of xs None)) (c.bytes-2.ensures ∙ c.in_ok-piece.ensures.cleaned)
     ∙ words_in-cleaned c.args.rule.now c.args.read.now
@@ -15,8 +15,14 @@ returns-clause-words c =
 pub returns-clause-below : goal.returns-clause-below
 returns-clause-below c =
     subst (All (λ word. word < 4 ^ c.args.rule.now.k))
-    (sym (c.in_ok-push_words.ensures
+    (sym (c.in_ok-push_words.ensures.words
     ∙ ap (λ xs. xs ++ words_in c.args.rule.now (read_of c.bytes-2.result.now None)) c.in_ok-words.ensures.items
     ∙ ap (λ xs. words_in c.args.rule.now (read_of xs None)) (c.bytes-2.ensures ∙ c.in_ok-piece.ensures.cleaned)
     ∙ words_in-cleaned c.args.rule.now c.args.read.now))
     (All-words_in c.args.rule.now c.args.read.now)
+
+pub returns-clause-short : goal.returns-clause-short
+returns-clause-short c =
+    let same = ap length (returns-clause-words c) in
+    let fewer = length-words_in c.args.rule.now c.args.read.now c.push_words.ensures.some in
+    omega (arith, same, fewer)

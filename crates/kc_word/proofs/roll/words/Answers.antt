@@ -1,8 +1,10 @@
-use Rattle.std.proofs.Common.{ℕ, ◌^◌, ◌<◌, ◌++◌, List, take, All, None, ap, sym, ◌∙◌, subst, arith}
+use Rattle.std.proofs.Common.{ℕ, ◌^◌, ◌<◌, ◌++◌, List, take, All, length, None, ap, sym, ◌∙◌, subst, arith}
+use Rattle.std.proofs.lemmas.List.{take_all}
 use Rattle.kc_fastx.specs.Reads.{read_of}
-use Rattle.kc_word.specs.Occurrences.{words_in}
+use Rattle.kc_word.specs.Occurrences.{words_in, words_of}
 use Rattle.kc_word.specs.Cutting.{as_reads}
 use Rattle.kc_word.proofs.Counting.{words_of-none, words_of-more}
+use Rattle.kc_word.proofs.Cuttings.{length-words_of-pieces}
 use Rattle.kc_word.proofs.Tallies.{All-words_of}
 use Rattle.kc_word.proofs.roll.words.Goals as goal
 
@@ -12,8 +14,15 @@ loop-part-init c = c.in_ok-words.ensures.items ∙ sym (words_of-none c.args.rul
 pub loop-part-preserved : goal.loop-part-preserved
 loop-part-preserved c =
     words_of-more c.args.rule.now c.pieces-part-items.result.now c.loop-part.part-index c.part-item.result c.loop-part.words.items c.push_words.new.words.items (omega arith) c.part-item.is c.loop-part.invariant
-    (c.in_ok-push_words.ensures ∙ ap (λ bytes. c.loop-part.words.items ++ words_in c.args.rule.now (read_of bytes None)) c.bytes.ensures)
+    (c.in_ok-push_words.ensures.words ∙ ap (λ bytes. c.loop-part.words.items ++ words_in c.args.rule.now (read_of bytes None)) c.bytes.ensures)
 
 pub returns-clause-below : goal.returns-clause-below
 returns-clause-below c =
     subst (λ (xs : List ℕ). All (λ n. n < 4 ^ c.args.rule.now.k) xs) (sym c.loop-part.invariant) (All-words_of c.args.rule.now (as_reads (take c.loop-part.part-index c.pieces-part-items.result.now)))
+
+pub returns-clause-short : goal.returns-clause-short
+returns-clause-short c =
+    let whole = take_all c.loop-part.part-index c.pieces-part-items.result.now c.loop-part-test.false ∙ c.pieces-part-items.ensures in
+    let same = ap length (c.loop-part.invariant ∙ ap (λ pieces. words_of c.args.rule.now (as_reads pieces)) whole) in
+    let fewer = length-words_of-pieces c.args.rule.now c.args.batch.now.pieces in
+    omega (arith, same, fewer)
