@@ -1,19 +1,12 @@
 /* The same measurements over the same tables in C. */
-#include <stdint.h>
 #include <stdio.h>
 #include <stdlib.h>
-#include <time.h>
+
+#include "../common.h"
 
 enum { WORDS = 65536, TURNS = 200 };
 
 static uint64_t state;
-
-static uint64_t next_word(void) {
-    uint64_t z = (state += 0x9e3779b97f4a7c15);
-    z = (z ^ (z >> 30)) * 0xbf58476d1ce4e5b9;
-    z = (z ^ (z >> 27)) * 0x94d049bb133111eb;
-    return z ^ (z >> 31);
-}
 
 static int invertible(const uint64_t *columns, int bits) {
     uint64_t basis[64] = {0};
@@ -60,12 +53,6 @@ static __attribute__((noinline)) uint64_t sum_of(const struct tables *t, const u
     return sum;
 }
 
-static uint64_t nanos(void) {
-    struct timespec now;
-    clock_gettime(CLOCK_MONOTONIC, &now);
-    return (uint64_t)now.tv_sec * 1000000000 + now.tv_nsec;
-}
-
 int main(void) {
     static uint64_t words[WORDS];
     static struct tables tables, built;
@@ -75,28 +62,28 @@ int main(void) {
         uint64_t columns[62] = {0};
         for (uint64_t seed = 1; ; seed++) {
             state = seed;
-            for (int i = 0; i < bits; i++) columns[i] = next_word() & ((UINT64_C(1) << bits) - 1);
+            for (int i = 0; i < bits; i++) columns[i] = split_mix(&state) & ((UINT64_C(1) << bits) - 1);
             if (invertible(columns, bits)) break;
         }
         build(&tables, columns);
         uint64_t least = UINT64_MAX, sum = 0;
         for (int round = 0; round < 7; round++) {
-            uint64_t start = nanos();
+            uint64_t start = nanoseconds();
             sum = 0;
             for (uint64_t turn = 0; turn < TURNS; turn++) sum += sum_of(&tables, words, turn, bits);
-            uint64_t took = nanos() - start;
+            uint64_t took = nanoseconds() - start;
             if (took < least) least = took;
         }
         printf("apply %d %llu %llu\n", bits, (unsigned long long)least, (unsigned long long)sum);
         least = UINT64_MAX;
         for (int round = 0; round < 7; round++) {
-            uint64_t start = nanos();
+            uint64_t start = nanoseconds();
             sum = 0;
             for (uint64_t turn = 0; turn < TURNS; turn++) {
                 build(&built, columns);
                 sum += apply(&built, (turn << 32) >> (64 - bits));
             }
-            uint64_t took = nanos() - start;
+            uint64_t took = nanoseconds() - start;
             if (took < least) least = took;
         }
         printf("build %d %llu %llu\n", bits, (unsigned long long)least, (unsigned long long)sum);

@@ -1,23 +1,16 @@
 // The plain C loop that parsing is measured against, and the maker of the files that both programs read.
 //   main make fasta|line|fastq FILE    writes a seeded file
 //   main FILE ROUNDS                   prints the least time of parsing the bytes, and of reading and parsing, in microseconds
-#include <stdint.h>
 #include <stdio.h>
 #include <stdlib.h>
 #include <string.h>
-#include <time.h>
+
+#include "../common.h"
 
 static uint64_t state = 88172645463325252ull;
 
-static uint64_t next_random(void) {
-    state ^= state << 13;
-    state ^= state >> 7;
-    state ^= state << 17;
-    return state;
-}
-
 static void put_bases(FILE *out, size_t count) {
-    for (size_t i = 0; i < count; i++) putc("ACGT"[next_random() >> 62], out);
+    for (size_t i = 0; i < count; i++) putc("ACGT"[xorshift(&state) >> 62], out);
 }
 
 static int make(const char *kind, const char *path) {
@@ -28,7 +21,7 @@ static int make(const char *kind, const char *path) {
             fprintf(out, "@read%d\n", i);
             put_bases(out, 100);
             fputs("\n+\n", out);
-            for (int j = 0; j < 100; j++) putc(33 + (int)(next_random() >> 40) % 41, out);
+            for (int j = 0; j < 100; j++) putc(33 + (int)(xorshift(&state) >> 40) % 41, out);
             putc('\n', out);
         }
     } else {
@@ -133,12 +126,6 @@ static char *load(const char *path, size_t *length) {
     return bytes;
 }
 
-static uint64_t now(void) {
-    struct timespec t;
-    clock_gettime(CLOCK_MONOTONIC, &t);
-    return (uint64_t)t.tv_sec * 1000000 + t.tv_nsec / 1000;
-}
-
 static size_t finish(struct reads *reads) {
     size_t sum = 0;
     for (size_t i = 0; i < reads->count; i++) {
@@ -158,21 +145,21 @@ int main(int argc, char **argv) {
     for (int round = 0; round < atoi(argv[2]); round++) {
         char *bytes = load(argv[1], &length);
         struct reads reads = {0};
-        uint64_t start = now();
+        uint64_t start = nanoseconds();
         parse(bytes, bytes + length, &reads);
-        uint64_t took = now() - start;
+        uint64_t took = nanoseconds() - start;
         if (took < best_parse) best_parse = took;
         sum = finish(&reads);
         free(bytes);
         memset(&reads, 0, sizeof reads);
-        start = now();
+        start = nanoseconds();
         bytes = load(argv[1], &length);
         parse(bytes, bytes + length, &reads);
         free(bytes);
-        took = now() - start;
+        took = nanoseconds() - start;
         if (took < best_all) best_all = took;
         sum = finish(&reads);
     }
-    printf("%llu %llu %zu\n", (unsigned long long)best_parse, (unsigned long long)best_all, sum);
+    printf("%llu %llu %zu\n", (unsigned long long)best_parse / 1000, (unsigned long long)best_all / 1000, sum);
     return 0;
 }

@@ -1,8 +1,8 @@
 // The table of remainders in C, as `kc_table::QuotientTable` has it: 20 million keys readied, then counted.
-#include <stdint.h>
 #include <stdio.h>
 #include <stdlib.h>
-#include <time.h>
+
+#include "../common.h"
 
 typedef struct {
     uint64_t tag, count;
@@ -114,24 +114,11 @@ static inline void add(Table *table, uint64_t key) {
 
 static uint64_t state = 1;
 
-static uint64_t next(void) {
-    uint64_t z = (state += 0x9e3779b97f4a7c15);
-    z = (z ^ (z >> 30)) * 0xbf58476d1ce4e5b9;
-    z = (z ^ (z >> 27)) * 0x94d049bb133111eb;
-    return z ^ (z >> 31);
-}
-
-static double now(void) {
-    struct timespec t;
-    clock_gettime(CLOCK_MONOTONIC, &t);
-    return t.tv_sec * 1e3 + t.tv_nsec / 1e6;
-}
-
 int main(void) {
     const uint64_t n = 20000000;
     uint64_t *keys = malloc(n * sizeof *keys);
     for (uint64_t i = 0; i < n; i++) {
-        uint64_t word = next();
+        uint64_t word = split_mix(&state);
         keys[i] = i % 4 == 3 ? keys[word % i] : word & ((1ull << 42) - 1);
     }
     const uint32_t logs[2] = {16, 25};
@@ -139,19 +126,19 @@ int main(void) {
         Table table;
         if (!empty(&table, logs[run], 40))
             return 2;
-        double start = now();
+        uint64_t start = nanoseconds();
         for (uint64_t i = 0; i < n; i++)
             ready(&table, keys[i]);
-        double readied = now();
+        uint64_t readied = nanoseconds();
         for (uint64_t i = 0; i < n; i++)
             add(&table, keys[i]);
-        double added = now();
+        uint64_t added = nanoseconds();
         uint64_t stored = 0, total = 0;
         for (uint64_t place = 0; place < 1ull << table.log; place++) {
             stored += table.rows[place].tag != 0;
             total += table.rows[place].count;
         }
-        printf("%u %.0f %.0f %u %llu %llu\n", logs[run], readied - start, added - readied, table.log,
+        printf("%u %.0f %.0f %u %llu %llu\n", logs[run], (readied - start) / 1e6, (added - readied) / 1e6, table.log,
                (unsigned long long)stored, (unsigned long long)total);
         free(table.rows);
     }

@@ -2,10 +2,10 @@
 #include <pthread.h>
 #include <sched.h>
 #include <stdatomic.h>
-#include <stdint.h>
 #include <stdio.h>
 #include <stdlib.h>
-#include <time.h>
+
+#include "../common.h"
 
 #define NUMBERS 1000000ull
 
@@ -32,12 +32,6 @@ static void *drain(void *sum) {
     return 0;
 }
 
-static uint64_t now(void) {
-    struct timespec t;
-    clock_gettime(CLOCK_MONOTONIC, &t);
-    return (uint64_t)t.tv_sec * 1000000000ull + (uint64_t)t.tv_nsec;
-}
-
 static int by_time(const void *a, const void *b) {
     uint64_t x = *(const uint64_t *)a, y = *(const uint64_t *)b;
     return (x > y) - (x < y);
@@ -51,12 +45,12 @@ static uint64_t timed(int threads) {
         atomic_store(&next, 0);
         atomic_store(&here, 0);
         all_threads = threads;
-        uint64_t start = now();
+        uint64_t start = nanoseconds();
         for (int i = 1; i < threads; i++)
             if (pthread_create(&ids[i], 0, drain, &sums[i])) return UINT64_MAX;
         drain(&sums[0]);
         for (int i = 1; i < threads; i++) pthread_join(ids[i], 0);
-        times[run] = now() - start;
+        times[run] = nanoseconds() - start;
         for (int i = 0; i < threads; i++) sum += sums[i];
         if (sum != NUMBERS * (NUMBERS - 1) / 2) return UINT64_MAX;
     }

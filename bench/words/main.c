@@ -1,11 +1,11 @@
 // The plain C loop that the words of batches are measured against, and the maker of the file that both programs read.
 //   main make FILE           writes seeded reads
 //   main FILE K ROUNDS       prints the least time of the words of all batches, both strands, in microseconds, and their sum
-#include <stdint.h>
 #include <stdio.h>
 #include <stdlib.h>
 #include <string.h>
-#include <time.h>
+
+#include "../common.h"
 
 #define READS 333334
 #define LENGTH 150
@@ -13,20 +13,13 @@
 
 static uint64_t state = 88172645463325252ull;
 
-static uint64_t next_random(void) {
-    state ^= state << 13;
-    state ^= state >> 7;
-    state ^= state << 17;
-    return state;
-}
-
 static int make(const char *path) {
     FILE *out = fopen(path, "wb");
     if (!out) return 1;
     for (int i = 0; i < READS; i++) {
         fprintf(out, ">%d\n", i);
         for (int j = 0; j < LENGTH; j++) {
-            uint64_t r = next_random();
+            uint64_t r = xorshift(&state);
             putc(r % 1000 == 0 ? 'N' : "ACGT"[r >> 62], out);
         }
         putc('\n', out);
@@ -93,12 +86,6 @@ static size_t words(const struct batch *batch, int k, uint64_t *out) {
     return n;
 }
 
-static double now(void) {
-    struct timespec t;
-    clock_gettime(CLOCK_MONOTONIC, &t);
-    return t.tv_sec * 1e6 + t.tv_nsec / 1e3;
-}
-
 int main(int argc, char **argv) {
     if (argc == 3 && strcmp(argv[1], "make") == 0) return make(argv[2]);
     if (argc != 4) return 2;
@@ -111,10 +98,10 @@ int main(int argc, char **argv) {
     while (fgets(line, sizeof line, in))
         if (line[0] != '>') cut((unsigned char *)line, strcspn(line, "\n"), k);
     fclose(in);
-    double best = 1e18;
+    uint64_t best = UINT64_MAX;
     uint64_t sum = 0;
     for (int round = 0; round < rounds; round++) {
-        double start = now();
+        uint64_t start = nanoseconds();
         sum = 0;
         for (size_t i = 0; i < batch_count; i++) {
             uint64_t *out = malloc(batches[i].positions * sizeof *out);
@@ -122,9 +109,9 @@ int main(int argc, char **argv) {
             if (n) sum += out[n - 1] + n;
             free(out);
         }
-        double took = now() - start;
+        uint64_t took = nanoseconds() - start;
         if (took < best) best = took;
     }
-    printf("%.0f %llu\n", best, (unsigned long long)sum);
+    printf("%llu %llu\n", (unsigned long long)best / 1000, (unsigned long long)sum);
     return 0;
 }
