@@ -12,8 +12,7 @@ use kc_fastx::SeqRead;
 use std::alloc::{AllocError, Global};
 
 /// The tally of the reads: each word that occurs and its occurrences, in the order of the words.
-/// Condition: the reads have fewer than 2^64
-/// bases, which `base_count` tells.
+/// Condition: the reads have fewer than 2^64 bases, which `base_count` tells.
 pub fn tally(alloc: Global, reads: &[SeqRead], rule: &Rule) -> Result<Vec<(u64, u64)>, AllocError>
     requires { sum_by (λ read. length read.bases) reads.now < 2 ^ 64 }
     ensures { IfOk result (λ rows. IsTally rule.now reads.now rows.items) }
