@@ -17,7 +17,7 @@ cp "$top/bench/table/main.rt.in" "$work/crates/table_bench/src/main.rt"
 cp -r "$top/bench/table/proofs" "$work/crates/table_bench/"
 find "$work/crates/table_bench/proofs" -name '*.in' | while read -r file; do mv "$file" "${file%.in}"; done
 (cd "$work/crates/table_bench" && rt run > "$work/build" 2>&1) || { tail -20 "$work/build"; exit 1; }
-cc -O3 -o "$work/table_c" "$top/bench/table/main.c"
+cc -O3 -march=native -o "$work/table_c" "$top/bench/table/main.c"
 
 for run in 1 2 3; do
     "$work/crates/table_bench/out/table_bench" > "$work/rattle"
