@@ -3,9 +3,8 @@ use Rattle.std.proofs.Common.{◌≡◌, ◌≢◌, ◌∙◌, ℕ, ◌+◌, ◌
 use Rattle.std.proofs.Math.Nat.{mod-mod}
 use Rattle.std.proofs.lemmas.Nat.{and_mask, mul-le}
 use Rattle.std.proofs.lemmas.Bool.{cases_lt}
-use Rattle.kc_table.specs.Place.{triangle, place}
-use Rattle.kc_table.specs.Slot.{tag_of, probe_of, key_in}
-use Rattle.kc_table.specs.Sound.{IsTaken, IsFound, IsFree}
+use Rattle.kc_table.specs.Reprobing.{triangle, place, tag_of, reprobe_of, IsTaken, IsFound, IsFree}
+use Rattle.kc_table.specs.Slot.{key_in}
 use Rattle.kc_table.proofs.Places.{place_step}
 
 -- the first i places are taken by others, the walk stands at the last of them, and each was read once
@@ -44,12 +43,12 @@ walked_more log tag key i stand begun count next read wanted after walked here i
 }
 
 pub walked_found : (log : ℕ) (tag : ℕ → ℕ) (key i next read wanted : ℕ) → i < 63 → next ≡ place key i log → read ≡ tag next → read ≡ wanted → wanted ≡ tag_of log key i → IsFound log tag key next
-walked_found log tag key i next read wanted small here is same want = record { probe = i; small = small; here = here; is = sym is ∙ same ∙ want }
+walked_found log tag key i next read wanted small here is same want = record { reprobe = i; small = small; here = here; is = sym is ∙ same ∙ want }
 
 pub walked_free : (log : ℕ) (tag : ℕ → ℕ) (key i stand begun count next read wanted : ℕ) → IsWalked log tag key i stand begun count
     → i < 63 → next ≡ place key i log → read ≡ tag next → read ≡ 0 → wanted ≡ tag_of log key i → IsFree log tag key next wanted
 walked_free log tag key i stand begun count next read wanted walked small here is none want = record {
-  probe = i;
+  reprobe = i;
   small = small;
   here = here;
   is = want;
@@ -57,22 +56,22 @@ walked_free log tag key i stand begun count next read wanted walked small here i
   before = walked.taken;
 }
 
-triangle-le : (tag : ℕ) → triangle (probe_of tag) ≤ 1953
+triangle-le : (tag : ℕ) → triangle (reprobe_of tag) ≤ 1953
 triangle-le tag =
-    let i = probe_of tag in
+    let i = reprobe_of tag in
     let low : tag % 64 < 64 = mod-lt tag (omega arith) in
     let small : i ≤ 62 = omega arith in
     let product : i * (i + 1) ≤ 62 * 63 = mul-le i (i + 1) 62 63 small (omega arith) in
     omega arith
 
 -- what `key_at` computes fits
-pub steps_back-le : (log tag mask : ℕ) → mask ≡ 2 ^ log - 1 → log ≤ 40 → mask * triangle (probe_of tag) ≤ 2 ^ 40 * 1953
+pub steps_back-le : (log tag mask : ℕ) → mask ≡ 2 ^ log - 1 → log ≤ 40 → mask * triangle (reprobe_of tag) ≤ 2 ^ 40 * 1953
 steps_back-le log tag mask is few =
     let room : 2 ^ log ≤ 2 ^ 40 = pow_mono few in
-    mul-le mask (triangle (probe_of tag)) (2 ^ 40) 1953 (omega arith) (triangle-le tag)
+    mul-le mask (triangle (reprobe_of tag)) (2 ^ 40) 1953 (omega arith) (triangle-le tag)
 
 -- and is the slot's key
-pub key_computed : (log tag place mask : ℕ) → mask ≡ 2 ^ log - 1 → tag / 64 * 2 ^ log < 2 ^ 64 → tag / 64 * 2 ^ log % 2 ^ 64 + bit_and (place + mask * triangle (probe_of tag)) mask ≡ key_in log place tag
+pub key_computed : (log tag place mask : ℕ) → mask ≡ 2 ^ log - 1 → tag / 64 * 2 ^ log < 2 ^ 64 → tag / 64 * 2 ^ log % 2 ^ 64 + bit_and (place + mask * triangle (reprobe_of tag)) mask ≡ key_in log place tag
 key_computed log tag place mask is fits =
-    ap (λ n. n + bit_and (place + mask * triangle (probe_of tag)) mask) (mod-eq_of_lt fits)
-    ∙ ap (λ n. tag / 64 * 2 ^ log + n) (masked log (place + mask * triangle (probe_of tag)) mask is ∙ ap (λ m. (place + m * triangle (probe_of tag)) % 2 ^ log) is)
+    ap (λ n. n + bit_and (place + mask * triangle (reprobe_of tag)) mask) (mod-eq_of_lt fits)
+    ∙ ap (λ n. tag / 64 * 2 ^ log + n) (masked log (place + mask * triangle (reprobe_of tag)) mask is ∙ ap (λ m. (place + m * triangle (reprobe_of tag)) % 2 ^ log) is)

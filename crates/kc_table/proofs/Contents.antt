@@ -11,8 +11,8 @@ use Rattle.std.proofs.lemmas.List.Elements.{filter_map-append, filter-append}
 use Rattle.std.proofs.lemmas.Grind.{common_steps}
 use Rattle.std.specs.FinMap.{get, insert, from_entries, from_entries_push, nat_cmp-IsAntisymmetric}
 use Rattle.kc_table.specs.Counts.{IsStored}
-use Rattle.kc_table.specs.Table.{SlotList, entries_in, numbers_in, Holds}
-use Rattle.kc_table.proofs.Numbers.{eq_by_cmp_apart, get-entries, same_numbers, get-insert_same, get-insert_other, find-lookup}
+use Rattle.kc_table.specs.QuotientTable.{SlotList, entries_in, counts_in, Holds}
+use Rattle.kc_table.proofs.KeyCounts.{eq_by_cmp_apart, get-entries, same_counts, get-insert_same, get-insert_other, find-lookup}
 
 pub at_self : (k : ℕ) → is_at (nat_cmp k) k ≡ true
 at_self k = (eq_by_cmp_equiv nat_cmp_total).refl k
@@ -37,9 +37,9 @@ lookup_held (None ∷ slots) k n zero held first = cc
 lookup_held (None ∷ slots) k n (suc s) held first = lookup_held slots k n s held (λ t m below h. first (suc t) m (omega arith) h)
 lookup_held (Some e ∷ slots) k n zero held first =
     let key : e.0 ≡ k = cc in
-    let number : e.1 ≡ n = cc in
+    let count : e.1 ≡ n = cc in
     ap (λ x. cond (is_at (nat_cmp k) x) (Some e.1) (lookup (is_at (nat_cmp k)) (entries_in slots))) key
-    ∙ ap (λ b. cond b (Some e.1) (lookup (is_at (nat_cmp k)) (entries_in slots))) (at_self k) ∙ ap (λ x. Some x) number
+    ∙ ap (λ b. cond b (Some e.1) (lookup (is_at (nat_cmp k)) (entries_in slots))) (at_self k) ∙ ap (λ x. Some x) count
 lookup_held (Some e ∷ slots) k n (suc s) held first =
     let apart : k ≢ e.0 = λ same. first 0 e.1 (omega arith) (ap (λ x. Some (Some (x, e.1))) (sym same)) in
     ap (λ b. cond b (Some e.1) (lookup (is_at (nat_cmp k)) (entries_in slots))) (at_other k e.0 apart)
@@ -60,8 +60,8 @@ held_by_lookup (Some e ∷ slots) k n found =
     elim (cases_eq k e.0) [
       | inl same ↦
           let here : Some e.1 ≡ Some n = sym (ap (λ b. cond b (Some e.1) (lookup (is_at (nat_cmp k)) (entries_in slots))) (ap (λ x. is_at (nat_cmp k) x) (sym same) ∙ at_self k)) ∙ found in
-          let number : e.1 ≡ n = cc in
-          (zero, ap (λ x. Some (Some (x, e.1))) (sym same) ∙ ap (λ x. Some (Some (k, x))) number)
+          let count : e.1 ≡ n = cc in
+          (zero, ap (λ x. Some (Some (x, e.1))) (sym same) ∙ ap (λ x. Some (Some (k, x))) count)
       | inr apart ↦
           let rest = held_by_lookup slots k n (sym (ap (λ b. cond b (Some e.1) (lookup (is_at (nat_cmp k)) (entries_in slots))) (at_other k e.0 apart)) ∙ found) in
           (suc rest.0, rest.1)
@@ -92,30 +92,30 @@ slice_get-set_other (y ∷ xs) (suc s) zero x apart = refl
 slice_get-set_other (y ∷ xs) (suc s) (suc t) x apart = slice_get-set_other xs s t x (λ same. apart (ap suc same))
 
 -- the map after one slot is written
-pub numbers_in-set : (slots : SlotList) (s k v : ℕ) → s < length slots → IsOpenTo slots s k → ((t m : ℕ) → t ≢ s → Holds slots t k m → ⊥) → numbers_in (set slots s (Some (k, v))) ≡ insert (numbers_in slots) k v
-numbers_in-set slots s k v below ready nowhere = same_numbers _ _ (λ q. elim (cases_eq q k) [
-  | inl same ↦ ap (get (numbers_in (set slots s (Some (k, v))))) same ∙ get-entries _ k
+pub counts_in-set : (slots : SlotList) (s k v : ℕ) → s < length slots → IsOpenTo slots s k → ((t m : ℕ) → t ≢ s → Holds slots t k m → ⊥) → counts_in (set slots s (Some (k, v))) ≡ insert (counts_in slots) k v
+counts_in-set slots s k v below ready nowhere = same_counts _ _ (λ q. elim (cases_eq q k) [
+  | inl same ↦ ap (get (counts_in (set slots s (Some (k, v))))) same ∙ get-entries _ k
       ∙ lookup_held (set slots s (Some (k, v))) k v s (slice_get-set_same slots s (Some (k, v)) below)
       (λ t m under h. let other : t ≢ s = omega arith in nowhere t m other (sym (slice_get-set_other slots s t (Some (k, v)) other) ∙ h))
-      ∙ sym (ap (get (insert (numbers_in slots) k v)) same ∙ get-insert_same (numbers_in slots) k v)
-  | inr apart ↦ get-entries _ q ∙ lookup-set_other slots s k v q apart ready ∙ sym (get-entries _ q) ∙ sym (get-insert_other (numbers_in slots) k v q apart)
+      ∙ sym (ap (get (insert (counts_in slots) k v)) same ∙ get-insert_same (counts_in slots) k v)
+  | inr apart ↦ get-entries _ q ∙ lookup-set_other slots s k v q apart ready ∙ sym (get-entries _ q) ∙ sym (get-insert_other (counts_in slots) k v q apart)
 ])
 
-pub get-numbers_in : (slots : SlotList) (s k n : ℕ) → Apart slots → Holds slots s k n → get (numbers_in slots) k ≡ Some n
-get-numbers_in slots s k n apart held =
+pub get-counts_in : (slots : SlotList) (s k n : ℕ) → Apart slots → Holds slots s k n → get (counts_in slots) k ≡ Some n
+get-counts_in slots s k n apart held =
     get-entries _ k ∙ lookup_held slots k n s held (λ t m below h. let same : s ≡ t = apart s t k n m held h in omega arith)
 
-pub get-numbers_in_nowhere : (slots : SlotList) (k : ℕ) → IsNowhere slots k → get (numbers_in slots) k ≡ None
-get-numbers_in_nowhere slots k none = get-entries _ k ∙ lookup_nowhere slots k none
+pub get-counts_in_nowhere : (slots : SlotList) (k : ℕ) → IsNowhere slots k → get (counts_in slots) k ≡ None
+get-counts_in_nowhere slots k none = get-entries _ k ∙ lookup_nowhere slots k none
 
-pub IsStored-held : (slots : SlotList) (s k n : ℕ) → Apart slots → Holds slots s k n → IsStored (numbers_in slots) k
-IsStored-held slots s k n apart held = ap is_some (get-numbers_in slots s k n apart held)
+pub IsStored-held : (slots : SlotList) (s k n : ℕ) → Apart slots → Holds slots s k n → IsStored (counts_in slots) k
+IsStored-held slots s k n apart held = ap is_some (get-counts_in slots s k n apart held)
 
 held_by_found : (slots : SlotList) (k : ℕ) (found : Option ℕ) → lookup (is_at (nat_cmp k)) (entries_in slots) ≡ found → is_some found ≡ true → (s : ℕ) × (n : ℕ) × Holds slots s k n
 held_by_found slots k None is stored = absurd (let never : false ≡ true = stored in cc)
 held_by_found slots k (Some n) is stored = let held = held_by_lookup slots k n is in (held.0, n, held.1)
 
-pub held_by_stored : (slots : SlotList) (k : ℕ) → IsStored (numbers_in slots) k → (s : ℕ) × (n : ℕ) × Holds slots s k n
+pub held_by_stored : (slots : SlotList) (k : ℕ) → IsStored (counts_in slots) k → (s : ℕ) × (n : ℕ) × Holds slots s k n
 held_by_stored slots k stored = held_by_found slots k _ refl (sym (ap is_some (get-entries (entries_in slots) k)) ∙ stored)
 
 all_apart : (slots : SlotList) (k : ℕ) → IsNowhere slots k → AllByRecursion (λ y. nat_eq k y ≡ false) (keys_of (entries_in slots))
@@ -140,8 +140,8 @@ entries-take slots i slot is =
     ∙ ap (λ x. entries_in (take i slots) ++ cons_option x []) (get_or_from_slice_get slots i slot None is)
 
 -- the slots looked at so far, with one more
-pub numbers_in-take_empty : (slots : SlotList) (i : ℕ) → slice_get slots i ≡ Some None → numbers_in (take (i + 1) slots) ≡ numbers_in (take i slots)
-numbers_in-take_empty slots i empty = ap (λ es. from_entries {R = nat_cmp} es) (entries-take slots i None empty ∙ append-nil _)
+pub counts_in-take_empty : (slots : SlotList) (i : ℕ) → slice_get slots i ≡ Some None → counts_in (take (i + 1) slots) ≡ counts_in (take i slots)
+counts_in-take_empty slots i empty = ap (λ es. from_entries {R = nat_cmp} es) (entries-take slots i None empty ∙ append-nil _)
 
 slice_get-take : {X : Type 0} (i : ℕ) (xs : List X) (t : ℕ) (x : X) → slice_get (take i xs) t ≡ Some x → (t < i) × (slice_get xs t ≡ Some x)
 slice_get-take {X} zero xs t x is = absurd (let never : ◌≡◌ {A = Option X} None (Some x) = is in cc)
@@ -149,22 +149,22 @@ slice_get-take {X} (suc i) [] t x is = absurd (let never : ◌≡◌ {A = Option
 slice_get-take (suc i) (y ∷ xs) zero x is = (omega arith, is)
 slice_get-take (suc i) (y ∷ xs) (suc t) x is = let rest = slice_get-take i xs t x is in let below : t < i = rest.0 in (omega arith, rest.1)
 
-pub numbers_in-take_held : (slots : SlotList) (i k n : ℕ) → Apart slots → Holds slots i k n → numbers_in (take (i + 1) slots) ≡ insert (numbers_in (take i slots)) k n
-numbers_in-take_held slots i k n apart held =
+pub counts_in-take_held : (slots : SlotList) (i k n : ℕ) → Apart slots → Holds slots i k n → counts_in (take (i + 1) slots) ≡ insert (counts_in (take i slots)) k n
+counts_in-take_held slots i k n apart held =
     let none : IsNowhere (take i slots) k = λ t m h. let before = slice_get-take i slots t (Some (k, m)) h in let below : t < i = before.0 in let same : i ≡ t = apart i t k n m held before.1 in omega arith in
     ap (λ es. from_entries {R = nat_cmp} es) (entries-take slots i (Some (k, n)) held)
     ∙ from_entries_push nat_cmp_total nat_cmp-IsAntisymmetric (entries_in (take i slots)) k n (find-lookup k (entries_in (take i slots)) ∙ lookup_nowhere (take i slots) k none)
 
 -- what the slots so far hold, all of them hold
-pub IsStored-take : (slots : SlotList) (i k : ℕ) → Apart slots → IsStored (numbers_in (take i slots)) k → IsStored (numbers_in slots) k
+pub IsStored-take : (slots : SlotList) (i k : ℕ) → Apart slots → IsStored (counts_in (take i slots)) k → IsStored (counts_in slots) k
 IsStored-take slots i k apart stored =
     let held = held_by_stored (take i slots) k stored in
     let whole = slice_get-take i slots held.0 (Some (k, held.1)) held.2 in
     IsStored-held slots held.0 k held.1 apart whole.1
 
 -- the next key is not among those of the slots so far
-pub get-take_next : (slots : SlotList) (i k n : ℕ) → Apart slots → Holds slots i k n → get (numbers_in (take i slots)) k ≡ None
-get-take_next slots i k n apart held = get-numbers_in_nowhere (take i slots) k (λ t m h.
+pub get-take_next : (slots : SlotList) (i k n : ℕ) → Apart slots → Holds slots i k n → get (counts_in (take i slots)) k ≡ None
+get-take_next slots i k n apart held = get-counts_in_nowhere (take i slots) k (λ t m h.
     let before = slice_get-take i slots t (Some (k, m)) h in let below : t < i = before.0 in let same : i ≡ t = apart i t k n m held before.1 in omega arith)
 
 -- the entries whose number is at least 1, in the slots so far

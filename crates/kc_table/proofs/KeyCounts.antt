@@ -15,7 +15,7 @@ use Rattle.std.proofs.lemmas.List.Elements.{All-filter, All-contains, filter_pas
 use Rattle.std.proofs.lemmas.Option.{get_or_from_slice_get, slice_get-get_or, slice_get_within}
 use Rattle.std.proofs.lemmas.Bool.{cases_lt, cases_eq, eqb-true}
 use Rattle.std.specs.FinMap.{get, insert, from_entries, find, contains_key, empty, len, len-insert, get-from_entries, get-insert, get-empty, same_map, nat_cmp-IsAntisymmetric}
-use Rattle.kc_table.specs.Counts.{Numbers, AreRowsOf, IsWithin, number_at, readied, added, IsStored}
+use Rattle.kc_table.specs.Counts.{KeyCounts, AreRowsOf, IsWithin, count_at, readied, added, IsStored}
 
 abbrev pub Entries : Type 0
 Entries = List (ℕ × ℕ)
@@ -32,35 +32,38 @@ pub get-entries : (es : Entries) (q : ℕ) → get (from_entries {R = nat_cmp} e
 get-entries es q = get-from_entries nat_cmp_total es q ∙ find-lookup q es
 
 -- two maps are one where they answer alike
-pub same_numbers : (m n : Numbers) → ((q : ℕ) → get m q ≡ get n q) → m ≡ n
-same_numbers m n = same_map nat_cmp_total nat_cmp-IsAntisymmetric m n
+pub same_counts : (m n : KeyCounts) → ((q : ℕ) → get m q ≡ get n q) → m ≡ n
+same_counts m n = same_map nat_cmp_total nat_cmp-IsAntisymmetric m n
 
-pub get-insert_same : (m : Numbers) (k v : ℕ) → get (insert m k v) k ≡ Some v
+pub get-insert_same : (m : KeyCounts) (k v : ℕ) → get (insert m k v) k ≡ Some v
 get-insert_same m k v = get-insert nat_cmp_total m k v k ∙ ap (λ b. cond b (Some v) (get {R = nat_cmp} m k)) ((eq_by_cmp_equiv nat_cmp_total).refl k)
 
 pub eq_by_cmp_apart : (q k : ℕ) → q ≢ k → eq_by_cmp nat_cmp q k ≡ false
 eq_by_cmp_apart q k apart = eq_by_cmp-nat q k ∙ grind (arith, common_steps)
 
-pub get-insert_other : (m : Numbers) (k v q : ℕ) → q ≢ k → get (insert m k v) q ≡ get m q
+pub get-insert_other : (m : KeyCounts) (k v q : ℕ) → q ≢ k → get (insert m k v) q ≡ get m q
 get-insert_other m k v q apart = get-insert nat_cmp_total m k v q ∙ ap (λ b. cond b (Some v) (get {R = nat_cmp} m q)) (eq_by_cmp_apart q k apart)
 
 -- the entries after one change, by key
-pub numbers_updated : (es fs : Entries) (k v : ℕ) → ((q : ℕ) → lookup (is_at (nat_cmp q)) fs ≡ cond (is_at (nat_cmp k) q) (Some v) (lookup (is_at (nat_cmp q)) es)) → from_entries {R = nat_cmp} fs ≡ insert (from_entries es) k v
-numbers_updated es fs k v h = same_numbers _ _ (λ q. get-entries fs q ∙ h q ∙ sym (get-insert nat_cmp_total (from_entries es) k v q
+pub counts_updated : (es fs : Entries) (k v : ℕ) → ((q : ℕ) → lookup (is_at (nat_cmp q)) fs ≡ cond (is_at (nat_cmp k) q) (Some v) (lookup (is_at (nat_cmp q)) es)) → from_entries {R = nat_cmp} fs ≡ insert (from_entries es) k v
+counts_updated es fs k v h = same_counts _ _ (λ q. get-entries fs q ∙ h q ∙ sym (get-insert nat_cmp_total (from_entries es) k v q
     ∙ ap (λ b. cond b (Some v) (get {R = nat_cmp} (from_entries es) q)) ((eq_by_cmp_equiv nat_cmp_total).symm q k)
     ∙ ap (cond (is_at (nat_cmp k) q) (Some v)) (get-entries es q)))
 
-pub IsWithin-insert : (bits : ℕ) (m : Numbers) (k v : ℕ) → k < 2 ^ bits → IsWithin bits m → IsWithin bits (insert m k v)
-IsWithin-insert bits m k v below within q h = let apart : q ≢ k = omega arith in get-insert_other m k v q apart ∙ within q h
+pub IsWithin-insert : (bits : ℕ) (m : KeyCounts) (k v : ℕ) → k < 2 ^ bits → IsWithin bits m → IsWithin bits (insert m k v)
+IsWithin-insert bits m k v below within q stored = elim (cases_eq q k) [
+  | inl same ↦ subst (λ n. n < 2 ^ bits) (sym same) below
+  | inr apart ↦ within q (ap is_some (sym (get-insert_other m k v q apart)) ∙ stored)
+]
 
 pub IsWithin-empty : (bits : ℕ) → IsWithin bits empty
-IsWithin-empty bits q h = get-empty nat_cmp q
+IsWithin-empty bits q stored = absurd (let never : false ≡ true = sym (ap is_some (get-empty nat_cmp q)) ∙ stored in cc)
 
 -- a stored key, by cases on what is found
-pub readied_stored : (m : Numbers) (k v : ℕ) → get m k ≡ Some v → readied m k ≡ m
+pub readied_stored : (m : KeyCounts) (k v : ℕ) → get m k ≡ Some v → readied m k ≡ m
 readied_stored m k v is = ap (λ o. cond (is_some o) m (insert m k 0)) is
 
-pub readied_new : (m : Numbers) (k : ℕ) → get m k ≡ None → readied m k ≡ insert m k 0
+pub readied_new : (m : KeyCounts) (k : ℕ) → get m k ≡ None → readied m k ≡ insert m k 0
 readied_new m k is = ap (λ o. cond (is_some o) m (insert m k 0)) is
 
 -- fs is es with the number v at k
@@ -69,18 +72,18 @@ Writes es fs k v = (q : ℕ) → lookup (is_at (nat_cmp q)) fs ≡ cond (is_at (
 
 pub within_by_write : (bits : ℕ) (es fs : Entries) (k v : ℕ) → k < 2 ^ bits → Writes es fs k v → IsWithin bits (from_entries es) → IsWithin bits (from_entries fs)
 within_by_write bits es fs k v below writes within =
-    subst (IsWithin bits) (sym (numbers_updated es fs k v writes)) (IsWithin-insert bits (from_entries es) k v below within)
+    subst (IsWithin bits) (sym (counts_updated es fs k v writes)) (IsWithin-insert bits (from_entries es) k v below within)
 
 pub readied_by_look : (es : Entries) (k : ℕ) → is_some (lookup (is_at (nat_cmp k)) es) ≡ true → from_entries es ≡ readied (from_entries es) k
 readied_by_look es k is = ap (λ b. cond b (from_entries es) (insert (from_entries es) k 0)) (sym (ap is_some (get-entries es k) ∙ is))
 
 pub readied_by_write : (es fs : Entries) (k : ℕ) → is_some (lookup (is_at (nat_cmp k)) es) ≡ false → Writes es fs k 0 → from_entries fs ≡ readied (from_entries es) k
 readied_by_write es fs k is writes =
-    numbers_updated es fs k 0 writes ∙ ap (λ b. cond b (from_entries es) (insert (from_entries es) k 0)) (sym (ap is_some (get-entries es k) ∙ is))
+    counts_updated es fs k 0 writes ∙ ap (λ b. cond b (from_entries es) (insert (from_entries es) k 0)) (sym (ap is_some (get-entries es k) ∙ is))
 
 pub added_by_write : (es fs : Entries) (k n : ℕ) → lookup (is_at (nat_cmp k)) es ≡ Some n → Writes es fs k (n + 1) → from_entries fs ≡ added (from_entries es) k
 added_by_write es fs k n is writes =
-    numbers_updated es fs k (n + 1) writes ∙ ap (λ o. insert (from_entries es) k (unwrap_or o 0 + 1)) (sym (get-entries es k ∙ is))
+    counts_updated es fs k (n + 1) writes ∙ ap (λ o. insert (from_entries es) k (unwrap_or o 0 + 1)) (sym (get-entries es k ∙ is))
 
 pub writes_by_set_value : (es fs : Entries) (k v n : ℕ) → Some n ≡ lookup (is_at (nat_cmp k)) es → fs ≡ set_value (is_at (nat_cmp k)) es v → Writes es fs k v
 writes_by_set_value es fs k v n found is q =
@@ -88,10 +91,10 @@ writes_by_set_value es fs k v n found is q =
     ap (lookup (is_at (nat_cmp q))) is ∙ lookup-set_value laws (is_at (nat_cmp k)) (λ x y t. laws.congr k x y t) q v es (subst (λ (o : Option ℕ). IsSome o) found refl)
 
 -- what a map of entries finds, where it is seen as m
-pub numbers_found : (es : Entries) (m : Numbers) (k : ℕ) → from_entries es ≡ m → get m k ≡ lookup (is_at (nat_cmp k)) es
-numbers_found es m k is = ap (λ (n : Numbers). get n k) (sym is) ∙ get-entries es k
+pub counts_found : (es : Entries) (m : KeyCounts) (k : ℕ) → from_entries es ≡ m → get m k ≡ lookup (is_at (nat_cmp k)) es
+counts_found es m k is = ap (λ (n : KeyCounts). get n k) (sym is) ∙ get-entries es k
 
-pub stored_found : (o : Option ℕ) (m : Numbers) (k : ℕ) → IsStored m k → get m k ≡ o → o ≡ None → ⊥
+pub stored_found : (o : Option ℕ) (m : KeyCounts) (k : ℕ) → IsStored m k → get m k ≡ o → o ≡ None → ⊥
 stored_found o m k stored is none = let never : false ≡ true = sym (ap is_some (is ∙ none)) ∙ stored in cc
 
 pub Contains-filter : (p : (ℕ × ℕ) → Bool) (es : Entries) (e : ℕ × ℕ) → p e ≡ true → Contains es e → Contains (filter p es) e
@@ -100,9 +103,6 @@ Contains-filter p (x ∷ es) e passes (zero, below, is) = rw (ap p is ∙ passes
 Contains-filter p (x ∷ es) e passes (suc k, below, is) =
     let rest : Contains (filter p es) e = Contains-filter p es e passes (k, omega arith, is) in
     elim (p x) as (λ b. Contains (cond b (x ∷ filter p es) (filter p es)) e) [ true ↦ (suc rest.0, omega arith, rest.2) | false ↦ rest ]
-
-below_or : (x n : ℕ) → (x < n) ⊎ (n ≤ x)
-below_or x n = cases_lt x n
 
 -- each entry is found by its key
 entries_found : (es : Entries) → IsDistinct nat_eq (keys_of es) → All (λ e. get {R = nat_cmp} (from_entries es) e.0 ≡ Some e.1) es
@@ -132,11 +132,11 @@ AreRowsOf-filter es apart = record {
   complete = λ q some. counted_entry es q (get {R = nat_cmp} (from_entries es) q) refl some;
 }
 
-pub rows_within : (bits : ℕ) (m : Numbers) (rows : Entries) → AreRowsOf m rows → IsWithin bits m → All (λ row. row.0 < 2 ^ bits) rows
+pub rows_within : (bits : ℕ) (m : KeyCounts) (rows : Entries) → AreRowsOf m rows → IsWithin bits m → All (λ row. row.0 < 2 ^ bits) rows
 rows_within bits m rows are within k d h =
     let row : ℕ × ℕ = get_or rows k d in
     let told : (get m row.0 ≡ Some row.1) × (1 ≤ row.1) = are.told k d h in
-    elim (below_or row.0 (2 ^ bits)) [ inl below ↦ below | inr past ↦ let none : get m row.0 ≡ None = within row.0 past in cc ]
+    within row.0 (ap is_some told.0)
 
 -- keys in order are apart
 pub apart_from_sorted : (ks : List ℕ) → IsStrictlySortedBy nat_cmp ks → IsDistinct nat_eq ks
@@ -148,80 +148,80 @@ IfOk-weaker P Q (Ok v) f h = f v h
 IfOk-weaker P Q (Err e) f h = tt
 
 -- the rows of the map m of entries whose keys are apart
-pub rows_of_entries : (es : Entries) (m : Numbers) → from_entries es ≡ m → IsDistinct nat_eq (keys_of es) → (rows : Entries) → rows ≡ filter (λ e. nat_lt 0 e.1) es → AreRowsOf m rows
+pub rows_of_entries : (es : Entries) (m : KeyCounts) → from_entries es ≡ m → IsDistinct nat_eq (keys_of es) → (rows : Entries) → rows ≡ filter (λ e. nat_lt 0 e.1) es → AreRowsOf m rows
 rows_of_entries es m seen apart rows is = subst₂ AreRowsOf seen (sym is) (AreRowsOf-filter es apart)
 
-pub len-readied_new : (m : Numbers) (k : ℕ) → contains_key m k ≡ false → len (readied m k) ≡ len m + 1
+pub len-readied_new : (m : KeyCounts) (k : ℕ) → contains_key m k ≡ false → len (readied m k) ≡ len m + 1
 len-readied_new m k new =
     ap len (ap (λ b. cond b m (insert m k 0)) new) ∙ len-insert nat_cmp_total m k 0 ∙ ap (λ b. cond b (len m) (len m + 1)) new
 
-pub len-added : (m : Numbers) (k : ℕ) → IsStored m k → len (added m k) ≡ len m
-len-added m k stored = len-insert nat_cmp_total m k (number_at m k + 1) ∙ ap (λ b. cond b (len m) (len m + 1)) stored
+pub len-added : (m : KeyCounts) (k : ℕ) → IsStored m k → len (added m k) ≡ len m
+len-added m k stored = len-insert nat_cmp_total m k (count_at m k + 1) ∙ ap (λ b. cond b (len m) (len m + 1)) stored
 
-pub stored_by_some : (m : Numbers) (k n : ℕ) → get m k ≡ Some n → IsStored m k
+pub stored_by_some : (m : KeyCounts) (k n : ℕ) → get m k ≡ Some n → IsStored m k
 stored_by_some m k n is = ap is_some is
 
 -- what a look that finds nothing says
-pub stored_by_none : (m : Numbers) (k : ℕ) → get m k ≡ None → (false ≡ true → IsStored m k) × (IsStored m k → false ≡ true)
+pub stored_by_none : (m : KeyCounts) (k : ℕ) → get m k ≡ None → (false ≡ true → IsStored m k) × (IsStored m k → false ≡ true)
 stored_by_none m k is = (λ never. absurd (let h : false ≡ true = never in cc), λ stored. sym (ap is_some is) ∙ stored)
 
-pub number_at-some : (m : Numbers) (k n : ℕ) → get m k ≡ Some n → number_at m k ≡ n
-number_at-some m k n is = ap (λ o. unwrap_or o 0) is
+pub count_at-some : (m : KeyCounts) (k n : ℕ) → get m k ≡ Some n → count_at m k ≡ n
+count_at-some m k n is = ap (λ o. unwrap_or o 0) is
 
 -- what a map is after a key is readied, and after it is counted
-pub get-readied_other : (m : Numbers) (k q : ℕ) → q ≢ k → get (readied m k) q ≡ get m q
+pub get-readied_other : (m : KeyCounts) (k q : ℕ) → q ≢ k → get (readied m k) q ≡ get m q
 get-readied_other m k q apart = elim (contains_key m k) as (λ b. get (cond b m (insert m k 0)) q ≡ get m q) [ true ↦ refl | false ↦ get-insert_other m k 0 q apart ]
 
-stored_either : (m : Numbers) (k : ℕ) (b : Bool) → contains_key m k ≡ b → IsStored (readied m k) k
+stored_either : (m : KeyCounts) (k : ℕ) (b : Bool) → contains_key m k ≡ b → IsStored (readied m k) k
 stored_either m k true is = ap (λ b. contains_key (cond b m (insert m k 0)) k) is ∙ is
 stored_either m k false is = ap (λ b. contains_key (cond b m (insert m k 0)) k) is ∙ ap is_some (get-insert_same m k 0)
 
-pub IsStored-readied : (m : Numbers) (k : ℕ) → IsStored (readied m k) k
+pub IsStored-readied : (m : KeyCounts) (k : ℕ) → IsStored (readied m k) k
 IsStored-readied m k = stored_either m k (contains_key m k) refl
 
-pub IsStored-readied_other : (m : Numbers) (k q : ℕ) → IsStored m q → IsStored (readied m k) q
+pub IsStored-readied_other : (m : KeyCounts) (k q : ℕ) → IsStored m q → IsStored (readied m k) q
 IsStored-readied_other m k q stored = elim (cases_eq q k) [
   | inl same ↦ ap (contains_key (readied m k)) same ∙ IsStored-readied m k
   | inr apart ↦ ap is_some (get-readied_other m k q apart) ∙ stored
 ]
 
-number_either : (m : Numbers) (k : ℕ) (found : Option ℕ) → get m k ≡ found → number_at (readied m k) k ≡ number_at m k
-number_either m k (Some n) is = ap (λ (x : Numbers). number_at x k) (readied_stored m k n is)
-number_either m k None is =
-    ap (λ (x : Numbers). number_at x k) (readied_new m k is) ∙ ap (λ o. unwrap_or o 0) (get-insert_same m k 0) ∙ sym (ap (λ o. unwrap_or o 0) is)
+count_either : (m : KeyCounts) (k : ℕ) (found : Option ℕ) → get m k ≡ found → count_at (readied m k) k ≡ count_at m k
+count_either m k (Some n) is = ap (λ (x : KeyCounts). count_at x k) (readied_stored m k n is)
+count_either m k None is =
+    ap (λ (x : KeyCounts). count_at x k) (readied_new m k is) ∙ ap (λ o. unwrap_or o 0) (get-insert_same m k 0) ∙ sym (ap (λ o. unwrap_or o 0) is)
 
-pub number_at-readied : (m : Numbers) (k q : ℕ) → number_at (readied m k) q ≡ number_at m q
-number_at-readied m k q = elim (cases_eq q k) [
-  | inl same ↦ ap (number_at (readied m k)) same ∙ number_either m k (get m k) refl ∙ ap (number_at m) (sym same)
+pub count_at-readied : (m : KeyCounts) (k q : ℕ) → count_at (readied m k) q ≡ count_at m q
+count_at-readied m k q = elim (cases_eq q k) [
+  | inl same ↦ ap (count_at (readied m k)) same ∙ count_either m k (get m k) refl ∙ ap (count_at m) (sym same)
   | inr apart ↦ ap (λ o. unwrap_or o 0) (get-readied_other m k q apart)
 ]
 
-pub IsStored-added : (m : Numbers) (k q : ℕ) → IsStored m q → IsStored (added m k) q
+pub IsStored-added : (m : KeyCounts) (k q : ℕ) → IsStored m q → IsStored (added m k) q
 IsStored-added m k q stored = elim (cases_eq q k) [
-  | inl same ↦ ap (contains_key (added m k)) same ∙ ap is_some (get-insert_same m k (number_at m k + 1))
-  | inr apart ↦ ap is_some (get-insert_other m k (number_at m k + 1) q apart) ∙ stored
+  | inl same ↦ ap (contains_key (added m k)) same ∙ ap is_some (get-insert_same m k (count_at m k + 1))
+  | inr apart ↦ ap is_some (get-insert_other m k (count_at m k + 1) q apart) ∙ stored
 ]
 
-pub number_at-added_same : (m : Numbers) (k : ℕ) → number_at (added m k) k ≡ number_at m k + 1
-number_at-added_same m k = ap (λ o. unwrap_or o 0) (get-insert_same m k (number_at m k + 1))
+pub count_at-added_same : (m : KeyCounts) (k : ℕ) → count_at (added m k) k ≡ count_at m k + 1
+count_at-added_same m k = ap (λ o. unwrap_or o 0) (get-insert_same m k (count_at m k + 1))
 
-pub number_at-added_other : (m : Numbers) (k q : ℕ) → q ≢ k → number_at (added m k) q ≡ number_at m q
-number_at-added_other m k q apart = ap (λ o. unwrap_or o 0) (get-insert_other m k (number_at m k + 1) q apart)
+pub count_at-added_other : (m : KeyCounts) (k q : ℕ) → q ≢ k → count_at (added m k) q ≡ count_at m q
+count_at-added_other m k q apart = ap (λ o. unwrap_or o 0) (get-insert_other m k (count_at m k + 1) q apart)
 
-pub number_at-empty : (q : ℕ) → number_at empty q ≡ 0
-number_at-empty q = ap (λ o. unwrap_or o 0) (get-empty nat_cmp q)
+pub count_at-empty : (q : ℕ) → count_at empty q ≡ 0
+count_at-empty q = ap (λ o. unwrap_or o 0) (get-empty nat_cmp q)
 
 -- the rows of a map, read as a map of their own, tell the same numbers
-number_by_rows : (m : Numbers) (rows : Entries) (q : ℕ) (found : Option ℕ) → AreRowsOf m rows → get {R = nat_cmp} (from_entries rows) q ≡ found → unwrap_or found 0 ≡ number_at m q
-number_by_rows m rows q (Some n) are is =
+count_by_rows : (m : KeyCounts) (rows : Entries) (q : ℕ) (found : Option ℕ) → AreRowsOf m rows → get {R = nat_cmp} (from_entries rows) q ≡ found → unwrap_or found 0 ≡ count_at m q
+count_by_rows m rows q (Some n) are is =
     let row = All-contains (λ row. (get m row.0 ≡ Some row.1) × (1 ≤ row.1)) rows (q, n) are.told (found_entry rows q n (sym (get-entries rows q) ∙ is)) in
-    sym (number_at-some m q n row.0)
-number_by_rows m rows q None are is = elim (cases_eq (number_at m q) 0) [
+    sym (count_at-some m q n row.0)
+count_by_rows m rows q None are is = elim (cases_eq (count_at m q) 0) [
   | inl none ↦ sym none
   | inr some ↦
-      let stored = All-contains (λ e. get {R = nat_cmp} (from_entries rows) e.0 ≡ Some e.1) rows (q, number_at m q) (entries_found rows are.once) (are.complete q (omega arith)) in
-      absurd (let never : ◌≡◌ {A = Option ℕ} None (Some (number_at m q)) = sym is ∙ stored in cc)
+      let stored = All-contains (λ e. get {R = nat_cmp} (from_entries rows) e.0 ≡ Some e.1) rows (q, count_at m q) (entries_found rows are.once) (are.complete q (omega arith)) in
+      absurd (let never : ◌≡◌ {A = Option ℕ} None (Some (count_at m q)) = sym is ∙ stored in cc)
 ]
 
-pub number_at-rows : (m : Numbers) (rows : Entries) (q : ℕ) → AreRowsOf m rows → number_at (from_entries rows) q ≡ number_at m q
-number_at-rows m rows q are = number_by_rows m rows q (get {R = nat_cmp} (from_entries rows) q) are refl
+pub count_at-rows : (m : KeyCounts) (rows : Entries) (q : ℕ) → AreRowsOf m rows → count_at (from_entries rows) q ≡ count_at m q
+count_at-rows m rows q are = count_by_rows m rows q (get {R = nat_cmp} (from_entries rows) q) are refl

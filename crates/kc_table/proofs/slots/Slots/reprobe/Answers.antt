@@ -1,8 +1,8 @@
 use Rattle.std.proofs.Common.{arith, ◌≡◌, refl, ◌+◌, ◌-◌, ◌<◌, ◌^◌, ◌/◌, bit_and, rules}
-use Rattle.kc_table.specs.Place.{place}
+use Rattle.kc_table.specs.Reprobing.{place}
 use Rattle.kc_table.proofs.Soundness.{remainder-lt}
-use Rattle.kc_table.proofs.Walked.{walked_none, walked_more, walked_found, walked_free, next_place}
-use Rattle.kc_table.proofs.slots.Slots.probe.Goals as goal
+use Rattle.kc_table.proofs.ReprobingSteps.{walked_none, walked_more, walked_found, walked_free, next_place}
+use Rattle.kc_table.proofs.slots.Slots.reprobe.Goals as goal
 
 pub overflow_mul-remainder : goal.overflow_mul-remainder
 overflow_mul-remainder c = let small : c.args.key / 2 ^ c.args.self.now.log < 2 ^ 58 = remainder-lt c.args.self.now.sound c.args.key c.requires in omega arith
