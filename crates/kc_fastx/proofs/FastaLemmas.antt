@@ -1,11 +1,11 @@
 -- The whole FASTA records that were taken so far, and what one record more makes of them.
 use Rattle.std.proofs.Common.{◌≡◌, ℕ, true, List, [], ◌∷◌, ◌++◌, refl, sym, subst, ◌∙◌, None}
 use Rattle.kc_fastx.specs.declared.faults.FastxFault.{FastxFault}
-use Rattle.kc_fastx.specs.Lines.{Line, Cursor, begins_with, line_count}
+use Rattle.kc_fastx.specs.Lines.{Line, Cursor, begins_with, line_count, ends_or_begins_with}
 use Rattle.kc_fastx.specs.Reads.{Read, read_of}
-use Rattle.kc_fastx.specs.Records.{Records, BeginsWithSequence, ends_or_begins_with, SequenceFails, FirstFault}
-use Rattle.kc_fastx.specs.Fasta.{BeginsWithFastaTitle, IsFastaRecord, FastaFails}
-use Rattle.kc_fastx.proofs.SequenceLemmas.{TakesLine, line_count-more}
+use Rattle.kc_fastx.specs.Records.{Records, BeginsWithSequence, SequenceFails, FirstFault}
+use Rattle.kc_fastx.specs.Fasta.{BeginsWithFastaTitle, IsFastaRecord, FastaFails, greater_than}
+use Rattle.kc_fastx.proofs.RecordsLemmas.{TakesLine, line_count-more}
 
 -- from `start` on, the lines up to `now` are whole records that say these reads
 pub record RecordsSoFar (Record : List Line → Read → List Line → Type 0) (start now : Cursor) (reads : List Read) : Type 0 where
@@ -31,17 +31,17 @@ records_more Record start now next reads read before one same = record {
 }
 
 -- what a title begins: the line at the front, where the lines stood at a record
-title_at : (now next : Cursor) (line : Line) → ends_or_begins_with 62 now.left ≡ true → now.left ≡ line ∷ next.left
-    → begins_with 62 line ≡ true
-title_at now next line at e = subst (λ ls. ends_or_begins_with 62 ls ≡ true) e at
+title_at : (now next : Cursor) (line : Line) → ends_or_begins_with greater_than now.left ≡ true → now.left ≡ line ∷ next.left
+    → begins_with greater_than line ≡ true
+title_at now next line at e = subst (λ ls. ends_or_begins_with greater_than ls ≡ true) e at
 
-pub fasta_title : (now next : Cursor) (line : Line) → ends_or_begins_with 62 now.left ≡ true → now.left ≡ line ∷ next.left
+pub fasta_title : (now next : Cursor) (line : Line) → ends_or_begins_with greater_than now.left ≡ true → now.left ≡ line ∷ next.left
     → BeginsWithFastaTitle now.left next.left
 fasta_title now next line at e = record { title = line; whole = e; is_title = title_at now next line at e }
 
 -- a title and the sequence behind it are a record
-pub fasta_record : (now next after : Cursor) (line : Line) (bases : List ℕ) → ends_or_begins_with 62 now.left ≡ true → now.left ≡ line ∷ next.left
-    → BeginsWithSequence 62 next.left bases after.left → ends_or_begins_with 62 after.left ≡ true
+pub fasta_record : (now next after : Cursor) (line : Line) (bases : List ℕ) → ends_or_begins_with greater_than now.left ≡ true → now.left ≡ line ∷ next.left
+    → BeginsWithSequence greater_than next.left bases after.left → ends_or_begins_with greater_than after.left ≡ true
     → IsFastaRecord now.left (read_of bases None) after.left
 fasta_record now next after line bases at e sequence ends = record {
   body = next.left;
@@ -53,7 +53,7 @@ fasta_record now next after line bases at e sequence ends = record {
 
 -- a record whose sequence fails, behind whole records
 pub fasta_fails : (start now next : Cursor) (line : Line) (reads : List Read) (fault : FastxFault) → RecordsSoFar IsFastaRecord start now reads
-    → ends_or_begins_with 62 now.left ≡ true → TakesLine now next line → SequenceFails (line_count next) 62 next.left fault
+    → ends_or_begins_with greater_than now.left ≡ true → TakesLine now next line → SequenceFails (line_count next) greater_than next.left fault
     → FirstFault IsFastaRecord (FastaFails (line_count start)) start.left fault
 fasta_fails start now next line reads fault before at step fails = (
   reads,
@@ -62,6 +62,6 @@ fasta_fails start now next line reads fault before at step fails = (
   (
     next.left,
     fasta_title now next line at step.left,
-    subst (λ count. SequenceFails count 62 next.left fault) (line_count-more now next line step ∙ before.counted) fails,
+    subst (λ count. SequenceFails count greater_than next.left fault) (line_count-more now next line step ∙ before.counted) fails,
   ),
 )

@@ -1,7 +1,8 @@
 -- The numbers of the faults (our formats page), and what a contract says of them.
 use Rattle.std.specs.Prelude.{ℕ, ⊤}
 use Rattle.kc_fastx.specs.declared.faults.FastxFault.{FastxFault}
-use Rattle.kc_fastx.specs.declared.faults.FastxFault.TheVariants.{BadStart, BadBase, BadQuality, LongQuality, Truncated, TooLong, Read, Memory}
+use Rattle.kc_fastx.specs.declared.faults.FastxFault.TheVariants.{BadStart, BadBase, BadQuality, LongQuality, Truncated}
+use Rattle.kc_fastx.specs.declared.faults.FastxFault.TheVariants.{TooLong, Read, Memory}
 
 abbrev pub fault_number : FastxFault → ℕ
 fault_number (BadStart line) = 1

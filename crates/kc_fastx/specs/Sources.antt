@@ -4,7 +4,7 @@ use Rattle.std.specs.Io.KnownBytes.{Consumes, IsAtEnd}
 use Rattle.kc_fastx.specs.declared.faults.FastxFault.{FastxFault}
 use Rattle.kc_fastx.specs.declared.faults.FastxFault.TheVariants.{TooLong, Read as ReadFailed}
 use Rattle.kc_fastx.specs.Reads.{Read}
-use Rattle.kc_fastx.specs.ReadsOf.{HasFault, HasReads}
+use Rattle.kc_fastx.specs.Parsing.{HasFault, HasReads}
 
 -- the bytes that are left, where the source tells them, and how many of its reads have failed
 pub record Seen : Type 0 where

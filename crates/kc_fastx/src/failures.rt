@@ -1,4 +1,5 @@
-// How many reads of a source have failed. The number exists only in proofs, so it has no bound and takes no bytes.
+//! How many reads of a source have failed.
+//! The number exists only in proofs, so it has no bound and takes no bytes.
 ghost use Rattle.std.specs.Prelude.{◌≡◌, ℕ, ◌+◌};
 ghost use Rattle.std.specs.Borrow.{ftrue};
 

@@ -1,3 +1,4 @@
+//! Why no reads are given.
 ghost use Rattle.std.specs.Prelude.{◌≡◌};
 ghost use Rattle.kc_fastx.specs.declared.faults.FastxFault.{FastxFault};
 ghost use Rattle.kc_fastx.specs.declared.faults.FastxFault.TheVariants.{Memory};

@@ -6,10 +6,10 @@ mod fasta;
 mod fastq;
 mod faults;
 pub mod laws;
-mod line_cursor;
+mod lines;
 mod parsing;
 mod reads;
-mod sequences;
+mod records;
 mod sources;
 #[cfg(test)]
 mod tests;

@@ -1,12 +1,14 @@
-ghost use Rattle.std.specs.Prelude.{◌^◌, ◌<◌, ◌≤◌, length, IfOk, IfErr};
-ghost use Rattle.kc_fastx.specs.ReadsOf.{HasReads, HasFault, base_count};
+//! From bytes, or from a source of them, to reads.
+ghost use Rattle.std.specs.Prelude.{◌<◌, ◌≤◌, length, IfOk, IfErr};
+ghost use Rattle.kc_fastx.specs.Reads.{base_count};
+ghost use Rattle.kc_fastx.specs.Parsing.{HasReads, HasFault, most_bytes};
 ghost use Rattle.kc_fastx.specs.Sources.{GivesReads, TakesAll, TakingFails, RefusesFor};
 ghost use Rattle.kc_fastx.specs.Faults.{UnlessMemory};
 
 use crate::fasta::parse_fasta;
 use crate::fastq::parse_fastq;
 use crate::faults::FastxFault;
-use crate::line_cursor::LineCursor;
+use crate::lines::LineCursor;
 use crate::reads::SeqRead;
 use crate::sources::Source;
 use std::alloc::Global;
@@ -32,15 +34,17 @@ pub fn parse(alloc: Global, bytes: &[u8]) -> Result<Vec<SeqRead>, FastxFault>
 /// Takes all bytes of the source, and then answers what `parse` answers of them, with their number.
 ///
 /// # Errors
-/// `TooLong` where the source gave more than `limit` bytes, and `Read` where it failed, whichever the reading met first;
-/// these before any line is looked at. Else the first fault of the bytes, with its line. `Memory` where a growth was refused.
+/// `TooLong` where the source gave more than `limit` bytes, and `Read` where it failed, whichever the reading met
+/// first; these before any line is looked at. Else the first fault of the bytes, with its line. `Memory` where a growth
+/// was refused.
 pub fn read_all<R: Source>(
     alloc: Global,
     reader: &mut R,
     limit: u64,
 ) -> Result<(Vec<SeqRead>, u64), FastxFault>
-    requires { limit ≤ 2 ^ 36 }
-    ensures reads { IfOk result (λ answer. GivesReads (R.seen reader.old) (R.seen reader.new) limit answer.0.items answer.1) }
+    requires { limit ≤ most_bytes }
+    ensures reads { let Gives = GivesReads (R.seen reader.old) (R.seen reader.new) limit in
+        IfOk result (λ answer. Gives answer.0.items answer.1) }
     ensures fault { IfErr result (UnlessMemory (RefusesFor (R.seen reader.old) (R.seen reader.new) limit)) }
     ensures bases { IfOk result (λ answer. base_count answer.0.items ≤ answer.1) }
 {
@@ -54,7 +58,7 @@ const BLOCK: usize = 65536;
 
 // Takes all bytes of the source.
 fn take_all<R: Source>(alloc: Global, reader: &mut R, limit: u64) -> Result<Vec<u8>, FastxFault>
-    requires { limit ≤ 2 ^ 36 }
+    requires { limit ≤ most_bytes }
     ensures ok { IfOk result (λ bytes. TakesAll (R.seen reader.old) (R.seen reader.new) limit bytes.items) }
     ensures err { IfErr result (UnlessMemory (TakingFails (R.seen reader.old) (R.seen reader.new) limit)) }
 {
@@ -69,7 +73,7 @@ fn take_by_blocks<R: Source>(
     limit: u64,
     block: &mut [u8],
 ) -> Result<Vec<u8>, FastxFault>
-    requires limit { limit ≤ 2 ^ 36 }
+    requires limit { limit ≤ most_bytes }
     requires room { 0 < length block.old }
     ensures ok { IfOk result (λ bytes. TakesAll (R.seen reader.old) (R.seen reader.new) limit bytes.items) }
     ensures err { IfErr result (UnlessMemory (TakingFails (R.seen reader.old) (R.seen reader.new) limit)) }

@@ -2,7 +2,7 @@ use Rattle.std.proofs.Common.{◌≡◌, None, ◌∙◌}
 use Rattle.kc_fastx.specs.Lines.{line_count}
 use Rattle.kc_fastx.specs.Fasta.{IsFastaRecord}
 use Rattle.kc_fastx.specs.Reads.{read_of}
-use Rattle.kc_fastx.proofs.SequenceLemmas.{TakesLine, line_count-more}
+use Rattle.kc_fastx.proofs.RecordsLemmas.{TakesLine, line_count-more}
 use Rattle.kc_fastx.proofs.FastaLemmas.{records_more, fasta_record}
 use Rattle.kc_fastx.proofs.fasta.parse_fasta.Goals as goal
 

@@ -1,7 +1,7 @@
 use Rattle.std.proofs.Common.{◌≡◌, true, ◌+◌, ◌<◌, ◌≤◌, length, arith}
 use Rattle.std.specs.List.{list_all}
 use Rattle.kc_fastx.specs.Reads.{is_quality_byte}
-use Rattle.kc_fastx.proofs.SequenceLemmas.{TakesLine}
+use Rattle.kc_fastx.proofs.RecordsLemmas.{TakesLine}
 use Rattle.kc_fastx.proofs.FastqLemmas.{quality_more}
 use Rattle.kc_fastx.proofs.fastq.take_quality.Goals as goal
 

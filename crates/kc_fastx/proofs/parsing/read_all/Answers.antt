@@ -1,8 +1,8 @@
 use Rattle.std.proofs.lemmas.Result.{err_from_is_err_and}
-use Rattle.kc_fastx.specs.ReadsOf.{HasFault}
+use Rattle.kc_fastx.specs.Parsing.{HasFault}
 use Rattle.kc_fastx.specs.Sources.{RefusesFor}
 use Rattle.kc_fastx.proofs.FastqLemmas.{unless_memory}
-use Rattle.kc_fastx.proofs.ReadsOfLemmas.{refuses-fault}
+use Rattle.kc_fastx.proofs.ParsingLemmas.{refuses-fault}
 use Rattle.kc_fastx.proofs.parsing.read_all.Goals as goal
 
 pub returns-in_err-reads-clause-fault : goal.returns-in_err-reads-clause-fault

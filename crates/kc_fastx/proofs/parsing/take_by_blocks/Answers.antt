@@ -1,6 +1,6 @@
 use Rattle.std.proofs.Common.{◌+◌, ◌<◌, length, take, arith}
 use Rattle.std.proofs.lemmas.List.{length-take-le}
-use Rattle.kc_fastx.proofs.SourceLemmas.{taken_too_long}
+use Rattle.kc_fastx.proofs.SourcesLemmas.{taken_too_long}
 use Rattle.kc_fastx.proofs.parsing.take_by_blocks.Goals as goal
 
 pub returns-then-count-limit-clause-err : goal.returns-then-count-limit-clause-err

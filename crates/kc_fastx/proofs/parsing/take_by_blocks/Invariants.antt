@@ -1,5 +1,5 @@
 use Rattle.std.proofs.Common.{◌-◌, length}
-use Rattle.kc_fastx.proofs.SourceLemmas.{TakenSoFar}
+use Rattle.kc_fastx.proofs.SourcesLemmas.{TakenSoFar}
 use Rattle.kc_fastx.proofs.parsing.take_by_blocks.Given as goal
 
 abbrev pub invariant-reading : goal.invariant-reading

@@ -8,12 +8,13 @@ use Rattle.std.proofs.lemmas.List.Folds.{list_all-append}
 use Rattle.kc_fastx.specs.declared.faults.FastxFault.{FastxFault}
 use Rattle.kc_fastx.specs.declared.faults.FastxFault.TheVariants.{BadStart, BadBase, BadQuality, LongQuality, Truncated, TooLong, Read as ReadFailed, Memory}
 use Rattle.kc_fastx.specs.Reads.{Read, read_of, is_sequence_byte, is_quality_byte}
-use Rattle.kc_fastx.specs.Lines.{Line, lines, begins_with, next_begins_with, skip_blanks}
-use Rattle.kc_fastx.specs.Records.{Records, BeginsWithSequence, HasBadSequence, ends_or_begins_with, SequenceFails, FirstFault}
-use Rattle.kc_fastx.specs.Fasta.{IsFastaRecord, FastaFails}
-use Rattle.kc_fastx.specs.Fastq.{HasPlus, BeginsWithQuality, HasShortQuality, QualityFails, FailsBehindPlus, IsFastqBody, FastqBodyFails, BeginsWithFastqTitle, IsFastqRecord, FastqFails}
+use Rattle.kc_fastx.specs.Lines.{Line, lines, begins_with, next_begins_with, skip_blanks, ends_or_begins_with}
+use Rattle.kc_fastx.specs.Records.{Records, BeginsWithSequence, HasBadSequence, SequenceFails, FirstFault}
+use Rattle.kc_fastx.specs.Fasta.{IsFastaRecord, FastaFails, greater_than}
+use Rattle.kc_fastx.specs.Fastq.{HasPlus, BeginsWithQuality, HasShortQuality, QualityFails, FailsBehindPlus, IsFastqBody, FastqBodyFails, BeginsWithFastqTitle, IsFastqRecord, FastqFails, at_sign, plus_sign}
 use Rattle.kc_fastx.proofs.FastqLemmas.{length-skip_blanks, length-body}
-use Rattle.kc_fastx.specs.ReadsOf.{IsFastq, IsReadsOf, text_lines}
+use Rattle.kc_fastx.proofs.LawsAnswers.{answer}
+use Rattle.kc_fastx.specs.Parsing.{IsFastq, IsReadsOf, text_lines}
 
 -- the bases, and the lines behind them; or the lines behind a bad one
 unfoldable pub sequence_of : ℕ → List ℕ → List Line → Result (List ℕ × List Line) (List Line)
@@ -47,20 +48,20 @@ unfoldable pub body_of : ℕ → List Line → Result (Read × List Line) FastxF
 body_of count body =
     on_ok (λ front. first_of (Err (Truncated count))
     (λ plus after. on_ok (λ quality. Ok (read_of front.0 (Some quality.0), quality.1)) (quality_of count (length front.0) [] after)) front.1)
-    (bad_base count (sequence_of 43 [] body))
+    (bad_base count (sequence_of plus_sign [] body))
 
 -- the reads of FASTA lines, of which there are at most `fuel`
 unfoldable pub fasta_of : ℕ → ℕ → List Line → Result (List Read) FastxFault
 fasta_of count zero ls = Ok []
 fasta_of count (suc fuel) ls =
-    first_of (Ok []) (λ title body. on_ok (λ sequence. on_ok (λ reads. Ok (read_of sequence.0 None ∷ reads)) (fasta_of count fuel sequence.1)) (bad_base count (sequence_of 62 [] body))) ls
+    first_of (Ok []) (λ title body. on_ok (λ sequence. on_ok (λ reads. Ok (read_of sequence.0 None ∷ reads)) (fasta_of count fuel sequence.1)) (bad_base count (sequence_of greater_than [] body))) ls
 
 -- the same of FASTQ
 unfoldable pub fastq_of : ℕ → ℕ → List Line → Result (List Read) FastxFault
 fastq_of count zero ls = Ok []
 fastq_of count (suc fuel) ls =
     first_of (Ok [])
-    (λ title body. cond (begins_with 64 title)
+    (λ title body. cond (begins_with at_sign title)
     (on_ok (λ one. on_ok (λ reads. Ok (one.0 ∷ reads)) (fastq_of count fuel one.1)) (body_of count body))
     (Err (BadStart (count - length body))))
     (skip_blanks ls)
@@ -68,7 +69,7 @@ fastq_of count (suc fuel) ls =
 unfoldable pub reads_of : List ℕ → Result (List Read) FastxFault
 reads_of bytes =
     let ls = text_lines bytes in let count = length (lines bytes) in
-    cond (next_begins_with 62 ls) (fasta_of count (length ls) ls) (fastq_of count (length ls) ls)
+    cond (next_begins_with greater_than ls) (fasta_of count (length ls) ls) (fastq_of count (length ls) ls)
 
 -- What the definition says, the program answers.
 
@@ -138,7 +139,7 @@ number_is count number more e = omega arith
 
 -- FASTA
 
-fasta_of-step : (count fuel : ℕ) (title : Line) (body : List Line) (answer : Result (List ℕ × List Line) (List Line)) → sequence_of 62 [] body ≡ answer
+fasta_of-step : (count fuel : ℕ) (title : Line) (body : List Line) (answer : Result (List ℕ × List Line) (List Line)) → sequence_of greater_than [] body ≡ answer
     → fasta_of count (suc fuel) (title ∷ body)
     ≡ on_ok (λ sequence. on_ok (λ reads. Ok (read_of sequence.0 None ∷ reads)) (fasta_of count fuel sequence.1)) (bad_base count answer)
 unfolding fasta_of
@@ -159,16 +160,16 @@ fasta_of-ok count [] fuel ls fits e = ap (fasta_of count fuel) e ∙ fasta_of-en
 fasta_of-ok count (read ∷ reads) zero ls fits h = absurd (omega (arith, length-fasta ls read h.0 h.1))
 fasta_of-ok count (read ∷ reads) (suc fuel) ls fits h =
     let one = h.1 in
-    let sequence : sequence_of 62 [] one.body ≡ Ok (read.bases, h.0) = sequence_of-ok 62 one.body read.bases h.0 one.sequence one.ends in
+    let sequence : sequence_of greater_than [] one.body ≡ Ok (read.bases, h.0) = sequence_of-ok greater_than one.body read.bases h.0 one.sequence one.ends in
     ap (fasta_of count (suc fuel)) one.title.whole
     ∙ fasta_of-step count fuel one.title.title one.body (Ok (read.bases, h.0)) sequence
     ∙ ap (on_ok (λ reads. Ok (read_of read.bases None ∷ reads))) (fasta_of-ok count reads fuel h.0 (omega (arith, length-fasta ls read h.0 one)) h.2)
     ∙ ap (λ quals. Ok (read_of read.bases quals ∷ reads)) (sym one.no_quals)
 
-fasta_of-fails : (count fuel : ℕ) (ls body : List Line) (fault : FastxFault) (title : Line) → ls ≡ title ∷ body → SequenceFails count 62 body fault
+fasta_of-fails : (count fuel : ℕ) (ls body : List Line) (fault : FastxFault) (title : Line) → ls ≡ title ∷ body → SequenceFails count greater_than body fault
     → fasta_of count (suc fuel) ls ≡ Err fault
 fasta_of-fails count fuel ls body (BadBase number) title e h =
-    ap (fasta_of count (suc fuel)) e ∙ fasta_of-step count fuel title body (Err h.0) (sequence_of-bad 62 body h.0 h.1)
+    ap (fasta_of count (suc fuel)) e ∙ fasta_of-step count fuel title body (Err h.0) (sequence_of-bad greater_than body h.0 h.1)
     ∙ ap (λ n. Err (BadBase n)) (number_is count number h.0 h.2)
 fasta_of-fails count fuel ls body (BadStart number) title e h = absurd h
 fasta_of-fails count fuel ls body (BadQuality number) title e h = absurd h
@@ -185,7 +186,7 @@ fasta_of-err count [] (suc fuel) ls here fault fits e fails = fasta_of-fails cou
 fasta_of-err count (read ∷ reads) zero ls here fault fits h fails = absurd (omega (arith, length-fasta ls read h.0 h.1))
 fasta_of-err count (read ∷ reads) (suc fuel) ls here fault fits h fails =
     let one = h.1 in
-    let sequence : sequence_of 62 [] one.body ≡ Ok (read.bases, h.0) = sequence_of-ok 62 one.body read.bases h.0 one.sequence one.ends in
+    let sequence : sequence_of greater_than [] one.body ≡ Ok (read.bases, h.0) = sequence_of-ok greater_than one.body read.bases h.0 one.sequence one.ends in
     ap (fasta_of count (suc fuel)) one.title.whole
     ∙ fasta_of-step count fuel one.title.title one.body (Ok (read.bases, h.0)) sequence
     ∙ ap (on_ok (λ reads. Ok (read_of read.bases None ∷ reads)))
@@ -282,7 +283,7 @@ quality_of-err count need ls Memory h = absurd h
 
 -- one FASTQ record
 
-body_of-sequence : (count : ℕ) (body : List Line) (answer : Result (List ℕ × List Line) (List Line)) → sequence_of 43 [] body ≡ answer
+body_of-sequence : (count : ℕ) (body : List Line) (answer : Result (List ℕ × List Line) (List Line)) → sequence_of plus_sign [] body ≡ answer
     → body_of count body
     ≡ on_ok (λ front. first_of (Err (Truncated count))
     (λ plus after. on_ok (λ quality. Ok (read_of front.0 (Some quality.0), quality.1)) (quality_of count (length front.0) [] after)) front.1)
@@ -293,7 +294,7 @@ body_of-sequence count body answer e = rw e refl
 body_of-plus : (count : ℕ) (body : List Line) (bases : List ℕ) (after : List Line) → HasPlus body bases after
     → body_of count body ≡ on_ok (λ quality. Ok (read_of bases (Some quality.0), quality.1)) (quality_of count (length bases) [] after)
 body_of-plus count body bases after h =
-    body_of-sequence count body (Ok (bases, h.plus ∷ after)) (sequence_of-ok 43 body bases (h.plus ∷ after) h.sequence h.is_plus)
+    body_of-sequence count body (Ok (bases, h.plus ∷ after)) (sequence_of-ok plus_sign body bases (h.plus ∷ after) h.sequence h.is_plus)
 
 body_of-ok : (count : ℕ) (body : List Line) (read : Read) (rest : List Line) → IsFastqBody body read rest → body_of count body ≡ Ok (read, rest)
 body_of-ok count body read rest h =
@@ -308,13 +309,13 @@ body_of-quality count body fault h =
 
 body_of-err : (count : ℕ) (body : List Line) (fault : FastxFault) → FastqBodyFails count body fault → body_of count body ≡ Err fault
 body_of-err count body (BadBase number) h =
-    body_of-sequence count body (Err h.0) (sequence_of-bad 43 body h.0 h.1) ∙ ap (λ n. Err (BadBase n)) (number_is count number h.0 h.2)
+    body_of-sequence count body (Err h.0) (sequence_of-bad plus_sign body h.0 h.1) ∙ ap (λ n. Err (BadBase n)) (number_is count number h.0 h.2)
 body_of-err count body (BadQuality number) h = body_of-quality count body (BadQuality number) h
 body_of-err count body (LongQuality number) h = body_of-quality count body (LongQuality number) h
 body_of-err count body (Truncated number) h =
     ⊎_elim
-    (λ (cut : (bases : List ℕ) × BeginsWithSequence 43 body bases [] × (number ≡ count)).
-    body_of-sequence count body (Ok (cut.0, [])) (sequence_of-ok 43 body cut.0 [] cut.1 refl) ∙ ap (λ n. Err (Truncated n)) (sym cut.2))
+    (λ (cut : (bases : List ℕ) × BeginsWithSequence plus_sign body bases [] × (number ≡ count)).
+    body_of-sequence count body (Ok (cut.0, [])) (sequence_of-ok plus_sign body cut.0 [] cut.1 refl) ∙ ap (λ n. Err (Truncated n)) (sym cut.2))
     (λ (short : FailsBehindPlus count body (Truncated number)). body_of-quality count body (Truncated number) short)
     h
 body_of-err count body (BadStart number) h = absurd h
@@ -324,12 +325,12 @@ body_of-err count body Memory h = absurd h
 
 -- FASTQ
 
-fastq_of-title : (count fuel : ℕ) (ls : List Line) (title : Line) (body : List Line) → skip_blanks ls ≡ title ∷ body → begins_with 64 title ≡ true
+fastq_of-title : (count fuel : ℕ) (ls : List Line) (title : Line) (body : List Line) → skip_blanks ls ≡ title ∷ body → begins_with at_sign title ≡ true
     → fastq_of count (suc fuel) ls ≡ on_ok (λ one. on_ok (λ reads. Ok (one.0 ∷ reads)) (fastq_of count fuel one.1)) (body_of count body)
 unfolding fastq_of
 fastq_of-title count fuel ls title body e is = rw (e, is) refl
 
-fastq_of-bad_start : (count fuel : ℕ) (ls : List Line) (line : Line) (more : List Line) → skip_blanks ls ≡ line ∷ more → begins_with 64 line ≡ false
+fastq_of-bad_start : (count fuel : ℕ) (ls : List Line) (line : Line) (more : List Line) → skip_blanks ls ≡ line ∷ more → begins_with at_sign line ≡ false
     → fastq_of count (suc fuel) ls ≡ Err (BadStart (count - length more))
 unfolding fastq_of
 fastq_of-bad_start count fuel ls line more e is = rw (e, is) refl
@@ -407,12 +408,12 @@ pub reads_of-answers : (bytes : List ℕ) (answer : Result (List Read) FastxFaul
 unfolding reads_of
 reads_of-answers bytes (Ok reads) h =
     let ls = text_lines bytes in let count = length (lines bytes) in
-    chosen (next_begins_with 62 ls) (Records IsFastaRecord ls reads []) (IsFastq ls reads) (fasta_of count (length ls) ls) (fastq_of count (length ls) ls) (Ok reads)
+    chosen (next_begins_with greater_than ls) (Records IsFastaRecord ls reads []) (IsFastq ls reads) (fasta_of count (length ls) ls) (fastq_of count (length ls) ls) (Ok reads)
     (λ h. fasta_of-ok count reads (length ls) ls (omega arith) h)
     (λ h. fastq_of-ok count reads (length ls) ls h.rest (omega arith) h.records h.ends) h
 reads_of-answers bytes (Err fault) h =
     let ls = text_lines bytes in let count = length (lines bytes) in
-    chosen (next_begins_with 62 ls) (FirstFault IsFastaRecord (FastaFails count) ls fault) (FirstFault IsFastqRecord (FastqFails count) ls fault)
+    chosen (next_begins_with greater_than ls) (FirstFault IsFastaRecord (FastaFails count) ls fault) (FirstFault IsFastqRecord (FastqFails count) ls fault)
     (fasta_of count (length ls) ls) (fastq_of count (length ls) ls) (Err fault)
     (λ h. fasta_of-err count h.0 (length ls) ls h.1 fault (omega arith) h.2 h.3)
     (λ h. fastq_of-err count h.0 (length ls) ls h.1 fault (omega arith) h.2 h.3) h
@@ -420,3 +421,7 @@ reads_of-answers bytes (Err fault) h =
 -- no bytes have two answers
 pub same_answer : (bytes : List ℕ) (one other : Result (List Read) FastxFault) → IsReadsOf bytes one → IsReadsOf bytes other → one ≡ other
 same_answer bytes one other h k = sym (reads_of-answers bytes one h) ∙ reads_of-answers bytes other k
+
+-- what the plain program answers is the answer
+pub reads_of-is : (bytes : List ℕ) → IsReadsOf bytes (reads_of bytes)
+reads_of-is bytes = let a = answer bytes in subst (IsReadsOf bytes) (sym (reads_of-answers bytes a.0 a.1)) a.1

@@ -4,9 +4,10 @@ use Rattle.kc_fastx.specs.declared.faults.FastxFault.{FastxFault}
 use Rattle.kc_fastx.specs.Lines.{Cursor, lines, line_count, next_begins_with}
 use Rattle.kc_fastx.specs.Records.{FirstFault}
 use Rattle.kc_fastx.specs.Fastq.{IsFastqRecord, FastqFails}
-use Rattle.kc_fastx.specs.ReadsOf.{text_lines, HasFault}
+use Rattle.kc_fastx.specs.Parsing.{text_lines, HasFault}
 use Rattle.kc_fastx.specs.Sources.{Seen, TakesAll, RefusesFor}
 use Rattle.kc_fastx.specs.declared.faults.FastxFault.TheVariants.{BadStart, BadBase, BadQuality, LongQuality, Truncated, TooLong, Read as ReadFailed, Memory}
+use Rattle.kc_fastx.specs.Fasta.{greater_than}
 
 pub at_true : (b : Bool) (P Q : Type 0) → b ≡ true → P → MatchBool b P Q
 at_true true P Q e p = p
@@ -18,9 +19,9 @@ at_false false P Q e q = q
 
 -- where the first line is no FASTA title, a fault of FASTQ is that of the bytes
 pub fault-fastq : (bytes : List ℕ) (start : Cursor) → start.left ≡ text_lines bytes → line_count start ≡ length (lines bytes)
-    → next_begins_with 62 start.left ≡ false → (fault : FastxFault) → FirstFault IsFastqRecord (FastqFails (line_count start)) start.left fault → HasFault bytes fault
+    → next_begins_with greater_than start.left ≡ false → (fault : FastxFault) → FirstFault IsFastqRecord (FastqFails (line_count start)) start.left fault → HasFault bytes fault
 fault-fastq bytes start e counted is fault h =
-    at_false (next_begins_with 62 (text_lines bytes)) _ _ (subst (λ ls. next_begins_with 62 ls ≡ false) e is)
+    at_false (next_begins_with greater_than (text_lines bytes)) _ _ (subst (λ ls. next_begins_with greater_than ls ≡ false) e is)
     (subst (λ ls. FirstFault IsFastqRecord (FastqFails (length (lines bytes))) ls fault) e
     (subst (λ count. FirstFault IsFastqRecord (FastqFails count) start.left fault) counted h))
 
@@ -30,13 +31,13 @@ not_either false P Q p q h = q h
 
 -- the faults of the reading and of memory are none of the bytes
 no_fault-too_long : (bytes : List ℕ) → HasFault bytes TooLong → ⊥
-no_fault-too_long bytes = not_either (next_begins_with 62 (text_lines bytes)) _ _ (λ h. h.3.2) (λ h. h.3.2)
+no_fault-too_long bytes = not_either (next_begins_with greater_than (text_lines bytes)) _ _ (λ h. h.3.2) (λ h. h.3.2)
 
 no_fault-read : (bytes : List ℕ) → HasFault bytes ReadFailed → ⊥
-no_fault-read bytes = not_either (next_begins_with 62 (text_lines bytes)) _ _ (λ h. h.3.2) (λ h. h.3.2)
+no_fault-read bytes = not_either (next_begins_with greater_than (text_lines bytes)) _ _ (λ h. h.3.2) (λ h. h.3.2)
 
 no_fault-memory : (bytes : List ℕ) → HasFault bytes Memory → ⊥
-no_fault-memory bytes = not_either (next_begins_with 62 (text_lines bytes)) _ _ (λ h. h.3.2) (λ h. h.3.2)
+no_fault-memory bytes = not_either (next_begins_with greater_than (text_lines bytes)) _ _ (λ h. h.3.2) (λ h. h.3.2)
 
 -- a fault of all bytes of a source is why it gave no reads
 pub refuses-fault : (old new : Seen) (limit : ℕ) (bytes : List ℕ) → TakesAll old new limit bytes → (fault : FastxFault) → HasFault bytes fault → RefusesFor old new limit fault

@@ -1,8 +1,8 @@
 use Rattle.std.proofs.Common.{◌≡◌, true}
 use Rattle.std.specs.List.{list_all}
 use Rattle.kc_fastx.specs.Reads.{is_sequence_byte}
-use Rattle.kc_fastx.proofs.SequenceLemmas.{TakesLine, sequence_more}
-use Rattle.kc_fastx.proofs.sequences.take_sequence.Goals as goal
+use Rattle.kc_fastx.proofs.RecordsLemmas.{TakesLine, sequence_more}
+use Rattle.kc_fastx.proofs.records.take_sequence.Goals as goal
 
 pub lines-preserved : goal.lines-preserved
 lines-preserved c =
