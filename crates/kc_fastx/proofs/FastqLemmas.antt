@@ -12,8 +12,7 @@ use Rattle.kc_fastx.specs.Records.{Records, BeginsWithSequence, SequenceFails, F
 use Rattle.kc_fastx.specs.Fastq.{BeginsWithFastqTitle, HasPlus, BeginsWithQuality, HasShortQuality, IsFastqBody, IsFastqRecord, QualityFails, FastqBodyFails, FastqFails, at_sign, plus_sign}
 use Rattle.kc_fastx.specs.Parsing.{IsFastq}
 use Rattle.kc_fastx.specs.Faults.{UnlessMemory}
-use Rattle.kc_fastx.proofs.RecordsLemmas.{TakesLine, line_count-more, joined-push, both_true}
-use Rattle.kc_fastx.proofs.FastaLemmas.{Records-push}
+use Rattle.kc_fastx.proofs.RecordsLemmas.{TakesLine, TakesTitle, line_count-more, joined-push, both_true, Records-push}
 
 -- from `start` on, the lines up to `now` are quality lines that join to at most `need` bytes, every front to fewer
 pub record QualitySoFar (need : ℕ) (start now : Cursor) (quals : List ℕ) : Type 0 where
@@ -48,17 +47,23 @@ front_shorter need taken line below here i h =
     (λ (e : length taken ≡ i). rw (take_at taken (line ∷ []) i e) here)
     (last_or_below i (length taken) (omega (arith, length-append taken (line ∷ []))))
 
+-- behind qualities that are too short, `next` has taken one line of qualities more than `now`, which does not make them too long
+pub record TakesQualityLine (need : ℕ) (quals : List ℕ) (now next : Cursor) (line : Line) : Type 0 where
+  pub short : length quals < need
+  pub step : TakesLine now next line
+  pub accepted : list_all is_quality_byte line ≡ true
+  pub fits : length quals + length line ≤ need
+
 pub quality_more : (need : ℕ) (start now next : Cursor) (quals : List ℕ) (line : Line) → QualitySoFar need start now quals
-    → length quals < need → TakesLine now next line → list_all is_quality_byte line ≡ true → length quals + length line ≤ need
-    → QualitySoFar need start next (quals ++ line)
-quality_more need start now next quals line before short step good fits = record {
+    → TakesQualityLine need quals now next line → QualitySoFar need start next (quals ++ line)
+quality_more need start now next quals line before taken = record {
   taken = before.taken ++ line ∷ [];
-  split = before.split ∙ ap (λ rest. before.taken ++ rest) step.left ∙ sym (append_assoc before.taken (line ∷ []) next.left);
+  split = before.split ∙ ap (λ rest. before.taken ++ rest) taken.step.left ∙ sym (append_assoc before.taken (line ∷ []) next.left);
   joined = joined-push quals before.taken line before.joined;
-  accepted = list_all-append is_quality_byte quals line ∙ both_true (list_all is_quality_byte quals) (list_all is_quality_byte line) before.accepted good;
-  fits = omega (arith, length-append quals line);
-  fronts_shorter = front_shorter need before.taken line before.fronts_shorter (subst (λ qs. length qs < need) before.joined short);
-  counted = line_count-more now next line step ∙ before.counted;
+  accepted = list_all-append is_quality_byte quals line ∙ both_true (list_all is_quality_byte quals) (list_all is_quality_byte line) before.accepted taken.accepted;
+  fits = omega (arith, taken.fits, length-append quals line);
+  fronts_shorter = front_shorter need before.taken line before.fronts_shorter (subst (λ qs. length qs < need) before.joined taken.short);
+  counted = line_count-more now next line taken.step ∙ before.counted;
 }
 
 -- the quality is whole
@@ -147,22 +152,28 @@ pub record FastqSoFar (start now : Cursor) (reads : List Read) : Type 0 where
 pub fastq_none : (start now : Cursor) → now.left ≡ skip_blanks start.left → line_count now ≡ line_count start → FastqSoFar start now []
 fastq_none start now e counted = record { here = start.left; so_far = refl; past_blanks = e; counted = counted }
 
-pub fastq_title : (start now next : Cursor) (reads : List Read) (title : Line) (before : FastqSoFar start now reads) → now.left ≡ title ∷ next.left
-    → begins_with at_sign title ≡ true → BeginsWithFastqTitle before.here next.left
-fastq_title start now next reads title before e is = record { title = title; whole = sym before.past_blanks ∙ e; is_title = is }
+fastq_title : (start now next : Cursor) (reads : List Read) (before : FastqSoFar start now reads) → TakesTitle at_sign now next
+    → BeginsWithFastqTitle before.here next.left
+fastq_title start now next reads before t = record { title = t.title; whole = sym before.past_blanks ∙ t.step.left; is_title = t.is_title }
+
+-- `past` has taken the body behind the title that `next` has taken, which says this read, and the blank lines behind it
+pub record TakesFastqBody (next past : Cursor) (read : Read) : Type 0 where
+  pub after : List Line
+  pub body : IsFastqBody next.left read after
+  pub past_blanks : past.left ≡ skip_blanks after
+  pub counted : line_count past ≡ line_count next
 
 -- one record more, and the blank lines behind it
-pub fastq_more : (start now next after past : Cursor) (reads : List Read) (title : Line) (read : Read) → FastqSoFar start now reads
-    → TakesLine now next title → begins_with at_sign title ≡ true → IsFastqBody next.left read after.left → line_count after ≡ line_count next
-    → past.left ≡ skip_blanks after.left → line_count past ≡ line_count after → FastqSoFar start past (reads ++ read ∷ [])
-fastq_more start now next after past reads title read before step is body same e counted =
-    let one : IsFastqRecord before.here read after.left =
-    record { body = next.left; title = fastq_title start now next reads title before step.left is; record_body = body } in
+pub fastq_more : (start now next past : Cursor) (reads : List Read) (read : Read) → FastqSoFar start now reads
+    → TakesTitle at_sign now next × TakesFastqBody next past read → FastqSoFar start past (reads ++ read ∷ [])
+fastq_more start now next past reads read before (t, taken) =
+    let one : IsFastqRecord before.here read taken.after =
+    record { body = next.left; title = fastq_title start now next reads before t; record_body = taken.body } in
     record {
-      here = after.left;
-      so_far = Records-push IsFastqRecord start.left reads before.here read after.left before.so_far one;
-      past_blanks = e;
-      counted = counted ∙ same ∙ line_count-more now next title step ∙ before.counted;
+      here = taken.after;
+      so_far = Records-push IsFastqRecord start.left reads before.here read taken.after before.so_far one;
+      past_blanks = taken.past_blanks;
+      counted = taken.counted ∙ line_count-more now next t.title t.step ∙ before.counted;
     }
 
 -- no line is left behind the blank ones
@@ -194,15 +205,15 @@ fastq_fails-body count ls body title ReadFailed h = (body, title, h)
 fastq_fails-body count ls body title Memory h = (body, title, h)
 
 -- a record that fails behind its title
-pub fastq_fails : (start now next : Cursor) (reads : List Read) (title : Line) → FastqSoFar start now reads → TakesLine now next title
-    → begins_with at_sign title ≡ true → (fault : FastxFault) → FastqBodyFails (line_count next) next.left fault
+pub fastq_fails : (start now next : Cursor) (reads : List Read) → FastqSoFar start now reads → TakesTitle at_sign now next
+    → (fault : FastxFault) → FastqBodyFails (line_count next) next.left fault
     → FirstFault IsFastqRecord (FastqFails (line_count start)) start.left fault
-fastq_fails start now next reads title before step is fault fails = (
+fastq_fails start now next reads before t fault fails = (
   reads,
   before.here,
   before.so_far,
-  fastq_fails-body (line_count start) before.here next.left (fastq_title start now next reads title before step.left is) fault
-      (subst (λ count. FastqBodyFails count next.left fault) (line_count-more now next title step ∙ before.counted) fails),
+  fastq_fails-body (line_count start) before.here next.left (fastq_title start now next reads before t) fault
+      (subst (λ count. FastqBodyFails count next.left fault) (line_count-more now next t.title t.step ∙ before.counted) fails),
 )
 
 -- no line is made: blank lines are passed over, and a record's lines are taken

@@ -12,8 +12,8 @@ use Rattle.kc_fastx.specs.Fasta.{IsFastaRecord, FastaFails, greater_than}
 use Rattle.kc_fastx.specs.Fastq.{BeginsWithQuality, QualityFails, IsFastqBody, FastqBodyFails, IsFastqRecord, FastqFails, at_sign, plus_sign}
 use Rattle.kc_fastx.specs.Parsing.{IsFastq, IsReadsOf, text_lines}
 use Rattle.kc_fastx.proofs.ParsingLemmas.{at_true, at_false}
-use Rattle.kc_fastx.proofs.RecordsLemmas.{SequenceSoFar, TakesLine, sequence_none, sequence_more, sequence_bad, line_count-more}
-use Rattle.kc_fastx.proofs.FastaLemmas.{RecordsSoFar, records_none, records_more, fasta_record, fasta_fails}
+use Rattle.kc_fastx.proofs.RecordsLemmas.{SequenceSoFar, TakesLine, sequence_none, sequence_more, sequence_bad, line_count-more, records_none}
+use Rattle.kc_fastx.proofs.FastaLemmas.{FastaSoFar, title_at, fasta_more, fasta_fails}
 use Rattle.kc_fastx.proofs.FastqLemmas.{QualitySoFar, quality_none, quality_more, quality_all, quality_short, has_plus, fastq_body, body_fails-sequence, body_fails-quality, body_fails-end, FastqSoFar, fastq_none, fastq_more, fastq_all, fastq_bad_start, fastq_fails, length-skip_blanks, length-body}
 
 bool_cases : (b : Bool) → (b ≡ true) ⊎ (b ≡ false)
@@ -51,8 +51,8 @@ sequence_answer (line ∷ more) stop start now bases e before =
     (λ (stops : begins_with stop line ≡ true). whole_here stop start now bases before (ap (ends_or_begins_with stop) e ∙ stops))
     (λ (goes_on : begins_with stop line ≡ false).
     ⊎_elim
-    (λ (good : list_all is_sequence_byte line ≡ true). sequence_answer more stop start next (bases ++ line) refl (sequence_more stop start now next bases line before step goes_on good))
-    (λ (bad : list_all is_sequence_byte line ≡ false). inr (BadBase next.taken, sequence_bad stop start now next bases line before step goes_on bad))
+    (λ (good : list_all is_sequence_byte line ≡ true). sequence_answer more stop start next (bases ++ line) refl (sequence_more stop start now next bases line before (record { step = step; goes_on = goes_on; accepted = good })))
+    (λ (bad : list_all is_sequence_byte line ≡ false). inr (BadBase next.taken, sequence_bad stop start now next bases line before (record { step = step; goes_on = goes_on; accepted = bad })))
     (bool_cases (list_all is_sequence_byte line)))
     (bool_cases (begins_with stop line))
 
@@ -67,21 +67,19 @@ FastaAnswer start =
     ⊎ ((fault : FastxFault) × FirstFault IsFastaRecord (FastaFails (line_count start)) start.left fault)
 
 fasta_answer : (fuel : ℕ) (ls : List Line) (start now : Cursor) (reads : List Read) → now.left ≡ ls → length ls ≤ fuel
-    → RecordsSoFar IsFastaRecord start now reads → ends_or_begins_with greater_than now.left ≡ true → FastaAnswer start
-fasta_answer fuel [] start now reads e fits before at = inl (reads, subst (Records IsFastaRecord start.left reads) e before.so_far)
-fasta_answer zero (title ∷ more) start now reads e fits before at = absurd (omega arith)
-fasta_answer (suc fuel) (title ∷ more) start now reads e fits before at =
+    → FastaSoFar start now reads → FastaAnswer start
+fasta_answer fuel [] start now reads e fits before = inl (reads, subst (Records IsFastaRecord start.left reads) e before.records.so_far)
+fasta_answer zero (title ∷ more) start now reads e fits before = absurd (omega arith)
+fasta_answer (suc fuel) (title ∷ more) start now reads e fits before =
     let next = after_line now more in
-    let step = takes_line now title more e in
+    let t = title_at now next title before.at (takes_line now title more e) in
     ⊎_elim
     (λ (w : WholeSequence greater_than next).
-    let one = fasta_record now next w.end title w.bases at e w.sequence w.ends in
-    let counted : line_count w.end ≡ line_count now = w.counted ∙ line_count-more now next title step in
     fasta_answer fuel w.end.left start w.end (reads ++ read_of w.bases None ∷ []) refl
     (omega (arith, length-sequence greater_than more w.bases w.end.left w.sequence))
-    (records_more IsFastaRecord start now w.end reads (read_of w.bases None) before one counted) w.ends)
+    (fasta_more start now next w.end reads w.bases before t (record { sequence = w.sequence; ends = w.ends; counted = w.counted })))
     (λ (f : (fault : FastxFault) × SequenceFails (line_count next) greater_than next.left fault).
-    inr (f.0, fasta_fails start now next title reads f.0 before at step f.1))
+    inr (f.0, fasta_fails start now next reads f.0 before.records t f.1))
     (sequence_answer more greater_than next next [] refl (sequence_none greater_than next))
 
 -- FASTQ
@@ -118,7 +116,7 @@ quality_answer (line ∷ more) need start now quals e before =
     (λ (over : need < length quals + length line).
     inr (LongQuality next.taken, (quals, line, more, quality_short need start now quals (line ∷ more) before short e, good, over, counted)))
     (λ (fits : length quals + length line ≤ need).
-    quality_answer more need start next (quals ++ line) refl (quality_more need start now next quals line before short step good fits))
+    quality_answer more need start next (quals ++ line) refl (quality_more need start now next quals line before (record { short = short; step = step; accepted = good; fits = fits })))
     (cases_lt need (length quals + length line)))
     (λ (bad : list_all is_quality_byte line ≡ false).
     inr (BadQuality next.taken, (quals, line, more, quality_short need start now quals (line ∷ more) before short e, bad, counted)))
@@ -182,9 +180,10 @@ fastq_answer (suc fuel) (title ∷ more) start now reads e fits before =
     let past = past_blanks w.end in
     fastq_answer fuel past.left start past (reads ++ w.read ∷ []) refl
     (omega (arith, length-body more w.read w.end.left w.body, length-skip_blanks w.end.left))
-    (fastq_more start now next w.end past reads title w.read before step is w.body w.counted refl (line_count-past w.end)))
+    (fastq_more start now next past reads w.read before
+    (record { title = title; step = step; is_title = is }, record { after = w.end.left; body = w.body; past_blanks = refl; counted = line_count-past w.end ∙ w.counted })))
     (λ (f : (fault : FastxFault) × FastqBodyFails (line_count next) next.left fault).
-    inr (f.0, fastq_fails start now next reads title before step is f.0 f.1))
+    inr (f.0, fastq_fails start now next reads before (record { title = title; step = step; is_title = is }) f.0 f.1))
     (body_answer next))
     (λ (is_not : begins_with at_sign title ≡ false). inr (BadStart next.taken, fastq_bad_start start now next reads title before step is_not))
     (bool_cases (begins_with at_sign title))
@@ -232,7 +231,7 @@ answer bytes =
     ⊎_elim
     (λ (is : next_begins_with greater_than (text_lines bytes) ≡ true).
     as_fasta bytes (line_count start) counted is
-    (fasta_answer (length (text_lines bytes)) (text_lines bytes) start start [] refl (omega arith) (records_none IsFastaRecord start) (at_title (text_lines bytes) is)))
+    (fasta_answer (length (text_lines bytes)) (text_lines bytes) start start [] refl (omega arith) (record { records = records_none IsFastaRecord start; at = at_title (text_lines bytes) is })))
     (λ (is : next_begins_with greater_than (text_lines bytes) ≡ false).
     as_fastq bytes (line_count start) counted is
     (fastq_answer (length (text_lines bytes)) (text_lines bytes) start start [] refl (omega arith) (fastq_none start start (sym (skip_blanks-twice (lines bytes))) refl)))

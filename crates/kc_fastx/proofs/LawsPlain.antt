@@ -73,21 +73,21 @@ reads_of bytes =
 
 -- What the definition says, the program answers.
 
-both_left : (a b : Bool) → (a && b) ≡ true → a ≡ true
-both_left true b e = refl
-both_left false b e = e
+and-left : (a b : Bool) → (a && b) ≡ true → a ≡ true
+and-left true b e = refl
+and-left false b e = e
 
-both_right : (a b : Bool) → (a && b) ≡ true → b ≡ true
-both_right true b e = e
-both_right false b e = cc
+and-right : (a b : Bool) → (a && b) ≡ true → b ≡ true
+and-right true b e = e
+and-right false b e = cc
 
-either_left : (a b : Bool) → (a || b) ≡ false → a ≡ false
-either_left true b e = e
-either_left false b e = refl
+or-left : (a b : Bool) → (a || b) ≡ false → a ≡ false
+or-left true b e = e
+or-left false b e = refl
 
-either_right : (a b : Bool) → (a || b) ≡ false → b ≡ false
-either_right true b e = cc
-either_right false b e = e
+or-right : (a b : Bool) → (a || b) ≡ false → b ≡ false
+or-right true b e = cc
+or-right false b e = e
 
 -- one good sequence line
 sequence_of-line : (stop : ℕ) (bases : List ℕ) (line : Line) (ls : List Line) → begins_with stop line ≡ false → list_all is_sequence_byte line ≡ true
@@ -101,10 +101,10 @@ sequence_of-lines : (stop : ℕ) (bases : List ℕ) (sequence rest : List Line) 
 sequence_of-lines stop bases [] rest none good = ap (λ bs. sequence_of stop bs rest) (sym (append-nil bases))
 sequence_of-lines stop bases (line ∷ more) rest none good =
     let all : (list_all is_sequence_byte line && list_all is_sequence_byte (concat more)) ≡ true = sym (list_all-append is_sequence_byte line (concat more)) ∙ good in
-    sequence_of-line stop bases line (more ++ rest) (either_left (begins_with stop line) (list_any (begins_with stop) more) none)
-    (both_left (list_all is_sequence_byte line) (list_all is_sequence_byte (concat more)) all)
-    ∙ sequence_of-lines stop (bases ++ line) more rest (either_right (begins_with stop line) (list_any (begins_with stop) more) none)
-    (both_right (list_all is_sequence_byte line) (list_all is_sequence_byte (concat more)) all)
+    sequence_of-line stop bases line (more ++ rest) (or-left (begins_with stop line) (list_any (begins_with stop) more) none)
+    (and-left (list_all is_sequence_byte line) (list_all is_sequence_byte (concat more)) all)
+    ∙ sequence_of-lines stop (bases ++ line) more rest (or-right (begins_with stop line) (list_any (begins_with stop) more) none)
+    (and-right (list_all is_sequence_byte line) (list_all is_sequence_byte (concat more)) all)
     ∙ ap (λ bs. sequence_of stop bs rest) (append_assoc bases line (concat more))
 
 sequence_of-begins : (stop : ℕ) (ls : List Line) (bases : List ℕ) (rest : List Line) → BeginsWithSequence stop ls bases rest
@@ -179,32 +179,32 @@ fasta_of-fails count fuel ls body TooLong title e h = absurd h
 fasta_of-fails count fuel ls body ReadFailed title e h = absurd h
 fasta_of-fails count fuel ls body Memory title e h = absurd h
 
-fasta_of-err : (count : ℕ) (reads : List Read) (fuel : ℕ) (ls here : List Line) (fault : FastxFault) → length ls ≤ fuel
-    → Records IsFastaRecord ls reads here → FastaFails count here fault → fasta_of count fuel ls ≡ Err fault
-fasta_of-err count [] zero ls here fault fits e fails = absurd (omega (arith, ap length e, ap length fails.1.whole))
-fasta_of-err count [] (suc fuel) ls here fault fits e fails = fasta_of-fails count fuel ls fails.0 fault fails.1.title (e ∙ fails.1.whole) fails.2
-fasta_of-err count (read ∷ reads) zero ls here fault fits h fails = absurd (omega (arith, length-fasta ls read h.0 h.1))
-fasta_of-err count (read ∷ reads) (suc fuel) ls here fault fits h fails =
+fasta_of-err : (count fuel : ℕ) (ls : List Line) (fault : FastxFault) → length ls ≤ fuel → FirstFault IsFastaRecord (FastaFails count) ls fault
+    → fasta_of count fuel ls ≡ Err fault
+fasta_of-err count zero ls fault fits ([], here, e, fails) = absurd (omega (arith, ap length e, ap length fails.1.whole))
+fasta_of-err count (suc fuel) ls fault fits ([], here, e, fails) = fasta_of-fails count fuel ls fails.0 fault fails.1.title (e ∙ fails.1.whole) fails.2
+fasta_of-err count zero ls fault fits (read ∷ reads, here, h, fails) = absurd (omega (arith, length-fasta ls read h.0 h.1))
+fasta_of-err count (suc fuel) ls fault fits (read ∷ reads, here, h, fails) =
     let one = h.1 in
     let sequence : sequence_of greater_than [] one.body ≡ Ok (read.bases, h.0) = sequence_of-ok greater_than one.body read.bases h.0 one.sequence one.ends in
     ap (fasta_of count (suc fuel)) one.title.whole
     ∙ fasta_of-step count fuel one.title.title one.body (Ok (read.bases, h.0)) sequence
     ∙ ap (on_ok (λ reads. Ok (read_of read.bases None ∷ reads)))
-    (fasta_of-err count reads fuel h.0 here fault (omega (arith, length-fasta ls read h.0 one)) h.2 fails)
+    (fasta_of-err count fuel h.0 fault (omega (arith, length-fasta ls read h.0 one)) (reads, here, h.2, fails))
 
 -- the quality
 
-below_false : (m n : ℕ) → m < n → leb n m ≡ false
-below_false m n h = grind arith
+leb-false : (m n : ℕ) → m < n → leb n m ≡ false
+leb-false m n h = grind arith
 
-leb_true : (m n : ℕ) → m ≤ n → leb m n ≡ true
-leb_true m n h = grind arith
+leb-true : (m n : ℕ) → m ≤ n → leb m n ≡ true
+leb-true m n h = grind arith
 
 quality_of-line : (count need : ℕ) (quals : List ℕ) (line : Line) (ls : List Line) → length quals < need → list_all is_quality_byte line ≡ true
     → length quals + length line ≤ need → quality_of count need quals (line ∷ ls) ≡ quality_of count need (quals ++ line) ls
 unfolding quality_of
 quality_of-line count need quals line ls short good fits =
-    rw (below_false (length quals) need short, good, leb_true (length quals + length line) need fits) refl
+    rw (leb-false (length quals) need short, good, leb-true (length quals + length line) need fits) refl
 
 -- lines that are too short so far
 quality_of-short : (count need : ℕ) (quals : List ℕ) (taken rest : List Line) → length quals + length (concat taken) < need
@@ -213,15 +213,15 @@ quality_of-short count need quals [] rest short good = ap (λ qs. quality_of cou
 quality_of-short count need quals (line ∷ more) rest short good =
     let all : (list_all is_quality_byte line && list_all is_quality_byte (concat more)) ≡ true = sym (list_all-append is_quality_byte line (concat more)) ∙ good in
     quality_of-line count need quals line (more ++ rest) (omega (arith, length-append line (concat more)))
-    (both_left (list_all is_quality_byte line) (list_all is_quality_byte (concat more)) all) (omega (arith, length-append line (concat more)))
+    (and-left (list_all is_quality_byte line) (list_all is_quality_byte (concat more)) all) (omega (arith, length-append line (concat more)))
     ∙ quality_of-short count need (quals ++ line) more rest (omega (arith, length-append line (concat more), length-append quals line))
-    (both_right (list_all is_quality_byte line) (list_all is_quality_byte (concat more)) all)
+    (and-right (list_all is_quality_byte line) (list_all is_quality_byte (concat more)) all)
     ∙ ap (λ qs. quality_of count need qs rest) (append_assoc quals line (concat more))
 
 quality_of-end : (count need : ℕ) (quals : List ℕ) (rest : List Line) → need ≤ length quals → quality_of count need quals rest ≡ Ok (quals, rest)
 unfolding quality_of
-quality_of-end count need quals [] e = rw (leb_true need (length quals) e) refl
-quality_of-end count need quals (line ∷ ls) e = rw (leb_true need (length quals) e) refl
+quality_of-end count need quals [] e = rw (leb-true need (length quals) e) refl
+quality_of-end count need quals (line ∷ ls) e = rw (leb-true need (length quals) e) refl
 
 -- lines that are long enough at last
 quality_of-lines : (count need : ℕ) (quals : List ℕ) (taken rest : List Line) → length quals + length (concat taken) ≡ need
@@ -233,10 +233,10 @@ quality_of-lines count need quals (line ∷ more) rest long fronts good =
     let all : (list_all is_quality_byte line && list_all is_quality_byte (concat more)) ≡ true = sym (list_all-append is_quality_byte line (concat more)) ∙ good in
     let short : length quals < need = omega (arith, fronts 0 (omega arith)) in
     quality_of-line count need quals line (more ++ rest) short
-    (both_left (list_all is_quality_byte line) (list_all is_quality_byte (concat more)) all) (omega (arith, length-append line (concat more)))
+    (and-left (list_all is_quality_byte line) (list_all is_quality_byte (concat more)) all) (omega (arith, length-append line (concat more)))
     ∙ quality_of-lines count need (quals ++ line) more rest (omega (arith, length-append line (concat more), length-append quals line))
     (λ i h. omega (arith, fronts (suc i) (omega arith), length-append line (concat (take i more)), length-append quals line))
-    (both_right (list_all is_quality_byte line) (list_all is_quality_byte (concat more)) all)
+    (and-right (list_all is_quality_byte line) (list_all is_quality_byte (concat more)) all)
     ∙ ap (λ qs. Ok (qs, rest)) (append_assoc quals line (concat more))
 
 quality_of-ok : (count need : ℕ) (ls : List Line) (quals : List ℕ) (rest : List Line) → BeginsWithQuality need ls quals rest → quality_of count need [] ls ≡ Ok (quals, rest)
@@ -255,18 +255,18 @@ quality_of-begins count need ls quals rest q =
 
 quality_of-cut : (count need : ℕ) (quals : List ℕ) → length quals < need → quality_of count need quals [] ≡ Err (Truncated count)
 unfolding quality_of
-quality_of-cut count need quals short = rw (below_false (length quals) need short) refl
+quality_of-cut count need quals short = rw (leb-false (length quals) need short) refl
 
 quality_of-bad : (count need : ℕ) (quals : List ℕ) (line : Line) (more : List Line) → length quals < need → list_all is_quality_byte line ≡ false
     → quality_of count need quals (line ∷ more) ≡ Err (BadQuality (count - length more))
 unfolding quality_of
-quality_of-bad count need quals line more short bad = rw (below_false (length quals) need short, bad) refl
+quality_of-bad count need quals line more short bad = rw (leb-false (length quals) need short, bad) refl
 
 quality_of-over : (count need : ℕ) (quals : List ℕ) (line : Line) (more : List Line) → length quals < need → list_all is_quality_byte line ≡ true
     → need < length quals + length line → quality_of count need quals (line ∷ more) ≡ Err (LongQuality (count - length more))
 unfolding quality_of
 quality_of-over count need quals line more short good over =
-    rw (below_false (length quals) need short, good, below_false need (length quals + length line) over) refl
+    rw (leb-false (length quals) need short, good, leb-false need (length quals + length line) over) refl
 
 quality_of-err : (count need : ℕ) (ls : List Line) (fault : FastxFault) → QualityFails count need ls fault → quality_of count need [] ls ≡ Err fault
 quality_of-err count need ls (BadQuality number) h =
@@ -387,36 +387,34 @@ fastq_of-fails count (suc fuel) ls TooLong fits h = fastq_of-body count fuel ls 
 fastq_of-fails count (suc fuel) ls ReadFailed fits h = fastq_of-body count fuel ls ReadFailed h
 fastq_of-fails count (suc fuel) ls Memory fits h = fastq_of-body count fuel ls Memory h
 
-fastq_of-err : (count : ℕ) (reads : List Read) (fuel : ℕ) (ls here : List Line) (fault : FastxFault) → length ls ≤ fuel
-    → Records IsFastqRecord ls reads here → FastqFails count here fault → fastq_of count fuel ls ≡ Err fault
-fastq_of-err count [] fuel ls here fault fits e fails =
+fastq_of-err : (count fuel : ℕ) (ls : List Line) (fault : FastxFault) → length ls ≤ fuel → FirstFault IsFastqRecord (FastqFails count) ls fault
+    → fastq_of count fuel ls ≡ Err fault
+fastq_of-err count fuel ls fault fits ([], here, e, fails) =
     ap (fastq_of count fuel) e ∙ fastq_of-fails count fuel here fault (omega (arith, ap length e)) fails
-fastq_of-err count (read ∷ reads) zero ls here fault fits h fails = absurd (omega (arith, length-fastq ls read h.0 h.1))
-fastq_of-err count (read ∷ reads) (suc fuel) ls here fault fits h fails =
+fastq_of-err count zero ls fault fits (read ∷ reads, here, h, fails) = absurd (omega (arith, length-fastq ls read h.0 h.1))
+fastq_of-err count (suc fuel) ls fault fits (read ∷ reads, here, h, fails) =
     fastq_of-record count fuel ls read h.0 h.1
-    ∙ ap (on_ok (λ reads. Ok (read ∷ reads))) (fastq_of-err count reads fuel h.0 here fault (omega (arith, length-fastq ls read h.0 h.1)) h.2 fails)
+    ∙ ap (on_ok (λ reads. Ok (read ∷ reads))) (fastq_of-err count fuel h.0 fault (omega (arith, length-fastq ls read h.0 h.1)) (reads, here, h.2, fails))
 
 -- both
 
 -- whatever either side of a choice says of `answer`, the choice of programs answers
-chosen : {X : Type 0} (b : Bool) (P Q : Type 0) (p q answer : X) → (P → p ≡ answer) → (Q → q ≡ answer) → MatchBool b P Q → cond b p q ≡ answer
-chosen true P Q p q answer f g h = f h
-chosen false P Q p q answer f g h = g h
+cond-MatchBool : {X : Type 0} (b : Bool) (P Q : Type 0) (p q x : X) → (P → p ≡ x) × (Q → q ≡ x) → MatchBool b P Q → cond b p q ≡ x
+cond-MatchBool true P Q p q x sides h = sides.0 h
+cond-MatchBool false P Q p q x sides h = sides.1 h
 
 -- the program answers what the definition says
 pub reads_of-answers : (bytes : List ℕ) (answer : Result (List Read) FastxFault) → IsReadsOf bytes answer → reads_of bytes ≡ answer
 unfolding reads_of
 reads_of-answers bytes (Ok reads) h =
     let ls = text_lines bytes in let count = length (lines bytes) in
-    chosen (next_begins_with greater_than ls) (Records IsFastaRecord ls reads []) (IsFastq ls reads) (fasta_of count (length ls) ls) (fastq_of count (length ls) ls) (Ok reads)
-    (λ h. fasta_of-ok count reads (length ls) ls (omega arith) h)
-    (λ h. fastq_of-ok count reads (length ls) ls h.rest (omega arith) h.records h.ends) h
+    cond-MatchBool (next_begins_with greater_than ls) (Records IsFastaRecord ls reads []) (IsFastq ls reads) (fasta_of count (length ls) ls) (fastq_of count (length ls) ls) (Ok reads)
+    (λ h. fasta_of-ok count reads (length ls) ls (omega arith) h, λ h. fastq_of-ok count reads (length ls) ls h.rest (omega arith) h.records h.ends) h
 reads_of-answers bytes (Err fault) h =
     let ls = text_lines bytes in let count = length (lines bytes) in
-    chosen (next_begins_with greater_than ls) (FirstFault IsFastaRecord (FastaFails count) ls fault) (FirstFault IsFastqRecord (FastqFails count) ls fault)
+    cond-MatchBool (next_begins_with greater_than ls) (FirstFault IsFastaRecord (FastaFails count) ls fault) (FirstFault IsFastqRecord (FastqFails count) ls fault)
     (fasta_of count (length ls) ls) (fastq_of count (length ls) ls) (Err fault)
-    (λ h. fasta_of-err count h.0 (length ls) ls h.1 fault (omega arith) h.2 h.3)
-    (λ h. fastq_of-err count h.0 (length ls) ls h.1 fault (omega arith) h.2 h.3) h
+    (λ h. fasta_of-err count (length ls) ls fault (omega arith) h, λ h. fastq_of-err count (length ls) ls fault (omega arith) h) h
 
 -- no bytes have two answers
 pub same_answer : (bytes : List ℕ) (one other : Result (List Read) FastxFault) → IsReadsOf bytes one → IsReadsOf bytes other → one ≡ other

@@ -25,10 +25,10 @@ split-some (b ∷ bs) =
     ]
 
 -- a part that another one follows is kept, empty or not
-kept : (part : List ℕ) (parts : List (List ℕ)) (first : List ℕ) (more : List (List ℕ)) → parts ≡ first ∷ more
+without_empty_last-cons : (part : List ℕ) (parts : List (List ℕ)) (first : List ℕ) (more : List (List ℕ)) → parts ≡ first ∷ more
     → without_empty_last (part ∷ parts) ≡ part ∷ without_empty_last parts
-kept [] parts first more e = rw e refl
-kept (b ∷ bs) parts first more e = rw e refl
+without_empty_last-cons [] parts first more e = rw e refl
+without_empty_last-cons (b ∷ bs) parts first more e = rw e refl
 
 -- a line feed behind bytes without one ends the first line
 lines-newline : (front : List ℕ) (b : ℕ) (rest : List ℕ) → All (λ b. is_line_feed b ≡ false) front → is_line_feed b ≡ true
@@ -37,7 +37,7 @@ lines-newline front b rest none is =
     let some = split-some rest in
     let split : slice_split is_line_feed (front ++ b ∷ rest) ≡ front ∷ slice_split is_line_feed rest = slice_split_at is_line_feed front b rest none is in
     ap (λ (parts : List (List ℕ)). map strip_carriage_return (without_empty_last parts)) split
-    ∙ ap (map strip_carriage_return) (kept front (slice_split is_line_feed rest) some.0 some.1 some.2)
+    ∙ ap (map strip_carriage_return) (without_empty_last-cons front (slice_split is_line_feed rest) some.0 some.1 some.2)
 
 not_true : (t : Bool) → ¬ (t ≡ true) → t ≡ false
 not_true true h = absurd (h refl)

@@ -64,7 +64,8 @@ HaveReads (bytes ∷ sources) reads =
 
 -- the number-th source is the first with a fault, which is this one
 abbrev pub HaveFault : List (List ℕ) → ℕ → FastxFault → Type 0
-HaveFault sources number fault = IsFirstFaulty HaveReads (λ reads bytes fault. HasFault bytes fault) sources number fault
+HaveFault sources number fault =
+    IsFirstFaulty HaveReads (λ reads bytes fault. HasFault bytes fault) sources number fault
 
 -- the reads of all sources, or the first source with a fault and that fault
 abbrev pub AreReadsOf : List (List ℕ) → Result (List Read) (ℕ × FastxFault) → Type 0

@@ -1,7 +1,9 @@
 //! The lines of a byte string, taken one after another.
-ghost use Rattle.std.specs.Prelude.{◌≡◌, ◌+◌, ◌<◌, ◌≤◌, false, true, [], ◌∷◌, length, vec_capacity, IfOk, IfSome, IfNone};
+ghost use Rattle.std.specs.Prelude.{◌≡◌, ◌+◌, ◌<◌, ◌≤◌, false, true, [], ◌∷◌, length, vec_capacity};
+ghost use Rattle.std.specs.Prelude.{IfOk, IfSome, IfNone};
 ghost use Rattle.std.specs.Str.Lines.{strip_carriage_return};
-ghost use Rattle.kc_fastx.specs.Lines.{begins_with, ends_or_begins_with, lines, line_count, next_begins_with, skip_blanks};
+ghost use Rattle.kc_fastx.specs.Lines.{begins_with, ends_or_begins_with, next_begins_with};
+ghost use Rattle.kc_fastx.specs.Lines.{lines, line_count, skip_blanks};
 
 use memchr::memchr;
 use std::alloc::{AllocError, Global};

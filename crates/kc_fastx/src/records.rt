@@ -9,8 +9,8 @@ use crate::lines::LineCursor;
 use crate::reads::are_sequence_bytes;
 
 // Takes the sequence lines up to the end or the next line that begins with `stop`, and joins them in `bases`, which is
-// empty and has no more room than bytes are left. No sequence byte is `stop`, so that room for the bytes in front of the
-// next such byte is enough where the sequence is good.
+// empty and has no more room than bytes are left. No sequence byte is `stop`, so that room for the bytes in front of
+// the next such byte is enough where the sequence is good.
 pub(crate) fn take_sequence(
     mut bases: Vec<u8>,
     lines: &mut LineCursor<'_>,

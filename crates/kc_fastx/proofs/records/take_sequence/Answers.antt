@@ -6,7 +6,8 @@ use Rattle.kc_fastx.proofs.records.take_sequence.Goals as goal
 
 pub lines-preserved : goal.lines-preserved
 lines-preserved c =
-    let step : TakesLine c.lines.lines c.next_line_before.new.self c.in-Some.line.now = record { left = c.in-Some.ensures.some; taken = c.in-Some.ensures.taken } in
     let good : list_all is_sequence_byte c.in-Some.line.now ≡ true = cc in
+    let step : TakesLine c.lines.lines c.next_line_before.new.self c.in-Some.line.now = record { left = c.in-Some.ensures.some; taken = c.in-Some.ensures.taken } in
     rw c.in_ok-extend_from_slice.ensures.items
-    (sequence_more c.args.stop c.args.lines.now c.lines.lines c.next_line_before.new.self c.lines.bases.items c.in-Some.line.now c.lines.invariant step c.in-Some.ensures.goes_on good)
+    (sequence_more c.args.stop c.args.lines.now c.lines.lines c.next_line_before.new.self c.lines.bases.items c.in-Some.line.now c.lines.invariant
+    (record { step = step; goes_on = c.in-Some.ensures.goes_on; accepted = good }))
