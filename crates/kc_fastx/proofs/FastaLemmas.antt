@@ -21,16 +21,19 @@ title_at now next line at step =
 fasta_title : (now next : Cursor) → TakesTitle greater_than now next → BeginsWithFastaTitle now.left next.left
 fasta_title now next t = record { title = t.title; whole = t.step.left; is_title = t.is_title }
 
--- `after` has taken the whole sequence behind `next`
-pub record TakesSequence (next after : Cursor) (bases : List ℕ) : Type 0 where
+-- `after` has taken one record more than `now`: a title, and the whole sequence of these bases
+pub record TakesFastaRecord (now after : Cursor) (bases : List ℕ) : Type 0 where
+  pub next : Cursor
+  pub title : TakesTitle greater_than now next
   pub sequence : BeginsWithSequence greater_than next.left bases after.left
   pub ends : ends_or_begins_with greater_than after.left ≡ true
   pub counted : line_count after ≡ line_count next
 
--- a title and the sequence behind it are one record more
-pub fasta_more : (start now next after : Cursor) (reads : List Read) (bases : List ℕ) (before : FastaSoFar start now reads)
-    → TakesTitle greater_than now next → TakesSequence next after bases → FastaSoFar start after (reads ++ read_of bases None ∷ [])
-fasta_more start now next after reads bases before t taken =
+pub fasta_more : (start now after : Cursor) (reads : List Read) (bases : List ℕ) → FastaSoFar start now reads
+    → TakesFastaRecord now after bases → FastaSoFar start after (reads ++ read_of bases None ∷ [])
+fasta_more start now after reads bases before taken =
+    let next = taken.next in
+    let t = taken.title in
     let one : TakesRecord IsFastaRecord now after (read_of bases None) = record {
       one = record { body = next.left; title = fasta_title now next t; sequence = taken.sequence; ends = taken.ends; no_quals = refl };
       counted = taken.counted ∙ line_count-more now next t.title t.step;

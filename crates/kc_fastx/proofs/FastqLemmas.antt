@@ -156,24 +156,26 @@ fastq_title : (start now next : Cursor) (reads : List Read) (before : FastqSoFar
     → BeginsWithFastqTitle before.here next.left
 fastq_title start now next reads before t = record { title = t.title; whole = sym before.past_blanks ∙ t.step.left; is_title = t.is_title }
 
--- `past` has taken the body behind the title that `next` has taken, which says this read, and the blank lines behind it
-pub record TakesFastqBody (next past : Cursor) (read : Read) : Type 0 where
+-- `past` has taken one record more than `now`: a title, the body that says this read, and the blank lines behind it
+pub record TakesFastqRecord (now past : Cursor) (read : Read) : Type 0 where
+  pub next : Cursor
+  pub title : TakesTitle at_sign now next
   pub after : List Line
   pub body : IsFastqBody next.left read after
   pub past_blanks : past.left ≡ skip_blanks after
   pub counted : line_count past ≡ line_count next
 
--- one record more, and the blank lines behind it
-pub fastq_more : (start now next past : Cursor) (reads : List Read) (read : Read) → FastqSoFar start now reads
-    → TakesTitle at_sign now next × TakesFastqBody next past read → FastqSoFar start past (reads ++ read ∷ [])
-fastq_more start now next past reads read before (t, taken) =
+pub fastq_more : (start now past : Cursor) (reads : List Read) (read : Read) → FastqSoFar start now reads → TakesFastqRecord now past read
+    → FastqSoFar start past (reads ++ read ∷ [])
+fastq_more start now past reads read before taken =
+    let t = taken.title in
     let one : IsFastqRecord before.here read taken.after =
-    record { body = next.left; title = fastq_title start now next reads before t; record_body = taken.body } in
+    record { body = taken.next.left; title = fastq_title start now taken.next reads before t; record_body = taken.body } in
     record {
       here = taken.after;
       so_far = Records-push IsFastqRecord start.left reads before.here read taken.after before.so_far one;
       past_blanks = taken.past_blanks;
-      counted = taken.counted ∙ line_count-more now next t.title t.step ∙ before.counted;
+      counted = taken.counted ∙ line_count-more now taken.next t.title t.step ∙ before.counted;
     }
 
 -- no line is left behind the blank ones

@@ -77,7 +77,7 @@ fasta_answer (suc fuel) (title ∷ more) start now reads e fits before =
     (λ (w : WholeSequence greater_than next).
     fasta_answer fuel w.end.left start w.end (reads ++ read_of w.bases None ∷ []) refl
     (omega (arith, length-sequence greater_than more w.bases w.end.left w.sequence))
-    (fasta_more start now next w.end reads w.bases before t (record { sequence = w.sequence; ends = w.ends; counted = w.counted })))
+    (fasta_more start now w.end reads w.bases before (record { next = next; title = t; sequence = w.sequence; ends = w.ends; counted = w.counted })))
     (λ (f : (fault : FastxFault) × SequenceFails (line_count next) greater_than next.left fault).
     inr (f.0, fasta_fails start now next reads f.0 before.records t f.1))
     (sequence_answer more greater_than next next [] refl (sequence_none greater_than next))
@@ -180,8 +180,14 @@ fastq_answer (suc fuel) (title ∷ more) start now reads e fits before =
     let past = past_blanks w.end in
     fastq_answer fuel past.left start past (reads ++ w.read ∷ []) refl
     (omega (arith, length-body more w.read w.end.left w.body, length-skip_blanks w.end.left))
-    (fastq_more start now next past reads w.read before
-    (record { title = title; step = step; is_title = is }, record { after = w.end.left; body = w.body; past_blanks = refl; counted = line_count-past w.end ∙ w.counted })))
+    (fastq_more start now past reads w.read before (record {
+      next = next;
+      title = record { title = title; step = step; is_title = is };
+      after = w.end.left;
+      body = w.body;
+      past_blanks = refl;
+      counted = line_count-past w.end ∙ w.counted;
+    })))
     (λ (f : (fault : FastxFault) × FastqBodyFails (line_count next) next.left fault).
     inr (f.0, fastq_fails start now next reads before (record { title = title; step = step; is_title = is }) f.0 f.1))
     (body_answer next))

@@ -26,13 +26,12 @@ records-preserved c =
     let step : TakesLine c.records.lines c.next_line.new.self c.in-Some.title.now = record { left = c.in-Some.ensures.some; taken = c.in-Some.ensures.taken } in
     let is : begins_with at_sign c.in-Some.title.now ≡ true = cc in
     rw c.in_ok-push.ensures.items
-    (fastq_more c.args.lines.now c.records.lines c.next_line.new.self c.pass_blanks-in-Some.new.self c.records.reads.items
-    c.in_ok-take_record.field-0 c.records.invariant (
-      record { title = c.in-Some.title.now; step = step; is_title = is },
-      record {
-        after = c.take_record.new.lines.left;
-        body = c.in_ok-take_record.ensures.ok;
-        past_blanks = c.pass_blanks-in-Some.ensures.left;
-        counted = c.pass_blanks-in-Some.ensures.counted ∙ c.in_ok-take_record.ensures.counted;
-      },
-    ))
+    (fastq_more c.args.lines.now c.records.lines c.pass_blanks-in-Some.new.self c.records.reads.items c.in_ok-take_record.field-0 c.records.invariant
+    (record {
+      next = c.next_line.new.self;
+      title = record { title = c.in-Some.title.now; step = step; is_title = is };
+      after = c.take_record.new.lines.left;
+      body = c.in_ok-take_record.ensures.ok;
+      past_blanks = c.pass_blanks-in-Some.ensures.left;
+      counted = c.pass_blanks-in-Some.ensures.counted ∙ c.in_ok-take_record.ensures.counted;
+    }))
