@@ -1,7 +1,7 @@
 -- Every input has an answer: its reads or its first fault.
-use Rattle.std.proofs.Common.{◌≡◌, ℕ, zero, suc, ◌+◌, ◌-◌, ◌<◌, ◌≤◌, Bool, true, false, List, [], ◌∷◌, ◌++◌, length, refl, sym, ap, subst, ◌∙◌, arith, Some, None, Ok, Err, Result, inl, inr, ◌⊎◌, ⊎_elim}
+use Rattle.std.proofs.Common.{◌≡◌, ℕ, zero, suc, ◌+◌, ◌-◌, ◌<◌, ◌≤◌, true, false, List, [], ◌∷◌, ◌++◌, length, refl, sym, ap, subst, ◌∙◌, arith, Some, None, Ok, Err, Result, inl, inr, ◌⊎◌, ⊎_elim}
 use Rattle.std.specs.List.{list_all}
-use Rattle.std.proofs.lemmas.Bool.{cases_lt}
+use Rattle.std.proofs.lemmas.Bool.{cases_lt, cases_Bool}
 use Rattle.std.proofs.lemmas.List.{length-append}
 use Rattle.kc_fastx.specs.declared.faults.FastxFault.{FastxFault}
 use Rattle.kc_fastx.specs.declared.faults.FastxFault.TheVariants.{BadStart, BadBase, BadQuality, LongQuality, Truncated}
@@ -15,10 +15,6 @@ use Rattle.kc_fastx.proofs.ParsingLemmas.{at_true, at_false}
 use Rattle.kc_fastx.proofs.RecordsLemmas.{SequenceSoFar, TakesLine, sequence_none, sequence_more, sequence_bad, line_count-more, records_none}
 use Rattle.kc_fastx.proofs.FastaLemmas.{FastaSoFar, title_at, fasta_more, fasta_fails}
 use Rattle.kc_fastx.proofs.FastqLemmas.{QualitySoFar, quality_none, quality_more, quality_all, quality_short, has_plus, fastq_body, body_fails-sequence, body_fails-quality, body_fails-end, FastqSoFar, fastq_none, fastq_more, fastq_all, fastq_bad_start, fastq_fails, length-skip_blanks, length-body}
-
-bool_cases : (b : Bool) → (b ≡ true) ⊎ (b ≡ false)
-bool_cases true = inl refl
-bool_cases false = inr refl
 
 -- one line on
 abbrev after_line : Cursor → List Line → Cursor
@@ -53,8 +49,8 @@ sequence_answer (line ∷ more) stop start now bases e before =
     ⊎_elim
     (λ (good : list_all is_sequence_byte line ≡ true). sequence_answer more stop start next (bases ++ line) refl (sequence_more stop start now next bases line before (record { step = step; goes_on = goes_on; accepted = good })))
     (λ (bad : list_all is_sequence_byte line ≡ false). inr (BadBase next.taken, sequence_bad stop start now next bases line before (record { step = step; goes_on = goes_on; accepted = bad })))
-    (bool_cases (list_all is_sequence_byte line)))
-    (bool_cases (begins_with stop line))
+    (cases_Bool (list_all is_sequence_byte line)))
+    (cases_Bool (begins_with stop line))
 
 length-sequence : (stop : ℕ) (ls : List Line) (bases : List ℕ) (rest : List Line) → BeginsWithSequence stop ls bases rest → length rest ≤ length ls
 length-sequence stop ls bases rest s = omega (arith, ap length s.split, length-append s.sequence rest)
@@ -120,7 +116,7 @@ quality_answer (line ∷ more) need start now quals e before =
     (cases_lt need (length quals + length line)))
     (λ (bad : list_all is_quality_byte line ≡ false).
     inr (BadQuality next.taken, (quals, line, more, quality_short need start now quals (line ∷ more) before short e, bad, counted)))
-    (bool_cases (list_all is_quality_byte line)))
+    (cases_Bool (list_all is_quality_byte line)))
     (λ (enough : need ≤ length quals). quality_whole need start now quals before enough)
     (cases_lt (length quals) need)
 
@@ -192,7 +188,7 @@ fastq_answer (suc fuel) (title ∷ more) start now reads e fits before =
     inr (f.0, fastq_fails start now next reads before (record { title = title; step = step; is_title = is }) f.0 f.1))
     (body_answer next))
     (λ (is_not : begins_with at_sign title ≡ false). inr (BadStart next.taken, fastq_bad_start start now next reads title before step is_not))
-    (bool_cases (begins_with at_sign title))
+    (cases_Bool (begins_with at_sign title))
 
 -- both
 
@@ -241,4 +237,4 @@ answer bytes =
     (λ (is : next_begins_with greater_than (text_lines bytes) ≡ false).
     as_fastq bytes (line_count start) counted is
     (fastq_answer (length (text_lines bytes)) (text_lines bytes) start start [] refl (omega arith) (fastq_none start start (sym (skip_blanks-twice (lines bytes))) refl)))
-    (bool_cases (next_begins_with greater_than (text_lines bytes)))
+    (cases_Bool (next_begins_with greater_than (text_lines bytes)))

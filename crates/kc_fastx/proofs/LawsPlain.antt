@@ -1,8 +1,9 @@
 -- A plain, slow program for the reads of some bytes. Whatever the definition says of some bytes, this program answers: so no
 -- input has two answers, and the worked rows are computed by it.
-use Rattle.std.proofs.Common.{◌≡◌, ℕ, zero, suc, ◌+◌, ◌-◌, ◌<◌, ◌≤◌, Bool, true, false, cond, ◌&&◌, ◌||◌, List, [], ◌∷◌, ◌++◌, length, take, refl, sym, ap, subst, ◌∙◌, arith, Some, None, Ok, Err, Result, ⊎_elim, leb}
+use Rattle.std.proofs.Common.{◌≡◌, ℕ, zero, suc, ◌+◌, ◌-◌, ◌<◌, ◌≤◌, Bool, true, false, cond, ◌&&◌, List, [], ◌∷◌, ◌++◌, length, take, refl, sym, ap, subst, ◌∙◌, arith, Some, None, Ok, Err, Result, ⊎_elim, leb}
 use Rattle.std.specs.List.{concat, list_all, list_any}
 use Rattle.std.specs.Bool.{MatchBool}
+use Rattle.std.proofs.lemmas.Bool.{le-leb, lt-leb, and_parts, or_parts}
 use Rattle.std.proofs.lemmas.List.{length-append, append_assoc, append-nil}
 use Rattle.std.proofs.lemmas.List.Folds.{list_all-append}
 use Rattle.kc_fastx.specs.declared.faults.FastxFault.{FastxFault}
@@ -73,22 +74,6 @@ reads_of bytes =
 
 -- What the definition says, the program answers.
 
-and-left : (a b : Bool) → (a && b) ≡ true → a ≡ true
-and-left true b e = refl
-and-left false b e = e
-
-and-right : (a b : Bool) → (a && b) ≡ true → b ≡ true
-and-right true b e = e
-and-right false b e = cc
-
-or-left : (a b : Bool) → (a || b) ≡ false → a ≡ false
-or-left true b e = e
-or-left false b e = refl
-
-or-right : (a b : Bool) → (a || b) ≡ false → b ≡ false
-or-right true b e = cc
-or-right false b e = e
-
 -- one good sequence line
 sequence_of-line : (stop : ℕ) (bases : List ℕ) (line : Line) (ls : List Line) → begins_with stop line ≡ false → list_all is_sequence_byte line ≡ true
     → sequence_of stop bases (line ∷ ls) ≡ sequence_of stop (bases ++ line) ls
@@ -101,10 +86,10 @@ sequence_of-lines : (stop : ℕ) (bases : List ℕ) (sequence rest : List Line) 
 sequence_of-lines stop bases [] rest none good = ap (λ bs. sequence_of stop bs rest) (sym (append-nil bases))
 sequence_of-lines stop bases (line ∷ more) rest none good =
     let all : (list_all is_sequence_byte line && list_all is_sequence_byte (concat more)) ≡ true = sym (list_all-append is_sequence_byte line (concat more)) ∙ good in
-    sequence_of-line stop bases line (more ++ rest) (or-left (begins_with stop line) (list_any (begins_with stop) more) none)
-    (and-left (list_all is_sequence_byte line) (list_all is_sequence_byte (concat more)) all)
-    ∙ sequence_of-lines stop (bases ++ line) more rest (or-right (begins_with stop line) (list_any (begins_with stop) more) none)
-    (and-right (list_all is_sequence_byte line) (list_all is_sequence_byte (concat more)) all)
+    sequence_of-line stop bases line (more ++ rest) (or_parts (begins_with stop line) (list_any (begins_with stop) more) none).0
+    (and_parts (list_all is_sequence_byte line) (list_all is_sequence_byte (concat more)) all).0
+    ∙ sequence_of-lines stop (bases ++ line) more rest (or_parts (begins_with stop line) (list_any (begins_with stop) more) none).1
+    (and_parts (list_all is_sequence_byte line) (list_all is_sequence_byte (concat more)) all).1
     ∙ ap (λ bs. sequence_of stop bs rest) (append_assoc bases line (concat more))
 
 sequence_of-begins : (stop : ℕ) (ls : List Line) (bases : List ℕ) (rest : List Line) → BeginsWithSequence stop ls bases rest
@@ -194,17 +179,11 @@ fasta_of-err count (suc fuel) ls fault fits (read ∷ reads, here, h, fails) =
 
 -- the quality
 
-leb-false : (m n : ℕ) → m < n → leb n m ≡ false
-leb-false m n h = grind arith
-
-leb-true : (m n : ℕ) → m ≤ n → leb m n ≡ true
-leb-true m n h = grind arith
-
 quality_of-line : (count need : ℕ) (quals : List ℕ) (line : Line) (ls : List Line) → length quals < need → list_all is_quality_byte line ≡ true
     → length quals + length line ≤ need → quality_of count need quals (line ∷ ls) ≡ quality_of count need (quals ++ line) ls
 unfolding quality_of
 quality_of-line count need quals line ls short good fits =
-    rw (leb-false (length quals) need short, good, leb-true (length quals + length line) need fits) refl
+    rw (lt-leb need (length quals) short, good, le-leb (length quals + length line) need fits) refl
 
 -- lines that are too short so far
 quality_of-short : (count need : ℕ) (quals : List ℕ) (taken rest : List Line) → length quals + length (concat taken) < need
@@ -213,15 +192,15 @@ quality_of-short count need quals [] rest short good = ap (λ qs. quality_of cou
 quality_of-short count need quals (line ∷ more) rest short good =
     let all : (list_all is_quality_byte line && list_all is_quality_byte (concat more)) ≡ true = sym (list_all-append is_quality_byte line (concat more)) ∙ good in
     quality_of-line count need quals line (more ++ rest) (omega (arith, length-append line (concat more)))
-    (and-left (list_all is_quality_byte line) (list_all is_quality_byte (concat more)) all) (omega (arith, length-append line (concat more)))
+    (and_parts (list_all is_quality_byte line) (list_all is_quality_byte (concat more)) all).0 (omega (arith, length-append line (concat more)))
     ∙ quality_of-short count need (quals ++ line) more rest (omega (arith, length-append line (concat more), length-append quals line))
-    (and-right (list_all is_quality_byte line) (list_all is_quality_byte (concat more)) all)
+    (and_parts (list_all is_quality_byte line) (list_all is_quality_byte (concat more)) all).1
     ∙ ap (λ qs. quality_of count need qs rest) (append_assoc quals line (concat more))
 
 quality_of-end : (count need : ℕ) (quals : List ℕ) (rest : List Line) → need ≤ length quals → quality_of count need quals rest ≡ Ok (quals, rest)
 unfolding quality_of
-quality_of-end count need quals [] e = rw (leb-true need (length quals) e) refl
-quality_of-end count need quals (line ∷ ls) e = rw (leb-true need (length quals) e) refl
+quality_of-end count need quals [] e = rw (le-leb need (length quals) e) refl
+quality_of-end count need quals (line ∷ ls) e = rw (le-leb need (length quals) e) refl
 
 -- lines that are long enough at last
 quality_of-lines : (count need : ℕ) (quals : List ℕ) (taken rest : List Line) → length quals + length (concat taken) ≡ need
@@ -233,10 +212,10 @@ quality_of-lines count need quals (line ∷ more) rest long fronts good =
     let all : (list_all is_quality_byte line && list_all is_quality_byte (concat more)) ≡ true = sym (list_all-append is_quality_byte line (concat more)) ∙ good in
     let short : length quals < need = omega (arith, fronts 0 (omega arith)) in
     quality_of-line count need quals line (more ++ rest) short
-    (and-left (list_all is_quality_byte line) (list_all is_quality_byte (concat more)) all) (omega (arith, length-append line (concat more)))
+    (and_parts (list_all is_quality_byte line) (list_all is_quality_byte (concat more)) all).0 (omega (arith, length-append line (concat more)))
     ∙ quality_of-lines count need (quals ++ line) more rest (omega (arith, length-append line (concat more), length-append quals line))
     (λ i h. omega (arith, fronts (suc i) (omega arith), length-append line (concat (take i more)), length-append quals line))
-    (and-right (list_all is_quality_byte line) (list_all is_quality_byte (concat more)) all)
+    (and_parts (list_all is_quality_byte line) (list_all is_quality_byte (concat more)) all).1
     ∙ ap (λ qs. Ok (qs, rest)) (append_assoc quals line (concat more))
 
 quality_of-ok : (count need : ℕ) (ls : List Line) (quals : List ℕ) (rest : List Line) → BeginsWithQuality need ls quals rest → quality_of count need [] ls ≡ Ok (quals, rest)
@@ -255,18 +234,18 @@ quality_of-begins count need ls quals rest q =
 
 quality_of-cut : (count need : ℕ) (quals : List ℕ) → length quals < need → quality_of count need quals [] ≡ Err (Truncated count)
 unfolding quality_of
-quality_of-cut count need quals short = rw (leb-false (length quals) need short) refl
+quality_of-cut count need quals short = rw (lt-leb need (length quals) short) refl
 
 quality_of-bad : (count need : ℕ) (quals : List ℕ) (line : Line) (more : List Line) → length quals < need → list_all is_quality_byte line ≡ false
     → quality_of count need quals (line ∷ more) ≡ Err (BadQuality (count - length more))
 unfolding quality_of
-quality_of-bad count need quals line more short bad = rw (leb-false (length quals) need short, bad) refl
+quality_of-bad count need quals line more short bad = rw (lt-leb need (length quals) short, bad) refl
 
 quality_of-over : (count need : ℕ) (quals : List ℕ) (line : Line) (more : List Line) → length quals < need → list_all is_quality_byte line ≡ true
     → need < length quals + length line → quality_of count need quals (line ∷ more) ≡ Err (LongQuality (count - length more))
 unfolding quality_of
 quality_of-over count need quals line more short good over =
-    rw (leb-false (length quals) need short, good, leb-false need (length quals + length line) over) refl
+    rw (lt-leb need (length quals) short, good, lt-leb (length quals + length line) need over) refl
 
 quality_of-err : (count need : ℕ) (ls : List Line) (fault : FastxFault) → QualityFails count need ls fault → quality_of count need [] ls ≡ Err fault
 quality_of-err count need ls (BadQuality number) h =

@@ -2,6 +2,7 @@
 use Rattle.std.proofs.Common.{◌≡◌, ℕ, ◌+◌, ◌-◌, ◌<◌, ◌≤◌, Bool, true, false, eqb, List, [], ◌∷◌, ◌++◌, length, get_or, take, drop, map, refl, sym, ap, ◌∙◌, arith, cond}
 use Rattle.std.specs.List.{slice_split, onto_first, All}
 use Rattle.std.proofs.lemmas.List.{take-append-drop, get_or-take, length-take-le, drop_more, drop_all, take_all}
+use Rattle.std.proofs.lemmas.Bool.{false_from_ne_true}
 use Rattle.std.proofs.lemmas.List.Elements.{All-from_get_or}
 use Rattle.std.proofs.lemmas.List.Splits.{slice_split_at, slice_split_none}
 use Rattle.std.specs.Str.Lines.{strip_carriage_return}
@@ -39,17 +40,13 @@ lines-newline front b rest none is =
     ap (λ (parts : List (List ℕ)). map strip_carriage_return (without_empty_last parts)) split
     ∙ ap (map strip_carriage_return) (without_empty_last-cons front (slice_split is_line_feed rest) some.0 some.1 some.2)
 
-not_true : (t : Bool) → ¬ (t ≡ true) → t ≡ false
-not_true true h = absurd (h refl)
-not_true false h = refl
-
 -- no byte below place k is a line feed
 none_below : (bytes : List ℕ) (k : ℕ) → k ≤ length bytes → ((j : ℕ) → 0 ≤ j → j < k → ¬ (is_line_feed (get_or bytes j 0) ≡ true))
     → All (λ b. is_line_feed b ≡ false) (take k bytes)
 none_below bytes k le none =
     All-from_get_or (λ b. is_line_feed b ≡ false) (take k bytes) 0
     (λ i h. let low : i < k = omega (arith, length-take-le k bytes le) in
-    rw (get_or-take k bytes i 0 low) (not_true (is_line_feed (get_or bytes i 0)) (none i (omega arith) low)))
+    rw (get_or-take k bytes i 0 low) (false_from_ne_true (is_line_feed (get_or bytes i 0)) (none i (omega arith) low)))
 
 -- the first line feed, at place k, ends the first line
 pub lines-found : (bytes : List ℕ) (k : ℕ) → k < length bytes → is_line_feed (get_or bytes k 0) ≡ true
@@ -68,7 +65,7 @@ lines-last [] some none = absurd (omega arith)
 lines-last (b ∷ bs) some none =
     ap (λ (parts : List (List ℕ)). map strip_carriage_return (without_empty_last parts))
     (slice_split_none is_line_feed (b ∷ bs)
-    (All-from_get_or (λ b. is_line_feed b ≡ false) (b ∷ bs) 0 (λ i h. not_true (is_line_feed (get_or (b ∷ bs) i 0)) (none i (omega arith) h))))
+    (All-from_get_or (λ b. is_line_feed b ≡ false) (b ∷ bs) 0 (λ i h. false_from_ne_true (is_line_feed (get_or (b ∷ bs) i 0)) (none i (omega arith) h))))
 
 -- nothing is left behind the whole of some bytes
 pub lines-end : (bytes : List ℕ) → lines (take (length bytes - length bytes) (drop (length bytes) bytes)) ≡ []

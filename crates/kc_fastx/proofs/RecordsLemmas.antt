@@ -1,6 +1,7 @@
 -- The sequence lines and the whole records that were taken so far, and what one more makes of them.
 use Rattle.std.proofs.Common.{◌≡◌, ℕ, ◌+◌, Bool, true, false, ◌&&◌, ◌||◌, List, [], ◌∷◌, ◌++◌, length, refl, sym, ap, subst, ◌∙◌, arith}
 use Rattle.std.specs.List.{concat, list_all, list_any}
+use Rattle.std.proofs.lemmas.Bool.{or_from}
 use Rattle.std.proofs.lemmas.List.{append_assoc, append-nil}
 use Rattle.std.proofs.lemmas.List.Folds.{concat-append, list_all-append, list_any-append}
 use Rattle.kc_fastx.specs.Lines.{Line, Cursor, begins_with, line_count}
@@ -45,9 +46,6 @@ joined-push bases sequence line e = rw (concat-append, append-nil, ← e) refl
 pub both_true : (a b : Bool) → a ≡ true → b ≡ true → (a && b) ≡ true
 both_true a b p q = rw (p, q) refl
 
-both_false : (a b : Bool) → a ≡ false → b ≡ false → (a || b) ≡ false
-both_false a b p q = rw (p, q) refl
-
 pub sequence_more : (stop : ℕ) (start now next : Cursor) (bases : List ℕ) (line : Line) → SequenceSoFar stop start now bases
     → TakesSequenceLine stop now next line true → SequenceSoFar stop start next (bases ++ line)
 sequence_more stop start now next bases line before taken =
@@ -56,7 +54,7 @@ sequence_more stop start now next bases line before taken =
       so_far = record {
         sequence = s.sequence ++ line ∷ [];
         split = s.split ∙ ap (λ rest. s.sequence ++ rest) taken.step.left ∙ sym (append_assoc s.sequence (line ∷ []) next.left);
-        none_stops = list_any-append (begins_with stop) s.sequence (line ∷ []) ∙ both_false (list_any (begins_with stop) s.sequence) (begins_with stop line || false) s.none_stops (both_false (begins_with stop line) false taken.goes_on refl);
+        none_stops = list_any-append (begins_with stop) s.sequence (line ∷ []) ∙ or_from (list_any (begins_with stop) s.sequence) (begins_with stop line || false) s.none_stops (or_from (begins_with stop line) false taken.goes_on refl);
         joined = joined-push bases s.sequence line s.joined;
         accepted = list_all-append is_sequence_byte bases line ∙ both_true (list_all is_sequence_byte bases) (list_all is_sequence_byte line) s.accepted taken.accepted;
       };
