@@ -1,11 +1,9 @@
-pub mod Walks
 pub mod LinesLemmas
 pub mod RecordsLemmas
 pub mod FastaLemmas
 pub mod FastqLemmas
 pub mod ReadsLemmas
 pub mod ParsingLemmas
-pub mod SourcesLemmas
 pub mod LawsAnswers
 pub mod LawsPlain
 pub mod LawsOfAll

@@ -5,4 +5,3 @@ pub mod Lines
 pub mod Parsing
 pub mod Reads
 pub mod Records
-pub mod Sources

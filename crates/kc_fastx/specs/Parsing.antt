@@ -1,6 +1,10 @@
--- The reads of a byte string, or its first fault; the same of a list of sources.
-use Rattle.std.specs.Prelude.{◌≡◌, ℕ, ◌+◌, ◌^◌, List, [], ◌∷◌, ◌++◌, length, MatchBool, Result, MatchResult}
+-- The reads of a byte string, or its first fault; the same of a source, and of a list of byte strings.
+use Rattle.std.specs.Prelude.{◌≡◌, ℕ, ◌+◌, ◌^◌, List, [], ◌∷◌, ◌++◌, length, MatchBool, Result, MatchResult, ◌⊎◌}
+use Rattle.kc_io.specs.declared.taking.TakeFault.TheVariants as taking
+use Rattle.kc_io.specs.Sources.{Seen}
+use Rattle.kc_io.specs.Taking.{TakesAll, TakingFails}
 use Rattle.kc_fastx.specs.declared.faults.FastxFault.{FastxFault}
+use Rattle.kc_fastx.specs.declared.faults.FastxFault.TheVariants.{TooLong, Read as ReadFailed, Memory}
 use Rattle.kc_fastx.specs.Reads.{Read}
 use Rattle.kc_fastx.specs.Lines.{Line, lines, next_begins_with, skip_blanks}
 use Rattle.kc_fastx.specs.Records.{Records, FirstFault}
@@ -42,6 +46,22 @@ IsReadsOf bytes answer = MatchResult answer (HasReads bytes) (HasFault bytes)
 -- the most bytes that a source may give, and the sources of one count together
 abbrev pub most_bytes : ℕ
 most_bytes = 2 ^ 36
+
+-- all bytes of the source were taken, they say these reads, and there are `count` of them
+pub record GivesReads (old new : Seen) (limit : ℕ) (reads : List Read) (count : ℕ) : Type 0 where
+  pub bytes : List ℕ
+  pub taken : TakesAll old new limit bytes
+  pub has_reads : HasReads bytes reads
+  pub counted : count ≡ length bytes
+
+-- why `read_all` gave no reads: the taking failed, or all bytes were taken and have this fault; memory was refused in the
+-- taking or behind it
+abbrev pub RefusesFor : Seen → Seen → ℕ → FastxFault → Type 0
+RefusesFor old new limit TooLong = TakingFails old new limit taking.TooLong
+RefusesFor old new limit ReadFailed = TakingFails old new limit taking.Read
+RefusesFor old new limit Memory =
+    TakingFails old new limit taking.Memory ⊎ ((bytes : List ℕ) × TakesAll old new limit bytes)
+RefusesFor old new limit fault = (bytes : List ℕ) × TakesAll old new limit bytes × HasFault bytes fault
 
 -- the number-th of the sources, from 1, is the first that has a fault: those before it `Have` something together, and
 -- behind that this one `Fails` by the fault

@@ -14,7 +14,6 @@
 //! ```
 #![tactic(auto)]
 
-mod failures;
 mod fasta;
 mod fastq;
 mod faults;
@@ -23,12 +22,10 @@ mod lines;
 mod parsing;
 mod reads;
 mod records;
-mod sources;
 #[cfg(test)]
 mod tests;
 
-pub use failures::Failures;
 pub use faults::FastxFault;
+pub use kc_io::{Failed, FromBytes, FromRead, Source};
 pub use parsing::{parse, read_all};
 pub use reads::SeqRead;
-pub use sources::{Failed, FromBytes, FromRead, Source};
