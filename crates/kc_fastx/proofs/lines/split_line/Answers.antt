@@ -1,7 +1,7 @@
 use Rattle.std.proofs.Common.{◌≡◌, ◌+◌, ◌-◌, length, take, drop, arith}
 use Rattle.std.proofs.lemmas.List.{take_all, length-drop}
-use Rattle.kc_fastx.proofs.LineLemmas.{lines-found, lines-last, lines-end}
-use Rattle.kc_fastx.proofs.line_cursor.split_line.Goals as goal
+use Rattle.kc_fastx.proofs.LinesLemmas.{lines-found, lines-last, lines-end}
+use Rattle.kc_fastx.proofs.lines.split_line.Goals as goal
 
 pub returns-in-Some-clause-lines : goal.returns-in-Some-clause-lines
 returns-in-Some-clause-lines c =

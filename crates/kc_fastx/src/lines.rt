@@ -1,13 +1,15 @@
-// The lines of a byte string, taken one after another.
-ghost use Rattle.std.specs.Prelude.{◌≡◌, ◌+◌, ◌^◌, ◌<◌, false, true, [], ◌∷◌, length, IfSome, IfNone};
+//! The lines of a byte string, taken one after another.
+ghost use Rattle.std.specs.Prelude.{◌≡◌, ◌+◌, ◌<◌, ◌≤◌, false, true, [], ◌∷◌, length, vec_capacity};
+ghost use Rattle.std.specs.Prelude.{IfOk, IfSome, IfNone};
 ghost use Rattle.std.specs.Str.Lines.{strip_carriage_return};
-ghost use Rattle.kc_fastx.specs.Lines.{begins_with, lines, line_count, next_begins_with, skip_blanks};
-ghost use Rattle.kc_fastx.specs.Records.{ends_or_begins_with};
+ghost use Rattle.kc_fastx.specs.Lines.{begins_with, ends_or_begins_with, next_begins_with};
+ghost use Rattle.kc_fastx.specs.Lines.{lines, line_count, skip_blanks};
 
 use memchr::memchr;
+use std::alloc::{AllocError, Global};
 use std::marker::Model;
 
-// Seen as the number of the lines that were taken, and the lines that are left.
+// Seen as the number of the lines that were taken, the lines that are left, and the number of the bytes that are left.
 #[derive(Drop)]
 pub struct LineCursor<'a> {
     left: &'a [u8],
@@ -20,7 +22,7 @@ impl<'a> Model for LineCursor<'a> {
 
     ghost Value = { Cursor };
 
-    ghost view = { λ c. record { taken = c.taken; left = lines c.left.now } };
+    ghost view = { λ c. record { taken = c.taken; left = lines c.left.now; byte_count = length c.left.now } };
 
     // Each line that was taken had a byte at least.
     ghost invariant = { λ c. c.taken + length c.left.now < 2 ^ 64 };
@@ -31,6 +33,7 @@ impl<'a> LineCursor<'a> {
     pub(crate) fn new(bytes: &'a [u8]) -> LineCursor<'a>
         ensures taken { result.taken ≡ 0 }
         ensures left { result.left ≡ lines bytes.now }
+        ensures bytes { result.byte_count ≡ length bytes.now }
     {
         LineCursor {
             left: bytes,
@@ -55,9 +58,20 @@ impl<'a> LineCursor<'a> {
         self.taken
     }
 
-    // How many bytes stand before the next byte of this value. It only says how much room to ask for.
-    pub(crate) fn room_before(&self, byte: u8) -> usize {
-        memchr(byte, self.left).unwrap_or(self.left.len())
+    // An empty vector with room for the bytes that stand before the next byte of this value.
+    pub(crate) fn room_before(&self, alloc: Global, byte: u8) -> Result<Vec<u8>, AllocError>
+        ensures empty { IfOk result (λ room. room.items ≡ []) }
+        ensures within { IfOk result (λ room. vec_capacity room ≤ self.now.byte_count) }
+    {
+        self.room_for(alloc, memchr(byte, self.left).unwrap_or(self.left.len()))
+    }
+
+    // An empty vector with room for this many bytes, or for those that are left where they are fewer.
+    pub(crate) fn room_for(&self, alloc: Global, count: usize) -> Result<Vec<u8>, AllocError>
+        ensures empty { IfOk result (λ room. room.items ≡ []) }
+        ensures within { IfOk result (λ room. vec_capacity room ≤ self.now.byte_count) }
+    {
+        Vec::with_capacity(alloc, count.min(self.left.len()))
     }
 
     // Takes the next line, where one is left.

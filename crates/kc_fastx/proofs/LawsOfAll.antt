@@ -3,9 +3,9 @@ use Rattle.std.proofs.Common.{◌≡◌, ℕ, ◌+◌, List, [], ◌∷◌, ◌+
 use Rattle.std.proofs.lemmas.List.{append_assoc, append-nil}
 use Rattle.kc_fastx.specs.declared.faults.FastxFault.{FastxFault}
 use Rattle.kc_fastx.specs.Reads.{Read}
-use Rattle.kc_fastx.specs.ReadsOf.{HasReads, HasFault, IsReadsOf, HaveReads, HaveFault, AreReadsOf}
-use Rattle.kc_fastx.proofs.AnswerLemmas.{answer}
-use Rattle.kc_fastx.proofs.Plain.{reads_of, reads_of-answers}
+use Rattle.kc_fastx.specs.Parsing.{HasReads, HasFault, IsReadsOf, HaveReads, HaveFault, AreReadsOf}
+use Rattle.kc_fastx.proofs.LawsAnswers.{answer}
+use Rattle.kc_fastx.proofs.LawsPlain.{reads_of, reads_of-answers}
 
 -- one source more, with reads
 pub HaveReads-push : (sources : List (List ℕ)) (reads : List Read) (bytes : List ℕ) (more : List Read) → HaveReads sources reads → HasReads bytes more
@@ -23,20 +23,20 @@ HaveReads-push (first ∷ sources) reads bytes more k h = (
 pub HaveFault-here : (sources : List (List ℕ)) (reads : List Read) (bytes : List ℕ) (after : List (List ℕ)) (fault : FastxFault) → HaveReads sources reads
     → HasFault bytes fault → HaveFault (sources ++ bytes ∷ after) (length sources + 1) fault
 HaveFault-here sources reads bytes after fault k h =
-    record { before = sources; bytes = bytes; after = after; split = refl; reads = reads; earlier = k; here = h; counted = refl }
+    record { before = sources; here = bytes; after = after; split = refl; counted = refl; had = reads; earlier = k; fails = h }
 
 -- a source with reads in front of others
 fault-behind : (bytes : List ℕ) (first : List Read) → HasReads bytes first → (sources : List (List ℕ)) (number : ℕ) (fault : FastxFault) → HaveFault sources number fault
     → HaveFault (bytes ∷ sources) (number + 1) fault
 fault-behind bytes first h sources number fault k = record {
   before = bytes ∷ k.before;
-  bytes = k.bytes;
+  here = k.here;
   after = k.after;
   split = ap (λ ss. bytes ∷ ss) k.split;
-  reads = first ++ k.reads;
-  earlier = (first, k.reads, h, k.earlier, refl);
-  here = k.here;
   counted = omega (arith, k.counted);
+  had = first ++ k.had;
+  earlier = (first, k.had, h, k.earlier, refl);
+  fails = k.fails;
 }
 
 abbrev Answer : List (List ℕ) → Type 0
@@ -81,7 +81,7 @@ all_of-fault (source ∷ before) bytes after reads fault (first, others, own, k,
 all_of-answers : (sources : List (List ℕ)) (answer : Result (List Read) (ℕ × FastxFault)) → AreReadsOf sources answer → all_of sources ≡ answer
 all_of-answers sources (Ok reads) h = all_of-reads sources reads h
 all_of-answers sources (Err (number, fault)) h =
-    ap all_of h.split ∙ all_of-fault h.before h.bytes h.after h.reads fault h.earlier h.here ∙ ap (λ n. Err (n, fault)) (sym h.counted)
+    ap all_of h.split ∙ all_of-fault h.before h.here h.after h.had fault h.earlier h.fails ∙ ap (λ n. Err (n, fault)) (sym h.counted)
 
 pub same_answer_of_all : (sources : List (List ℕ)) (one other : Result (List Read) (ℕ × FastxFault)) → AreReadsOf sources one → AreReadsOf sources other → one ≡ other
 same_answer_of_all sources one other h k = sym (all_of-answers sources one h) ∙ all_of-answers sources other k

@@ -1,6 +1,6 @@
 use Rattle.std.proofs.Common.{length}
-use Rattle.kc_fastx.proofs.SequenceLemmas.{SequenceSoFar}
-use Rattle.kc_fastx.proofs.sequences.take_sequence.Given as goal
+use Rattle.kc_fastx.proofs.RecordsLemmas.{SequenceSoFar}
+use Rattle.kc_fastx.proofs.records.take_sequence.Given as goal
 
 abbrev pub invariant-lines : goal.invariant-lines
 invariant-lines l = SequenceSoFar l.stop l.fn.lines l.lines l.bases.items

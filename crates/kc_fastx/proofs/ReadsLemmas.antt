@@ -5,12 +5,12 @@ use Rattle.std.specs.Str.Lines.{strip_carriage_return}
 use Rattle.std.proofs.lemmas.List.{length-append, length-take}
 use Rattle.std.proofs.lemmas.List.Folds.{concat-append}
 use Rattle.std.proofs.lemmas.List.Sums.{sum_by-cons}
-use Rattle.kc_fastx.specs.Lines.{Line, lines, without_empty_last, skip_blanks}
-use Rattle.kc_fastx.specs.Reads.{Read}
+use Rattle.kc_fastx.specs.Lines.{line_feed, Line, lines, without_empty_last, skip_blanks}
+use Rattle.kc_fastx.specs.Reads.{Read, base_count}
 use Rattle.kc_fastx.specs.Records.{Records}
 use Rattle.kc_fastx.specs.Fasta.{IsFastaRecord}
 use Rattle.kc_fastx.specs.Fastq.{IsFastqRecord}
-use Rattle.kc_fastx.specs.ReadsOf.{IsFastq, base_count}
+use Rattle.kc_fastx.specs.Parsing.{IsFastq}
 
 -- how many bytes the lines have together
 abbrev byte_count : List Line → ℕ
@@ -63,12 +63,12 @@ byte_count-onto_first : (b : ℕ) (parts : List (List ℕ)) → byte_count (onto
 byte_count-onto_first b [] = refl
 byte_count-onto_first b (part ∷ parts) = omega arith
 
-byte_count-split : (bytes : List ℕ) → byte_count (slice_split (λ b. eqb b 10) bytes) ≤ length bytes
+byte_count-split : (bytes : List ℕ) → byte_count (slice_split (λ b. eqb b line_feed) bytes) ≤ length bytes
 byte_count-split [] = omega arith
 byte_count-split (b ∷ bs) =
-    elim (eqb b 10) as (λ t. byte_count (cond t ([] ∷ slice_split (λ b. eqb b 10) bs) (onto_first b (slice_split (λ b. eqb b 10) bs))) ≤ length (b ∷ bs)) [
+    elim (eqb b line_feed) as (λ t. byte_count (cond t ([] ∷ slice_split (λ b. eqb b line_feed) bs) (onto_first b (slice_split (λ b. eqb b line_feed) bs))) ≤ length (b ∷ bs)) [
       | true ↦ omega (arith, byte_count-split bs)
-      | false ↦ omega (arith, byte_count-split bs, byte_count-onto_first b (slice_split (λ b. eqb b 10) bs))
+      | false ↦ omega (arith, byte_count-split bs, byte_count-onto_first b (slice_split (λ b. eqb b line_feed) bs))
     ]
 
 byte_count-without_empty_last : (parts : List (List ℕ)) → byte_count (without_empty_last parts) ≤ byte_count parts
@@ -95,8 +95,8 @@ byte_count-lines : (bytes : List ℕ) → byte_count (lines bytes) ≤ length by
 byte_count-lines bytes =
     omega (
       arith,
-      byte_count-strip (without_empty_last (slice_split (λ b. eqb b 10) bytes)),
-      byte_count-without_empty_last (slice_split (λ b. eqb b 10) bytes),
+      byte_count-strip (without_empty_last (slice_split (λ b. eqb b line_feed) bytes)),
+      byte_count-without_empty_last (slice_split (λ b. eqb b line_feed) bytes),
       byte_count-split bytes,
     )
 
