@@ -1,12 +1,9 @@
 -- The statistics of a tally, a function of its rows: source, what `jellyfish stats` prints, Marçais and Kingsford 2011.
-use Rattle.std.specs.Prelude.{ℕ, ◌==◌, List, [], ◌∷◌, ◌++◌, length, max, codes, decimal, count_by, fold}
+use Rattle.std.specs.Prelude.{ℕ, List, [], ◌∷◌, ◌++◌, length, max, codes, decimal, fold}
 use Rattle.kc_tally.specs.declared.row.Row.{Row}
 use Rattle.kc_tally.specs.Tally.{total_of}
 use Rattle.kc_report.specs.Bytes.{line_feed}
-
--- how many words occur this often
-abbrev pub words_with_count : List Row → ℕ → ℕ
-words_with_count rows count = count_by (λ row. row.count == count) rows
+use Rattle.kc_report.specs.Histo.{words_with_count}
 
 -- the greatest count, 0 where there is no row
 abbrev pub greatest_count : List Row → ℕ

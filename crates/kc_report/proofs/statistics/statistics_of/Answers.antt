@@ -1,5 +1,6 @@
 use Rattle.std.proofs.Common.{◌≡◌, append_assoc, refl, arith, ◌∙◌}
-use Rattle.kc_report.specs.Statistics.{statistics_text, words_with_count}
+use Rattle.kc_report.specs.Histo.{words_with_count}
+use Rattle.kc_report.specs.Statistics.{statistics_text}
 use Rattle.kc_report.proofs.CountLemmas.{bin_count-below}
 use Rattle.kc_report.proofs.statistics.statistics_of.Goals as goal
 
