@@ -6,14 +6,14 @@ use Rattle.kc_hash.proofs.Linear.{product-zero}
 use Rattle.kc_hash.proofs.Bytes.{product_byte_more}
 use Rattle.kc_hash.proofs.tables.MatrixTables.apply.Goals as goal
 
-pub loop-place-init : goal.loop-place-init
-loop-place-init c =
+pub loop-position-init : goal.loop-position-init
+loop-position-init c =
     let none : c.args.x % 1 ≡ 0 = omega arith in
     sym (ap (product c.self.inside.matrix) none ∙ product-zero c.self.inside.matrix)
 
-pub loop-place-preserved : goal.loop-place-preserved
-loop-place-preserved c =
-    let byte : ℕ = bit_and (c.args.x / 2 ^ (8 * c.loop-place.place)) 255 in
-    let small : bit_and (c.args.x / 2 ^ (8 * c.loop-place.place)) 255 < 256 = omega (arith, and_le_r (c.args.x / 2 ^ (8 * c.loop-place.place)) 255) in
-    ap₂ bit_xor c.loop-place.invariant (c.self.invariant c.loop-place.place c.loop-place-test.true byte small)
-    ∙ product_byte_more c.self.inside.matrix c.args.x c.loop-place.place
+pub loop-position-preserved : goal.loop-position-preserved
+loop-position-preserved c =
+    let byte : ℕ = bit_and (c.args.x / 2 ^ (8 * c.loop-position.position)) 255 in
+    let small : bit_and (c.args.x / 2 ^ (8 * c.loop-position.position)) 255 < 256 = omega (arith, and_le_r (c.args.x / 2 ^ (8 * c.loop-position.position)) 255) in
+    ap₂ bit_xor c.loop-position.invariant (c.self.invariant c.loop-position.position c.loop-position-test.true byte small)
+    ∙ product_byte_more c.self.inside.matrix c.args.x c.loop-position.position

@@ -1,25 +1,11 @@
--- A hash keeps an invertible matrix and its inverse, and is seen as the matrix alone: the inverse is found from it.
-use Rattle.std.specs.Prelude.{ℕ, ◌^◌, List, length, map, ◌==◌, unwrap_or, slice_index}
+-- The inverse of a hash's matrix is found from the matrix.
 use Rattle.std.specs.List.{find, range_with_len}
-use Rattle.std.proofs.Common.{◌≡◌, zero, suc, ◌+◌, ◌<◌, ◌≤◌, Bool, true, false, cond, Some, get_or, refl, sym, ◌∙◌, ap, arith}
+use Rattle.std.proofs.Common.{◌≡◌, ℕ, zero, suc, ◌+◌, ◌<◌, ◌≤◌, ◌^◌, ◌==◌, Bool, true, false, cond, Some, List, length, unwrap_or, get_or, refl, sym, ◌∙◌, ap, arith}
 use Rattle.std.proofs.lemmas.Bool.{eq-eqb, eqb-true, false≢true}
 use Rattle.std.proofs.lemmas.List.{ext_get_or}
 use Rattle.std.proofs.lemmas.List.FromFn.{length-map-range_with_len, get_or-map-range_with_len}
+use Rattle.kc_hash.specs.Hash.{preimage, inverse_of, IsHash}
 use Rattle.kc_hash.specs.Product.{product, AreInverse}
-
--- the least word that the matrix maps to y
-unfoldable pub preimage : List ℕ → ℕ → ℕ
-preimage columns y = unwrap_or (find (λ x. product columns x == y) (range_with_len 0 (2 ^ length columns))) 0
-
--- column i of the inverse is the word that the matrix maps to the word with bit i alone
-unfoldable pub inverse_of : List ℕ → List ℕ
-inverse_of columns = map (λ i. preimage columns (2 ^ i)) (range_with_len 0 (length columns))
-
--- what a hash keeps of its two matrices
-pub record IsHash (matrix inverse : List ℕ) : Type 0 where
-  pub are_inverse : AreInverse matrix inverse
-  pub columns_below : (i : ℕ) → i < length matrix → slice_index inverse i < 2 ^ length matrix
-  pub columns_undone : (i : ℕ) → i < length matrix → product matrix (slice_index inverse i) ≡ 2 ^ i
 
 -- the one number of a range that passes a test is found
 find-only : (p : ℕ → Bool) (a n w : ℕ) → a ≤ w → w < a + n → p w ≡ true → ((v : ℕ) → v < a + n → p v ≡ true → v ≡ w)
@@ -47,13 +33,13 @@ preimage-only columns y w within is only =
 pub inverse_is : (matrix inverse : List ℕ) → IsHash matrix inverse → inverse_of matrix ≡ inverse
 unfolding inverse_of
 inverse_is matrix inverse h =
-    let word : ℕ → ℕ = λ i. preimage matrix (2 ^ i) in
+    let column : ℕ → ℕ = λ i. preimage matrix (2 ^ i) in
     let both : AreInverse matrix inverse = h.are_inverse in
-    let long : length (inverse_of matrix) ≡ length matrix = length-map-range_with_len word 0 (length matrix) in
+    let long : length (inverse_of matrix) ≡ length matrix = length-map-range_with_len column 0 (length matrix) in
     ext_get_or 0 (inverse_of matrix) inverse (long ∙ sym both.same_bits)
     (λ i inner.
     let within : i < length matrix = omega (arith, long) in
-    get_or-map-range_with_len word 0 (length matrix) i i 0 within (omega arith)
+    get_or-map-range_with_len column 0 (length matrix) i i 0 within (omega arith)
     ∙ preimage-only matrix (2 ^ i) (get_or inverse i 0) (h.columns_below i within) (h.columns_undone i within)
     (λ v below e.
     sym (both.undoes v below)
