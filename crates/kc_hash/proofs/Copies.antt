@@ -2,7 +2,7 @@
 use Rattle.std.proofs.Common.{◌≡◌, ◌≢◌, ℕ, ◌+◌, ◌<◌, ◌≤◌, ◌^◌, List, length, get_or, set, replicate, take, sym, ◌∙◌, below_more, arith}
 use Rattle.std.proofs.lemmas.List.{get_or-set_same, get_or-set_other, length-set, length-replicate, length-take-le, take_all, ext_get_or, get_or-take}
 use Rattle.kc_hash.specs.Matrix.{IsWidth, IsMatrix}
-use Rattle.kc_hash.proofs.Columns.{zeros-get_or}
+use Rattle.kc_hash.specs.Inversion.{zeros-get_or}
 
 -- the first entries of the given columns are copied and have so many bits; behind them there is 0
 pub record CopiesFront (bits : ℕ) (columns kept : List ℕ) (index : ℕ) : Type 0 where

@@ -2,6 +2,7 @@ pub mod Elimination
 pub mod Hash
 pub mod HashFault
 pub mod Inverse
+pub mod Inversion
 pub mod Matrix
 pub mod Product
 pub mod Seeds

@@ -6,7 +6,7 @@ ghost use Rattle.kc_hash.specs.Product.{product, identity, AreInverse, StaysBelo
 ghost use Rattle.kc_hash.specs.Product.{IsNonsingular, IsOneToOne};
 ghost use Rattle.kc_hash.specs.Seeds.{turn_columns, NoneIsNonsingular};
 ghost use Rattle.kc_hash.specs.Hash.{IsHash, inverse_of};
-ghost use Rattle.kc_hash.proofs.InverseColumns.{inverse_is};
+ghost use Rattle.kc_hash.specs.Inversion.{inverse_is};
 
 use crate::elimination::Inverse;
 use crate::matrix::Matrix;
@@ -95,12 +95,17 @@ impl Hash {
     /// A law: a hashed number has no more bits than the number.
     pub fn stays_below(&self)
         ensures { StaysBelow self.now }
-    {}
+    {
+        // What a hash keeps is known where it is read.
+        let _matrix = &self.matrix;
+    }
 
     /// A law: no two numbers have one hashed number.
     pub fn is_one_to_one(&self)
         ensures { IsOneToOne self.now }
-    {}
+    {
+        let _matrix = &self.matrix;
+    }
 
     /// The hashed number: the matrix times `x`.
     pub fn forward(&self, x: u64) -> u64

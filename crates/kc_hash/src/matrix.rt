@@ -6,7 +6,7 @@ ghost use Rattle.kc_hash.specs.Matrix.{IsWidth, IsMatrix, AreBelow};
 ghost use Rattle.kc_hash.specs.Product.{product, identity};
 ghost use Rattle.kc_hash.specs.Elimination.{row_added};
 ghost use Rattle.kc_hash.specs.Seeds.{seed_columns};
-ghost use Rattle.kc_hash.proofs.Columns.{columns-length, padded-take};
+ghost use Rattle.kc_hash.specs.Inversion.{columns-length, padded-take};
 
 use rand_core::SeedableRng;
 use rand_core::utils::NextWord;

@@ -1,6 +1,7 @@
 //! A matrix in tables, for loops over many numbers.
 
 ghost use Rattle.std.specs.Prelude.{◌≡◌, ℕ, ◌+◌, ◌*◌, ◌^◌, ◌<◌, ◌≤◌, List, length, slice_index, bit_xor};
+ghost use Rattle.kc_hash.specs.Matrix.{AreBelow};
 ghost use Rattle.kc_hash.specs.Product.{product};
 ghost use Rattle.kc_hash.specs.Tables.{IsByteTable, AreTables};
 
@@ -22,7 +23,7 @@ impl Model for MatrixTables {
 
     ghost view = { λ t. t.matrix };
 
-    ghost invariant = { λ t. AreTables t.matrix t.tables };
+    ghost invariant = { λ t. AreTables t.matrix t.tables × AreBelow (length t.matrix) t.matrix };
 }
 
 impl Matrix {
@@ -30,6 +31,8 @@ impl Matrix {
     pub fn tables(&self) -> MatrixTables
         ensures { result ≡ self.now }
     {
+        // That the columns have so many bits is known where the number of bits is asked.
+        let _bits = self.bits();
         let mut tables = [[0; 256]; 8];
         for position in 0..8 {
             self.fill_table(position, &mut tables[position]);

@@ -1,6 +1,6 @@
 use Rattle.std.proofs.Common.{ℕ, ◌≡◌, ◌∙◌, ◌<◌, length, map, take, get_or, ap, sym, arith}
 use Rattle.std.proofs.lemmas.List.{take-map}
-use Rattle.kc_hash.proofs.Columns.{columns-length}
+use Rattle.kc_hash.specs.Inversion.{columns-length}
 use Rattle.kc_hash.specs.Elimination.{row_added}
 use Rattle.kc_hash.proofs.RowSteps.{row_taken, row_passed, added_more, added_all, matrix_added}
 use Rattle.kc_hash.proofs.matrix.Matrix.add_row.Goals as goal
