@@ -11,9 +11,9 @@ work=$(mktemp -d)
 trap 'rm -rf "$work"' EXIT
 
 mkdir -p "$work/crates/parse_bench/src"
-cp -r "$here/../crates/kc_fastx" "$work/crates/kc_fastx"
+cp -r "$here/../crates/kc_io" "$here/../crates/kc_fastx" "$work/crates/"
 cp "$here/parse/main.rt.in" "$work/crates/parse_bench/src/main.rt"
-printf 'kc_fastx: memchr thiserror\nparse_bench: kc_fastx anyhow\n' > "$work/crates.txt"
+printf 'kc_io: thiserror\nkc_fastx: kc_io memchr thiserror\nparse_bench: kc_fastx anyhow\n' > "$work/crates.txt"
 cp "$here/../HANDLES" "$work/HANDLES"
 cc -O3 -march=native -o "$work/plain" "$here/parse/main.c"
 for kind in fasta line fastq; do "$work/plain" make "$kind" "$work/$kind"; done
