@@ -1,4 +1,4 @@
-// Lists of sources, and sources and writers that give or take little, or fail.
+//! Lists of sources, and sources and writers that give or take little, or fail.
 use kc_fastx::{FastxFault, FromBytes, FromRead};
 use kc_tool::{Dump, OptionName, Options, ToVec, ToWrite, ToolFault, count_reads, write_fault};
 use kc_word::K;

@@ -1,5 +1,7 @@
-pub mod Digits
-pub mod Dumps
-pub mod Maps
-pub mod Sources
-pub mod Writing
+pub mod CommandLemmas
+pub mod CountingLemmas
+pub mod DumpingLemmas
+pub mod NumbersLemmas
+pub mod ReadingLemmas
+pub mod RunningLemmas
+pub mod SinksLemmas

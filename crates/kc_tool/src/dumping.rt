@@ -2,7 +2,7 @@
 ghost use Rattle.std.specs.Prelude.{◌≡◌, ◌≤◌, ◌<◌, ◌+◌, ◌^◌, ◌++◌, ℕ, List, length, OnOk, IfErr, if◌then◌else◌, ◌∷◌, []};
 ghost use Rattle.kc_word.specs.Word.{text};
 ghost use Rattle.kc_tool.specs.Sinks.{Writes, HasWritten, HasBegun, Drains};
-ghost use Rattle.kc_tool.specs.DumpText.{dump_text, row_text, in_columns, two_lines, is_shown, shown_text};
+ghost use Rattle.kc_tool.specs.Dumping.{dump_text, row_text, in_columns, two_lines, is_shown, shown_text};
 
 use crate::block::{BLOCK_SIZE, Block};
 use crate::faults::ToolFault;

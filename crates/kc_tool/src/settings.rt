@@ -72,23 +72,25 @@ pub struct Options {
 }
 
 impl Model for Options {
-    ghost use Rattle.kc_tool.specs.Asked.{Asked, IsWithinLimits};
+    ghost use Rattle.kc_tool.specs.Settings.{Settings, IsWithinLimits};
 
-    ghost Value = { Asked };
+    ghost Value = { Settings };
 
     ghost view = { λ o. record { k = o.k; both = o.both; floor = o.floor; batch = o.batch; dump = o.dump } };
 
     ghost invariant = { λ o. IsWithinLimits (record { k = o.k; both = o.both; floor = o.floor; batch = o.batch; dump = o.dump }) };
 
-    ghost inverse = { λ a. record { k = a.k; both = a.both; floor = a.floor; batch = a.batch; dump = a.dump } };
+    ghost inverse = { λ s. record { k = s.k; both = s.both; floor = s.floor; batch = s.batch; dump = s.dump } };
 }
 
 impl Options {
-    ghost use Rattle.kc_tool.specs.Asked.{rule_of};
+    ghost use Rattle.kc_tool.specs.Settings.{rule_of};
 
     /// To count the words of length `k` on one strand, of bases of every quality, and write this dump of them. A batch
-    /// has 65,536 positions.
+    /// has 65,536 positions. Condition: the dump's bounds are at most 2^62.
     pub fn new(k: K, dump: Dump) -> Options
+        requires lower { dump.lower ≤ 2 ^ 62 }
+        requires upper { dump.upper ≤ 2 ^ 62 }
         ensures { result ≡ record { k = k; both = false; floor = 33; batch = 65536; dump = dump } }
     {
         Options {
@@ -143,9 +145,11 @@ impl Options {
         self.batch
     }
 
-    /// The dump that is written.
+    /// The dump that is written. Its bounds are at most 2^62.
     pub fn dump(&self) -> Dump
-        ensures { result ≡ self.now.dump }
+        ensures dump { result ≡ self.now.dump }
+        ensures lower { self.now.dump.lower ≤ 2 ^ 62 }
+        ensures upper { self.now.dump.upper ≤ 2 ^ 62 }
     {
         self.dump
     }

@@ -1,7 +1,7 @@
 use Rattle.std.proofs.Common.{◌≤◌, ◌^◌, length, arith}
 use Rattle.std.specs.List.{flat_map}
 use Rattle.kc_tool.specs.Counting.{batch_words}
-use Rattle.kc_tool.proofs.Maps.{nothing_counted, counted_part, room_for, tally_of_parts, are_rows}
+use Rattle.kc_tool.proofs.CountingLemmas.{nothing_counted, counted_part, room_for, tally_of_parts, are_rows}
 use Rattle.kc_tool.proofs.counting.tally_of.Goals as goal
 
 pub loop-batch-init : goal.loop-batch-init

@@ -1,7 +1,7 @@
 use Rattle.std.proofs.Common.{take}
 use Rattle.std.specs.List.{flat_map}
 use Rattle.kc_tool.specs.Counting.{batch_words}
-use Rattle.kc_tool.proofs.Maps.{HasCounted}
+use Rattle.kc_tool.proofs.CountingLemmas.{HasCounted}
 use Rattle.kc_tool.proofs.counting.tally_of.Given as goal
 
 abbrev pub invariant-loop-batch : goal.invariant-loop-batch

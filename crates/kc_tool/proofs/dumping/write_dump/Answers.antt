@@ -1,9 +1,9 @@
 use Rattle.std.proofs.Common.{◌≡◌, ◌++◌, [], drop, ap, subst}
 use Rattle.std.proofs.lemmas.List.{drop_all}
 use Rattle.std.proofs.lemmas.Result.{err_from_is_err_and}
-use Rattle.kc_tool.specs.DumpText.{dump_text}
-use Rattle.kc_tool.proofs.Writing.{Pending, began, last}
-use Rattle.kc_tool.proofs.Dumps.{next_row}
+use Rattle.kc_tool.specs.Dumping.{dump_text}
+use Rattle.kc_tool.proofs.SinksLemmas.{Pending, began, last}
+use Rattle.kc_tool.proofs.DumpingLemmas.{next_row}
 use Rattle.kc_tool.proofs.dumping.write_dump.Goals as goal
 
 pub returns-in_err-put_row : goal.returns-in_err-put_row

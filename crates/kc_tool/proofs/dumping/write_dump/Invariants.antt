@@ -1,6 +1,6 @@
 use Rattle.std.proofs.Common.{◌++◌, drop}
-use Rattle.kc_tool.specs.DumpText.{dump_text}
-use Rattle.kc_tool.proofs.Writing.{Pending}
+use Rattle.kc_tool.specs.Dumping.{dump_text}
+use Rattle.kc_tool.proofs.SinksLemmas.{Pending}
 use Rattle.kc_tool.proofs.dumping.write_dump.Given as goal
 
 abbrev pub invariant-loop-row : goal.invariant-loop-row

@@ -1,4 +1,4 @@
-use Rattle.kc_tool.proofs.Writing.{took, took_some}
+use Rattle.kc_tool.proofs.SinksLemmas.{took, took_some}
 use Rattle.kc_tool.proofs.sinks.write_all.Goals as goal
 
 pub loop-rest-preserved : goal.loop-rest-preserved

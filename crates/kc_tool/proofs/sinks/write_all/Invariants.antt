@@ -1,5 +1,5 @@
 use Rattle.std.proofs.Common.{length}
-use Rattle.kc_tool.proofs.Writing.{Pending}
+use Rattle.kc_tool.proofs.SinksLemmas.{Pending}
 use Rattle.kc_tool.proofs.sinks.write_all.Given as goal
 
 abbrev pub invariant-loop-rest : goal.invariant-loop-rest

@@ -1,5 +1,5 @@
 use Rattle.std.proofs.Common.{[], append-nil}
-use Rattle.kc_tool.proofs.Writing.{next}
+use Rattle.kc_tool.proofs.SinksLemmas.{next}
 use Rattle.kc_tool.proofs.sinks.write_out.Goals as goal
 
 pub returns : goal.returns

@@ -16,7 +16,8 @@ most_bytes = 2 ^ 36
 -- these are the bytes that the sources had left, where they tell them
 abbrev pub AreBytesOf : {S : Type 0} → (S → Seen) → List S → List (List ℕ) → Type 0
 AreBytesOf seen [] [] = Unit {0}
-AreBytesOf seen (source ∷ sources) (bytes ∷ inputs) = IfSome (seen source).left (λ left. left ≡ bytes) × AreBytesOf seen sources inputs
+AreBytesOf seen (source ∷ sources) (bytes ∷ inputs) =
+    IfSome (seen source).left (λ left. left ≡ bytes) × AreBytesOf seen sources inputs
 AreBytesOf seen _ _ = ⊥
 
 -- the sources have these reads, joined in order, and not too many bytes
@@ -26,8 +27,8 @@ pub record ReadsSources {S : Type 0} (seen : S → Seen) (sources : List S) (rea
   pub has_reads : HaveReads inputs reads
   pub within : length (concat inputs) ≤ most_bytes
 
--- the number-th source, from 1, is the first that has no reads, for this fault: with the bytes that the sources
--- before it left of the limit, the readers refuse it
+-- the number-th source, from 1, is the first that gave no reads, for this fault: with the bytes that the sources
+-- before it left of the limit, the readers refuse it. Of want of memory it is said where it came, and not why
 pub record FailsAt {S : Type 0} (seen : S → Seen) (sources : List S) (number : ℕ) (fault : FastxFault) : Type 0 where
   pub before : List S
   pub here : S
@@ -37,10 +38,10 @@ pub record FailsAt {S : Type 0} (seen : S → Seen) (sources : List S) (number :
   pub reads : List Read
   pub earlier : ReadsSources seen before reads
   pub later : S
-  pub refused : RefusesFor (seen here) (seen later) (most_bytes - length (concat earlier.inputs)) fault
+  pub refused : UnlessMemory (RefusesFor (seen here) (seen later) (most_bytes - length (concat earlier.inputs))) fault
 
--- why the sources have no reads; of want of memory nothing is said
+-- why the sources have no reads; of want of memory outside the readers nothing is said
 abbrev pub RefusesSources : {S : Type 0} → (S → Seen) → List S → ToolFault → Type 0
-RefusesSources seen sources (Fastx number fault) = UnlessMemory (FailsAt seen sources number) fault
+RefusesSources seen sources (Fastx number fault) = FailsAt seen sources number fault
 RefusesSources seen sources Memory = ⊤
 RefusesSources seen sources _ = ⊥

@@ -9,8 +9,7 @@ use Rattle.kc_fastx.specs.ReadsOf.{HaveReads, HasReads, base_count}
 use Rattle.kc_fastx.specs.Sources.{Seen, GivesReads, RefusesFor}
 use Rattle.kc_fastx.specs.Faults.{UnlessMemory}
 use Rattle.kc_fastx.specs.declared.faults.FastxFault.{FastxFault}
-use Rattle.kc_fastx.specs.declared.faults.FastxFault.TheVariants.{BadStart, BadBase, BadQuality, LongQuality, Truncated, TooLong, Read as ReadFailed, Memory}
-use Rattle.kc_tool.specs.AllReads.{most_bytes, AreBytesOf, ReadsSources, FailsAt}
+use Rattle.kc_tool.specs.Reading.{most_bytes, AreBytesOf, ReadsSources, FailsAt}
 
 -- Some of the sources were read, and the rest is left.
 pub record ReadSoFar {S : Type 0} (seen : S → Seen) (sources rest : List S) (reads : List Read) (left number : ℕ) : Type 0 where
@@ -78,7 +77,7 @@ one_more seen sources rest source later reads more left number count r given few
 
 -- The next source was refused.
 pub refused : {S : Type 0} (seen : S → Seen) (sources rest : List S) (source later : S) (reads : List Read) (left number : ℕ) (fault : FastxFault)
-    → ReadSoFar seen sources (source ∷ rest) reads left number → RefusesFor (seen source) (seen later) left fault → FailsAt seen sources (number + 1) fault
+    → ReadSoFar seen sources (source ∷ rest) reads left number → UnlessMemory (RefusesFor (seen source) (seen later) left) fault → FailsAt seen sources (number + 1) fault
 refused seen sources rest source later reads left number fault r h = record {
   before = r.done;
   here = source;
@@ -88,24 +87,12 @@ refused seen sources rest source later reads left number fault r h = record {
   reads = reads;
   earlier = r.earlier;
   later = later;
-  refused = let e : left ≡ most_bytes - length (concat r.earlier.inputs) = omega (arith, r.budget) in subst (λ v. RefusesFor (seen source) (seen later) v fault) e h;
+  refused = let e : left ≡ most_bytes - length (concat r.earlier.inputs) = omega (arith, r.budget) in subst (λ v. UnlessMemory (RefusesFor (seen source) (seen later) v) fault) e h;
 }
 
 -- All sources were read.
 pub ended : {S : Type 0} (seen : S → Seen) (sources : List S) (reads : List Read) (left number : ℕ) → ReadSoFar seen sources [] reads left number → ReadsSources seen sources reads
 ended seen sources reads left number r = subst (λ v. ReadsSources seen v reads) (sym (r.split ∙ append-nil r.done)) r.earlier
-
--- The same, where it was not for want of memory.
-pub refused_unless_memory : {S : Type 0} (seen : S → Seen) (sources rest : List S) (source later : S) (reads : List Read) (left number : ℕ) (fault : FastxFault)
-    → ReadSoFar seen sources (source ∷ rest) reads left number → UnlessMemory (RefusesFor (seen source) (seen later) left) fault → UnlessMemory (FailsAt seen sources (number + 1)) fault
-refused_unless_memory seen sources rest source later reads left number Memory r h = tt
-refused_unless_memory seen sources rest source later reads left number (BadStart line) r h = refused seen sources rest source later reads left number (BadStart line) r h
-refused_unless_memory seen sources rest source later reads left number (BadBase line) r h = refused seen sources rest source later reads left number (BadBase line) r h
-refused_unless_memory seen sources rest source later reads left number (BadQuality line) r h = refused seen sources rest source later reads left number (BadQuality line) r h
-refused_unless_memory seen sources rest source later reads left number (LongQuality line) r h = refused seen sources rest source later reads left number (LongQuality line) r h
-refused_unless_memory seen sources rest source later reads left number (Truncated line) r h = refused seen sources rest source later reads left number (Truncated line) r h
-refused_unless_memory seen sources rest source later reads left number TooLong r h = refused seen sources rest source later reads left number TooLong r h
-refused_unless_memory seen sources rest source later reads left number ReadFailed r h = refused seen sources rest source later reads left number ReadFailed r h
 
 pub length-front : {X : Type 0} (xs ys : List X) (x : X) → xs ≡ x ∷ ys → length xs ≡ length ys + 1
 length-front xs ys x e = omega (arith, ap length e)

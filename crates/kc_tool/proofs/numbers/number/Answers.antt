@@ -1,8 +1,8 @@
 use Rattle.std.proofs.Common.{◌≡◌, ◌≤◌, ◌+◌, ◌*◌, ◌^◌, suc, drop, length, rules, ◌∙◌, ap, arith, sym, get_or, drop-cons, subst}
 use Rattle.std.proofs.lemmas.List.{drop_all}
 use Rattle.kc_tool.specs.Numbers.{digit}
-use Rattle.kc_tool.proofs.Digits.{Reads, digit_is, too_great, ended}
-use Rattle.kc_tool.proofs.arguments.number.Goals as goal
+use Rattle.kc_tool.proofs.NumbersLemmas.{Reads, digit_is, too_great, ended}
+use Rattle.kc_tool.proofs.numbers.number.Goals as goal
 
 pub returns : goal.returns
 returns c =

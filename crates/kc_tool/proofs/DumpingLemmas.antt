@@ -1,10 +1,10 @@
 -- A dump, row by row.
 use Rattle.std.proofs.Common.{◌≡◌, ℕ, ◌+◌, ◌<◌, Bool, true, false, List, [], ◌∷◌, ◌++◌, length, get_or, drop, drop-cons, add-one, refl, sym, ◌∙◌, ap, subst, append_assoc}
 use Rattle.std.specs.Prelude.{suc, filter, flat_map, if◌then◌else◌}
-use Rattle.kc_tool.specs.DumpText.{dump_text, row_text, is_shown, shown_text}
+use Rattle.kc_tool.specs.Dumping.{dump_text, row_text, is_shown, shown_text}
 use Rattle.kc_tool.specs.Sinks.{Written, Drains}
 use Rattle.kc_tool.specs.declared.settings.Dump.{Dump}
-use Rattle.kc_tool.proofs.Writing.{Pending, drained}
+use Rattle.kc_tool.proofs.SinksLemmas.{Pending, drained}
 
 -- The row at the front has its part.
 pub dump_text-cons : (k : ℕ) (dump : Dump) (row : ℕ × ℕ) (rows : List (ℕ × ℕ)) → dump_text k dump (row ∷ rows) ≡ shown_text k dump row ++ dump_text k dump rows
