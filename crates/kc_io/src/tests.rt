@@ -1,0 +1,1 @@
+//! Streams that give and take bytes slowly, are interrupted or fail.
