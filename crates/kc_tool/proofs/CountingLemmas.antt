@@ -8,7 +8,8 @@ use Rattle.std.specs.Ordering.{nat_cmp}
 use Rattle.std.proofs.lemmas.List.Sums.{sum_by-cons, sum_by-append, count_by-le-length}
 use Rattle.std.proofs.lemmas.List.{take_all, take-append-drop}
 use Rattle.std.proofs.lemmas.Grind.{flat_map-append}
-use Rattle.std.proofs.lemmas.List.Elements.{recursion_from_All}
+use Rattle.std.proofs.lemmas.List.Elements.{All-map, recursion_from_All}
+use Rattle.kc_tally.specs.declared.row.Row.{Row}
 use Rattle.std.proofs.lemmas.Bool.Decides.{nat_tests}
 use Rattle.kc_fastx.specs.Reads.{Read}
 use Rattle.kc_word.specs.Rule.{CountingRule}
@@ -18,9 +19,8 @@ use Rattle.std.proofs.lemmas.Map.Keys.{IsStrictlyIncreasing-from_sorted}
 use Rattle.std.proofs.lemmas.Map.Entries.{btree_map_get_place}
 use Rattle.std.proofs.lemmas.Cmp.{nat_cmp_total}
 use Rattle.std.proofs.lemmas.Option.{slice_get-get_or}
-use Rattle.kc_word.specs.Tally.{count_of, IsTally}
-use Rattle.kc_tool.specs.Counting.{counted, HasNoZeros}
-use Rattle.kc_tool.specs.Tallies.{AreRows}
+use Rattle.kc_tally.specs.Tally.{count_of, IsTally, AreOrderedRows}
+use Rattle.kc_tool.specs.Counting.{counted, entry_row, HasNoZeros}
 
 -- each number was counted once more for each time that it stands in the list
 pub record CountsMore (old new : BTreeMap ℕ ℕ) (words : List ℕ) : Type 0 where
@@ -57,11 +57,11 @@ counted_more words more old new h step kept = record {
 }
 
 -- the rows of a map and what it gives for a number
-count_of-entries : (entries : List (ℕ × ℕ)) (n : ℕ) → count_of entries n ≡ unwrap_or (lookup (is_at (nat_cmp n)) entries) 0
+count_of-entries : (entries : List (ℕ × ℕ)) (n : ℕ) → count_of (map entry_row entries) n ≡ unwrap_or (lookup (is_at (nat_cmp n)) entries) 0
 count_of-entries [] n = refl
 count_of-entries (row ∷ rows) n = pick (row.0 == n) (is_at (nat_cmp n) row.0) (same_test row.0 n) (count_of-entries rows n) where
-  pick : (b c : Bool) → b ≡ c → count_of rows n ≡ unwrap_or (lookup (is_at (nat_cmp n)) rows) 0
-      → (if b then row.1 else count_of rows n) ≡ unwrap_or (cond c (Some row.1) (lookup (is_at (nat_cmp n)) rows)) 0
+  pick : (b c : Bool) → b ≡ c → count_of (map entry_row rows) n ≡ unwrap_or (lookup (is_at (nat_cmp n)) rows) 0
+      → (if b then row.1 else count_of (map entry_row rows) n) ≡ unwrap_or (cond c (Some row.1) (lookup (is_at (nat_cmp n)) rows)) 0
   pick true true e h = refl
   pick true false e h = cc
   pick false true e h = cc
@@ -88,15 +88,21 @@ below_at words most store below ordered h i d within =
     let count : counted store n ≡ (get_or store.entries i d).1 = ap (λ found. unwrap_or found 0) (found_at store ordered i d within) in
     below_from n most (counted store n) (rw count (present_at words store ordered h i d within)) (λ above. h.counts n ∙ count_by-absent words most n below above)
 
+words_of_rows : (entries : List (ℕ × ℕ)) → map (λ row. row.word) (map entry_row entries) ≡ map (λ entry. entry.0) entries
+words_of_rows [] = refl
+words_of_rows (entry ∷ entries) = ap (λ v. entry.0 ∷ v) (words_of_rows entries)
+
 -- The rows of a map that has counted the words of the reads are their tally.
 pub tally_rows : (rule : CountingRule) (reads : List Read) (store : BTreeMap ℕ ℕ) → IsOrdered nat_cmp store → HasCounted (words_of rule reads) store
     → All (λ word. word < 4 ^ rule.k) (words_of rule reads)
     → ((n : ℕ) → n < 4 ^ rule.k → count_by (λ word. word == n) (words_of rule reads) ≡ occurrences rule reads (text rule.k n))
-    → IsTally rule reads store.entries
+    → IsTally rule reads (map entry_row store.entries)
 tally_rows rule reads store ordered h below law = record {
-  rising = IsStrictlyIncreasing-from_sorted (map (λ row. row.0) store.entries) ordered;
-  words = below_at (words_of rule reads) (4 ^ rule.k) store below ordered h;
-  present = present_at (words_of rule reads) store ordered h;
+  ordered = record {
+    rising = rw (words_of_rows store.entries) (IsStrictlyIncreasing-from_sorted (map (λ row. row.0) store.entries) ordered);
+    words = All-map (λ (row : Row). row.word < 4 ^ rule.k) entry_row store.entries (below_at (words_of rule reads) (4 ^ rule.k) store below ordered h);
+    present = All-map (λ (row : Row). 1 ≤ row.count) entry_row store.entries (present_at (words_of rule reads) store ordered h);
+  };
   counts = λ n small. count_of-entries store.entries n ∙ h.counts n ∙ law n small;
 }
 
@@ -106,10 +112,6 @@ nothing_counted store empty = record {
   counts = λ n. ap (λ entries. unwrap_or (lookup (is_at (nat_cmp n)) entries) 0) empty;
   present = λ n. subst (λ entries. IfSome (lookup (is_at (nat_cmp n)) entries) (λ count. 0 < count)) (sym empty) tt;
 }
-
--- What a tally's rows keep.
-pub are_rows : (rule : CountingRule) (reads : List Read) (rows : List (ℕ × ℕ)) → IsTally rule reads rows → AreRows rule.k rows
-are_rows rule reads rows t = record { rising = t.rising; words = t.words; present = t.present }
 
 -- One more part of a list, whose parts have words of their own.
 flat_map-more : {X : Type 0} (words : X → List ℕ) (parts : List X) (i : ℕ) (part : X) → i < length parts → part ≡ get_or parts i part
@@ -144,7 +146,7 @@ pub tally_of_parts : {X : Type 0} (words : X → List ℕ) (parts : List X) (rul
     → length parts ≤ i → flat_map words parts ≡ words_of rule reads → IsOrdered nat_cmp store → HasCounted (flat_map words (take i parts)) store
     → All (λ word. word < 4 ^ rule.k) (words_of rule reads)
     → ((n : ℕ) → n < 4 ^ rule.k → count_by (λ word. word == n) (words_of rule reads) ≡ occurrences rule reads (text rule.k n))
-    → IsTally rule reads store.entries
+    → IsTally rule reads (map entry_row store.entries)
 tally_of_parts words parts rule reads i store past same ordered h =
     let whole : flat_map words (take i parts) ≡ words_of rule reads = ap (flat_map words) (take_all i parts past) ∙ same in
     tally_rows rule reads store ordered (subst (λ v. HasCounted v store) whole h)

@@ -7,10 +7,10 @@ use Rattle.clap.specs.declared.parser.matches.ArgMatches.{ArgMatches}
 use Rattle.clap.specs.declared.error.Error.{Error}
 use Rattle.clap.specs.declared.error.kind.ErrorKind.{ErrorKind}
 use Rattle.clap.specs.declared.error.kind.ErrorKind.TheVariants.{DisplayHelp, DisplayVersion, OutOfMemory}
-use Rattle.kc_fastx.specs.Sources.{Seen}
+use Rattle.kc_io.specs.Sources.{Seen}
 use Rattle.kc_tool.specs.Command.{kcount_app}
 use Rattle.kc_tool.specs.Running.{AskForHelp, AskToCount, AreTaken, CarriesOut, CountsSo, FailsSo, IsHelp, IsTold, ShowsSo}
-use Rattle.kc_tool.specs.Sinks.{Written, Writes}
+use Rattle.kc_io.specs.Sinks.{Written, Writes}
 use Rattle.kc_tool.specs.declared.faults.ToolFault.{ToolFault}
 use Rattle.kc_tool.specs.declared.faults.ToolFault.TheVariants.{Fastx, Memory, BadOption, Write}
 use Rattle.kc_tool.specs.declared.running.Ending.{Ending}
@@ -72,6 +72,6 @@ count_failed seen input arguments rows old new (BadOption name) a s = (s.0, rows
 count_failed seen input arguments rows old new (Fastx number fault) a s = (s.0, rows, a, s.1)
 
 -- a text went to the errors, whether all of it could be written or not
-pub told : {A : Type 0} (old new : Written) (r : Result A ToolFault) (text : List ℕ) → Writes old new r text → IsTold old new text
+pub told : {A E : Type 0} (old new : Written) (r : Result A E) (text : List ℕ) → Writes old new r text → IsTold old new text
 told old new (Ok done) text w = inl w
-told old new (Err fault) text w = inr w.1
+told old new (Err fault) text w = inr w

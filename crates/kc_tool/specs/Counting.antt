@@ -7,6 +7,7 @@ use Rattle.kc_word.specs.Cutting.{NumberedPieces, as_reads}
 use Rattle.kc_word.specs.Occurrences.{words_of}
 use Rattle.std.specs.Ordering.{nat_cmp}
 use Rattle.std.specs.BTreeMap.{BTreeMap, get}
+use Rattle.kc_tally.specs.declared.row.Row.{Row}
 
 -- how often the map has counted the number n
 abbrev pub counted : BTreeMap ℕ ℕ → ℕ → ℕ
@@ -19,3 +20,7 @@ HasNoZeros counts = (n : ℕ) → IfSome (get nat_cmp counts n) (λ count. 0 < c
 -- the words of a shared batch
 abbrev pub batch_words : CountingRule → Arc NumberedPieces Global → List ℕ
 batch_words rule batch = words_of rule (as_reads batch.value.pieces)
+
+-- the row of a word and its count
+abbrev pub entry_row : ℕ × ℕ → Row
+entry_row entry = record { word = entry.0; count = entry.1 }

@@ -1,44 +1,43 @@
 -- The reads of all sources of one count: source, our formats page.
-use Rattle.std.specs.Prelude.{◌≡◌, ◌≤◌, ◌+◌, ◌-◌, ◌^◌, ◌++◌, ℕ, List, [], ◌∷◌, length, IfSome, ⊤}
+use Rattle.std.specs.Prelude.{◌≡◌, ◌≤◌, ◌-◌, ℕ, List, [], ◌∷◌, length, ⊤}
 use Rattle.std.specs.List.{concat}
+use Rattle.kc_io.specs.Sources.{Seen}
+use Rattle.kc_io.specs.Taking.{TakesAll}
+use Rattle.kc_fastx.specs.Parsing.{HaveReads, IsFirstFaulty, RefusesFor, most_bytes}
 use Rattle.kc_fastx.specs.Reads.{Read}
-use Rattle.kc_fastx.specs.ReadsOf.{HaveReads}
-use Rattle.kc_fastx.specs.Sources.{Seen, RefusesFor}
-use Rattle.kc_fastx.specs.Faults.{UnlessMemory}
 use Rattle.kc_fastx.specs.declared.faults.FastxFault.{FastxFault}
 use Rattle.kc_tool.specs.declared.faults.ToolFault.{ToolFault}
 use Rattle.kc_tool.specs.declared.faults.ToolFault.TheVariants.{Fastx, Memory}
 
--- the most bytes that the sources of one count may have together
-abbrev pub most_bytes : ℕ
-most_bytes = 2 ^ 36
+-- each source gave its input, up to the end that it told, and all together no more bytes than the limit. What the
+-- sources are afterwards is not kept
+abbrev pub GaveInputs : {S : Type 0} → (S → Seen) → ℕ → List S → List (List ℕ) → Type 0
+GaveInputs seen limit [] [] = Unit {0}
+GaveInputs {S} seen limit (source ∷ sources) (input ∷ inputs) =
+    (later : S) × TakesAll (seen source) (seen later) limit input
+    × GaveInputs seen (limit - length input) sources inputs
+GaveInputs seen limit _ _ = ⊥
 
--- these are the bytes that the sources had left, where they tell them
-abbrev pub AreBytesOf : {S : Type 0} → (S → Seen) → List S → List (List ℕ) → Type 0
-AreBytesOf seen [] [] = Unit {0}
-AreBytesOf seen (source ∷ sources) (bytes ∷ inputs) =
-    IfSome (seen source).left (λ left. left ≡ bytes) × AreBytesOf seen sources inputs
-AreBytesOf seen _ _ = ⊥
-
--- the sources have these reads, joined in order, and not too many bytes
-pub record ReadsSources {S : Type 0} (seen : S → Seen) (sources : List S) (reads : List Read) : Type 0 where
-  pub inputs : List (List ℕ)
-  pub are_bytes : AreBytesOf seen sources inputs
-  pub has_reads : HaveReads inputs reads
+-- the sources gave inputs that have these reads, joined in order
+pub record GaveReads {S : Type 0} (seen : S → Seen) (sources : List S) (inputs : List (List ℕ)) (reads : List Read) : Type 0 where
+  pub gave : GaveInputs seen most_bytes sources inputs
   pub within : length (concat inputs) ≤ most_bytes
+  pub has_reads : HaveReads inputs reads
 
--- the number-th source, from 1, is the first that gave no reads, for this fault: with the bytes that the sources
--- before it left of the limit, the readers refuse it. Of want of memory it is said where it came, and not why
-pub record FailsAt {S : Type 0} (seen : S → Seen) (sources : List S) (number : ℕ) (fault : FastxFault) : Type 0 where
-  pub before : List S
-  pub here : S
-  pub after : List S
-  pub split : sources ≡ before ++ here ∷ after
-  pub counted : number ≡ length before + 1
-  pub reads : List Read
-  pub earlier : ReadsSources seen before reads
-  pub later : S
-  pub refused : UnlessMemory (RefusesFor (seen here) (seen later) (most_bytes - length (concat earlier.inputs))) fault
+-- the sources have these reads
+abbrev pub ReadsSources : {S : Type 0} → (S → Seen) → List S → List Read → Type 0
+ReadsSources seen sources reads = (inputs : List (List ℕ)) × GaveReads seen sources inputs reads
+
+-- the source was refused with this fault, where the sources before it gave these inputs
+abbrev pub IsRefusedBehind : {S : Type 0} → (S → Seen) → List (List ℕ) → S → FastxFault → Type 0
+IsRefusedBehind {S} seen inputs source fault =
+    (later : S) × RefusesFor (seen source) (seen later) (most_bytes - length (concat inputs)) fault
+
+-- the number-th source, from 1, is the first that has no reads, for this fault
+abbrev pub FailsAt : {S : Type 0} → (S → Seen) → List S → ℕ → FastxFault → Type 0
+FailsAt seen sources number fault =
+    IsFirstFaulty (λ before inputs. (reads : List Read) × GaveReads seen before inputs reads) (IsRefusedBehind seen)
+    sources number fault
 
 -- why the sources have no reads; of want of memory outside the readers nothing is said
 abbrev pub RefusesSources : {S : Type 0} → (S → Seen) → List S → ToolFault → Type 0

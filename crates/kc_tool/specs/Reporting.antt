@@ -1,11 +1,11 @@
 -- What counting the words of sources writes: source, our formats page ("Reports").
 use Rattle.std.specs.Prelude.{◌≡◌, ℕ, List}
 use Rattle.kc_fastx.specs.Reads.{Read}
-use Rattle.kc_fastx.specs.Sources.{Seen}
-use Rattle.kc_word.specs.Tally.{IsTally}
+use Rattle.kc_io.specs.Sinks.{Written, HasWritten, HasBegun}
+use Rattle.kc_io.specs.Sources.{Seen}
+use Rattle.kc_tally.specs.Tally.{TallySeen, IsTallyOf}
 use Rattle.kc_tool.specs.Reading.{ReadsSources, RefusesSources}
 use Rattle.kc_tool.specs.Dumping.{dump_text}
-use Rattle.kc_tool.specs.Sinks.{Written, HasWritten, HasBegun}
 use Rattle.kc_tool.specs.declared.faults.ToolFault.{ToolFault}
 use Rattle.kc_tool.specs.Settings.{Settings, rule_of}
 
@@ -13,9 +13,9 @@ use Rattle.kc_tool.specs.Settings.{Settings, rule_of}
 pub record IsReportOf {S : Type 0} (seen : S → Seen) (sources : List S) (settings : Settings) (text : List ℕ) : Type 0 where
   pub reads : List Read
   pub are_reads : ReadsSources seen sources reads
-  pub rows : List (ℕ × ℕ)
-  pub are_rows : IsTally (rule_of settings) reads rows
-  pub is_text : text ≡ dump_text settings.k settings.dump rows
+  pub tally : TallySeen
+  pub is_tally : IsTallyOf (rule_of settings) reads tally
+  pub is_text : text ≡ dump_text settings.dump tally
 
 -- that text was written, and nothing else
 abbrev pub WritesReport : {S : Type 0} → (S → Seen) → List S → Settings → Written → Written → Type 0

@@ -7,14 +7,14 @@ use Rattle.clap.specs.declared.parser.matches.ArgMatches.{ArgMatches}
 use Rattle.clap.specs.declared.error.Error.{Error}
 use Rattle.clap.specs.declared.error.kind.ErrorKind.{ErrorKind}
 use Rattle.clap.specs.declared.error.kind.ErrorKind.TheVariants.{DisplayHelp, DisplayVersion, OutOfMemory}
-use Rattle.kc_fastx.specs.Sources.{Seen}
+use Rattle.kc_io.specs.Sources.{Seen}
 use Rattle.kc_tool.specs.Arguments.{AsksFor, first_bad}
 use Rattle.kc_tool.specs.Command.{kcount_app}
 use Rattle.kc_tool.specs.FaultLines.{fault_line}
 use Rattle.kc_tool.specs.Reading.{FailsAt}
 use Rattle.kc_tool.specs.Reporting.{IsReportOf}
 use Rattle.kc_tool.specs.Settings.{Settings}
-use Rattle.kc_tool.specs.Sinks.{Written, HasWritten, HasBegun}
+use Rattle.kc_io.specs.Sinks.{Written, HasWritten, HasBegun}
 use Rattle.kc_tool.specs.declared.faults.ToolFault.{ToolFault}
 use Rattle.kc_tool.specs.declared.faults.ToolFault.TheVariants.{Fastx, Memory, BadOption, Write}
 use Rattle.kc_tool.specs.declared.running.Ending.{Ending}

@@ -1,6 +1,6 @@
 //! Reading the sources of a count.
 ghost use Rattle.std.specs.Prelude.{◌≤◌, ◌^◌, IfOk, IfErr};
-ghost use Rattle.kc_fastx.specs.ReadsOf.{base_count};
+ghost use Rattle.kc_fastx.specs.Reads.{base_count};
 ghost use Rattle.kc_tool.specs.Reading.{ReadsSources, RefusesSources};
 
 use crate::faults::ToolFault;

@@ -7,8 +7,7 @@ use crate::dumping::write_dump;
 use crate::faults::ToolFault;
 use crate::reading::read_sources;
 use crate::settings::Options;
-use crate::sinks::Sink;
-use kc_fastx::Source;
+use kc_io::{Sink, Source};
 use std::alloc::Global;
 
 /// Reads all sources in order, counts their words, and writes the report that the options ask for. Nothing is

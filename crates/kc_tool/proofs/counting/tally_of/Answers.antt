@@ -1,7 +1,7 @@
 use Rattle.std.proofs.Common.{◌≤◌, ◌^◌, length, arith}
 use Rattle.std.specs.List.{flat_map}
 use Rattle.kc_tool.specs.Counting.{batch_words}
-use Rattle.kc_tool.proofs.CountingLemmas.{nothing_counted, counted_part, room_for, tally_of_parts, are_rows}
+use Rattle.kc_tool.proofs.CountingLemmas.{nothing_counted, counted_part, room_for, tally_of_parts}
 use Rattle.kc_tool.proofs.counting.tally_of.Goals as goal
 
 pub loop-batch-init : goal.loop-batch-init
@@ -21,21 +21,17 @@ loop-batch-preserved c =
     c.loop-batch-test.true c.batch-item.is c.loop-batch.invariant
     (λ n. rw (c.deref-in-loop-batch.ensures.value, c.in_ok-words.ensures.words, c.deref.ensures) at (c.in_ok-count_words.ensures.counts n)) c.in_ok-count_words.ensures.present
 
-pub of_rows-requires : goal.of_rows-requires
-of_rows-requires c =
+tally_is : (c : goal.After-rows_of_tally) → IsTally c.args.rule.now c.args.reads.now c.in_ok-rows.rows.items
+tally_is c =
     let rule = c.args.rule.now in
     let reads = c.args.reads.now in
-    rw (c.k.ensures, c.in_ok-rows.ensures.rows)
-    (are_rows rule reads c.loop-batch.counts.entries
-    (tally_of_parts (batch_words rule) c.deref-batch-items.result.now rule reads c.loop-batch.batch-index c.loop-batch.counts c.loop-batch-test.false
-    (rw c.deref-batch-items.ensures.value c.in_ok-batches.ensures.words) c.in_ok-rows.ensures.rising c.loop-batch.invariant
-    (c.words_of_reads.ensures.below rule reads) (c.counted_words.ensures rule reads)))
-
-pub returns-clause-tally : goal.returns-clause-tally
-returns-clause-tally c =
-    let rule = c.args.rule.now in
-    let reads = c.args.reads.now in
-    rw (c.of_rows.ensures, c.in_ok-rows.ensures.rows)
+    rw c.in_ok-rows.ensures.rows
     (tally_of_parts (batch_words rule) c.deref-batch-items.result.now rule reads c.loop-batch.batch-index c.loop-batch.counts c.loop-batch-test.false
     (rw c.deref-batch-items.ensures.value c.in_ok-batches.ensures.words) c.in_ok-rows.ensures.rising c.loop-batch.invariant
     (c.words_of_reads.ensures.below rule reads) (c.counted_words.ensures rule reads))
+
+pub of_rows-requires : goal.of_rows-requires
+of_rows-requires c = ?
+
+pub returns : goal.returns
+returns c = ?
