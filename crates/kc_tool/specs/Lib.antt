@@ -1,12 +1,9 @@
 pub mod Arguments
 pub mod Command
 pub mod Counting
-pub mod Dumping
 pub mod FaultLines
 pub mod Numbers
 pub mod Reading
 pub mod Reporting
 pub mod Running
 pub mod Settings
-pub mod Sinks
-pub mod Tallies

@@ -5,7 +5,7 @@ use Rattle.kc_io.specs.Sinks.{Written, HasWritten, HasBegun}
 use Rattle.kc_io.specs.Sources.{Seen}
 use Rattle.kc_tally.specs.Tally.{TallySeen, IsTallyOf}
 use Rattle.kc_tool.specs.Reading.{ReadsSources, RefusesSources}
-use Rattle.kc_tool.specs.Dumping.{dump_text}
+use Rattle.kc_report.specs.Dumping.{dump_text}
 use Rattle.kc_tool.specs.declared.faults.ToolFault.{ToolFault}
 use Rattle.kc_tool.specs.Settings.{Settings, rule_of}
 
@@ -15,7 +15,7 @@ pub record IsReportOf {S : Type 0} (seen : S → Seen) (sources : List S) (setti
   pub are_reads : ReadsSources seen sources reads
   pub tally : TallySeen
   pub is_tally : IsTallyOf (rule_of settings) reads tally
-  pub is_text : text ≡ dump_text settings.dump tally
+  pub is_text : text ≡ dump_text settings.k settings.dump tally.rows
 
 -- that text was written, and nothing else
 abbrev pub WritesReport : {S : Type 0} → (S → Seen) → List S → Settings → Written → Written → Type 0

@@ -1,7 +1,7 @@
 -- How to count, and what to write.
 use Rattle.std.specs.Prelude.{ℕ, ◌^◌, ◌≤◌, Bool}
 use Rattle.kc_word.specs.Rule.{CountingRule}
-use Rattle.kc_tool.specs.declared.settings.Dump.{Dump}
+use Rattle.kc_report.specs.declared.dumping.Dump.{Dump}
 
 -- the length of the words, whether both strands count, the least quality byte that counts, the positions of a batch,
 -- and the dump that is written

@@ -8,8 +8,9 @@ ghost use Rattle.kc_tool.specs.Arguments.{AsksFor, IsFlag, floor_from, batch_fro
 
 use crate::faults::{OptionName, ToolFault};
 use crate::numbers::number_between;
-use crate::settings::{BATCH_SIZE, Dump, FLOOR, Options};
+use crate::settings::{BATCH_SIZE, FLOOR, Options};
 use clap::ArgMatches;
+use kc_report::Dump;
 use kc_word::K;
 use std::alloc::Global;
 

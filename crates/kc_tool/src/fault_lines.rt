@@ -1,25 +1,28 @@
 //! The line that a refusal prints.
-ghost use Rattle.std.specs.Prelude.{◌≡◌, ◌≤◌, ◌+◌, ◌++◌, length};
-ghost use Rattle.kc_tool.specs.Sinks.{Writes};
+ghost use Rattle.std.specs.Prelude.{◌≡◌, ◌≤◌, ◌+◌, ◌++◌, length, IfErr};
+ghost use Rattle.kc_io.specs.Sinks.{Writes};
+ghost use Rattle.kc_tool.specs.declared.faults.ToolFault.TheVariants.{Write};
 ghost use Rattle.kc_tool.specs.FaultLines.{fault_line, fault_text, reader_text, in_source, at_line};
 
-use crate::block::Block;
 use crate::faults::ToolFault;
-use crate::sinks::{Sink, write_out};
 use kc_fastx::FastxFault;
+use kc_io::{Sink, write_out};
+use kc_report::Block;
 
 /// Writes the line of a refusal.
 ///
 /// # Errors
 /// `Write` where the writer failed or took no byte. A beginning of the line was written.
 pub fn write_fault<W: Sink>(writer: &mut W, fault: &ToolFault) -> Result<(), ToolFault>
-    ensures { Writes (W.seen writer.old) (W.seen writer.new) result (fault_line fault.now) }
+    ensures written { Writes (W.seen writer.old) (W.seen writer.new) result (fault_line fault.now) }
+    ensures fault { IfErr result (λ fault. fault ≡ Write) }
 {
     let mut line = Block::new();
     line.push(b"kcount: ");
     push_fault(&mut line, fault);
     line.push(b"\n");
-    write_out(writer, line.as_slice())
+    write_out(writer, line.as_slice())?;
+    Ok(())
 }
 
 // What the refusal says, at the end of the line.

@@ -1,9 +1,11 @@
 //! The refusals of the program.
 ghost use Rattle.std.specs.Prelude.{◌≡◌};
-ghost use Rattle.kc_tool.specs.declared.faults.ToolFault.TheVariants.{Memory};
+ghost use Rattle.kc_tool.specs.declared.faults.ToolFault.TheVariants.{Memory, Write};
 ghost use Rattle.kc_tool.specs.FaultLines.{option_text};
 
 use kc_fastx::FastxFault;
+use kc_io::Failed;
+use kc_report::ReportFault;
 use std::alloc::{AllocError, AllocFailed};
 use thiserror::Error;
 
@@ -69,5 +71,23 @@ impl<T: Drop> From<AllocFailed<T>> for ToolFault {
 
     fn from(_error: AllocFailed<T>) -> ToolFault {
         ToolFault::Memory
+    }
+}
+
+impl From<Failed> for ToolFault {
+    ghost from_gives = { λ _ fault. fault ≡ Write };
+
+    fn from(_error: Failed) -> ToolFault {
+        ToolFault::Write
+    }
+}
+
+impl From<ReportFault> for ToolFault {
+    ghost from_gives = { λ _ fault. fault ≡ Write };
+
+    fn from(fault: ReportFault) -> ToolFault {
+        match fault {
+            ReportFault::Write => ToolFault::Write,
+        }
     }
 }

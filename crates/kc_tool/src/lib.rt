@@ -9,15 +9,13 @@
 //! let sources = vec![in alloc; FromBytes::new(b">r1\nACGTA\n")]?;
 //! let mut writer = ToVec::new(Vec::new(alloc));
 //! count_reads(&rt, alloc, sources, &options, &mut writer)?;
-//! assert_eq!(rt; writer.bytes.as_slice(), b"ACG 1\nCGT 1\nGTA 1\n".as_slice());
+//! assert_eq!(rt; writer.as_slice(), b"ACG 1\nCGT 1\nGTA 1\n".as_slice());
 //! ```
 #![tactic(auto)]
 
 mod arguments;
-mod block;
 mod command;
 mod counting;
-mod dumping;
 mod fault_lines;
 mod faults;
 mod numbers;
@@ -25,16 +23,14 @@ mod reading;
 mod reporting;
 mod running;
 mod settings;
-mod sinks;
-mod tallies;
 
 pub use arguments::options;
-pub use dumping::write_dump;
 pub use fault_lines::write_fault;
 pub use faults::{OptionName, ToolFault};
+pub use kc_io::{Sink, ToVec, ToWrite};
+pub use kc_report::{Dump, write_dump};
+pub use kc_tally::{Row, Tally};
 pub use kc_word::K;
 pub use reporting::count_reads;
 pub use running::{program, run};
-pub use settings::{Dump, Options};
-pub use sinks::{Sink, ToVec, ToWrite};
-pub use tallies::Tally;
+pub use settings::Options;

@@ -3,11 +3,11 @@ ghost use Rattle.std.specs.Prelude.{◌≢◌, OnOk, IfErr, IsErrOf};
 ghost use Rattle.kc_tool.specs.Reporting.{WritesReport, BeginsReport, LeavesUnwritten};
 
 use crate::counting::tally_of;
-use crate::dumping::write_dump;
 use crate::faults::ToolFault;
 use crate::reading::read_sources;
 use crate::settings::Options;
 use kc_io::{Sink, Source};
+use kc_report::write_dump;
 use std::alloc::Global;
 
 /// Reads all sources in order, counts their words, and writes the report that the options ask for. Nothing is
@@ -32,5 +32,6 @@ pub fn count_reads<H, R: Source + Drop, W: Sink>(
 {
     let reads = read_sources(alloc, sources)?;
     let tally = tally_of(alloc, &reads, &options.rule(), options.batch())?;
-    write_dump(writer, &tally, &options.dump())
+    write_dump(writer, &tally, &options.dump())?;
+    Ok(())
 }

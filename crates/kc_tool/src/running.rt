@@ -14,7 +14,7 @@ ghost use Rattle.kc_tool.specs.Running.{
   ShowsSo,
   status_of,
 };
-ghost use Rattle.kc_tool.specs.declared.faults.ToolFault.TheVariants.{Memory};
+ghost use Rattle.kc_tool.specs.declared.faults.ToolFault.TheVariants.{Memory, Write};
 ghost use Rattle.kc_tool.specs.declared.running.Ending.TheVariants.{Fault};
 
 use crate::arguments::options;
@@ -22,10 +22,9 @@ use crate::command::{COUNT, command};
 use crate::fault_lines::write_fault;
 use crate::faults::ToolFault;
 use crate::reporting::count_reads;
-use crate::sinks::{Sink, ToWrite, write_out};
 use clap::ArgMatches;
 use clap::error::ErrorKind;
-use kc_fastx::{FromRead, Source};
+use kc_io::{Failed, FromRead, Sink, Source, ToWrite, write_out};
 use std::alloc::{AllocError, AllocFailed, Global};
 use std::io;
 
@@ -102,6 +101,14 @@ impl From<ToolFault> for Ending {
 
     fn from(fault: ToolFault) -> Ending {
         Ending::Fault(fault)
+    }
+}
+
+impl From<Failed> for Ending {
+    ghost from_gives = { λ _ ending. ending ≡ Fault Write };
+
+    fn from(_error: Failed) -> Ending {
+        Ending::Fault(ToolFault::Write)
     }
 }
 
