@@ -30,13 +30,16 @@ begun seen sources = record {
   counted = refl;
 }
 
+nothing_used : (limit : ℕ) → limit - 0 ≡ limit
+nothing_used limit = omega arith
+
 later_limit : (limit a b : ℕ) → limit - (a + b) ≡ limit - a - b
 later_limit limit a b = omega arith
 
 GaveInputs-push : {S : Type 0} (seen : S → Seen) (limit : ℕ) (sources : List S) (inputs : List (List ℕ)) (source later : S) (input : List ℕ)
     → GaveInputs seen limit sources inputs → TakesAll (seen source) (seen later) (limit - length (concat inputs)) input
     → GaveInputs seen limit (sources ++ source ∷ []) (inputs ++ input ∷ [])
-GaveInputs-push seen limit [] [] source later input h t = (later, t, tt)
+GaveInputs-push seen limit [] [] source later input h t = (later, subst (λ n. TakesAll (seen source) (seen later) n input) (nothing_used limit) t, tt)
 GaveInputs-push seen limit [] (first ∷ inputs) source later input h t = absurd h
 GaveInputs-push seen limit (first ∷ sources) [] source later input h t = absurd h
 GaveInputs-push seen limit (first ∷ sources) (front ∷ inputs) source later input h t =

@@ -1,5 +1,5 @@
 -- Numbers counted in a map, batch by batch.
-use Rattle.std.specs.Prelude.{ℕ, ◌<◌, List, IfSome, unwrap_or}
+use Rattle.std.specs.Prelude.{ℕ, ◌<◌, ◌==◌, List, IfSome, count_by, unwrap_or}
 use Rattle.std.specs.Global.{Global}
 use Rattle.std.specs.declared.sync.Arc.{Arc}
 use Rattle.kc_word.specs.Rule.{CountingRule}
@@ -12,6 +12,10 @@ use Rattle.kc_tally.specs.declared.row.Row.{Row}
 -- how often the map has counted the number n
 abbrev pub counted : BTreeMap ℕ ℕ → ℕ → ℕ
 counted counts n = unwrap_or (get nat_cmp counts n) 0
+
+-- how often the number n stands among the words
+abbrev pub times : List ℕ → ℕ → ℕ
+times words n = count_by (λ word. word == n) words
 
 -- each number that the map has stands there with a count of at least 1
 abbrev pub HasNoZeros : BTreeMap ℕ ℕ → Type 0

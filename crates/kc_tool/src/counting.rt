@@ -1,13 +1,13 @@
 //! Counting words.
-ghost use Rattle.std.specs.Prelude.{◌≡◌, ◌≤◌, ◌+◌, ◌^◌, ◌==◌, ℕ, length, OnOk, IfOk, count_by, map};
+ghost use Rattle.std.specs.Prelude.{◌≡◌, ◌≤◌, ◌+◌, ◌^◌, ℕ, length, OnOk, IfOk, map};
 ghost use Rattle.std.specs.List.{flat_map};
 ghost use Rattle.std.specs.BTreeMap.{IsOrdered};
 ghost use Rattle.std.specs.Ordering.{nat_cmp};
 ghost use Rattle.kc_fastx.specs.Reads.{base_count};
 ghost use Rattle.kc_word.specs.Occurrences.{words_of};
 ghost use Rattle.kc_word.specs.Cutting.{cleaned};
-ghost use Rattle.kc_tally.specs.Tally.{IsTallyOf};
-ghost use Rattle.kc_tool.specs.Counting.{counted, HasNoZeros, batch_words, entry_row};
+ghost use Rattle.kc_tally.specs.Tally.{IsTally, IsTallyOf};
+ghost use Rattle.kc_tool.specs.Counting.{counted, times, HasNoZeros, batch_words, entry_row};
 
 use kc_fastx::SeqRead;
 use kc_tally::laws::rows_of_tally;
@@ -29,18 +29,33 @@ pub(crate) fn tally_of(
     requires some { 1 ≤ size }
     ensures { IfOk result (IsTallyOf rule.now reads.now) }
 {
+    let rows = counted_rows(alloc, reads, rule, size)?;
+    // what is known of a length, and of the rows of a tally
+    let _bases = rule.k().get();
+    rows_of_tally();
+    Tally::of_rows(alloc, rule.k(), rule.both(), rows)
+}
+
+// The rows of the tally, counted batch after batch.
+fn counted_rows(
+    alloc: Global,
+    reads: &[SeqRead],
+    rule: &Rule,
+    size: u64,
+) -> Result<Vec<Row>, AllocError>
+    requires few { base_count reads.now ≤ 2 ^ 36 }
+    requires some { 1 ≤ size }
+    ensures { IfOk result (λ rows. IsTally rule.now reads.now rows.items) }
+{
     let batches = batches_of(alloc, reads, rule, size)?;
     let mut counts = BTreeMap::new(alloc);
     for batch in &batches {
         count_words(&mut counts, &words(alloc, batch, rule)?)?;
     }
-    let rows = rows_of(alloc, &counts)?;
-    // what is known of the words of reads, of a length, and of the rows of a tally
+    // what is known of the words of reads
     laws::words_of_reads();
     laws::counted_words();
-    let _bases = rule.k().get();
-    rows_of_tally();
-    Tally::of_rows(alloc, rule.k(), rule.both(), rows)
+    rows_of(alloc, &counts)
 }
 
 // The reads cleaned and cut into batches, which have their words.
@@ -75,8 +90,7 @@ fn clean_all(alloc: Global, reads: &[SeqRead], rule: &Rule) -> Result<Vec<Piece>
 // Counts each word once more.
 fn count_words(counts: &mut BTreeMap<u64, u64>, words: &[u64]) -> Result<(), AllocError>
     requires { (n : ℕ) → counted counts.old n + length words.now ≤ 2 ^ 62 }
-    ensures counts { let Times = λ n. count_by (λ word. word == n) words.now in
-        OnOk result ((n : ℕ) → counted counts.new n ≡ counted counts.old n + Times n) }
+    ensures counts { OnOk result ((n : ℕ) → counted counts.new n ≡ counted counts.old n + times words.now n) }
     ensures present { OnOk result (HasNoZeros counts.old → HasNoZeros counts.new) }
 {
     for word in words {

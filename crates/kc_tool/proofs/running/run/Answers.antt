@@ -7,7 +7,7 @@ returns-in-Err-Fault-clause-refused g c = λ status. inl (record {
   fault = c.in-Err-Fault.fault;
   exit = sym status ∙ c.status_of.ensures;
   failed = rw c.in-Err-Fault.field-0-is at c.in-Err-Fault.ensures;
-  told = told _ _ c.write_fault.result _ c.write_fault.ensures;
+  told = told _ _ c.write_fault.result _ c.write_fault.ensures.written;
 })
 
 pub returns-in-Err-Refused-clause-refused : goal.returns-in-Err-Refused-clause-refused
