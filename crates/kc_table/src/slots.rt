@@ -1,14 +1,14 @@
 //! A table of fixed size, whose slots hold a key's remainder, its reprobe number and its count.
-ghost use Rattle.std.specs.Prelude.{◌≡◌, ◌≢◌, ℕ, ◌+◌, ◌<◌, ◌≤◌, ◌^◌, length, true, false, None};
+ghost use Rattle.std.specs.Prelude.{◌≡◌, ◌≢◌, ℕ, ◌+◌, ◌-◌, ◌<◌, ◌≤◌, ◌^◌, length, true, false, None};
 ghost use Rattle.std.specs.Prelude.{IfOk, IfSome, IfNone, filter, nat_lt};
 ghost use Rattle.std.specs.FinMap.{empty, insert, get};
-ghost use Rattle.kc_table.specs.QuotientTable.{entries_in};
+ghost use Rattle.kc_table.specs.QuotientTable.{entries_in, HasStoredCrowd, MayBeTooSmall};
 ghost use Rattle.kc_table.specs.Reprobing.{IsFound, IsFree, IsOut, IsReprobing};
 ghost use Rattle.kc_table.specs.Slot.{key_in, IsSound, tag_at, contents_of};
 
 use crate::fault::TableFault;
 use crate::reprobing::Reprobing;
-use crate::steps::Steps;
+use kc_base::Counter;
 use std::alloc::{AllocError, Global};
 
 /// A slot. The tag is 0 where the slot is empty; else it is the key's remainder times 64 and one more
@@ -34,7 +34,7 @@ impl Slot {
 }
 
 impl Slots {
-    ghost use Rattle.kc_table.specs.Slots.{held, tags_of, slot_counts, IsTooSmall, IsTight};
+    ghost use Rattle.kc_table.specs.Slots.{key_counts, slot_tags, slot_counts};
 
     /// A table whose slots are empty.
     pub fn empty(alloc: Global, bits: u32, log: u32) -> Result<Slots, AllocError>
@@ -44,16 +44,16 @@ impl Slots {
         requires remainder_fits { bits ≤ log + 58 }
         ensures bits { IfOk result (λ t. t.bits ≡ bits) }
         ensures log { IfOk result (λ t. t.log ≡ log) }
-        ensures empty { IfOk result (λ t. held t ≡ empty) }
+        ensures empty { IfOk result (λ t. key_counts t ≡ empty) }
     {
         let slots = vec![in alloc; Slot::EMPTY; 1 << log]?;
         Ok(Slots { bits, log, slots })
     }
 
     #[inline(always)]
-    fn read(&self, place: usize, steps: &mut Steps) -> u64
+    fn read(&self, place: usize, steps: &mut Counter) -> u64
         requires { place < 2 ^ self.now.log }
-        ensures tag { result ≡ tags_of self.now place }
+        ensures tag { result ≡ slot_tags self.now place }
         ensures counted { steps.new.count ≡ steps.old.count + 1 }
     {
         steps.tick();
@@ -63,10 +63,9 @@ impl Slots {
     /// Walks over the key's places up to the key itself or a free one. A slot is never emptied, so
     /// the key stands behind no free place.
     #[inline(always)]
-    pub fn reprobe(&self, key: u64, steps: &mut Steps) -> Reprobing
+    pub fn reprobe(&self, key: u64, steps: &mut Counter) -> Reprobing
         requires { key < 2 ^ self.now.bits }
-        ensures probed { IsReprobing self.now.log (tags_of self.now) key result }
-        ensures steps { steps.new.count ≤ steps.old.count + 63 }
+        ensures { IsReprobing self.now.log (slot_tags self.now) key (steps.new.count - steps.old.count) result }
     {
         let mask = self.slots.len() - 1;
         let remainder = (key >> self.log) * 64;
@@ -89,10 +88,10 @@ impl Slots {
     #[inline(always)]
     pub fn put(&mut self, key: u64, place: usize, tag: u64, count: u64)
         requires in_range { key < 2 ^ self.old.bits }
-        requires free { IsFree self.old.log (tags_of self.old) key place tag }
+        requires free { IsFree self.old.log (slot_tags self.old) key place tag }
         ensures bits { self.new.bits ≡ self.old.bits }
         ensures log { self.new.log ≡ self.old.log }
-        ensures put { held self.new ≡ insert (held self.old) key count }
+        ensures put { key_counts self.new ≡ insert (key_counts self.old) key count }
     {
         self.slots[place] = Slot { tag, count };
     }
@@ -100,12 +99,12 @@ impl Slots {
     /// Adds one to the count of the key in this slot, and tells the new count.
     #[inline(always)]
     pub fn count(&mut self, key: u64, place: usize) -> u64
-        requires found { IsFound self.old.log (tags_of self.old) key place }
+        requires found { IsFound self.old.log (slot_tags self.old) key place }
         requires room { slot_counts self.old place < 2 ^ 62 }
         ensures bits { self.new.bits ≡ self.old.bits }
         ensures log { self.new.log ≡ self.old.log }
         ensures told { result ≡ slot_counts self.old place + 1 }
-        ensures counted { held self.new ≡ insert (held self.old) key (slot_counts self.old place + 1) }
+        ensures counted { key_counts self.new ≡ insert (key_counts self.old) key (slot_counts self.old place + 1) }
     {
         let slot = self.slots[place];
         let count = slot.count + 1;
@@ -119,7 +118,7 @@ impl Slots {
     /// The key in a slot, by its remainder and the home that has this slot for its reprobe number.
     #[inline(always)]
     pub fn key_at(&self, index: usize, tag: u64) -> u64
-        requires tag { tag ≡ tags_of self.now index }
+        requires tag { tag ≡ slot_tags self.now index }
         requires some { tag ≢ 0 }
         ensures key { result ≡ key_in self.now.log index tag }
         ensures in_range { result < 2 ^ self.now.bits }
@@ -136,13 +135,13 @@ impl Slots {
     #[inline(always)]
     pub fn take(&mut self, key: u64, count: u64) -> bool
         requires in_range { key < 2 ^ self.old.bits }
-        requires new { get (held self.old) key ≡ None }
+        requires new { get (key_counts self.old) key ≡ None }
         ensures bits { self.new.bits ≡ self.old.bits }
         ensures log { self.new.log ≡ self.old.log }
-        ensures taken { result ≡ true → held self.new ≡ insert (held self.old) key count }
-        ensures out { result ≡ false → IsOut self.old.log (tags_of self.old) key }
+        ensures taken { result ≡ true → key_counts self.new ≡ insert (key_counts self.old) key count }
+        ensures out { result ≡ false → IsOut self.old.log (slot_tags self.old) key }
     {
-        match self.reprobe(key, &mut Steps::new()) {
+        match self.reprobe(key, &mut Counter::zero()) {
             Reprobing::Free { place, tag } => {
                 self.put(key, place, tag, count);
                 true
@@ -159,8 +158,9 @@ impl Slots {
         requires remainder_fits { self.now.bits ≤ log + 58 }
         ensures bits { IfOk result (λ r. IfSome r (λ t. t.bits ≡ self.now.bits)) }
         ensures log { IfOk result (λ r. IfSome r (λ t. t.log ≡ log)) }
-        ensures same { IfOk result (λ r. IfSome r (λ t. held t ≡ held self.now)) }
-        ensures crowded { IfOk result (λ r. IfNone r (IsTooSmall self.now.bits log (held self.now))) }
+        ensures same { IfOk result (λ r. IfSome r (λ t. key_counts t ≡ key_counts self.now)) }
+        ensures narrow { IfOk result (λ r. IfNone r (log < self.now.bits)) }
+        ensures crowded { IfOk result (λ r. IfNone r (HasStoredCrowd log (key_counts self.now))) }
     {
         let mut table = Slots::empty(alloc, self.bits, log)?;
         for index in 0..self.slots.len() {
@@ -180,15 +180,18 @@ impl Slots {
     /// new key, whose count is 0.
     pub fn grown(&self, alloc: Global, key: u64, max_log: u32) -> Result<Slots, TableFault>
         requires in_range { key < 2 ^ self.now.bits }
-        requires new { get (held self.now) key ≡ None }
-        requires tight { IsTight self.now.bits self.now.log (held self.now) key }
-        requires larger { self.now.log ≤ max_log }
+        requires new { get (key_counts self.now) key ≡ None }
+        requires tight { MayBeTooSmall self.now.bits self.now.log (key_counts self.now) key }
+        requires may_grow { self.now.log ≤ max_log }
         requires few_slots { max_log ≤ 40 }
         requires no_wider { max_log ≤ self.now.bits }
         ensures bits { IfOk result (λ t. t.bits ≡ self.now.bits) }
+        ensures larger { IfOk result (λ t. self.now.log < t.log) }
         ensures log { IfOk result (λ t. t.log ≤ max_log) }
-        ensures taken { IfOk result (λ t. held t ≡ insert (held self.now) key 0) }
-        ensures full { result ≡ Err TableFault.Full → IsTight self.now.bits max_log (held self.now) key }
+        ensures smallest { IfOk result (λ t. (log : ℕ) → self.now.log ≤ log → log < t.log
+            → MayBeTooSmall self.now.bits log (key_counts self.now) key) }
+        ensures taken { IfOk result (λ t. key_counts t ≡ insert (key_counts self.now) key 0) }
+        ensures full { result ≡ Err TableFault.Full → MayBeTooSmall self.now.bits max_log (key_counts self.now) key }
     {
         for log in self.log + 1..max_log + 1 {
             let Ok(resized) = self.resized(alloc, log) else {

@@ -116,7 +116,7 @@ fn a_home_is_shared_by_63_keys(rt: HostRuntime) -> Result<(), Fail> {
     count_each(&rt, &mut table, &keys)?;
     let mut place = 5u64;
     let mut step = 0u64;
-    let mut steps = Steps::new();
+    let mut steps = Steps::zero();
     for key in &keys {
         assert_eq!(rt; table.find(*key, &mut steps), Some(place));
         step = step.wrapping_add(1);
@@ -166,7 +166,7 @@ fn with_a_slot_for_each_key_each_stands_at_its_home(rt: HostRuntime) -> Result<(
     let mut table = QuotientTable::new(rt.alloc(), 2, 2, 2)?;
     count_each(&rt, &mut table, &[3, 0, 2, 1])?;
     for key in 0..4 {
-        assert_eq!(rt; table.find(key, &mut Steps::new()), Some(key));
+        assert_eq!(rt; table.find(key, &mut Steps::zero()), Some(key));
     }
     Ok(())
 }

@@ -10,3 +10,6 @@ mod tally;
 pub use histogram::Histogram;
 pub use row::Row;
 pub use tally::Tally;
+
+#[cfg(test)]
+mod tests;
