@@ -7,15 +7,16 @@ mod fault;
 mod limited;
 mod plain;
 mod quotient;
+mod reprobing;
 mod slots;
-mod steps;
 
 pub use counts::Counts;
 pub use fault::TableFault;
+/// Counts slot reads, for contracts alone.
+pub use kc_base::Counter as Steps;
 pub use limited::LimitedCounts;
 pub use plain::PlainCounts;
 pub use quotient::QuotientTable;
-pub use steps::Steps;
 
 #[cfg(test)]
 mod tests;

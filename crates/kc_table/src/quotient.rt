@@ -1,19 +1,22 @@
 //! The hash table of remainders, which grows by doubling.
-ghost use Rattle.std.specs.Prelude.{◌≡◌, ℕ, ◌+◌, ◌<◌, ◌≤◌, ◌^◌, ◌↔◌, min, IfOk, IfSome, IsSome};
+ghost use Rattle.std.specs.Prelude.{◌≡◌, ℕ, ◌+◌, ◌-◌, ◌<◌, ◌≤◌, ◌^◌, ◌↔◌, min, true};
+ghost use Rattle.std.specs.Prelude.{IfOk, IfSome, IfNone, IsSome, OnOk, OnErr};
 ghost use Rattle.std.specs.FinMap.{empty};
-ghost use Rattle.kc_table.specs.Counts.{IsStored};
-ghost use Rattle.kc_table.specs.Place.{IsPlaceOf};
-ghost use Rattle.kc_table.specs.Table.{Table, numbers_in, MayBeFull, HoldsKey};
+ghost use Rattle.kc_table.specs.Counts.{KeyCounts, IsStored, readied};
+ghost use Rattle.kc_table.specs.QuotientTable.{Table, counts_in, HoldsKey, IsShutOut, IsFoundAfter, IsMissedAfter};
+ghost use Rattle.kc_table.specs.QuotientTable.{IsCrowded, MayBeTooSmall, MayBeFull};
+ghost use Rattle.kc_table.specs.Reprobing.{IsPlaceOf};
 
 use crate::counts::Counts;
 use crate::fault::TableFault;
-use crate::slots::{Probe, Slots};
-use crate::steps::Steps;
+use crate::reprobing::Reprobing;
+use crate::slots::Slots;
+use kc_base::Counter;
 use std::alloc::{AllocError, Global};
 use std::marker::Model;
 
 /// The map as a table of 2^log slots, which grows up to 2^max_log. A slot holds a key's remainder and
-/// probe number in one word, and its count in another; the slot's place gives the rest of the key.
+/// reprobe number in one word, and its count in another; the slot's place gives the rest of the key.
 #[derive(Drop)]
 pub struct QuotientTable {
     alloc: Global,
@@ -22,13 +25,17 @@ pub struct QuotientTable {
 }
 
 impl Model for QuotientTable {
-    ghost use Rattle.kc_table.specs.Table.{Table};
+    ghost use Rattle.kc_table.specs.QuotientTable.{Table, IsWithinLimits};
+    ghost use Rattle.kc_table.specs.Slot.{contents_of};
 
     ghost Value = { Table };
 
-    ghost use Rattle.kc_table.specs.Sound.{slots_of, IsWithinLimits};
-
-    ghost view = { λ t. record { bits = t.slots.bits; max_log = t.max_log; log = t.slots.log; slots = slots_of t.slots.log t.slots.rows.items } };
+    ghost view = { λ t. record {
+      bits = t.slots.bits;
+      max_log = t.max_log;
+      log = t.slots.log;
+      slots = contents_of t.slots.log t.slots.slots.items;
+    } };
 
     ghost invariant = { λ t. IsWithinLimits t.slots.bits t.slots.log t.max_log };
 }
@@ -49,7 +56,7 @@ impl QuotientTable {
         ensures bits { IfOk result (λ t. t.bits ≡ bits) }
         ensures log { IfOk result (λ t. t.log ≡ log) }
         ensures max_log { IfOk result (λ t. t.max_log ≡ max_log) }
-        ensures empty { IfOk result (λ t. numbers_in t.slots ≡ empty) }
+        ensures empty { IfOk result (λ t. counts_in t.slots ≡ empty) }
     {
         let slots = Slots::empty(alloc, bits, log)?;
         Ok(QuotientTable {
@@ -66,20 +73,23 @@ impl QuotientTable {
         self.slots.log
     }
 
-    /// The slot that holds the key, after at most 63 slot reads. It takes no memory.
+    /// The slot that holds the key. The key's places are read in their order, up to the one that holds it or is
+    /// empty, so at most 63 slots. It takes no memory.
     #[inline]
-    pub fn find(&self, key: u64, steps: &mut Steps) -> Option<u64>
+    pub fn find(&self, key: u64, steps: &mut Counter) -> Option<u64>
         requires { key < 2 ^ self.now.bits }
-        ensures stored { IsSome result ↔ IsStored (numbers_in self.now.slots) key }
+        ensures stored { IsSome result ↔ IsStored (counts_in self.now.slots) key }
         ensures slot { IfSome result (λ s. HoldsKey self.now.slots s key) }
         ensures place { IfSome result (λ s. IsPlaceOf self.now.log key s) }
         ensures home { self.now.log ≡ self.now.bits → IfSome result (λ s. s ≡ key) }
+        ensures found_after { IfSome result (IsFoundAfter self.now key (steps.new.count - steps.old.count)) }
+        ensures missed_after { IfNone result (IsMissedAfter self.now key (steps.new.count - steps.old.count)) }
         ensures reads { steps.new.count ≤ steps.old.count + 63 }
     {
-        match self.slots.probe(key, steps) {
-            Probe::Found { place } => Some(place as u64),
-            Probe::Free { .. } => None,
-            Probe::Crowded => None,
+        match self.slots.reprobe(key, steps) {
+            Reprobing::Found { place } => Some(place as u64),
+            Reprobing::Free { .. } => None,
+            Reprobing::Crowded => None,
         }
     }
 }
@@ -87,19 +97,43 @@ impl QuotientTable {
 impl Counts for QuotientTable {
     ghost bits = { λ t. t.bits };
 
-    ghost numbers = { λ t. numbers_in t.slots };
+    ghost counts = { λ t. counts_in t.slots };
 
     ghost may_be_full = { MayBeFull };
 
+    fn key_bits(&self) -> u32 {
+        self.slots.bits
+    }
+
+    /// Stores the key, as the trait says. The table grows only where other keys stand at all places of this one, and
+    /// then to the smallest size at which neither this key nor a stored one finds all its places taken.
     #[inline]
-    fn ready(&mut self, key: u64) -> Result<(), TableFault> {
-        match self.slots.probe(key, &mut Steps::new()) {
-            Probe::Found { .. } => Ok(()),
-            Probe::Free { place, tag } => {
+    fn ready(&mut self, key: u64) -> Result<(), TableFault>
+        requires { key < 2 ^ self.old.bits }
+        ensures stored { OnOk result (counts_in self.new.slots ≡ readied (counts_in self.old.slots) key) }
+        ensures refused { OnErr result (counts_in self.new.slots ≡ counts_in self.old.slots) }
+        ensures full_only_there { result ≡ Err TableFault.Full → MayBeFull self.old (counts_in self.old.slots) key }
+        ensures same_bits { self.new.bits ≡ self.old.bits }
+        ensures same_limits { (m : KeyCounts) (q : ℕ) → MayBeFull self.new m q ↔ MayBeFull self.old m q }
+        ensures unchanged { OnErr result (self.new ≡ self.old) }
+        ensures known { IsStored (counts_in self.old.slots) key → self.new ≡ self.old }
+        ensures same_max_log { self.new.max_log ≡ self.old.max_log }
+        ensures within_max_log { self.new.log ≤ self.new.max_log }
+        ensures placed { ¬ IsShutOut self.old key → result ≡ Ok tt }
+        ensures stays { ¬ IsShutOut self.old key → self.new.log ≡ self.old.log }
+        ensures uncrowded { ¬ IsCrowded (counts_in self.old.slots) self.old.log key → self.new.log ≡ self.old.log }
+        ensures grown { OnOk result (IsShutOut self.old key → self.old.log < self.new.log) }
+        ensures never_smaller { self.old.log ≤ self.new.log }
+        ensures smallest { (log : ℕ) → self.old.log ≤ log → log < self.new.log
+            → MayBeTooSmall self.old.bits log (counts_in self.old.slots) key }
+    {
+        match self.slots.reprobe(key, &mut Counter::zero()) {
+            Reprobing::Found { .. } => Ok(()),
+            Reprobing::Free { place, tag } => {
                 self.slots.put(key, place, tag, 0);
                 Ok(())
             }
-            Probe::Crowded => {
+            Reprobing::Crowded => {
                 self.slots = self.slots.grown(self.alloc, key, self.max_log)?;
                 Ok(())
             }
@@ -108,7 +142,12 @@ impl Counts for QuotientTable {
 
     #[inline]
     fn add(&mut self, key: u64) {
-        match self.find(key, &mut Steps::new()) {
+        self.increment(key);
+    }
+
+    #[inline]
+    fn increment(&mut self, key: u64) -> u64 {
+        match self.find(key, &mut Counter::zero()) {
             Some(place) => self.slots.count(key, place as usize),
             None => unreachable!(),
         }
@@ -116,8 +155,8 @@ impl Counts for QuotientTable {
 
     #[inline]
     fn get(&self, key: u64) -> u64 {
-        match self.find(key, &mut Steps::new()) {
-            Some(place) => self.slots.rows[place as usize].count,
+        match self.find(key, &mut Counter::zero()) {
+            Some(place) => self.slots.slots[place as usize].count,
             None => 0,
         }
     }

@@ -1,0 +1,112 @@
+-- What `QuotientTable` is seen as, how far a key is looked for, when the table grows, and when it may answer that it is
+-- full.
+use Rattle.std.specs.Prelude.{◌≡◌, ◌≢◌, refl, ℕ, ◌+◌, ◌*◌, ◌^◌, ◌<◌, ◌≤◌, ◌==◌, ◌⊎◌, Bool, true, ◌&&◌, not, List, [], ◌∷◌, All, Option, Some, None, length, map, min, slice_get, slice_index}
+use Rattle.std.specs.List.{filter_map, range_with_len, list_all, list_any}
+use Rattle.std.specs.FinMap.{from_entries}
+use Rattle.kc_table.specs.Counts.{KeyCounts, IsStored}
+use Rattle.kc_table.specs.Reprobing.{place, place_count}
+
+-- What the slots of a table hold, in order: nothing, or a key and its count.
+abbrev pub SlotList : Type 0
+SlotList = List (Option (ℕ × ℕ))
+
+-- its keys have so many bits, it may have up to 2 ^ max_log slots, and it has 2 ^ log
+pub record Table : Type 0 where
+  pub bits : ℕ
+  pub max_log : ℕ
+  pub log : ℕ
+  pub slots : SlotList
+
+-- the keys and counts of the slots that are not empty
+abbrev pub entries_in : SlotList → List (ℕ × ℕ)
+entries_in slots = filter_map (λ slot. slot) slots
+
+entries_in_rows : entries_in (None ∷ Some (5, 2) ∷ None ∷ Some (7, 0) ∷ []) ≡ (5, 2) ∷ (7, 0) ∷ []
+entries_in_rows = refl
+
+-- the map that the slots hold
+abbrev pub counts_in : SlotList → KeyCounts
+counts_in slots = from_entries (entries_in slots)
+
+-- the slot at this index holds the key with this count
+abbrev pub Holds : SlotList → ℕ → ℕ → ℕ → Type 0
+Holds slots index key count = slice_get slots index ≡ Some (Some (key, count))
+
+-- the slot at this index holds the key
+abbrev pub HoldsKey : SlotList → ℕ → ℕ → Type 0
+HoldsKey slots index key = (count : ℕ) × Holds slots index key count
+
+-- each of the key's first n places holds another key
+abbrev pub AreTaken : Table → ℕ → ℕ → Type 0
+AreTaken table key n = (i : ℕ) → i < n → (other : ℕ) × (other ≢ key) × HoldsKey table.slots (place key i table.log) other
+
+-- all places of the key hold other keys
+abbrev pub IsShutOut : Table → ℕ → Type 0
+IsShutOut table key = AreTaken table key place_count
+
+-- So many slots are read up to this one, where the key stands: the places before it hold other keys.
+abbrev pub IsFoundAfter : Table → ℕ → ℕ → ℕ → Type 0
+IsFoundAfter table key reads slot =
+    (i : ℕ) × (i < place_count) × (slot ≡ place key i table.log) × AreTaken table key i × (reads ≡ i + 1)
+
+-- So many slots are read for a key that is not stored: the places that hold other keys and the empty one behind them,
+-- or all places, which hold other keys.
+abbrev pub IsMissedAfter : Table → ℕ → ℕ → Type 0
+IsMissedAfter table key reads =
+    ((i : ℕ) × (i < place_count) × (slice_get table.slots (place key i table.log) ≡ Some None) × AreTaken table key i × (reads ≡ i + 1))
+    ⊎ (IsShutOut table key × (reads ≡ place_count))
+
+-- how many places of a key differ: as many as it has, and in a smaller table one for each slot
+abbrev pub different_places : ℕ → ℕ
+different_places log = min place_count (2 ^ log)
+
+-- whether slot is one of the key's places
+abbrev pub is_place_of : ℕ → ℕ → ℕ → Bool
+is_place_of log key slot = list_any (λ i. slot == place key i log) (range_with_len 0 place_count)
+
+-- whether no two of the numbers are one
+abbrev pub are_different : List ℕ → Bool
+are_different [] = true
+are_different (n ∷ ns) = list_all (λ m. not (n == m)) ns && are_different ns
+
+-- Other keys can take all places of a key in a table of 2 ^ log slots: none of them is the key itself, they differ, are
+-- as many as its places that differ, and the i-th of them has the key's place i among its own places.
+pub record IsCrowdOf (log key : ℕ) (others : List ℕ) : Type 0 where
+  pub not_the_key : list_all (λ other. not (other == key)) others ≡ true
+  pub different : are_different others ≡ true
+  pub as_many : length others ≡ different_places log
+  pub meeting :
+      list_all (λ i. is_place_of log (slice_index others i) (place key i log)) (range_with_len 0 (length others)) ≡ true
+
+-- in a table of 256 slots, 63 keys of the home 5 are a crowd of a further one
+crowd_row : IsCrowdOf 8 (256 * 63 + 5) (map (λ j. 256 * j + 5) (range_with_len 0 63))
+crowd_row = record { not_the_key = refl; different = refl; as_many = refl; meeting = refl }
+
+-- and in a table of 4 slots, all whose keys are a crowd of any other
+small_crowd_row : IsCrowdOf 2 7 (3 ∷ 0 ∷ 2 ∷ 1 ∷ [])
+small_crowd_row = record { not_the_key = refl; different = refl; as_many = refl; meeting = refl }
+
+-- a key is crowded where a crowd of it is stored
+abbrev pub IsCrowded : KeyCounts → ℕ → ℕ → Type 0
+IsCrowded counts log key = (others : List ℕ) × IsCrowdOf log key others × All (IsStored counts) others
+
+-- A stored key is crowded in a table of 2 ^ log slots.
+abbrev pub HasStoredCrowd : ℕ → KeyCounts → Type 0
+HasStoredCrowd log counts = (key : ℕ) × IsStored counts key × IsCrowded counts log key
+
+-- A table of 2 ^ log slots may be too small for the stored keys and this one: there is not a slot for each possible key
+-- of so many bits, and this key or a stored one is crowded.
+abbrev pub MayBeTooSmall : ℕ → ℕ → KeyCounts → ℕ → Type 0
+MayBeTooSmall bits log counts key = (log < bits) × (IsCrowded counts log key ⊎ HasStoredCrowd log counts)
+
+-- A table may be full only where it may not grow to a size that is surely large enough.
+abbrev pub MayBeFull : Table → KeyCounts → ℕ → Type 0
+MayBeFull table counts key = MayBeTooSmall table.bits table.max_log counts key
+
+-- A table of 2 ^ log slots may grow to 2 ^ max_log, and no wider than a slot for each possible key. Where it may not
+-- grow so far, it may grow to at least 64 slots, so that a key's places differ.
+pub record IsWithinLimits (bits log max_log : ℕ) : Type 0 where
+  pub larger : log ≤ max_log
+  pub few_slots : max_log ≤ 40
+  pub no_wider : max_log ≤ bits
+  pub enough_places : max_log < bits → 6 ≤ max_log
