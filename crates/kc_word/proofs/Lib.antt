@@ -14,4 +14,3 @@ pub mod Stretches
 pub mod Cuttings
 pub mod Taking
 pub mod Batching
-mod Worked

@@ -13,7 +13,7 @@ use Rattle.std.specs.Option.{option_map_or}
 use Rattle.std.specs.Str.{bytes_eq}
 use Rattle.std.specs.Char.{to_ascii_uppercase}
 use Rattle.kc_fastx.specs.Reads.{Read}
-use Rattle.kc_word.specs.Base.{is_base, are_bases}
+use Rattle.kc_word.specs.Letter.{is_base, are_bases}
 use Rattle.kc_word.specs.Word.{number, text, form}
 use Rattle.kc_word.specs.Rule.{CountingRule}
 use Rattle.kc_word.specs.Occurrences.{is_usable, passes_floor, word_at, form_at, positions, position_count, occurrences_in, occurrences, words_in, words_of}

@@ -2,7 +2,7 @@
 use Rattle.std.specs.Prelude.{◌≡◌, ℕ, ◌+◌, ◌-◌, ◌*◌, ◌^◌, min, ◌<◌, ◌≤◌, ◌==◌, List, ◌++◌, map, length, slice_index_or, sum_by, count_by, IsTrue, All}
 use Rattle.std.specs.List.{flat_map}
 use Rattle.std.specs.Char.{to_ascii_uppercase}
-use Rattle.kc_word.specs.Base.{are_bases}
+use Rattle.kc_word.specs.Letter.{are_bases}
 use Rattle.std.specs.Ordering.{nat_cmp}
 use Rattle.std.specs.Cmp.Lexicographic.{slice_cmp}
 use Rattle.kc_fastx.specs.Reads.{Read}
@@ -65,7 +65,7 @@ CuttingOccurrences = (rule : CountingRule) (size : ℕ) (reads : List Read) (wor
 abbrev pub CountedWords : Type 0
 CountedWords = (rule : CountingRule) (reads : List Read) (n : ℕ) → n < 4 ^ rule.k → count_by (λ m. m == n) (words_of rule reads) ≡ occurrences rule reads (text rule.k n)
 
--- the batch at place i of a cutting is batch i
+-- at index i of a cutting stands batch i
 abbrev pub CuttingNumbers : Type 0
 CuttingNumbers = (k size i : ℕ) (pieces : List (List ℕ)) (d : NumberedPieces) → i < length (cutting k size pieces) → slice_index_or (cutting k size pieces) i d ≡ batch_of k size pieces i
 

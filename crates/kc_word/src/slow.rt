@@ -93,8 +93,8 @@ fn form_at(read: &SeqRead, rule: &Rule, position: usize) -> Option<Word>
         return None;
     }
     let end = position + count;
-    for place in position..end {
-        if !is_usable(read, rule, place) {
+    for i in position..end {
+        if !is_usable(read, rule, i) {
             return None;
         }
     }
@@ -108,13 +108,13 @@ fn form_at(read: &SeqRead, rule: &Rule, position: usize) -> Option<Word>
 }
 
 // whether the base is one of ACGTacgt and its quality, where it has one, reaches the floor
-fn is_usable(read: &SeqRead, rule: &Rule, place: usize) -> bool
-    requires { place < length read.now.bases }
-    ensures { result ≡ is_usable rule.now read.now place }
+fn is_usable(read: &SeqRead, rule: &Rule, i: usize) -> bool
+    requires { i < length read.now.bases }
+    ensures { result ≡ is_usable rule.now read.now i }
 {
-    let known = code_of(read.bases()[place]) != NO_BASE;
+    let known = code_of(read.bases()[i]) != NO_BASE;
     match read.quals() {
         None => known,
-        Some(quals) => known && quals[place] >= rule.floor(),
+        Some(quals) => known && quals[i] >= rule.floor(),
     }
 }

@@ -170,6 +170,24 @@ fn batches_of_each_size(rt: HostRuntime) -> Result<(), Fail> {
     Ok(())
 }
 
+// A batch may be asked for longer words than those that it was cut for: its pieces then have fewer positions.
+#[test]
+fn words_of_another_length(rt: HostRuntime) -> Result<(), Fail> {
+    let rule = rule_of(3, false)?;
+    let longer = rule_of(5, false)?;
+    let pieces = pieces_of(rt.alloc(), &[b"ACGTACG", b"ACG"], &rule)?;
+    let batches = cut(rt.alloc(), pieces, rule.k(), 4)?;
+    let rows: [(&[u8], &[u64]); 2] = [(b"ACGTAC|", &[108, 433]), (b"ACG|ACG|", &[])];
+    assert_eq!(rt; batches.len(), 2);
+    for (i, batch) in batches.iter().enumerate() {
+        assert!(rt; i < 2);
+        let (want, found) = rows[i];
+        assert_eq!(rt; shown(rt.alloc(), batch)?.as_slice(), want);
+        assert_eq!(rt; words(rt.alloc(), batch, &longer)?.as_slice(), found);
+    }
+    Ok(())
+}
+
 #[test]
 fn batches_by_value(rt: HostRuntime) -> Result<(), Fail> {
     let rule = rule_of(3, false)?;

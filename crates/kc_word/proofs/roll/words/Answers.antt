@@ -9,7 +9,7 @@ use Rattle.kc_word.proofs.Tallies.{All-words_of}
 use Rattle.kc_word.proofs.roll.words.Goals as goal
 
 pub loop-part-init : goal.loop-part-init
-loop-part-init c = c.in_ok-words.ensures.items ∙ sym (words_of-none c.args.rule.now)
+loop-part-init c = c.in_ok-words.ensures.empty ∙ sym (words_of-none c.args.rule.now)
 
 pub loop-part-preserved : goal.loop-part-preserved
 loop-part-preserved c =
