@@ -7,9 +7,8 @@ pub mod Windows
 pub mod Rolling
 pub mod Cleaning
 pub mod Counting
-pub mod Tallies
+pub mod WordCounts
 pub mod Looking
-pub mod Rows
 pub mod Stretches
 pub mod Cuttings
 pub mod Taking

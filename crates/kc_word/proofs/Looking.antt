@@ -16,7 +16,7 @@ use Rattle.kc_word.specs.Word.{text, form, canonical}
 use Rattle.kc_word.specs.Rule.{CountingRule}
 use Rattle.kc_word.specs.Occurrences.{is_usable, passes_floor, word_at, form_at, position_count, counts_under, occurrences_in, occurrences}
 use Rattle.kc_word.proofs.WordLemmas.{code-lt, same_from_text}
-use Rattle.kc_word.proofs.Tallies.{bases-usable}
+use Rattle.kc_word.proofs.WordCounts.{bases-usable}
 
 -- ---- one base
 

@@ -2,7 +2,6 @@ pub mod Letter
 pub mod Word
 pub mod Rule
 pub mod Occurrences
-pub mod Tally
 pub mod Cutting
 pub mod Laws
 pub mod Cursor

@@ -1,11 +1,11 @@
-//! Laws of words, occurrences and tallies. Each is the contract of a function that does nothing.
+//! Laws of words, occurrences and cuttings. Each is the contract of a function that does nothing.
 ghost use Rattle.std.specs.Prelude.{◌≡◌, [], ◌∷◌, Some, None, true, false, codes};
 ghost use Rattle.kc_fastx.specs.Reads.{read_of};
 ghost use Rattle.kc_word.specs.Word.{number, text, reverse_complement, canonical};
 ghost use Rattle.kc_word.specs.Rule.{counting_all};
 ghost use Rattle.kc_word.specs.Occurrences.{occurrences, words_in};
 ghost use Rattle.kc_word.specs.Cutting.{cleaned, cutting};
-ghost use Rattle.kc_word.specs.Laws.{NumberOfText, PackedText, OrderOfTexts, ReversedTwice, OneCanonicalForm, OneTally, JoinedOccurrences, JoinedTally, TallyTotal, BoundedTally, CountedWords, CuttingWords, CuttingOccurrences, CuttingNumbers, CuttingPositions, BatchPositions, PositionsWithinBytes, CleanedLength, WordsAreBelow, WordsAreForms, WordsAreFew, CleanedWords};
+ghost use Rattle.kc_word.specs.Laws.{NumberOfText, PackedText, OrderOfTexts, ReversedTwice, OneCanonicalForm, JoinedOccurrences, CountedWords, CuttingWords, CuttingOccurrences, CuttingNumbers, CuttingPositions, BatchPositions, PositionsWithinBytes, CleanedLength, WordsAreBelow, WordsAreForms, WordsAreFew, CleanedWords};
 
 /// A number below 4^k is the number of its text.
 pub fn number_of_text()
@@ -32,29 +32,9 @@ pub fn one_canonical_form()
     ensures { OneCanonicalForm }
 {}
 
-/// The tally of given reads is one finite map.
-pub fn one_tally()
-    ensures { OneTally }
-{}
-
 /// In reads that are joined each word occurs as often as in both parts together.
 pub fn joined_occurrences()
     ensures { JoinedOccurrences }
-{}
-
-/// The tally of reads that are joined is the sum of the tallies of both parts.
-pub fn joined_tally()
-    ensures { JoinedTally }
-{}
-
-/// The counts of a tally add up to the number of all words.
-pub fn tally_total()
-    ensures { TallyTotal }
-{}
-
-/// The counts of a tally are together at most as many as the bases of the reads.
-pub fn bounded_tally()
-    ensures { BoundedTally }
 {}
 
 /// A word occurs as often as its number stands among the words of the reads.

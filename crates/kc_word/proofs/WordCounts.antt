@@ -1,4 +1,4 @@
--- Occurrences are counts in the list of all words, and rows that count that list are its tally.
+-- The words of reads: that they are below 4 ^ k and in the forms under which they count, that occurrences are counts in their list, and how many there are.
 use Rattle.std.proofs.Common.{◌≡◌, ℕ, zero, suc, ◌+◌, ◌^◌, ◌<◌, ◌≤◌, ⊎_elim, Bool, true, false, ◌&&◌, cond, eqb, leb, List, [], ◌∷◌, ◌++◌, map, length, get_or, take, drop, Option, Some, None, option_map, filter_map, sum_by, count_by, MatchOption, All, filter, refl, ap, sym, ◌∙◌, subst, arith, eq-eqb, ne_eqb, zero-add, not, le_refl}
 use Rattle.std.proofs.lemmas.Bool.{false_from_ne_true, cases_lt, cases_eq, cases_order, cond-true, cond-false, and_parts, and_from, leb-true}
 use Rattle.std.proofs.lemmas.List.{length-map, length-take-le, length-drop, drop_more, length-append}
@@ -12,12 +12,12 @@ use Rattle.std.specs.List.Sorted.{IsStrictlyIncreasing}
 use Rattle.std.specs.Option.{option_map_or}
 use Rattle.std.specs.Str.{bytes_eq}
 use Rattle.std.specs.Char.{to_ascii_uppercase}
+use Rattle.kc_base.proofs.Lists.{length-filter_map}
 use Rattle.kc_fastx.specs.Reads.{Read}
 use Rattle.kc_word.specs.Letter.{is_base, are_bases}
 use Rattle.kc_word.specs.Word.{number, text, form}
 use Rattle.kc_word.specs.Rule.{CountingRule}
 use Rattle.kc_word.specs.Occurrences.{is_usable, passes_floor, word_at, form_at, positions, position_count, occurrences_in, occurrences, words_in, words_of}
-use Rattle.kc_word.specs.Tally.{count_of, IsTally}
 use Rattle.kc_word.proofs.WordLemmas.{number-lt, text-number, number-text, length-form, are_bases-form, canonical-twice}
 
 -- ---- a word at a position is a word of k bases
@@ -197,194 +197,13 @@ times-words_of rule (read ∷ reads) n h =
     ∙ ap (λ m. occurrences_in rule read (text rule.k n) + m) (times-words_of rule reads n h)
     ∙ sym (sum_by-cons (λ r. occurrences_in rule r (text rule.k n)) read reads)
 
--- rows that count the list of all words are the tally
-pub IsTally-from_words : (rule : CountingRule) (reads : List Read) (rows : List (ℕ × ℕ)) → IsStrictlyIncreasing (map (λ row. row.0) rows) → All (λ row. row.0 < 4 ^ rule.k) rows → All (λ row. 0 < row.1) rows
-    → ((n : ℕ) → n < 4 ^ rule.k → count_of rows n ≡ times n (words_of rule reads)) → IsTally rule reads rows
-IsTally-from_words rule reads rows rising words present counts = record {
-  rising = rising;
-  words = words;
-  present = present;
-  counts = λ n h. counts n h ∙ times-words_of rule reads n h;
-}
-
--- ---- one tally
-
--- the rows rise, from a number that is at least `low` on
-RisesFrom : ℕ → List (ℕ × ℕ) → Type 0
-RisesFrom low [] = Unit {0}
-RisesFrom low (row ∷ rows) = (low ≤ row.0) × RisesFrom (suc row.0) rows
-
-rises-from : (low : ℕ) (rows : List (ℕ × ℕ)) → IsStrictlyIncreasing (map (λ row. row.0) rows) → (0 < length rows → low ≤ get_or (map (λ row. row.0) rows) 0 0) → RisesFrom low rows
-unfolding RisesFrom
-rises-from low [] rising first = tt
-rises-from low (row ∷ rows) rising first =
-    (first (omega arith), rises-from (suc row.0) rows (λ k h. let e : suc k + 1 ≡ suc (k + 1) = omega arith in subst (λ m. get_or (map (λ (r : ℕ × ℕ). r.0) rows) k 0 < get_or (row.0 ∷ map (λ (r : ℕ × ℕ). r.0) rows) m 0) e (rising (suc k) (let l : suc k + 1 < suc (length (map (λ (r : ℕ × ℕ). r.0) rows)) = omega (arith, h) in l))) (λ h. rising 0 (let long = length-map rows (λ (r : ℕ × ℕ). r.0) in omega (arith, h, long))))
-
--- the rows of a tally: rising from a number on, with numbers below a bound and counts above 0
-record AreRows (low bound : ℕ) (rows : List (ℕ × ℕ)) : Type 0 where
-  rises : RisesFrom low rows
-  below : All (λ row. row.0 < bound) rows
-  present : All (λ row. 0 < row.1) rows
-
-AreRows-rest : (low bound : ℕ) (row : ℕ × ℕ) (rows : List (ℕ × ℕ)) → AreRows low bound (row ∷ rows) → AreRows (suc row.0) bound rows
-unfolding RisesFrom
-AreRows-rest low bound row rows is = record {
-  rises = is.rises.1;
-  below = λ k d h. is.below (suc k) d (omega (arith, h));
-  present = λ k d h. is.present (suc k) d (omega (arith, h));
-}
-
-count_of-low : (low : ℕ) (rows : List (ℕ × ℕ)) (n : ℕ) → RisesFrom low rows → n < low → count_of rows n ≡ 0
-unfolding RisesFrom
-count_of-low low [] n rises h = refl
-count_of-low low (row ∷ rows) n rises h =
-    let apart : row.0 ≡ n → ⊥ = λ e. let least = rises.0 in omega (arith, e, h, least) in
-    cond-false (eqb row.0 n) row.1 (count_of rows n) (ne_eqb row.0 n apart) ∙ count_of-low (suc row.0) rows n rises.1 (let least = rises.0 in omega (arith, h, least))
-
-count_of-here : (row : ℕ × ℕ) (rows : List (ℕ × ℕ)) (n : ℕ) → row.0 ≡ n → count_of (row ∷ rows) n ≡ row.1
-count_of-here row rows n e = cond-true (eqb row.0 n) row.1 (count_of rows n) (eq-eqb row.0 n e)
-
-count_of-past : (row : ℕ × ℕ) (rows : List (ℕ × ℕ)) (n : ℕ) → (row.0 ≡ n → ⊥) → count_of (row ∷ rows) n ≡ count_of rows n
-count_of-past row rows n ne = cond-false (eqb row.0 n) row.1 (count_of rows n) (ne_eqb row.0 n ne)
-
--- a row whose number no later row can have is not missing in rows with the same counts
-not-before : (bound low : ℕ) (row other : ℕ × ℕ) (rows others : List (ℕ × ℕ)) → 0 < row.1 → row.0 < bound → RisesFrom low (other ∷ others) → row.0 < other.0 → ((n : ℕ) → n < bound → count_of (row ∷ rows) n ≡ count_of (other ∷ others) n) → ⊥
-unfolding RisesFrom
-not-before bound low row other rows others present below rises before same =
-    let here = count_of-here row rows row.0 refl in
-    let there = count_of-low other.0 (other ∷ others) row.0 (le_refl other.0, rises.1) before in
-    let equal = same row.0 below in
-    omega (arith, here, there, equal, present)
-
-one_tally-rows : (bound low : ℕ) (rows others : List (ℕ × ℕ)) → AreRows low bound rows → AreRows low bound others → ((n : ℕ) → n < bound → count_of rows n ≡ count_of others n) → rows ≡ others
-one_tally-rows bound low [] [] is also same = refl
-one_tally-rows bound low [] (other ∷ others) is also same =
-    let here = count_of-here other others other.0 refl in
-    let equal = same other.0 (also.below 0 other (omega arith)) in
-    let present = also.present 0 other (omega arith) in
-    absurd (omega (arith, here, equal, present))
-one_tally-rows bound low (row ∷ rows) [] is also same =
-    let here = count_of-here row rows row.0 refl in
-    let equal = same row.0 (is.below 0 row (omega arith)) in
-    let present = is.present 0 row (omega arith) in
-    absurd (omega (arith, here, equal, present))
-one_tally-rows bound low (row ∷ rows) (other ∷ others) is also same =
-    ⊎_elim
-    (λ e. both e (λ less. one_tally-rows bound (suc row.0) rows others (AreRows-rest low bound row rows is) (subst (λ m. AreRows (suc m) bound others) (sym e) (AreRows-rest low bound other others also)) less))
-    (λ o. ⊎_elim
-    (λ h. absurd (not-before bound low row other rows others (is.present 0 row (omega arith)) (is.below 0 row (omega arith)) also.rises h same))
-    (λ h. absurd (not-before bound low other row others rows (also.present 0 other (omega arith)) (also.below 0 other (omega arith)) is.rises h (λ n l. sym (same n l)))) o)
-    (cases_order row.0 other.0)
-  where
-    both : row.0 ≡ other.0 → (((n : ℕ) → n < bound → count_of rows n ≡ count_of others n) → rows ≡ others) → row ∷ rows ≡ other ∷ others
-    both e rest =
-        let count : row.1 ≡ other.1 = sym (count_of-here row rows row.0 refl) ∙ same row.0 (is.below 0 row (omega arith)) ∙ count_of-here other others row.0 (sym e) in
-        let tail : rows ≡ others = rest (λ n h.
-        ⊎_elim
-        (λ low_. count_of-low (suc row.0) rows n (AreRows-rest low bound row rows is).rises low_
-        ∙ sym (count_of-low (suc other.0) others n (AreRows-rest low bound other others also).rises (omega (arith, e, low_))))
-        (λ high. sym (count_of-past row rows n (λ f. omega (arith, f, high))) ∙ same n h ∙ count_of-past other others n (λ f. omega (arith, e, f, high)))
-        (cases_lt n (suc row.0))) in
-        (λ i. (e i, count i) ∷ tail i)
-
-tally-AreRows : (rule : CountingRule) (reads : List Read) (rows : List (ℕ × ℕ)) → IsTally rule reads rows → AreRows 0 (4 ^ rule.k) rows
-tally-AreRows rule reads rows is = record {
-  rises = rises-from 0 rows is.rising (λ _. omega arith);
-  below = is.words;
-  present = is.present;
-}
-
--- the tally of given reads is one finite map
-pub one_tally : (rule : CountingRule) (reads : List Read) (rows others : List (ℕ × ℕ)) → IsTally rule reads rows → IsTally rule reads others → rows ≡ others
-one_tally rule reads rows others is also =
-    one_tally-rows (4 ^ rule.k) 0 rows others (tally-AreRows rule reads rows is) (tally-AreRows rule reads others also) (λ n h. is.counts n h ∙ sym (also.counts n h))
-
--- ---- the tally of joined reads
+-- ---- joined reads
 
 pub occurrences-append : (rule : CountingRule) (reads more : List Read) (word : List ℕ) → occurrences rule (reads ++ more) word ≡ occurrences rule reads word + occurrences rule more word
 unfolding occurrences
 occurrences-append rule reads more word = sum_by-append (λ read. occurrences_in rule read word) reads more
 
-pub joined_tally : (rule : CountingRule) (reads more : List Read) (rows others sums : List (ℕ × ℕ)) → IsTally rule reads rows → IsTally rule more others → IsTally rule (reads ++ more) sums
-    → (n : ℕ) → n < 4 ^ rule.k → count_of sums n ≡ count_of rows n + count_of others n
-joined_tally rule reads more rows others sums is also both n h =
-    let joined = occurrences-append rule reads more (text rule.k n) in
-    let first = is.counts n h in
-    let second = also.counts n h in
-    let sum = both.counts n h in
-    omega (arith, joined, first, second, sum)
-
--- ---- how much a tally holds
-
--- without the number of the first row, the list has the counts of the other rows
-times-removed : (m n : ℕ) (xs : List ℕ) → (m ≡ n → ⊥) → times n (filter (λ x. not (eqb x m)) xs) ≡ times n xs
-times-removed m n [] ne = refl
-times-removed m n (x ∷ xs) ne =
-    ⊎_elim
-    (λ e. ap (times n) (cond-false (not (eqb x m)) (x ∷ filter (λ y. not (eqb y m)) xs) _ (ap not (eq-eqb x m e))) ∙ times-removed m n xs ne
-    ∙ sym (sum_by-cons (λ y. cond (eqb y n) 1 0) x xs ∙ ap (λ b. cond b 1 0 + times n xs) (ne_eqb x n (λ f. ne (sym e ∙ f))) ∙ zero-add _))
-    (λ d. ap (times n) (cond-true (not (eqb x m)) (x ∷ filter (λ y. not (eqb y m)) xs) _ (ap not (ne_eqb x m d)))
-    ∙ sum_by-cons (λ y. cond (eqb y n) 1 0) x (filter (λ y. not (eqb y m)) xs) ∙ ap (λ r. cond (eqb x n) 1 0 + r) (times-removed m n xs ne)
-    ∙ sym (sum_by-cons (λ y. cond (eqb y n) 1 0) x xs))
-    (cases_eq x m)
-
-times-gone : (m : ℕ) (xs : List ℕ) → times m (filter (λ x. not (eqb x m)) xs) ≡ 0
-times-gone m [] = refl
-times-gone m (x ∷ xs) =
-    ⊎_elim
-    (λ e. ap (times m) (cond-false (not (eqb x m)) (x ∷ filter (λ y. not (eqb y m)) xs) _ (ap not (eq-eqb x m e))) ∙ times-gone m xs)
-    (λ d. ap (times m) (cond-true (not (eqb x m)) (x ∷ filter (λ y. not (eqb y m)) xs) _ (ap not (ne_eqb x m d)))
-    ∙ sum_by-cons (λ y. cond (eqb y m) 1 0) x (filter (λ y. not (eqb y m)) xs) ∙ ap (λ b. cond b 1 0 + times m (filter (λ y. not (eqb y m)) xs)) (ne_eqb x m d) ∙ zero-add _ ∙ times-gone m xs)
-    (cases_eq x m)
-
-sum-of-rows : (low : ℕ) (rows : List (ℕ × ℕ)) (xs : List ℕ) → RisesFrom low rows → ((n : ℕ) → count_of rows n ≡ times n xs) → sum_by (λ row. row.1) rows ≡ length xs
-unfolding RisesFrom
-sum-of-rows low [] [] rises same = refl
-sum-of-rows low [] (x ∷ xs) rises same =
-    let none = same x in
-    let one = sum_by-cons (λ m. cond (eqb m x) 1 0) x xs ∙ ap (λ b. cond b 1 0 + times x xs) (eq-eqb x x refl) in
-    absurd (omega (arith, none, one))
-sum-of-rows low (row ∷ rows) xs rises same =
-    let rest = sum-of-rows (suc row.0) rows (filter (λ x. not (eqb x row.0)) xs) rises.1 (λ n.
-    ⊎_elim
-    (λ e. count_of-low (suc row.0) rows n rises.1 (omega (arith, e)) ∙ sym (ap (λ m. times m (filter (λ x. not (eqb x row.0)) xs)) (sym e) ∙ times-gone row.0 xs))
-    (λ ne. sym (count_of-past row rows n ne) ∙ same n ∙ sym (times-removed row.0 n xs ne))
-    (cases_eq row.0 n)) in
-    let here : row.1 ≡ times row.0 xs = sym (count_of-here row rows row.0 refl) ∙ same row.0 in
-    let split = length-filter_both (λ x. eqb x row.0) (λ x. not (eqb x row.0)) (λ x. refl) xs in
-    let kept = length-filter (λ x. eqb x row.0) xs in
-    let whole = sum_by-cons (λ (r : ℕ × ℕ). r.1) row rows in
-    omega (arith, rest, here, split, kept, whole)
-
-times-beyond : (k : ℕ) (xs : List ℕ) (n : ℕ) → Below k xs → 4 ^ k ≤ n → times n xs ≡ 0
-unfolding Below
-times-beyond k [] n below h = refl
-times-beyond k (x ∷ xs) n below h =
-    let small = below.0 in
-    sum_by-cons (λ m. cond (eqb m n) 1 0) x xs ∙ ap (λ b. cond b 1 0 + times n xs) (ne_eqb x n (λ e. omega (arith, e, small, h))) ∙ zero-add _ ∙ times-beyond k xs n below.1 h
-
-count_of-beyond : (bound : ℕ) (rows : List (ℕ × ℕ)) (n : ℕ) → All (λ row. row.0 < bound) rows → bound ≤ n → count_of rows n ≡ 0
-count_of-beyond bound [] n below h = refl
-count_of-beyond bound (row ∷ rows) n below h =
-    let small = below 0 row (omega arith) in
-    count_of-past row rows n (λ e. omega (arith, e, small, h)) ∙ count_of-beyond bound rows n (λ k d l. below (suc k) d (omega (arith, l))) h
-
-length-cons_option : {X : Type 0} (o : Option X) (xs : List X) → length (cons_option o xs) ≤ length xs + 1
-length-cons_option None xs = omega arith
-length-cons_option (Some x) xs = omega arith
-
-pub length-filter_map : {X Y : Type 0} (f : X → Option Y) (xs : List X) → length (filter_map f xs) ≤ length xs
-length-filter_map f [] = omega arith
-length-filter_map f (x ∷ xs) =
-    let one = length-cons_option (f x) (filter_map f xs) in
-    let rest = length-filter_map f xs in
-    omega (arith, one, rest)
-
--- the counts of a tally add up to the number of all words
-pub tally_total : (rule : CountingRule) (reads : List Read) (rows : List (ℕ × ℕ)) → IsTally rule reads rows → sum_by (λ row. row.1) rows ≡ length (words_of rule reads)
-tally_total rule reads rows is =
-    sum-of-rows 0 rows (words_of rule reads) (tally-AreRows rule reads rows is).rises (λ n.
-    ⊎_elim (λ h. is.counts n h ∙ sym (times-words_of rule reads n h)) (λ h. count_of-beyond (4 ^ rule.k) rows n is.words h ∙ sym (times-beyond rule.k (words_of rule reads) n (words_of-below rule reads) h)) (cases_lt n (4 ^ rule.k)))
+-- ---- how many words there are
 
 pub length-words_in : (rule : CountingRule) (read : Read) → 1 ≤ rule.k → length (words_in rule read) ≤ length read.bases
 unfolding words_in
@@ -403,9 +222,3 @@ length-words_of rule (read ∷ reads) some =
     let joined = length-append (words_in rule read) (words_of rule reads) in
     let sum = sum_by-cons (λ (r : Read). length r.bases) read reads in
     omega (arith, rest, this, joined, sum)
-
-pub bounded_tally : (rule : CountingRule) (reads : List Read) (rows : List (ℕ × ℕ)) → 1 ≤ rule.k → IsTally rule reads rows → sum_by (λ row. row.1) rows ≤ sum_by (λ read. length read.bases) reads
-bounded_tally rule reads rows some is =
-    let total = tally_total rule reads rows is in
-    let most = length-words_of rule reads some in
-    omega (arith, total, most)
