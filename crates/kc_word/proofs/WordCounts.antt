@@ -12,7 +12,7 @@ use Rattle.std.specs.List.Sorted.{IsStrictlyIncreasing}
 use Rattle.std.specs.Option.{option_map_or}
 use Rattle.std.specs.Str.{bytes_eq}
 use Rattle.std.specs.Char.{to_ascii_uppercase}
-use Rattle.kc_base.proofs.Lists.{length-filter_map}
+use Rattle.kc_base.proofs.Lists.{length-filter_map, All-filter_map, All-flat_map}
 use Rattle.kc_fastx.specs.Reads.{Read}
 use Rattle.kc_word.specs.Letter.{is_base, are_bases}
 use Rattle.kc_word.specs.Word.{number, text, form}
@@ -81,81 +81,39 @@ form_at-IsWord rule read p = by (form_at rule read p) (form_at-IsForm rule read 
     by None form = tt
     by (Some word) form = form.is
 
--- ---- the words of reads are below 4 ^ k
+-- ---- the words of reads are below 4 ^ k, and stand in the form under which they count
 
-Below : ℕ → List ℕ → Type 0
-Below k = AllByRecursion (λ n. n < 4 ^ k)
-
-below-append : (k : ℕ) (xs ys : List ℕ) → Below k xs → Below k ys → Below k (xs ++ ys)
-unfolding Below
-below-append k [] ys h g = g
-below-append k (x ∷ xs) ys h g = (h.0, below-append k xs ys h.1 g)
-
-below-filter_map : (k : ℕ) (f : ℕ → Option (List ℕ)) → ((p : ℕ) → MatchOption (f p) (Unit {0}) (IsWord k)) → (ps : List ℕ) → Below k (filter_map (λ p. option_map number (f p)) ps)
-unfolding Below
-below-filter_map k f each [] = tt
-below-filter_map k f each (p ∷ ps) = by (f p) (each p) (below-filter_map k f each ps)
-  where
-    by : (o : Option (List ℕ)) → MatchOption o (Unit {0}) (IsWord k) → Below k (filter_map (λ q. option_map number (f q)) ps) → Below k (cons_option (option_map number o) (filter_map (λ q. option_map number (f q)) ps))
-    by None h rest = rest
-    by (Some word) h rest = (subst (λ n. number word < 4 ^ n) h.long (number-lt word), rest)
-
-words_in-below : (rule : CountingRule) (read : Read) → Below rule.k (words_in rule read)
+-- what holds of the number of each word in its form holds of the words of reads
+all-in : (rule : CountingRule) (P : ℕ → Type 0) → ((word : List ℕ) → IsForm rule word → P (number word)) → (read : Read) → All P (words_in rule read)
 unfolding words_in
-words_in-below rule read = below-filter_map rule.k (form_at rule read) (form_at-IsWord rule read) (positions rule read)
+all-in rule P holds read =
+    All-filter_map P (λ p. option_map number (form_at rule read p)) (positions rule read) (λ i d within.
+    let p : ℕ = get_or (positions rule read) i d in by (form_at rule read p) (form_at-IsForm rule read p))
+  where
+    by : (o : Option (List ℕ)) → MatchOption o (Unit {0}) (IsForm rule) → MatchOption (option_map number o) (Unit {0}) P
+    by None is = tt
+    by (Some word) is = holds word is
 
-words_of-below : (rule : CountingRule) (reads : List Read) → Below rule.k (words_of rule reads)
-unfolding words_of Below
-words_of-below rule [] = tt
-words_of-below rule (read ∷ reads) = below-append rule.k (words_in rule read) (words_of rule reads) (words_in-below rule read) (words_of-below rule reads)
+all-of : (rule : CountingRule) (P : ℕ → Type 0) → ((word : List ℕ) → IsForm rule word → P (number word)) → (reads : List Read) → All P (words_of rule reads)
+unfolding words_of
+all-of rule P holds reads = All-flat_map P (words_in rule) reads (λ i d within. all-in rule P holds (get_or reads i d))
 
-below-All : (k : ℕ) (xs : List ℕ) → Below k xs → All (λ n. n < 4 ^ k) xs
-unfolding Below
-below-All k [] h i d l = absurd (omega (arith, l))
-below-All k (x ∷ xs) h zero d l = h.0
-below-All k (x ∷ xs) h (suc i) d l = below-All k xs h.1 i d (omega (arith, l))
+number-below : (rule : CountingRule) (word : List ℕ) → IsForm rule word → number word < 4 ^ rule.k
+number-below rule word h = subst (λ n. number word < 4 ^ n) h.is.long (number-lt word)
 
 -- each word of a read is below 4 ^ k
 pub All-words_in : (rule : CountingRule) (read : Read) → All (λ n. n < 4 ^ rule.k) (words_in rule read)
-All-words_in rule read = below-All rule.k (words_in rule read) (words_in-below rule read)
+All-words_in rule read = all-in rule (λ n. n < 4 ^ rule.k) (number-below rule) read
 
 -- each word of reads is below 4 ^ k
 pub All-words_of : (rule : CountingRule) (reads : List Read) → All (λ n. n < 4 ^ rule.k) (words_of rule reads)
-All-words_of rule reads = below-All rule.k (words_of rule reads) (words_of-below rule reads)
-
--- ---- the words of reads stand in the form under which they count
-
-Kept : CountingRule → List ℕ → Type 0
-Kept rule = AllByRecursion (λ n. form rule.both (text rule.k n) ≡ text rule.k n)
-
-kept-append : (rule : CountingRule) (xs ys : List ℕ) → Kept rule xs → Kept rule ys → Kept rule (xs ++ ys)
-unfolding Kept
-kept-append rule [] ys h g = g
-kept-append rule (x ∷ xs) ys h g = (h.0, kept-append rule xs ys h.1 g)
-
-kept-filter_map : (rule : CountingRule) (f : ℕ → Option (List ℕ)) → ((p : ℕ) → MatchOption (f p) (Unit {0}) (IsForm rule)) → (ps : List ℕ) → Kept rule (filter_map (λ p. option_map number (f p)) ps)
-unfolding Kept
-kept-filter_map rule f each [] = tt
-kept-filter_map rule f each (p ∷ ps) = by (f p) (each p) (kept-filter_map rule f each ps)
-  where
-    by : (o : Option (List ℕ)) → MatchOption o (Unit {0}) (IsForm rule) → Kept rule (filter_map (λ q. option_map number (f q)) ps) → Kept rule (cons_option (option_map number o) (filter_map (λ q. option_map number (f q)) ps))
-    by None h rest = rest
-    by (Some word) h rest =
-        let same = text-number rule.k word h.is.long h.is.bases in (ap (form rule.both) same ∙ h.kept ∙ sym same, rest)
-
-words_in-kept : (rule : CountingRule) (read : Read) → Kept rule (words_in rule read)
-unfolding words_in
-words_in-kept rule read = kept-filter_map rule (form_at rule read) (form_at-IsForm rule read) (positions rule read)
-
-words_of-kept : (rule : CountingRule) (reads : List Read) → Kept rule (words_of rule reads)
-unfolding words_of Kept
-words_of-kept rule [] = tt
-words_of-kept rule (read ∷ reads) = kept-append rule (words_in rule read) (words_of rule reads) (words_in-kept rule read) (words_of-kept rule reads)
+All-words_of rule reads = all-of rule (λ n. n < 4 ^ rule.k) (number-below rule) reads
 
 -- each word of reads stands in the form under which it counts
 pub All-forms : (rule : CountingRule) (reads : List Read) → All (λ n. form rule.both (text rule.k n) ≡ text rule.k n) (words_of rule reads)
-unfolding Kept
-All-forms rule reads = All-from_recursion (λ n. form rule.both (text rule.k n) ≡ text rule.k n) (words_of rule reads) (words_of-kept rule reads)
+All-forms rule reads =
+    all-of rule (λ n. form rule.both (text rule.k n) ≡ text rule.k n) (λ word h.
+    let same = text-number rule.k word h.is.long h.is.bases in ap (form rule.both) same ∙ h.kept ∙ sym same) reads
 
 -- ---- occurrences are counts in the list of all words
 
