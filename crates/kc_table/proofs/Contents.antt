@@ -183,14 +183,10 @@ counted_in-zero slots i k n held none =
     let test : nat_lt 0 n ≡ false = grind (arith, common_steps) in
     counted_in-take slots i (Some (k, n)) held ∙ ap (λ b. counted_in i slots ++ cond b ((k, n) ∷ []) []) test ∙ append-nil _
 
-counted_in-some : (slots : SlotList) (i k n : ℕ) → Holds slots i k n → n ≢ 0 → counted_in (i + 1) slots ≡ counted_in i slots ++ (k, n) ∷ []
+pub counted_in-some : (slots : SlotList) (i k n : ℕ) → Holds slots i k n → n ≢ 0 → counted_in (i + 1) slots ≡ counted_in i slots ++ (k, n) ∷ []
 counted_in-some slots i k n held some =
     let test : nat_lt 0 n ≡ true = grind (arith, common_steps) in
     counted_in-take slots i (Some (k, n)) held ∙ ap (λ b. counted_in i slots ++ cond b ((k, n) ∷ []) []) test
 
 pub counted_in-all : (slots : SlotList) (i : ℕ) → length slots ≤ i → counted_in i slots ≡ filter (λ e. nat_lt 0 e.1) (entries_in slots)
 counted_in-all slots i all = ap (λ (xs : SlotList). filter (λ e. nat_lt 0 e.1) (entries_in xs)) (take_all i slots all)
-
--- one more row is pushed
-pub counted_in-push : (slots : SlotList) (i k n : ℕ) (items after : List (ℕ × ℕ)) → items ≡ counted_in i slots → after ≡ items ++ (k, n) ∷ [] → Holds slots i k n → n ≢ 0 → after ≡ counted_in (i + 1) slots
-counted_in-push slots i k n items after so_far is held some = is ∙ ap (λ (es : List (ℕ × ℕ)). es ++ (k, n) ∷ []) so_far ∙ sym (counted_in-some slots i k n held some)
