@@ -118,8 +118,8 @@ cancelled : (m h a b : ℕ) → 0 < m → (h + a) % m ≡ (h + b) % m → a % m 
 cancelled m h a b pos same =
     let back : (x : ℕ) → ((h + x) % m + (m - 1) * h) % m ≡ x % m =
     λ x.
-        let sum : h + x + (m - 1) * h ≡ x + m * h = omega (arith, round m h pos) in
-        mod-add-mod (h + x) m ((m - 1) * h) ∙ ap (λ n. n % m) sum ∙ add-mul-mod_self_left x m h in
+    let sum : h + x + (m - 1) * h ≡ x + m * h = omega (arith, round m h pos) in
+    mod-add-mod (h + x) m ((m - 1) * h) ∙ ap (λ n. n % m) sum ∙ add-mul-mod_self_left x m h in
     sym (back a) ∙ ap (λ n. (n + (m - 1) * h) % m) same ∙ back b
 
 -- places differ where they do in a table of 2 ^ l slots, of at most 64

@@ -9,7 +9,8 @@ use Rattle.std.specs.FinMap.{get, insert, empty, get-empty}
 use Rattle.kc_table.specs.declared.slots.Slot.{Slot}
 use Rattle.kc_table.specs.Counts.{KeyCounts, IsStored, IsWithin}
 use Rattle.kc_table.specs.QuotientTable.{counts_in, Holds, HoldsKey, IsCrowded, HasStoredCrowd, MayBeTooSmall, different_places}
-use Rattle.kc_table.specs.Reprobing.{triangle, place, place_count, tag_of, reprobe_of, IsFound, IsFree, IsOut, AreTakenBefore}
+use Rattle.kc_table.specs.Reprobing.{triangle, place, tag_of, reprobe_of, IsFound, IsFree, IsOut, AreTakenBefore}
+use Rattle.kc_table.specs.Sizes.{place_count}
 use Rattle.kc_table.specs.Slot.{key_in, IsSound, empty_slot, tag_at, slot_count, content_of, contents_from, contents_of, counts_of}
 use Rattle.kc_table.proofs.Crowding.{crowded_from, crowded_wider}
 use Rattle.kc_table.proofs.KeyCounts.{same_counts, stored_found}
@@ -290,8 +291,7 @@ module _ {bits log table_bits table_log : ℕ} (old place : ℕ) (slots table : 
   pub carried_out : (key count : ℕ) → IsSound table_bits table_log (tag_at table) → Holds (contents_of old slots) place key count → IsOut table_log (tag_at table) key → HasStoredCrowd log (counts_of old slots)
   carried_out key count good held out =
       let stored : (k : ℕ) → IsStored (counts_of table_log table) k → IsStored (counts_of old slots) k =
-      λ k is. IsStored-take (contents_of old slots) place k (slots_apart slots sound) (subst (λ (m : KeyCounts). IsStored m k) carried.counts is) in
-      (
+      λ k is. IsStored-take (contents_of old slots) place k (slots_apart slots sound) (subst (λ (m : KeyCounts). IsStored m k) carried.counts is) in (
         key,
         IsStored-held (contents_of old slots) place key count (slots_apart slots sound) held,
         subst (λ l. IsCrowded (counts_of old slots) l key) carried.same_log (crowded_wider _ _ _ _ stored (crowded_by_out table good key out)),

@@ -29,8 +29,8 @@ pub returns-in-Found-clause-grown : goal.returns-in-Found-clause-grown
 returns-in-Found-clause-grown c = λ shut.
     absurd (not_shut_found c.self.inside.slots.slots.items c.self.inside.slots.sound c.args.key c.in-Found.place c.in-Found.ensures.0 (subst (λ t. IsShutOut t c.args.key) (sym c.self.view_is) shut))
 
-pub returns-in-Free-clause-known : goal.returns-in-Free-clause-known
-returns-in-Free-clause-known c = λ stored.
+pub returns-in-Free-clause-untouched : goal.returns-in-Free-clause-untouched
+returns-in-Free-clause-untouched c = λ stored.
     absurd (not_stored _ c.args.key (get_free c.self.inside.slots.slots.items c.self.inside.slots.sound c.args.key c.in-Free.place c.in-Free.tag c.in-Free.ensures.0) (subst (λ t. IsStored (counts_in t.slots) c.args.key) (sym c.self.view_is) stored))
 
 pub returns-in-Free-clause-grown : goal.returns-in-Free-clause-grown
@@ -41,8 +41,8 @@ pub returns-in_err-self-inside-in-Crowded-clause-placed : goal.returns-in_err-se
 returns-in_err-self-inside-in-Crowded-clause-placed c = λ open_place.
     absurd (open_place (subst (λ t. IsShutOut t c.args.key) c.self.view_is (taken_out c.self.inside.slots.slots.items c.self.inside.slots.sound c.args.key c.in-Crowded.ensures.0)))
 
-pub returns-in_ok-self-inside-in-Crowded-clause-known : goal.returns-in_ok-self-inside-in-Crowded-clause-known
-returns-in_ok-self-inside-in-Crowded-clause-known c = λ stored.
+pub returns-in_ok-self-inside-in-Crowded-clause-untouched : goal.returns-in_ok-self-inside-in-Crowded-clause-untouched
+returns-in_ok-self-inside-in-Crowded-clause-untouched c = λ stored.
     absurd (not_stored _ c.args.key (get_out c.self.inside.slots.slots.items c.self.inside.slots.sound c.args.key c.in-Crowded.ensures.0) (subst (λ t. IsStored (counts_in t.slots) c.args.key) (sym c.self.view_is) stored))
 
 pub returns-in_ok-self-inside-in-Crowded-clause-stays : goal.returns-in_ok-self-inside-in-Crowded-clause-stays
@@ -55,3 +55,7 @@ returns-in_ok-self-inside-in-Crowded-clause-uncrowded c = λ uncrowded.
 
 pub returns-in_ok-self-inside-in-Crowded-clause-smallest : goal.returns-in_ok-self-inside-in-Crowded-clause-smallest
 returns-in_ok-self-inside-in-Crowded-clause-smallest c = rw (← c.self.view_is) c.in_ok-self-inside-in-Crowded.ensures.smallest
+
+pub returns-in_err-self-inside-in-Crowded-clause-known : goal.returns-in_err-self-inside-in-Crowded-clause-known
+returns-in_err-self-inside-in-Crowded-clause-known c = λ stored.
+    absurd (not_stored _ c.args.key (get_out c.self.inside.slots.slots.items c.self.inside.slots.sound c.args.key c.in-Crowded.ensures.0) (subst (λ t. IsStored (counts_in t.slots) c.args.key) (sym c.self.view_is) stored))
