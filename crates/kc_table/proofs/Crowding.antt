@@ -9,7 +9,8 @@ use Rattle.std.proofs.lemmas.List.Sums.{list_all-from_AllPass}
 use Rattle.kc_base.proofs.Lists.{All-range}
 use Rattle.kc_table.specs.Counts.{KeyCounts, IsStored}
 use Rattle.kc_table.specs.QuotientTable.{IsCrowded, different_places, is_place_of, are_different}
-use Rattle.kc_table.specs.Reprobing.{place, place_count, IsPlaceOf}
+use Rattle.kc_table.specs.Reprobing.{place, IsPlaceOf}
+use Rattle.kc_table.specs.Sizes.{place_count}
 
 list_all-range : (p : ℕ → Bool) (n : ℕ) → ((i : ℕ) → i < n → p i ≡ true) → list_all p (range_with_len 0 n) ≡ true
 list_all-range p n passes =
