@@ -1,6 +1,6 @@
 -- Cleaned pieces, and how they are cut into numbered batches of as many positions each.
 -- Source: this project's own; a batch is what one worker counts at a time.
-use Rattle.std.specs.Prelude.{◌≡◌, ℕ, Bool, ◌+◌, ◌-◌, ◌*◌, ◌/◌, ◌==◌, ◌&&◌, ◌||◌, nat_lt, min, List, [], ◌∷◌, ◌++◌}
+use Rattle.std.specs.Prelude.{◌≡◌, ℕ, Bool, ◌+◌, ◌-◌, ◌*◌, ◌/◌, ◌==◌, ◌&&◌, ◌||◌, nat_lt, min, List, [], ◌∷◌}
 use Rattle.std.specs.Prelude.{length, map, take, slice_range, slice_index, slice_index_or, None, if◌then◌else◌}
 use Rattle.std.specs.Prelude.{sum_by}
 use Rattle.std.specs.List.{range_with_len, list_all, flat_map}
