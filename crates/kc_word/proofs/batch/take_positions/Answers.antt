@@ -33,12 +33,12 @@ loop-room-preserved-then-next-taken c =
       taken_is = c.min-taken.ensures;
       parts_are =
           elim c.if-taken-gt0.branch [
-          | then-taken-gt0+in_ok-part+in_ok-push w ↦ ap (λ v. v.items) w.parts-is ∙ w.in_ok-push.ensures.items
-              ∙ ap (λ part. c.loop-room.parts.items ++ part ∷ []) (w.in_ok-part.ensures ∙ part-taken _ c.args.k _ _ c.loop-room.next.position c.min-taken.result c.get-bases.ensures.value here)
-              ∙ ap (λ xs. c.loop-room.parts.items ++ xs) (sym (given-some c.args.k (get_or c.args.pieces.now c.loop-room.next.piece []) c.loop-room.next.position c.min-taken.result w.if-taken-gt0.true))
-          | else-taken-gt0 w ↦ ap (λ v. v.items) w.parts-is ∙ sym (append-nil c.loop-room.parts.items)
-              ∙ ap (λ xs. c.loop-room.parts.items ++ xs) (sym (given-none c.args.k (get_or c.args.pieces.now c.loop-room.next.piece []) c.loop-room.next.position c.min-taken.result w.if-taken-gt0.false))
-        ];
+            | then-taken-gt0+in_ok-part+in_ok-push w ↦ ap (λ v. v.items) w.parts-is ∙ w.in_ok-push.ensures.items
+                ∙ ap (λ part. c.loop-room.parts.items ++ part ∷ []) (w.in_ok-part.ensures ∙ part-taken _ c.args.k _ _ c.loop-room.next.position c.min-taken.result c.get-bases.ensures.value here)
+                ∙ ap (λ xs. c.loop-room.parts.items ++ xs) (sym (given-some c.args.k (get_or c.args.pieces.now c.loop-room.next.piece []) c.loop-room.next.position c.min-taken.result w.if-taken-gt0.true))
+            | else-taken-gt0 w ↦ ap (λ v. v.items) w.parts-is ∙ sym (append-nil c.loop-room.parts.items)
+                ∙ ap (λ xs. c.loop-room.parts.items ++ xs) (sym (given-none c.args.k (get_or c.args.pieces.now c.loop-room.next.piece []) c.loop-room.next.position c.min-taken.result w.if-taken-gt0.false))
+          ];
       moved = inl (c.if-next-taken.true, refl, refl);
     }) c.loop-room.invariant
 
@@ -60,12 +60,12 @@ loop-room-preserved c =
       taken_is = c.min-taken.ensures;
       parts_are =
           elim c.if-taken-gt0.branch [
-          | then-taken-gt0+in_ok-part+in_ok-push w ↦ ap (λ v. v.items) w.parts-is ∙ w.in_ok-push.ensures.items
-              ∙ ap (λ part. c.loop-room.parts.items ++ part ∷ []) (w.in_ok-part.ensures ∙ part-taken _ c.args.k _ _ c.loop-room.next.position c.min-taken.result c.get-bases.ensures.value here)
-              ∙ ap (λ xs. c.loop-room.parts.items ++ xs) (sym (given-some c.args.k (get_or c.args.pieces.now c.loop-room.next.piece []) c.loop-room.next.position c.min-taken.result w.if-taken-gt0.true))
-          | else-taken-gt0 w ↦ ap (λ v. v.items) w.parts-is ∙ sym (append-nil c.loop-room.parts.items)
-              ∙ ap (λ xs. c.loop-room.parts.items ++ xs) (sym (given-none c.args.k (get_or c.args.pieces.now c.loop-room.next.piece []) c.loop-room.next.position c.min-taken.result w.if-taken-gt0.false))
-        ];
+            | then-taken-gt0+in_ok-part+in_ok-push w ↦ ap (λ v. v.items) w.parts-is ∙ w.in_ok-push.ensures.items
+                ∙ ap (λ part. c.loop-room.parts.items ++ part ∷ []) (w.in_ok-part.ensures ∙ part-taken _ c.args.k _ _ c.loop-room.next.position c.min-taken.result c.get-bases.ensures.value here)
+                ∙ ap (λ xs. c.loop-room.parts.items ++ xs) (sym (given-some c.args.k (get_or c.args.pieces.now c.loop-room.next.piece []) c.loop-room.next.position c.min-taken.result w.if-taken-gt0.true))
+            | else-taken-gt0 w ↦ ap (λ v. v.items) w.parts-is ∙ sym (append-nil c.loop-room.parts.items)
+                ∙ ap (λ xs. c.loop-room.parts.items ++ xs) (sym (given-none c.args.k (get_or c.args.pieces.now c.loop-room.next.piece []) c.loop-room.next.position c.min-taken.result w.if-taken-gt0.false))
+          ];
       moved = inr (c.if-next-taken.false, refl, refl);
     }) c.loop-room.invariant
 
