@@ -10,9 +10,13 @@
 mod block;
 mod dumping;
 mod faults;
+mod histo;
+mod statistics;
 #[cfg(test)]
 mod tests;
 
 pub use block::{BLOCK_SIZE, Block, NUMBER_SIZE};
 pub use dumping::{Dump, GREATEST_COUNT, write_dump};
 pub use faults::ReportFault;
+pub use histo::{GREATEST_HIGH, write_histo};
+pub use statistics::write_stats;

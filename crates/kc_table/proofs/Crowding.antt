@@ -1,6 +1,6 @@
 -- When a key is crowded.
 use Rattle.std.proofs.Common.{◌≡◌, ◌≢◌, ◌∙◌, ℕ, zero, suc, ◌+◌, ◌<◌, ◌≤◌, ◌==◌, Bool, true, ◌&&◌, not, List, length, map, get_or, refl, sym, ap, subst, arith, zero-add}
-use Rattle.std.specs.List.{range_with_len, list_all, list_any}
+use Rattle.std.specs.List.{range_with_len, list_all}
 use Rattle.std.proofs.lemmas.Bool.{eq-eqb}
 use Rattle.std.proofs.lemmas.Grind.{common_steps}
 use Rattle.std.proofs.lemmas.List.Folds.{list_all-map, list_any_at}
@@ -9,7 +9,8 @@ use Rattle.std.proofs.lemmas.List.Sums.{list_all-from_AllPass}
 use Rattle.kc_base.proofs.Lists.{All-range}
 use Rattle.kc_table.specs.Counts.{KeyCounts, IsStored}
 use Rattle.kc_table.specs.QuotientTable.{IsCrowded, different_places, is_place_of, are_different}
-use Rattle.kc_table.specs.Reprobing.{place, place_count, IsPlaceOf}
+use Rattle.kc_table.specs.Reprobing.{place, IsPlaceOf}
+use Rattle.kc_table.specs.Sizes.{place_count}
 
 list_all-range : (p : ℕ → Bool) (n : ℕ) → ((i : ℕ) → i < n → p i ≡ true) → list_all p (range_with_len 0 n) ≡ true
 list_all-range p n passes =

@@ -3,7 +3,8 @@ use Rattle.std.proofs.Common.{◌≡◌, ◌≢◌, ◌∙◌, ℕ, ◌+◌, ◌
 use Rattle.std.proofs.Math.Nat.{mod-mod}
 use Rattle.std.proofs.lemmas.Nat.{and_mask, mul-le}
 use Rattle.std.proofs.lemmas.Bool.{cases_lt}
-use Rattle.kc_table.specs.Reprobing.{triangle, place, place_count, tag_of, reprobe_of, IsTaken, IsFound, IsFree, AreTakenBefore}
+use Rattle.kc_table.specs.Reprobing.{triangle, place, tag_of, reprobe_of, IsTaken, IsFound, IsFree, AreTakenBefore}
+use Rattle.kc_table.specs.Sizes.{place_count}
 use Rattle.kc_table.specs.Slot.{key_in}
 use Rattle.kc_table.proofs.Places.{place_step}
 

@@ -1,10 +1,12 @@
 -- What `QuotientTable` is seen as, how far a key is looked for, when the table grows, and when it may answer that it is
 -- full.
-use Rattle.std.specs.Prelude.{◌≡◌, ◌≢◌, refl, ℕ, ◌+◌, ◌*◌, ◌^◌, ◌<◌, ◌≤◌, ◌==◌, ◌⊎◌, Bool, true, ◌&&◌, not, List, [], ◌∷◌, All, Option, Some, None, length, map, min, slice_get, slice_index}
+use Rattle.std.specs.Prelude.{◌≡◌, ◌≢◌, refl, ℕ, ◌+◌, ◌*◌, ◌^◌, ◌<◌, ◌≤◌, ◌==◌, ◌⊎◌, Bool, true, ◌&&◌, not, min}
+use Rattle.std.specs.Prelude.{List, [], ◌∷◌, All, Option, Some, None, length, map, slice_get, slice_index}
 use Rattle.std.specs.List.{filter_map, range_with_len, list_all, list_any}
 use Rattle.std.specs.FinMap.{from_entries}
 use Rattle.kc_table.specs.Counts.{KeyCounts, IsStored}
-use Rattle.kc_table.specs.Reprobing.{place, place_count}
+use Rattle.kc_table.specs.Reprobing.{place}
+use Rattle.kc_table.specs.Sizes.{place_count, spread_log, most_log}
 
 -- What the slots of a table hold, in order: nothing, or a key and its count.
 abbrev pub SlotList : Type 0
@@ -38,7 +40,8 @@ HoldsKey slots index key = (count : ℕ) × Holds slots index key count
 
 -- each of the key's first n places holds another key
 abbrev pub AreTaken : Table → ℕ → ℕ → Type 0
-AreTaken table key n = (i : ℕ) → i < n → (other : ℕ) × (other ≢ key) × HoldsKey table.slots (place key i table.log) other
+AreTaken table key n =
+    (i : ℕ) → i < n → (other : ℕ) × (other ≢ key) × HoldsKey table.slots (place key i table.log) other
 
 -- all places of the key hold other keys
 abbrev pub IsShutOut : Table → ℕ → Type 0
@@ -49,11 +52,16 @@ abbrev pub IsFoundAfter : Table → ℕ → ℕ → ℕ → Type 0
 IsFoundAfter table key reads slot =
     (i : ℕ) × (i < place_count) × (slot ≡ place key i table.log) × AreTaken table key i × (reads ≡ i + 1)
 
+-- nothing stands in the slot at this index
+abbrev pub IsEmptyAt : SlotList → ℕ → Type 0
+IsEmptyAt slots index = slice_get slots index ≡ Some None
+
 -- So many slots are read for a key that is not stored: the places that hold other keys and the empty one behind them,
 -- or all places, which hold other keys.
 abbrev pub IsMissedAfter : Table → ℕ → ℕ → Type 0
 IsMissedAfter table key reads =
-    ((i : ℕ) × (i < place_count) × (slice_get table.slots (place key i table.log) ≡ Some None) × AreTaken table key i × (reads ≡ i + 1))
+    ((i : ℕ) × (i < place_count) × IsEmptyAt table.slots (place key i table.log) × AreTaken table key i
+    × (reads ≡ i + 1))
     ⊎ (IsShutOut table key × (reads ≡ place_count))
 
 -- how many places of a key differ: as many as it has, and in a smaller table one for each slot
@@ -104,9 +112,9 @@ abbrev pub MayBeFull : Table → KeyCounts → ℕ → Type 0
 MayBeFull table counts key = MayBeTooSmall table.bits table.max_log counts key
 
 -- A table of 2 ^ log slots may grow to 2 ^ max_log, and no wider than a slot for each possible key. Where it may not
--- grow so far, it may grow to at least 64 slots, so that a key's places differ.
+-- grow so far, it may grow to so many slots that a key's places differ.
 pub record IsWithinLimits (bits log max_log : ℕ) : Type 0 where
   pub larger : log ≤ max_log
-  pub few_slots : max_log ≤ 40
+  pub few_slots : max_log ≤ most_log
   pub no_wider : max_log ≤ bits
-  pub enough_places : max_log < bits → 6 ≤ max_log
+  pub enough_places : max_log < bits → spread_log ≤ max_log

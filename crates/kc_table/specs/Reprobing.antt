@@ -3,12 +3,9 @@
 use Rattle.std.specs.Prelude.{◌≡◌, ◌≢◌, refl, ℕ, ◌+◌, ◌-◌, ◌*◌, ◌/◌, ◌%◌, ◌^◌, ◌<◌}
 use Rattle.kc_table.specs.declared.reprobing.Reprobing.{Reprobing}
 use Rattle.kc_table.specs.declared.reprobing.Reprobing.TheVariants.{Found, Free, Crowded}
+use Rattle.kc_table.specs.Sizes.{place_count, tag_step}
 
--- how many places a key has
-abbrev pub place_count : ℕ
-place_count = 63
-
--- The sum of the numbers up to i.
+-- the sum of the numbers up to i
 abbrev pub triangle : ℕ → ℕ
 triangle i = i * (i + 1) / 2
 
@@ -25,12 +22,7 @@ place_rows = (refl, refl, refl, refl)
 abbrev pub IsPlaceOf : ℕ → ℕ → ℕ → Type 0
 IsPlaceOf log key slot = (i : ℕ) × (i < place_count) × (slot ≡ place key i log)
 
--- A tag is a key's remainder times this, and one more than its number of reprobes: so this is `place_count` and 1, and
--- 0 is no key's tag.
-abbrev pub tag_step : ℕ
-tag_step = 64
-
--- the tag of a key at its place i
+-- the tag of a key at its place i; the tag of an empty slot is 0
 abbrev pub tag_of : ℕ → ℕ → ℕ → ℕ
 tag_of log key i = key / 2 ^ log * tag_step + (i + 1)
 

@@ -1,9 +1,11 @@
 -- What the slots of a table hold, and what their tags keep.
-use Rattle.std.specs.Prelude.{◌≡◌, ◌≢◌, refl, ℕ, ◌+◌, ◌-◌, ◌*◌, ◌/◌, ◌%◌, ◌^◌, ◌<◌, ◌≤◌, ◌==◌, if◌then◌else◌, List, [], ◌∷◌, Option, Some, None, slice_index_or}
+use Rattle.std.specs.Prelude.{◌≡◌, ◌≢◌, refl, ℕ, ◌+◌, ◌-◌, ◌*◌, ◌/◌, ◌%◌, ◌^◌, ◌<◌, ◌≤◌, ◌==◌}
+use Rattle.std.specs.Prelude.{if◌then◌else◌, List, [], ◌∷◌, Option, Some, None, slice_index_or}
 use Rattle.kc_table.specs.declared.slots.Slot.{Slot}
 use Rattle.kc_table.specs.Counts.{KeyCounts}
 use Rattle.kc_table.specs.QuotientTable.{SlotList, counts_in}
-use Rattle.kc_table.specs.Reprobing.{triangle, place, tag_step, reprobe_of, tag_of}
+use Rattle.kc_table.specs.Reprobing.{triangle, place, reprobe_of, tag_of}
+use Rattle.kc_table.specs.Sizes.{tag_step, most_bits, most_log, remainder_bits}
 
 -- The key in a slot: its remainder, and the home that has this slot for that place. So the low bits of a key are not
 -- stored (Marçais and Kingsford 2011).
@@ -11,7 +13,8 @@ abbrev pub key_in : ℕ → ℕ → ℕ → ℕ
 key_in log index tag = tag / tag_step * 2 ^ log + (index + (2 ^ log - 1) * triangle (reprobe_of tag)) % 2 ^ log
 
 -- the key 773 in a table of 256 slots, at its place 3: the tag in its slot, and the key found from both
-slot_rows : (tag_of 8 773 3 ≡ 196) × (reprobe_of 196 ≡ 3) × (key_in 8 11 196 ≡ 773) × (key_in 8 2 (tag_of 8 255 2) ≡ 255)
+slot_rows :
+    (tag_of 8 773 3 ≡ 196) × (reprobe_of 196 ≡ 3) × (key_in 8 11 196 ≡ 773) × (key_in 8 2 (tag_of 8 255 2) ≡ 255)
 slot_rows = (refl, refl, refl, refl)
 
 abbrev pub empty_slot : Slot
@@ -39,19 +42,6 @@ contents_of log slots = contents_from log 0 slots
 -- the map that the slots hold
 abbrev pub counts_of : ℕ → List Slot → KeyCounts
 counts_of log slots = counts_in (contents_of log slots)
-
--- keys have at most so many bits
-abbrev pub most_bits : ℕ
-most_bits = 62
-
--- a table has at most 2 to this many slots
-abbrev pub most_log : ℕ
-most_log = 40
-
--- A remainder has at most so many bits: times `tag_step`, which is 2 ^ 6, and with the number of reprobes it is a
--- number of 64 bits.
-abbrev pub remainder_bits : ℕ
-remainder_bits = 58
 
 -- The tags of a table of 2 ^ log slots for keys of so many bits. A tag that is not 0 has a reprobe number and a
 -- remainder that fits; a key stands behind places that are all taken, and that are not its slot; no two slots give one
