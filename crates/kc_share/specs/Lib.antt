@@ -1,0 +1,4 @@
+pub mod Entries
+pub mod Share
+pub mod Sheet
+pub mod Rule

@@ -1,0 +1,1 @@
+//! What stands behind a stripe's lock.

@@ -1,0 +1,16 @@
+//! Shares that add up: what several threads booked into stripes behind locks, taken together, is what the stripes'
+//! journals have, for every order of the threads' steps.
+//!
+//! A sheet knows nothing of locks and tables. It gives a keeper for each stripe, which its user puts behind that stripe's
+//! lock, and shares, one for each who books. Booking is `OpenSheet::note`, with the share and the keeper both in hand.
+#![tactic(auto)]
+
+mod books;
+mod entry;
+mod keeper;
+mod rule;
+mod share;
+mod sheet;
+
+pub use crate::books::Books;
+pub use crate::entry::{Booking, Entry, KeptStripe, Plan};
