@@ -1,0 +1,4 @@
+pub mod Lists
+pub mod Permutations
+pub mod Sums
+pub mod Walks
