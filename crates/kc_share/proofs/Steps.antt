@@ -1,6 +1,7 @@
 -- Each atomic step keeps the rule, and what the rule tells.
 use Rattle.std.proofs.Common.{◌≡◌, ◌≢◌, ℕ, zero, suc, ◌+◌, ◌-◌, ◌^◌, ◌<◌, ◌≤◌, List, [], ◌∷◌, ◌++◌, length, map, filter, take, drop, set, Bool, true, false, cond, eqb, eqb-true, append-nil, refl, sym, ap, ◌∙◌, subst, ⊎_elim, arith, sum_by, count_by}
-use Rattle.std.specs.Prelude.{slice_index}
+use Rattle.std.specs.Prelude.{slice_index, replicate}
+use Rattle.std.proofs.lemmas.List.{get_or-replicate}
 use mathlib.Core.Option.{none, some, some-ne-none, some-injective}
 use lib.ListN.{get_elem?}
 use Rattle.atomic_table.specs.Table.{Me, Act, keeps as no_act, carried_after, Allows, Splits, Joins, Valid, stepped, step, opening}
@@ -14,8 +15,8 @@ use Rattle.kc_share.specs.declared.entry.Plan.{Plan}
 use Rattle.kc_share.specs.declared.entry.KeptStripe.{KeptStripe}
 use Rattle.kc_share.specs.declared.entry.View.{View}
 use Rattle.kc_share.specs.Entries.{booking_of, booked_in, words_of}
-use Rattle.kc_share.specs.Share.{kept, with_entry}
-use Rattle.kc_share.specs.Rule.{kept_for, Fits, IsSheet, Kept, view_of, empty_stripes, first_view, part_less, one_part, without_first, first_alone, blank, joined, Known, Looked, noted_in, noted, Booked}
+use Rattle.kc_share.specs.Share.{kept, with_entry, words_in, entries_in, TellEach}
+use Rattle.kc_share.specs.Rule.{kept_for, Fits, IsSheet, Kept, view_of, empty_stripes, first_view, part_less, one_part, without_first, first_alone, no_plan, keeper_view, share_view, blank, joined, Known, Looked, noted_in, noted, Booked}
 use Rattle.kc_share.proofs.Views.{booked_in-append, kept_for-append, booked_weight, kept_weight, blank_booked, keeps, words, Weighed, weighed, is_sheet, fits_set, HaveTheSame, splits, joins, journal_is, rest_is_idle}
 
 -- ---- the rule at the start
@@ -234,3 +235,35 @@ books {S} plan slots id me it entry keeps_it some_part few_words few_entries s (
     let P : List ℕ → Type 0 = λ ws. slice_index ws 0 < 18446744073709551616 → (u : View) × (a : Act S) × Valid s.homes me.1 a × Kept plan (stepped record { words = ws; homes = s.homes; views = s.views } 0 (slice_index ws 0) id me.1 u a) × Booked entry (step slots 0 0 0 none) me (slice_index ws 0) (u, carried_after me.1 a) in
     let now = subst (λ u. Weighed plan (set s.views id u)) (noted_is me.0 it entry keeps_it) (noted_on id me.0 it entry (weighed sheet) at keeps_it some_part few_words few_entries) in
     subst P (sym is) (λ small. (noted entry me.0, no_act, tt, (refl, is_sheet now), (refl, known id (noted entry me.0) now (at_set_here s.views id me.0 (noted entry me.0) at) (omega arith)))) fits
+
+-- ---- the views of keepers and shares
+
+-- the stripes that are left, with the first one before them
+pub one_left : (next stripes : ℕ) → next < stripes → empty_stripes next (stripes - next) ≡ kept next [] ∷ empty_stripes (next + 1) (stripes - (next + 1))
+one_left next stripes more =
+    let count : stripes - next ≡ suc (stripes - (next + 1)) = omega arith in
+    ap (empty_stripes next) count
+
+pub none_left : (stripes : ℕ) → empty_stripes stripes (stripes - stripes) ≡ []
+none_left stripes =
+    let count : stripes - stripes ≡ 0 = omega arith in
+    ap (empty_stripes stripes) count
+
+module _ {S : Type 0} (plan : Plan) (next : ℕ) (me : Me S View) (is : me ≡ (view_of plan plan.parts [] (empty_stripes next (plan.stripes - next)), [])) (more : next < plan.stripes) where
+  pub others_left : ◌≡◌ {A = Me S View} (without_first me.0, me.1) (view_of plan plan.parts [] (empty_stripes (next + 1) (plan.stripes - (next + 1))), [])
+  others_left = ap {B = Me S View} (λ (m : Me S View). (without_first m.0, m.1)) is ∙ ap {B = Me S View} (λ them. (view_of plan plan.parts [] (drop 1 them), [])) (one_left next plan.stripes more)
+
+  pub next_alone : ◌≡◌ {A = Me S View} (first_alone me.0, []) (keeper_view (kept next []), [])
+  next_alone = ap {B = Me S View} (λ (m : Me S View). (first_alone m.0, [])) is ∙ ap {B = Me S View} (λ them. (view_of no_plan 0 [] (take 1 them), [])) (one_left next plan.stripes more)
+
+zeros : (stripe : ℕ) (numbers : List ℕ) → numbers ≡ replicate 64 0 → stripe < 64 → slice_index numbers stripe ≡ 0
+zeros stripe numbers is small = ap (λ xs. slice_index xs stripe) is ∙ get_or-replicate 64 stripe 0 0 small
+
+-- a share that has booked nothing
+pub no_words : (numbers : List ℕ) (booked : List Booking) → booked ≡ [] → numbers ≡ replicate 64 0 → TellEach (λ stripe. words_in stripe booked) numbers
+unfolding booked_in
+no_words numbers booked fresh is stripe small = zeros stripe numbers is small ∙ sym (ap (λ xs. words_in stripe xs) fresh)
+
+pub no_entries : (numbers : List ℕ) (booked : List Booking) → booked ≡ [] → numbers ≡ replicate 64 0 → TellEach (λ stripe. entries_in stripe booked) numbers
+unfolding booked_in
+no_entries numbers booked fresh is stripe small = zeros stripe numbers is small ∙ sym (ap (λ xs. entries_in stripe xs) fresh)

@@ -1,5 +1,5 @@
 -- A share, and what is kept behind a stripe's lock, as callers see them. They are this project's own.
-use Rattle.std.specs.Prelude.{ℕ, ◌-◌, ◌+◌, List, [], ◌∷◌, ◌++◌, length}
+use Rattle.std.specs.Prelude.{◌≡◌, ℕ, ◌-◌, ◌+◌, ◌<◌, List, [], ◌∷◌, ◌++◌, length, slice_index}
 use Rattle.kc_share.specs.declared.entry.Entry.{Entry}
 use Rattle.kc_share.specs.declared.entry.Booking.{Booking}
 use Rattle.kc_share.specs.declared.entry.Plan.{Plan}
@@ -44,3 +44,12 @@ new_part share = held share.plan 1 []
 -- two shares together
 abbrev pub together : Held → Held → Held
 together share other = held share.plan (share.parts + other.parts) (share.booked ++ other.booked)
+
+-- the first of some kept stripes
+abbrev pub first_of : List KeptStripe → KeptStripe
+first_of [] = kept 0 []
+first_of (it ∷ more) = it
+
+-- numbers that stand for the stripes below 64 tell this of each
+abbrev pub TellEach : (ℕ → ℕ) → List ℕ → Type 0
+TellEach tell numbers = (stripe : ℕ) → stripe < 64 → slice_index numbers stripe ≡ tell stripe

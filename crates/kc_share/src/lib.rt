@@ -14,3 +14,6 @@ mod sheet;
 
 pub use crate::books::Books;
 pub use crate::entry::{Booking, Entry, KeptStripe, Plan};
+pub use crate::keeper::Keeper;
+pub use crate::share::Share;
+pub use crate::sheet::{OpenSheet, Opening, Sheet};
