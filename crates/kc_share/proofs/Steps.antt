@@ -159,7 +159,7 @@ looks {S} plan slots id me s (is, sheet) long at fits =
 -- ---- a booking
 
 -- the view that keeps this one stripe, with an entry more on both sides
-pub noted_one : View → KeptStripe → Entry → View
+unfoldable pub noted_one : View → KeptStripe → Entry → View
 noted_one v it entry = view_of v.plan v.parts (v.booked ++ booking_of it.stripe entry ∷ []) (with_entry it entry ∷ [])
 
 one_booked : (stripe : ℕ) (h : Entry → ℕ) (it : KeptStripe) (entry : Entry) → sum_by h (booked_in stripe (booking_of it.stripe entry ∷ [])) ≡ cond (eqb it.stripe stripe) (h entry) 0

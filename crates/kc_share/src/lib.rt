@@ -5,6 +5,7 @@
 //! lock, and shares, one for each who books. Booking is `OpenSheet::note`, with the share and the keeper both in hand.
 #![tactic(auto)]
 
+mod booking;
 mod books;
 mod entry;
 mod keeper;

@@ -17,7 +17,7 @@ pub struct Share<N: Books> {
     pub(crate) parts: u64,
     pub(crate) words: [u64; 64],
     pub(crate) entries: [u64; 64],
-    name: PhantomData<N>,
+    pub(crate) name: PhantomData<N>,
 }
 
 impl<N: Books> Model for Share<N> {
