@@ -1,3 +1,4 @@
+pub mod Distinct
 pub mod Lists
 pub mod Permutations
 pub mod Sums

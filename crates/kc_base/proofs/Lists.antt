@@ -186,6 +186,7 @@ Contains-filter {X} p (y ∷ ys) x passes stands = ⊎_elim
     kept : (b : Bool) → Contains (filter p ys) x → Contains (cond b (y ∷ filter p ys) (filter p ys)) x
     kept true later = Contains-cons (filter p ys) x y later
     kept false later = later
+
     first : (b : Bool) → b ≡ true → y ≡ x → Contains (cond b (y ∷ filter p ys) (filter p ys)) x
     first true is here = (0, omega arith, here)
     first false is here = absurd (cc)

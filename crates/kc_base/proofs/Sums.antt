@@ -1,11 +1,13 @@
 -- Sums and counts of lists, whatever the lists hold and however their elements weigh. A count is a sum of ones and zeros: what is said of `sum_by` holds of `count_by`.
-use Rattle.std.proofs.Common.{◌≡◌, ℕ, zero, suc, ◌+◌, ◌<◌, ◌≤◌, List, [], ◌∷◌, ◌++◌, length, get_or, map, set, Bool, true, false, cond, Option, Some, None, filter, filter_map, sum_by, count_by, All, Contains, refl, sym, ap, ◌∙◌, ⊎_elim, arith}
+use Rattle.std.proofs.Common.{◌≡◌, ℕ, zero, suc, ◌+◌, ◌<◌, ◌≤◌, List, [], ◌∷◌, length, get_or, map, set, Bool, true, false, cond, eqb, ne_eqb, ◌≢◌, Option, Some, None, filter, filter_map, sum_by, count_by, All, Contains, refl, sym, ap, ◌∙◌, ⊎_elim, arith}
 use Rattle.std.specs.List.{cons_option, flat_map, range_with_len}
 use Rattle.std.specs.Option.{option_map_or}
 use Rattle.std.proofs.lemmas.List.Elements.{All-head, All-tail}
+use Rattle.std.proofs.lemmas.Bool.Decides.{eqb_tells}
 use Rattle.std.proofs.lemmas.List.Folds.{fold-map}
 use Rattle.std.proofs.lemmas.List.FromFn.{sum_by-map-range_with_len_more}
 use Rattle.std.proofs.lemmas.List.Sums.{sum_by-cons, sum_by-append, get_or-le-sum_by}
+use Rattle.kc_base.proofs.Lists.{All-range}
 use lib.ListN.{get_elem?}
 use mathlib.Core.Option.{some, some-ne-none, some-injective}
 
@@ -120,3 +122,31 @@ sum_by-range_more f n =
 
 pub count_by-range_more : (p : ℕ → Bool) (n : ℕ) → count_by p (range_with_len 0 (n + 1)) ≡ count_by p (range_with_len 0 n) + cond (p n) 1 0
 count_by-range_more p n = sum_by-range_more (λ x. cond (p x) 1 0) n
+
+-- ---- sums of sums
+
+pub sum_by-swap : {X Y : Type 0} (f : X → Y → ℕ) (xs : List X) (ys : List Y) → sum_by (λ x. sum_by (f x) ys) xs ≡ sum_by (λ y. sum_by (λ x. f x y) xs) ys
+sum_by-swap f [] ys = sym (sum_by-zeros (λ y. 0) ys (λ k d within. refl))
+sum_by-swap f (x ∷ xs) ys =
+    sum_by-cons (λ z. sum_by (f z) ys) x xs ∙ ap (λ n. sum_by (f x) ys + n) (sum_by-swap f xs ys) ∙ sym (sum_by-plus (f x) (λ y. sum_by (λ z. f z y) xs) ys)
+    ∙ sym (sum_by-same (λ y. sum_by (λ z. f z y) (x ∷ xs)) (λ y. f x y + sum_by (λ z. f z y) xs) ys (λ k d within. sum_by-cons (λ z. f z (get_or ys k d)) x xs))
+
+-- one place below n weighs
+sum_by-one_place : (v place n : ℕ) → place < n → sum_by (λ i. cond (eqb place i) v 0) (range_with_len 0 n) ≡ v
+sum_by-one_place v place zero within = absurd (omega arith)
+sum_by-one_place v place (suc n) within =
+    let one_more : suc n ≡ n + 1 = omega arith in
+    ap (λ m. sum_by (λ i. cond (eqb place i) v 0) (range_with_len 0 m)) one_more ∙ sum_by-range_more (λ i. cond (eqb place i) v 0) n ∙ ⊎_elim
+    (λ (here : (eqb place n ≡ true) × (place ≡ n)). omega (arith, ap (λ b. cond b v 0) here.0, before here.1))
+    (λ (apart : (eqb place n ≡ false) × (place ≢ n)). omega (arith, ap (λ b. cond b v 0) apart.0, sum_by-one_place v place n (omega (arith, apart.1))))
+    (eqb_tells place n)
+  where
+    before : place ≡ n → sum_by (λ i. cond (eqb place i) v 0) (range_with_len 0 n) ≡ 0
+    before is = sum_by-zeros (λ i. cond (eqb place i) v 0) (range_with_len 0 n) (All-range (λ i. cond (eqb place i) v 0 ≡ 0) 0 n (λ i low high. ap (λ b. cond b v 0) (ne_eqb place i (λ same. omega arith))))
+
+-- a list that is dealt out to n parts weighs what its parts weigh together
+pub sum_by-parts : {X : Type 0} (f part : X → ℕ) (n : ℕ) (xs : List X) → All (λ x. part x < n) xs → sum_by (λ i. sum_by f (filter (λ x. eqb (part x) i) xs)) (range_with_len 0 n) ≡ sum_by f xs
+sum_by-parts f part n xs below =
+    sum_by-same (λ i. sum_by f (filter (λ x. eqb (part x) i) xs)) (λ i. sum_by (λ x. cond (eqb (part x) i) (f x) 0) xs) (range_with_len 0 n) (λ k d within. sum_by-filter f (λ x. eqb (part x) (get_or (range_with_len 0 n) k d)) xs)
+    ∙ sum_by-swap (λ i x. cond (eqb (part x) i) (f x) 0) (range_with_len 0 n) xs
+    ∙ sum_by-same (λ x. sum_by (λ i. cond (eqb (part x) i) (f x) 0) (range_with_len 0 n)) f xs (λ k d within. sum_by-one_place (f (get_or xs k d)) (part (get_or xs k d)) n (below k d within))

@@ -4,3 +4,6 @@
 mod counter;
 
 pub use counter::Counter;
+
+#[cfg(test)]
+mod tests;
