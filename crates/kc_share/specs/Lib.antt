@@ -2,3 +2,4 @@ pub mod Entries
 pub mod Share
 pub mod Sheet
 pub mod Rule
+pub mod Laws

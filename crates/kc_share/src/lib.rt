@@ -9,6 +9,7 @@ mod booking;
 mod books;
 mod entry;
 mod keeper;
+pub mod laws;
 mod rule;
 mod share;
 mod sheet;
@@ -18,3 +19,6 @@ pub use crate::entry::{Booking, Entry, KeptStripe, Plan};
 pub use crate::keeper::Keeper;
 pub use crate::share::Share;
 pub use crate::sheet::{OpenSheet, Opening, Sheet};
+
+#[cfg(test)]
+mod tests;

@@ -15,4 +15,4 @@ pub invariant_of-opening : goal.invariant_of-opening
 invariant_of-opening g c =
     let more : c.opening.inside.next < c.opening.inside.plan.stripes = omega (arith, ap (λ (o : Opened). o.next) c.opening.view_is, ap (λ (o : Opened). o.plan.stripes) c.opening.view_is) in
     let i = c.opening.invariant in
-    (c.split_seat-seat.ensures.0 ∙ i.0, c.split_seat-seat.ensures.2 ∙ others_left _ _ _ i.1 more, omega arith, i.3, i.4)
+    (c.split_seat-seat.ensures.0 ∙ i.0, c.split_seat-seat.ensures.2 ∙ others_left c.opening.inside.plan c.opening.inside.next c.opening.inside.seat.me i.1 more, omega arith, i.3, i.4)
