@@ -25,8 +25,10 @@ entry_tells entry other = by (same_entry entry other) refl
         let batch : entry.batch ≡ other.batch = (is_same_batch-Decides entry.batch other.batch).0 parts.0 in
         let words : entry.words ≡ other.words = eqb-true entry.words other.words parts.1 in
         λ i. record { batch = batch i; words = words i }
+
     is_same : entry ≡ other → same_entry entry other ≡ true
     is_same e = and_from _ _ ((is_same_batch-Decides entry.batch other.batch).1 (ap (λ x. x.batch) e)) (eq-eqb entry.words other.words (ap (λ x. x.words) e))
+
     by : (b : Bool) → same_entry entry other ≡ b → ((same_entry entry other ≡ true) × (entry ≡ other)) ⊎ ((same_entry entry other ≡ false) × (entry ≢ other))
     by true is = inl (is, same is)
     by false is = inr (is, λ e. absurd (let never : true ≡ false = sym (is_same e) ∙ is in cc))

@@ -50,16 +50,20 @@ both_are_kept = record {
     balanced zero h = omega arith
     balanced (suc zero) h = refl
     balanced (suc (suc n)) h = rw (ne_eqb 0 (suc (suc n)) (λ e. omega arith), ne_eqb 1 (suc (suc n)) (λ e. omega arith)) refl
+
     one_keeper : (stripe : ℕ) → keepers stripe (views (five ∷ three ∷ [])) ≤ 1
     one_keeper zero = omega arith
     one_keeper (suc zero) = omega arith
     one_keeper (suc (suc n)) = rw (ne_eqb 0 (suc (suc n)) (λ e. omega arith), ne_eqb 1 (suc (suc n)) (λ e. omega arith)) (omega arith)
+
     words_fit : (stripe : ℕ) → words_of (all_booked stripe (views (five ∷ three ∷ []))) < 2 ^ 64
     words_fit zero = omega arith
     words_fit (suc n) = rw (ne_eqb 0 (suc n) (λ e. omega arith)) (omega arith)
+
     entries_fit : (stripe : ℕ) → length (all_booked stripe (views (five ∷ three ∷ []))) < 2 ^ 64
     entries_fit zero = omega arith
     entries_fit (suc n) = rw (ne_eqb 0 (suc n) (λ e. omega arith)) (omega arith)
+
     fits : (k : ℕ) (view : View) → get_elem? (views (five ∷ three ∷ [])) k ≡ some view → Fits plan view
     fits zero view at = subst (Fits plan) (some-injective _ _ at) (record { has_plan = λ _. refl; idle = λ light. absurd (omega arith) })
     fits (suc zero) view at = subst (Fits plan) (some-injective _ _ at) (record { has_plan = λ _. refl; idle = λ light. absurd (omega arith) })

@@ -77,8 +77,7 @@ begins plan = (
 pub part_goes : {S : Type 0} (plan : Plan) (id : ℕ) (v : View) → 1 < v.parts → Splits {S = S} (Kept plan) id v (part_less v) (one_part v)
 part_goes plan id v more s (is, sheet) at =
     let mine = sheet.fits id v at in
-    let same = mine.has_plan (omega arith) in
-    (
+    let same = mine.has_plan (omega arith) in (
       is,
       is_sheet (splits id v (part_less v) (one_part v) (weighed sheet) at
           (record { parts = omega arith; booked = λ stripe h. refl; journals = λ stripe h. refl; kept = λ stripe. refl })

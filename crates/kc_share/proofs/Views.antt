@@ -156,6 +156,7 @@ none_kept stripe h (it ∷ more) none = by (eqb it.stripe stripe) refl (none_kep
   where
     count : count_by (λ k. eqb k.stripe stripe) (it ∷ more) ≡ cond (eqb it.stripe stripe) 1 0 + count_by (λ k. eqb k.stripe stripe) more
     count = sum_by-cons (λ (k : KeptStripe). cond (eqb k.stripe stripe) 1 0) it more
+
     by : (b : Bool) → b ≡ eqb it.stripe stripe → (count_by (λ k. eqb k.stripe stripe) more ≡ 0 → sum_by h (flat_map (λ (k : KeptStripe). cond (eqb k.stripe stripe) k.journal []) more) ≡ 0)
         → sum_by h (cond b it.journal [] ++ flat_map (λ (k : KeptStripe). cond (eqb k.stripe stripe) k.journal []) more) ≡ 0
     by true is rest = absurd (omega (arith, none, count, counts_one (eqb it.stripe stripe) is))

@@ -83,24 +83,20 @@ fn batches(alloc: Global) -> Result<Vec<Arc<Batch>>, Fail> {
     Ok(cut(alloc, pieces, k, 1)?)
 }
 
-// Books a batch at each place, with one word more than its number says, and says at how many it did.
+// Books a batch at each place, with one word more than its number says.
 fn book_everywhere<N: Books, R: Wait>(
     rt: &R,
     sheet: &OpenSheet<N>,
     places: &[Mutex<Place<N>>],
     share: &mut Share<N>,
     batch: &Batch,
-) -> u64
+)
     ensures { (share.new.parts ≡ share.old.parts) × (share.new.plan ≡ share.old.plan) }
 {
-    let mut booked = 0;
     for place in places {
         let words = batch.number() % 64 + 1;
-        if place.lock(rt).book(sheet, share, batch, words) {
-            booked += 1;
-        }
+        place.lock(rt).book(sheet, share, batch, words);
     }
-    booked
 }
 
 // Books all batches everywhere.
@@ -134,4 +130,77 @@ fn places_of<N: Books>(
     }
     let share = sheet.first_share(opening);
     Ok((sheet, places, share))
+}
+
+// Two threads, with a share of one part each, book half of the batches each, everywhere. Then the shares are joined, and
+// each place is settled: what its journal has, and what the whole share has.
+fn book_by_two<N: Books + Send + Sync, R: Threads + Wait + Sync>(
+    rt: &R,
+    alloc: Global,
+    sheet: Sheet,
+    batches: &[Arc<Batch>],
+) -> Result<Vec<((u64, u64), (u64, u64))>, AllocError>
+    requires name { sheet.table ≡ N.table }
+    requires plan { (sheet.plan.stripes ≡ 2) × (sheet.plan.parts ≡ 2) }
+{
+    let (sheet, places, mut one) = places_of::<N>(alloc, sheet)?;
+    let other = sheet.split(&mut one);
+    let (first, second) = batches.split_at(batches.len() / 2);
+    let (mut whole, other) = book_halves(
+        rt,
+        &sheet,
+        places.as_slice(),
+        (one, other),
+        (first, second),
+    );
+    sheet.join(&mut whole, other);
+    let mut sums = Vec::new(alloc);
+    for place in places {
+        let mut place = place.into_inner();
+        let stripe = place.keeper.stripe();
+        let kept = place.settle(&sheet, &mut whole);
+        if stripe < 2 {
+            sums.push((kept, (whole.words(stripe), whole.entries(stripe))))?;
+        }
+    }
+    Ok(sums)
+}
+
+// Each share books its half of the batches in a thread of its own.
+fn book_halves<N: Books + Send + Sync, R: Threads + Wait + Sync>(
+    rt: &R,
+    sheet: &OpenSheet<N>,
+    places: &[Mutex<Place<N>>],
+    shares: (Share<N>, Share<N>),
+    halves: (&[Arc<Batch>], &[Arc<Batch>]),
+) -> (Share<N>, Share<N>)
+    ensures first { (result.0.parts ≡ shares.0.parts) × (result.0.plan ≡ shares.0.plan) }
+    ensures second { (result.1.parts ≡ shares.1.parts) × (result.1.plan ≡ shares.1.plan) }
+{
+    let (one, other) = shares;
+    let (first, second) = halves;
+    join(
+        rt,
+        move || -> Share<N>
+            ensures { (result.parts ≡ one.parts) × (result.plan ≡ one.plan) }
+        { book_all(rt, sheet, places, one, first) },
+        move || -> Share<N>
+            ensures { (result.parts ≡ other.parts) × (result.plan ≡ other.plan) }
+        { book_all(rt, sheet, places, other, second) },
+    )
+}
+
+#[test]
+fn what_two_threads_booked_is_what_the_journals_have(rt: HostRuntime) -> Result<(), Fail> {
+    let alloc = rt.alloc();
+    let batches = batches(alloc)?;
+    assert_eq!(rt; batches.len(), 8);
+    let sheet = Sheet::new(alloc, 2, 2)?;
+    let sums = book_by_two::<Brand, _>(&rt, alloc, sheet, batches.as_slice())?;
+    // Words 1 to 8 add up to 36.
+    for sum in &sums {
+        assert_eq!(rt; *sum, ((36, 8), (36, 8)));
+    }
+    assert_eq!(rt; sums.len(), 2);
+    Ok(())
 }

@@ -28,8 +28,7 @@ pub invariant_of-share : goal.invariant_of-share
 invariant_of-share g c =
     let share = c.share.invariant in
     let other = c.other.invariant in
-    let looked = both_looked c.share.inside.seat.me.0 c.other.inside.seat.me.0 c.join_seat.new.seat.me c.load.new.seat.me share.1 c.join_seat.ensures.2 c.load.ensures.2 in
-    (
+    let looked = both_looked c.share.inside.seat.me.0 c.other.inside.seat.me.0 c.join_seat.new.seat.me c.load.new.seat.me share.1 c.join_seat.ensures.2 c.load.ensures.2 in (
       c.load.ensures.0 ∙ c.join_seat.ensures.0 ∙ share.0,
       ap (λ m. m.1) looked,
       ap (λ m. m.0.kept) looked ∙ ap (λ them. them ++ c.other.inside.seat.me.0.kept) share.2 ∙ other.2,

@@ -41,8 +41,7 @@ invariant_of-share g c =
     let keeper = c.keeper.invariant in
     let left = booking_leaves _ _ _ _ share.2 (ap (λ m. m.0) keeper.1) c.take_in.ensures.share.1 _ _ _ _ c.load.ensures.2 c.give_back.ensures.share.1 c.give_back.ensures.keeper.1 in
     let words = words_told c.share.inside.seat.me.0 (first_of c.keeper.inside.seat.me.0.kept) g.E.Event.entry c.share.inside.words c.keeper.inside.stripe c.share.told.0 keeper.2 keeper.3 c.args.words (sym (ap (λ (e : Entry). e.words) c.requires.entry)) share.6 in
-    let entries = entries_told c.share.inside.seat.me.0 (first_of c.keeper.inside.seat.me.0.kept) g.E.Event.entry c.share.inside.entries c.keeper.inside.stripe c.share.told.1 keeper.2 keeper.3 share.7 in
-    (
+    let entries = entries_told c.share.inside.seat.me.0 (first_of c.keeper.inside.seat.me.0.kept) g.E.Event.entry c.share.inside.entries c.keeper.inside.stripe c.share.told.1 keeper.2 keeper.3 share.7 in (
       c.give_back.ensures.share.0,
       ap (λ m. m.1) left,
       ap (λ m. m.0.kept) left,

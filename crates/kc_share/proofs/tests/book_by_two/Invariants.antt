@@ -1,0 +1,5 @@
+use Rattle.std.proofs.Common.{◌≡◌}
+use Rattle.kc_share.proofs.tests.book_by_two.Given as goal
+
+abbrev pub invariant-loop-place : goal.invariant-loop-place
+invariant-loop-place g l = (l.whole.parts ≡ 2) × (l.whole.plan ≡ l.fn.sheet.plan)
