@@ -1,9 +1,8 @@
 //! Shares of one sheet, in one thread and in two.
-ghost use Rattle.std.specs.Prelude.{◌≡◌, ◌<◌, ◌≤◌, ◌^◌, [], length, IfOk, IfSome, MatchBool};
+ghost use Rattle.std.specs.Prelude.{◌≡◌, ◌<◌, ◌≤◌, ◌^◌, [], length, All, IfOk, IfSome, MatchBool};
 ghost use Rattle.kc_share.specs.Entries.{entry_of, words_of};
 ghost use Rattle.kc_share.specs.Share.{words_in, entries_in, with_booking};
 
-use crate::laws::{among_is_there, same_in_some_order, sheets_add_up};
 use crate::{Books, Keeper, OpenSheet, Share, Sheet};
 use kc_fastx::SeqRead;
 use kc_word::{Batch, K, Rule, clean, cut};
@@ -142,6 +141,7 @@ fn book_by_two<N: Books + Send + Sync, R: Threads + Wait + Sync>(
 ) -> Result<Vec<((u64, u64), (u64, u64))>, AllocError>
     requires name { sheet.table ≡ N.table }
     requires plan { (sheet.plan.stripes ≡ 2) × (sheet.plan.parts ≡ 2) }
+    ensures { IfOk result (λ sums. All (λ sum. sum.0 ≡ sum.1) sums.items) }
 {
     let (sheet, places, mut one) = places_of::<N>(alloc, sheet)?;
     let other = sheet.split(&mut one);
@@ -202,5 +202,49 @@ fn what_two_threads_booked_is_what_the_journals_have(rt: HostRuntime) -> Result<
         assert_eq!(rt; *sum, ((36, 8), (36, 8)));
     }
     assert_eq!(rt; sums.len(), 2);
+    Ok(())
+}
+
+// Of a share of three parts one is split off. The share books 5 words into stripe 1, the other 7 words into stripe 0, and
+// the shares are joined.
+fn book_by_hand<N: Books>(sheet: Sheet, batch: &Batch) -> [[u64; 5]; 3]
+    requires name { sheet.table ≡ N.table }
+    requires plan { (sheet.plan.stripes ≡ 2) × (sheet.plan.parts ≡ 3) }
+{
+    let (sheet, mut opening) = sheet.open::<N>();
+    let mut zeroth = sheet.next_keeper(&mut opening);
+    let mut first = sheet.next_keeper(&mut opening);
+    let mut share = sheet.first_share(opening);
+    let mut other = sheet.split(&mut share);
+    sheet.note(&mut share, &mut first, batch, 5);
+    sheet.note(&mut other, &mut zeroth, batch, 7);
+    let apart = [numbers_of(&share), numbers_of(&other)];
+    sheet.join(&mut share, other);
+    [apart[0], apart[1], numbers_of(&share)]
+}
+
+// The words and the entries in the stripes 0 and 1, and the parts.
+fn numbers_of<N: Books>(share: &Share<N>) -> [u64; 5]
+    requires { 2 ≤ share.now.plan.stripes }
+{
+    [
+        share.words(0),
+        share.words(1),
+        share.entries(0),
+        share.entries(1),
+        share.parts(),
+    ]
+}
+
+#[test]
+fn a_batch_is_booked_into_its_stripe(rt: HostRuntime) -> Result<(), Fail> {
+    let alloc = rt.alloc();
+    let batches = batches(alloc)?;
+    let first = batches.first().ok_or("no batch")?;
+    let sheet = Sheet::new(alloc, 2, 3)?;
+    let numbers = book_by_hand::<Brand>(sheet, first);
+    assert_eq!(rt; numbers[0], [0, 5, 0, 1, 2]);
+    assert_eq!(rt; numbers[1], [7, 0, 1, 0, 1]);
+    assert_eq!(rt; numbers[2], [7, 5, 1, 1, 3]);
     Ok(())
 }
