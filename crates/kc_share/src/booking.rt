@@ -39,10 +39,9 @@ impl<N: Books> OpenSheet<N> {
             entries,
             name: _,
         } = other;
-        self.table
-            .shared
-            .join_seat::<Together>(&mut share.seat, seat);
-        self.table.shared.load::<Look>(&mut share.seat, PARTS);
+        let shared = &self.table.shared;
+        shared.join_seat::<Together>(&mut share.seat, seat);
+        shared.load::<Look>(&mut share.seat, PARTS);
         share.parts += parts;
         add_each(&mut share.words, &words);
         add_each(&mut share.entries, &entries);
