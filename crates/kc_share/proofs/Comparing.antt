@@ -1,16 +1,15 @@
 -- Entries that are compared by what they weigh.
-use Rattle.std.proofs.Common.{◌≡◌, ◌≢◌, ℕ, ◌<◌, ◌≤◌, ◌⊎◌, inl, inr, List, [], length, get_or, Bool, true, false, cond, ◌&&◌, eqb, eqb-true, eq-eqb, refl, sym, ap, ◌∙◌, arith, count_by, sum_by, Contains}
-use Rattle.std.specs.List.Sorted.{IsPermutation}
+use Rattle.std.proofs.Common.{◌≡◌, ◌≢◌, ℕ, ◌⊎◌, inl, inr, List, Bool, true, false, cond, ◌&&◌, eqb, eqb-true, eq-eqb, refl, sym, ap, ◌∙◌, arith, Contains}
 use Rattle.std.proofs.lemmas.Bool.{and_parts, and_from}
 use Rattle.kc_base.proofs.Sums.{sum_by-ones, term-le-sum_by}
 use Rattle.kc_base.proofs.Permutations.{IsPermutation-from_weights}
 use Rattle.kc_base.proofs.Distinct.{Contains-from_times, equal_same}
-use Rattle.kc_word.specs.Cutting.{NumberedPieces, is_same_batch}
+use Rattle.kc_word.specs.Cutting.{is_same_batch}
 use Rattle.kc_word.specs.Sameness.{is_same_batch-Decides}
 use Rattle.kc_share.specs.declared.entry.Entry.{Entry}
-use Rattle.kc_share.specs.Entries.{words_of, AreSame, AreAmong}
+use Rattle.kc_share.specs.Entries.{AreAmong}
 use Rattle.kc_share.specs.Laws.{AddsUp, SameInSomeOrder, AmongIsThere}
-use Rattle.kc_share.specs.Rule.{all_booked, all_kept, IsSheet}
+use Rattle.kc_share.specs.Rule.{booked_entries, kept_entries}
 
 same_entry : Entry → Entry → Bool
 same_entry entry other = is_same_batch entry.batch other.batch && eqb entry.words other.words
@@ -52,6 +51,6 @@ among_is_there entries others among = (
 pub adds_up : AddsUp
 adds_up plan views stripe sheet = (
   sheet.balanced stripe (λ entry. entry.words),
-  sym (sum_by-ones (all_booked stripe views)) ∙ sheet.balanced stripe (λ _. 1) ∙ sum_by-ones (all_kept stripe views),
+  sym (sum_by-ones (booked_entries stripe views)) ∙ sheet.balanced stripe (λ _. 1) ∙ sum_by-ones (kept_entries stripe views),
   λ batch. sheet.balanced stripe (λ entry. cond (is_same_batch entry.batch batch) 1 0),
 )

@@ -8,10 +8,10 @@ use Rattle.kc_word.specs.Cutting.{is_same_batch}
 use Rattle.kc_share.specs.declared.entry.Entry.{Entry}
 use Rattle.kc_share.specs.declared.entry.Plan.{Plan}
 use Rattle.kc_share.specs.declared.entry.View.{View}
-use Rattle.kc_share.specs.Entries.{entry_of, booking_of, booked_in, words_of}
-use Rattle.kc_share.specs.Share.{kept, held, words_in, entries_in}
+use Rattle.kc_share.specs.Entries.{entry_of, booking_of, entries_in, word_total}
+use Rattle.kc_share.specs.Share.{kept_stripe, share_of, word_total_in, entry_total_in}
 use Rattle.kc_share.specs.Sheet.{plan_of}
-use Rattle.kc_share.specs.Rule.{kept_for, all_booked, all_kept, keepers, Fits, IsSheet, share_view, keeper_view}
+use Rattle.kc_share.specs.Rule.{journal_for, booked_entries, kept_entries, keeper_count, IsViewOf, IsSheet, share_view, keeper_view}
 
 plan : Plan
 plan = plan_of 2 2
@@ -29,14 +29,14 @@ another = entry_of (record { number = 1; pieces = (71 ∷ 71 ∷ 71 ∷ 71 ∷ 7
 
 views : List Entry → List View
 views journal =
-    share_view (held plan 1 (booking_of 0 three ∷ []))
-    ∷ share_view (held plan 1 (booking_of 0 five ∷ []))
-    ∷ keeper_view (kept 0 journal)
-    ∷ keeper_view (kept 1 [])
+    share_view (share_of plan 1 (booking_of 0 three ∷ []))
+    ∷ share_view (share_of plan 1 (booking_of 0 five ∷ []))
+    ∷ keeper_view (kept_stripe 0 journal)
+    ∷ keeper_view (kept_stripe 1 [])
     ∷ []
 
 both_are_kept : IsSheet plan (views (five ∷ three ∷ []))
-unfolding plan three five views booked_in kept_for all_booked all_kept keepers
+unfolding plan three five views entries_in journal_for booked_entries kept_entries keeper_count
 both_are_kept = record {
   shared_out = refl;
   balanced = balanced;
@@ -46,49 +46,49 @@ both_are_kept = record {
   fits = fits;
 }
   where
-    balanced : (stripe : ℕ) (h : Entry → ℕ) → sum_by h (all_booked stripe (views (five ∷ three ∷ []))) ≡ sum_by h (all_kept stripe (views (five ∷ three ∷ [])))
+    balanced : (stripe : ℕ) (h : Entry → ℕ) → sum_by h (booked_entries stripe (views (five ∷ three ∷ []))) ≡ sum_by h (kept_entries stripe (views (five ∷ three ∷ [])))
     balanced zero h = omega arith
     balanced (suc zero) h = refl
     balanced (suc (suc n)) h = rw (ne_eqb 0 (suc (suc n)) (λ e. omega arith), ne_eqb 1 (suc (suc n)) (λ e. omega arith)) refl
 
-    one_keeper : (stripe : ℕ) → keepers stripe (views (five ∷ three ∷ [])) ≤ 1
+    one_keeper : (stripe : ℕ) → keeper_count stripe (views (five ∷ three ∷ [])) ≤ 1
     one_keeper zero = omega arith
     one_keeper (suc zero) = omega arith
     one_keeper (suc (suc n)) = rw (ne_eqb 0 (suc (suc n)) (λ e. omega arith), ne_eqb 1 (suc (suc n)) (λ e. omega arith)) (omega arith)
 
-    words_fit : (stripe : ℕ) → words_of (all_booked stripe (views (five ∷ three ∷ []))) < 2 ^ 64
+    words_fit : (stripe : ℕ) → word_total (booked_entries stripe (views (five ∷ three ∷ []))) < 2 ^ 64
     words_fit zero = omega arith
     words_fit (suc n) = rw (ne_eqb 0 (suc n) (λ e. omega arith)) (omega arith)
 
-    entries_fit : (stripe : ℕ) → length (all_booked stripe (views (five ∷ three ∷ []))) < 2 ^ 64
+    entries_fit : (stripe : ℕ) → length (booked_entries stripe (views (five ∷ three ∷ []))) < 2 ^ 64
     entries_fit zero = omega arith
     entries_fit (suc n) = rw (ne_eqb 0 (suc n) (λ e. omega arith)) (omega arith)
 
-    fits : (k : ℕ) (view : View) → get_elem? (views (five ∷ three ∷ [])) k ≡ some view → Fits plan view
-    fits zero view at = subst (Fits plan) (some-injective _ _ at) (record { has_plan = λ _. refl; idle = λ light. absurd (omega arith) })
-    fits (suc zero) view at = subst (Fits plan) (some-injective _ _ at) (record { has_plan = λ _. refl; idle = λ light. absurd (omega arith) })
-    fits (suc (suc zero)) view at = subst (Fits plan) (some-injective _ _ at) (record { has_plan = λ heavy. absurd (omega arith); idle = λ _. refl })
-    fits (suc (suc (suc zero))) view at = subst (Fits plan) (some-injective _ _ at) (record { has_plan = λ heavy. absurd (omega arith); idle = λ _. refl })
+    fits : (k : ℕ) (view : View) → get_elem? (views (five ∷ three ∷ [])) k ≡ some view → IsViewOf plan view
+    fits zero view at = subst (IsViewOf plan) (some-injective _ _ at) (record { has_plan = λ _. refl; idle = λ light. absurd (omega arith) })
+    fits (suc zero) view at = subst (IsViewOf plan) (some-injective _ _ at) (record { has_plan = λ _. refl; idle = λ light. absurd (omega arith) })
+    fits (suc (suc zero)) view at = subst (IsViewOf plan) (some-injective _ _ at) (record { has_plan = λ heavy. absurd (omega arith); idle = λ _. refl })
+    fits (suc (suc (suc zero))) view at = subst (IsViewOf plan) (some-injective _ _ at) (record { has_plan = λ heavy. absurd (omega arith); idle = λ _. refl })
     fits (suc (suc (suc (suc k)))) view at = absurd (some-ne-none view (sym at))
 
 -- a journal that lacks one, that has one twice, or that has another batch under the number, is of no such sheet
 one_is_lost : ¬ IsSheet plan (views (three ∷ []))
-unfolding plan three five views booked_in kept_for all_booked all_kept
+unfolding plan three five views entries_in journal_for booked_entries kept_entries
 one_is_lost sheet = let counts : ◌≡◌ {A = ℕ} 2 1 = sheet.balanced 0 (λ _. 1) in absurd (omega arith)
 
 one_is_doubled : ¬ IsSheet plan (views (five ∷ three ∷ five ∷ []))
-unfolding plan three five views booked_in kept_for all_booked all_kept
+unfolding plan three five views entries_in journal_for booked_entries kept_entries
 one_is_doubled sheet = let counts : ◌≡◌ {A = ℕ} 2 3 = sheet.balanced 0 (λ _. 1) in absurd (omega arith)
 
 one_is_another : ¬ IsSheet plan (views (three ∷ another ∷ []))
-unfolding plan three five another views booked_in kept_for all_booked all_kept
+unfolding plan three five another views entries_in journal_for booked_entries kept_entries
 one_is_another sheet = let counts : ◌≡◌ {A = ℕ} 1 0 = sheet.balanced 0 (λ entry. cond (is_same_batch entry.batch five.batch) 1 0) in absurd (omega arith)
 
 -- the numbers of the second share
-its_words : words_in 0 (booking_of 0 five ∷ booking_of 1 three ∷ []) ≡ 5
-unfolding five three booked_in
+its_words : word_total_in 0 (booking_of 0 five ∷ booking_of 1 three ∷ []) ≡ 5
+unfolding five three entries_in
 its_words = refl
 
-its_entries : entries_in 1 (booking_of 0 five ∷ booking_of 1 three ∷ booking_of 1 five ∷ []) ≡ 2
-unfolding five three booked_in
+its_entries : entry_total_in 1 (booking_of 0 five ∷ booking_of 1 three ∷ booking_of 1 five ∷ []) ≡ 2
+unfolding five three entries_in
 its_entries = refl

@@ -1,6 +1,6 @@
 -- Batches that were booked into stripes, each with how many words it had there. A stripe's journal is a list of such
--- entries, and so is what somebody booked into it. They are this project's own.
-use Rattle.std.specs.Prelude.{◌≡◌, ℕ, ◌≤◌, ◌==◌, List, length, map, filter, sum_by}
+-- entries, and so is what was booked into it with a share. They are this project's own.
+use Rattle.std.specs.Prelude.{◌≡◌, ℕ, ◌≤◌, ◌==◌, List, map, filter, sum_by}
 use Rattle.kc_share.specs.declared.entry.Entry.{Entry}
 use Rattle.kc_share.specs.declared.entry.Booking.{Booking}
 use Rattle.kc_word.specs.Cutting.{NumberedPieces}
@@ -14,12 +14,12 @@ abbrev pub booking_of : ℕ → Entry → Booking
 booking_of stripe entry = record { stripe = stripe; entry = entry }
 
 -- of these bookings, what was booked into the stripe of this number, in order
-unfoldable pub booked_in : ℕ → List Booking → List Entry
-booked_in stripe booked = map (λ booking. booking.entry) (filter (λ booking. booking.stripe == stripe) booked)
+unfoldable pub entries_in : ℕ → List Booking → List Entry
+entries_in stripe booked = map (λ booking. booking.entry) (filter (λ booking. booking.stripe == stripe) booked)
 
 -- how many words the entries have
-abbrev pub words_of : List Entry → ℕ
-words_of entries = sum_by (λ entry. entry.words) entries
+abbrev pub word_total : List Entry → ℕ
+word_total entries = sum_by (λ entry. entry.words) entries
 
 -- The entries of both are the same, each as often: however entries are weighed, they weigh the same.
 abbrev pub AreSame : List Entry → List Entry → Type 0

@@ -1,8 +1,7 @@
--- The rule of a sheet, which holds between any two atomic steps, in whatever order threads take them, and what each step
--- does to the views. It is this project's own.
--- The sheet has one word: how many parts there are. Somebody who books has a view: the parts that are his, and what he
--- booked. Whoever stands behind the lock of a stripe has a view: the stripe's number and its journal. In the middle of a
--- booking one view has both.
+-- The rule of a sheet, which holds between any two atomic steps, in whatever order threads take them, and what each
+-- step does to the views. It is this project's own.
+-- The sheet has one word: how many parts there are. Each share has a view, its parts and what was booked with it, and
+-- so has each keeper, its stripe's number and journal. In the middle of a booking one view has what both had.
 use Rattle.std.specs.Prelude.{◌≡◌, ℕ, zero, suc, ◌+◌, ◌-◌, ◌^◌, ◌<◌, ◌≤◌, ◌==◌, List, [], ◌∷◌, ◌++◌, length, drop, take, if◌then◌else◌, sum_by, count_by}
 use Rattle.std.specs.List.{flat_map}
 use mathlib.Core.Option.{some}
@@ -13,26 +12,26 @@ use Rattle.kc_share.specs.declared.entry.Booking.{Booking}
 use Rattle.kc_share.specs.declared.entry.Plan.{Plan}
 use Rattle.kc_share.specs.declared.entry.KeptStripe.{KeptStripe}
 use Rattle.kc_share.specs.declared.entry.View.{View}
-use Rattle.kc_share.specs.Entries.{booked_in, booking_of, words_of, AreSame, AreAmong}
-use Rattle.kc_share.specs.Share.{Held, held, kept, with_entry}
+use Rattle.kc_share.specs.Entries.{entries_in, booking_of, word_total, AreSame, AreAmong}
+use Rattle.kc_share.specs.Share.{ShareSeen, kept_stripe, with_entry}
 
--- of these kept stripes, the journals of the one with this number
-unfoldable pub kept_for : ℕ → List KeptStripe → List Entry
-kept_for stripe them = flat_map (λ it. if it.stripe == stripe then it.journal else []) them
+-- of these kept stripes, the journal of the one with this number
+unfoldable pub journal_for : ℕ → List KeptStripe → List Entry
+journal_for stripe them = flat_map (λ it. if it.stripe == stripe then it.journal else []) them
 
 -- all that was booked into a stripe, and all that is kept for it, over all views
-unfoldable pub all_booked : ℕ → List View → List Entry
-all_booked stripe views = flat_map (λ view. booked_in stripe view.booked) views
+unfoldable pub booked_entries : ℕ → List View → List Entry
+booked_entries stripe views = flat_map (λ view. entries_in stripe view.booked) views
 
-unfoldable pub all_kept : ℕ → List View → List Entry
-all_kept stripe views = flat_map (λ view. kept_for stripe view.kept) views
+unfoldable pub kept_entries : ℕ → List View → List Entry
+kept_entries stripe views = flat_map (λ view. journal_for stripe view.kept) views
 
 -- how often a stripe is kept, over all views
-unfoldable pub keepers : ℕ → List View → ℕ
-keepers stripe views = sum_by (λ view. count_by (λ it. it.stripe == stripe) view.kept) views
+unfoldable pub keeper_count : ℕ → List View → ℕ
+keeper_count stripe views = sum_by (λ view. count_by (λ it. it.stripe == stripe) view.kept) views
 
 -- A view with parts has the plan of the sheet. A view without parts has booked nothing.
-pub record Fits (plan : Plan) (view : View) : Type 0 where
+pub record IsViewOf (plan : Plan) (view : View) : Type 0 where
   pub has_plan : 0 < view.parts → view.plan ≡ plan
   pub idle : view.parts ≡ 0 → view.booked ≡ []
 
@@ -40,15 +39,15 @@ pub record Fits (plan : Plan) (view : View) : Type 0 where
 -- A stripe is kept at most once. Its words and entries are below 2^64.
 pub record IsSheet (plan : Plan) (views : List View) : Type 0 where
   pub shared_out : sum_by (λ view. view.parts) views ≡ plan.parts
-  pub balanced : (stripe : ℕ) → AreSame (all_booked stripe views) (all_kept stripe views)
-  pub one_keeper : (stripe : ℕ) → keepers stripe views ≤ 1
-  pub words_fit : (stripe : ℕ) → words_of (all_booked stripe views) < 2 ^ 64
-  pub entries_fit : (stripe : ℕ) → length (all_booked stripe views) < 2 ^ 64
-  pub fits : (k : ℕ) (view : View) → get_elem? views k ≡ some view → Fits plan view
+  pub balanced : (stripe : ℕ) → AreSame (booked_entries stripe views) (kept_entries stripe views)
+  pub one_keeper : (stripe : ℕ) → keeper_count stripe views ≤ 1
+  pub words_fit : (stripe : ℕ) → word_total (booked_entries stripe views) < 2 ^ 64
+  pub entries_fit : (stripe : ℕ) → length (booked_entries stripe views) < 2 ^ 64
+  pub fits : (k : ℕ) (view : View) → get_elem? views k ≡ some view → IsViewOf plan view
 
 -- the rule: the word is the number of parts, and the views are those of a sheet
-abbrev pub Kept : {S : Type 0} → Plan → State S View → Type 0
-Kept plan s = (s.words ≡ plan.parts ∷ []) × IsSheet plan s.views
+abbrev pub IsState : {S : Type 0} → Plan → State S View → Type 0
+IsState plan s = (s.words ≡ plan.parts ∷ []) × IsSheet plan s.views
 
 abbrev pub view_of : Plan → ℕ → List Booking → List KeptStripe → View
 view_of plan parts booked them = record { plan = plan; parts = parts; booked = booked; kept = them }
@@ -59,61 +58,63 @@ no_plan = record { stripes = 0; parts = 0 }
 -- so many stripes, numbered from the first on, with empty journals
 abbrev pub empty_stripes : ℕ → ℕ → List KeptStripe
 empty_stripes first zero = []
-empty_stripes first (suc count) = kept first [] ∷ empty_stripes (first + 1) count
+empty_stripes first (suc count) = kept_stripe first [] ∷ empty_stripes (first + 1) count
 
 -- at the start one view has all parts and keeps all stripes
 abbrev pub first_view : Plan → View
 first_view plan = view_of plan plan.parts [] (empty_stripes 0 plan.stripes)
 
 -- a share's view, and the view that stands behind a stripe's lock
-abbrev pub share_view : Held → View
+abbrev pub share_view : ShareSeen → View
 share_view share = view_of share.plan share.parts share.booked []
 
 abbrev pub keeper_view : KeptStripe → View
 keeper_view it = view_of no_plan 0 [] (it ∷ [])
 
 -- Splits, each at one load: one part goes; the first of the kept stripes goes; all goes.
-abbrev pub part_less : View → View
-part_less view = view_of view.plan (view.parts - 1) view.booked view.kept
+abbrev pub view_less_part : View → View
+view_less_part view = view_of view.plan (view.parts - 1) view.booked view.kept
 
-abbrev pub one_part : View → View
-one_part view = view_of view.plan 1 [] []
+abbrev pub part_view : View → View
+part_view view = view_of view.plan 1 [] []
 
-abbrev pub without_first : View → View
-without_first view = view_of view.plan view.parts view.booked (drop 1 view.kept)
+abbrev pub view_without_first : View → View
+view_without_first view = view_of view.plan view.parts view.booked (drop 1 view.kept)
 
-abbrev pub first_alone : View → View
-first_alone view = view_of no_plan 0 [] (take 1 view.kept)
+abbrev pub first_kept_view : View → View
+first_kept_view view = view_of no_plan 0 [] (take 1 view.kept)
 
-abbrev pub blank : View
-blank = view_of no_plan 0 [] []
+abbrev pub blank_view : View
+blank_view = view_of no_plan 0 [] []
 
 -- A join, at one load: one view has what both had, and the other is blank.
-abbrev pub joined : View → View → View
-joined view other = view_of view.plan (view.parts + other.parts) (view.booked ++ other.booked) (view.kept ++ other.kept)
+abbrev pub joined_view : View → View → View
+joined_view view other =
+    view_of view.plan (view.parts + other.parts) (view.booked ++ other.booked) (view.kept ++ other.kept)
 
--- What somebody knows of his view. His parts and his sums fit. Where he stands behind the lock of a stripe, what he
--- booked into it is among its journal; and where all parts are his, it is all of the journal.
-pub record Known (view : View) : Type 0 where
+-- What is known of a view. Its parts and sums fit. Where it keeps one stripe, what it booked into that stripe is among
+-- the journal; and where it has all parts, it is all of the journal.
+pub record Knowledge (view : View) : Type 0 where
   pub parts_fit : view.parts < 2 ^ 64
-  pub words_fit : (stripe : ℕ) → words_of (booked_in stripe view.booked) < 2 ^ 64
-  pub entries_fit : (stripe : ℕ) → length (booked_in stripe view.booked) < 2 ^ 64
-  pub among : (it : KeptStripe) → view.kept ≡ it ∷ [] → AreAmong (booked_in it.stripe view.booked) it.journal
+  pub words_fit : (stripe : ℕ) → word_total (entries_in stripe view.booked) < 2 ^ 64
+  pub entries_fit : (stripe : ℕ) → length (entries_in stripe view.booked) < 2 ^ 64
+  pub among : (it : KeptStripe) → view.kept ≡ it ∷ [] → AreAmong (entries_in it.stripe view.booked) it.journal
   pub whole : (it : KeptStripe) → view.kept ≡ it ∷ [] → 0 < view.parts → view.parts ≡ view.plan.parts
-      → AreSame (booked_in it.stripe view.booked) it.journal
+      → AreSame (entries_in it.stripe view.booked) it.journal
 
 -- A look is one load. The view stays.
-abbrev pub Looked : {S : Type 0} → Step S → Me S View → ℕ → Me S View → Type 0
-Looked step me found now = (now ≡ me) × Known me.0
+abbrev pub IsLook : {S : Type 0} → Step S → Me S View → ℕ → Me S View → Type 0
+IsLook step me found now = (now ≡ me) × Knowledge me.0
 
 -- an entry is booked into the one stripe that the view keeps, and written into its journal
-abbrev pub noted_in : View → Entry → List KeptStripe → View
-noted_in view entry [] = view
-noted_in view entry (it ∷ more) = view_of view.plan view.parts (view.booked ++ booking_of it.stripe entry ∷ []) (with_entry it entry ∷ more)
+abbrev pub view_noted_in : View → Entry → List KeptStripe → View
+view_noted_in view entry [] = view
+view_noted_in view entry (it ∷ more) =
+    view_of view.plan view.parts (view.booked ++ booking_of it.stripe entry ∷ []) (with_entry it entry ∷ more)
 
-abbrev pub noted : Entry → View → View
-noted entry view = noted_in view entry view.kept
+abbrev pub noted_view : Entry → View → View
+noted_view entry view = view_noted_in view entry view.kept
 
 -- A booking is one load, at which the view gets the entry on both sides.
-abbrev pub Booked : Entry → {S : Type 0} → Step S → Me S View → ℕ → Me S View → Type 0
-Booked entry step me found now = (now ≡ (noted entry me.0, me.1)) × Known (noted entry me.0)
+abbrev pub IsBooking : Entry → {S : Type 0} → Step S → Me S View → ℕ → Me S View → Type 0
+IsBooking entry step me found now = (now ≡ (noted_view entry me.0, me.1)) × Knowledge (noted_view entry me.0)

@@ -7,20 +7,20 @@ abbrev pub plan_of : ℕ → ℕ → Plan
 plan_of stripes parts = record { stripes = stripes; parts = parts }
 
 -- a sheet: the table of its word, and its plan
-pub record Unopened : Type 0 where
+pub record SheetSeen : Type 0 where
   pub table : TableId
   pub plan : Plan
 
-abbrev pub unopened : TableId → Plan → Unopened
-unopened table plan = record { table = table; plan = plan }
+abbrev pub sheet_of : TableId → Plan → SheetSeen
+sheet_of table plan = record { table = table; plan = plan }
 
 -- a sheet that is being opened: its plan, and the number of the stripe whose keeper is made next
-pub record Opened : Type 0 where
+pub record OpeningSeen : Type 0 where
   pub plan : Plan
   pub next : ℕ
 
-abbrev pub opened : Plan → ℕ → Opened
-opened plan next = record { plan = plan; next = next }
+abbrev pub opening_of : Plan → ℕ → OpeningSeen
+opening_of plan next = record { plan = plan; next = next }
 
 -- the name of no table
 abbrev pub no_table : TableId

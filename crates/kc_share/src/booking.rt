@@ -1,8 +1,8 @@
 //! The steps that shares and keepers take.
 ghost use Rattle.std.specs.Prelude.{◌≡◌, ℕ, ◌+◌, ◌^◌, ◌<◌, ◌≤◌, [], length, slice_index};
-ghost use Rattle.kc_share.specs.Entries.{entry_of, booked_in, words_of, AreSame, AreAmong};
-ghost use Rattle.kc_share.specs.Share.{with_entry, with_booking, with_part_less, new_part, together};
-ghost use Rattle.kc_share.specs.Rule.{blank, joined, without_first, first_alone};
+ghost use Rattle.kc_share.specs.Entries.{entry_of, entries_in, word_total, AreSame, AreAmong};
+ghost use Rattle.kc_share.specs.Share.{with_entry, with_booking, with_one_part_less, new_share, joined_shares};
+ghost use Rattle.kc_share.specs.Rule.{blank_view, joined_view, view_without_first, first_kept_view};
 
 use crate::books::Books;
 use crate::keeper::Keeper;
@@ -19,8 +19,8 @@ impl<N: Books> OpenSheet<N> {
     /// Splits one part off a share, which has two or more: a share that has booked nothing. Takes no memory.
     pub fn split(&self, share: &mut Share<N>) -> Share<N>
         requires { 2 ≤ share.old.parts }
-        ensures share { share.new ≡ with_part_less share.old }
-        ensures new { result ≡ new_part share.old }
+        ensures share { share.new ≡ with_one_part_less share.old }
+        ensures new { result ≡ new_share share.old }
     {
         let seat = self.table.shared.split_seat::<OnePart>(&mut share.seat);
         share.parts -= 1;
@@ -30,7 +30,7 @@ impl<N: Books> OpenSheet<N> {
     /// Joins two shares: their parts and numbers are added up, and what one booked stands behind what the other did.
     /// Takes no memory.
     pub fn join(&self, share: &mut Share<N>, other: Share<N>)
-        ensures { share.new ≡ together share.old other }
+        ensures { share.new ≡ joined_shares share.old other }
     {
         let Share {
             seat,
@@ -52,7 +52,7 @@ impl<N: Books> OpenSheet<N> {
     ///
     /// The words and the entries of the journal stay below 2^64.
     pub fn note(&self, share: &mut Share<N>, keeper: &mut Keeper<N>, batch: &Batch, words: u64)
-        requires words { words_of keeper.old.journal + words < 2 ^ 64 }
+        requires words { word_total keeper.old.journal + words < 2 ^ 64 }
         requires entries { length keeper.old.journal + 1 < 2 ^ 64 }
         ensures share { share.new ≡ with_booking share.old keeper.old.stripe (entry_of batch.now words) }
         ensures keeper { keeper.new ≡ with_entry keeper.old (entry_of batch.now words) }
@@ -69,7 +69,7 @@ impl<N: Books> OpenSheet<N> {
         words: u64,
     )
         requires entry { E.entry ≡ entry_of batch.now words }
-        requires words { words_of keeper.old.journal + words < 2 ^ 64 }
+        requires words { word_total keeper.old.journal + words < 2 ^ 64 }
         requires entries { length keeper.old.journal + 1 < 2 ^ 64 }
         ensures share { share.new ≡ with_booking share.old keeper.old.stripe (entry_of batch.now words) }
         ensures keeper { keeper.new ≡ with_entry keeper.old (entry_of batch.now words) }
@@ -87,8 +87,9 @@ impl<N: Books> OpenSheet<N> {
     pub fn look(&self, share: &mut Share<N>, keeper: &mut Keeper<N>)
         ensures share { share.new ≡ share.old }
         ensures keeper { keeper.new ≡ keeper.old }
-        ensures among { AreAmong (booked_in keeper.old.stripe share.old.booked) keeper.old.journal }
-        ensures whole { share.old.parts ≡ share.old.plan.parts → AreSame (booked_in keeper.old.stripe share.old.booked) keeper.old.journal }
+        ensures among { AreAmong (entries_in keeper.old.stripe share.old.booked) keeper.old.journal }
+        ensures whole { share.old.parts ≡ share.old.plan.parts
+            → AreSame (entries_in keeper.old.stripe share.old.booked) keeper.old.journal }
     {
         self.take_in(&mut share.seat, &mut keeper.seat);
         self.table.shared.load::<Look>(&mut share.seat, PARTS);
@@ -99,8 +100,9 @@ impl<N: Books> OpenSheet<N> {
     fn take_in(&self, share: &mut Seat, keeper: &mut Seat)
         requires share { (share.old.table_id ≡ N.table) × (0 < share.old.me.0.parts) × (share.old.me.1 ≡ []) }
         requires keeper { (keeper.old.table_id ≡ N.table) × (keeper.old.me.1 ≡ []) }
-        ensures share { (share.new.table_id ≡ N.table) × (share.new.me ≡ (joined share.old.me.0 keeper.old.me.0, [])) }
-        ensures keeper { (keeper.new.table_id ≡ N.table) × (keeper.new.me ≡ (blank, [])) }
+        ensures share { (share.new.table_id ≡ N.table)
+            × (share.new.me ≡ (joined_view share.old.me.0 keeper.old.me.0, [])) }
+        ensures keeper { (keeper.new.table_id ≡ N.table) × (keeper.new.me ≡ (blank_view, [])) }
     {
         let all = self.table.shared.split_seat::<Whole>(keeper);
         self.table.shared.join_seat::<Together>(share, all);
@@ -109,8 +111,8 @@ impl<N: Books> OpenSheet<N> {
     // Takes the keeper's part out of a share's seat.
     fn give_back(&self, share: &mut Seat) -> Seat
         requires { (share.old.table_id ≡ N.table) × (share.old.me.1 ≡ []) }
-        ensures share { (share.new.table_id ≡ N.table) × (share.new.me ≡ (without_first share.old.me.0, [])) }
-        ensures keeper { (result.table_id ≡ N.table) × (result.me ≡ (first_alone share.old.me.0, [])) }
+        ensures share { (share.new.table_id ≡ N.table) × (share.new.me ≡ (view_without_first share.old.me.0, [])) }
+        ensures keeper { (result.table_id ≡ N.table) × (result.me ≡ (first_kept_view share.old.me.0, [])) }
     {
         self.table.shared.split_seat::<FirstKept>(share)
     }
@@ -118,8 +120,10 @@ impl<N: Books> OpenSheet<N> {
 
 // Adds to each number the other one in its place.
 fn add_each(numbers: &mut [u64; 64], others: &[u64; 64])
-    requires { (stripe : ℕ) → stripe < 64 → slice_index numbers.old stripe + slice_index others.now stripe < 2 ^ 64 }
-    ensures { (stripe : ℕ) → stripe < 64 → slice_index numbers.new stripe ≡ slice_index numbers.old stripe + slice_index others.now stripe }
+    requires { (stripe : ℕ) → stripe < 64
+        → slice_index numbers.old stripe + slice_index others.now stripe < 2 ^ 64 }
+    ensures { (stripe : ℕ) → stripe < 64
+        → slice_index numbers.new stripe ≡ slice_index numbers.old stripe + slice_index others.now stripe }
 {
     for stripe in 0..MOST {
         numbers[stripe] += others[stripe];

@@ -28,13 +28,12 @@ pub struct KeptStripe {
     pub journal: LinkedList<Entry>,
 }
 
-/// What somebody knows who takes the steps of a sheet.
+/// What a share or a keeper has of its sheet, or both together in the middle of a booking.
 pub struct View {
     pub plan: Plan,
-    // How many of the parts are his.
     pub parts: u64,
-    // What he booked.
+    // All that was booked with the share.
     pub booked: LinkedList<Booking>,
-    // The stripes behind whose locks he stands.
+    // The stripes whose journals are kept.
     pub kept: LinkedList<KeptStripe>,
 }

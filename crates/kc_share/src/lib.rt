@@ -1,8 +1,8 @@
 //! Shares that add up: what several threads booked into stripes behind locks, taken together, is what the stripes'
 //! journals have, for every order of the threads' steps.
 //!
-//! A sheet knows nothing of locks and tables. It gives a keeper for each stripe, which its user puts behind that stripe's
-//! lock, and shares, one for each who books. Booking is `OpenSheet::note`, with the share and the keeper both in hand.
+//! A sheet knows nothing of locks and tables. It gives a keeper for each stripe, to be put behind that stripe's lock,
+//! and a share, which is split among the threads that book. `OpenSheet::note` books, with a share and a keeper in hand.
 #![tactic(auto)]
 
 mod booking;

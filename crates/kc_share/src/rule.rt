@@ -10,9 +10,9 @@ use std::marker::{Brand, PhantomData};
 pub(crate) struct SheetRule;
 
 impl TableRule<(), View, Plan> for SheetRule {
-    ghost use Rattle.kc_share.specs.Rule.{Kept, first_view};
+    ghost use Rattle.kc_share.specs.Rule.{IsState, first_view};
 
-    ghost holds = { Kept };
+    ghost holds = { IsState };
 
     ghost first = { first_view };
 }
@@ -21,31 +21,31 @@ impl TableRule<(), View, Plan> for SheetRule {
 pub(crate) struct OnePart;
 
 impl Split<View> for OnePart {
-    ghost use Rattle.kc_share.specs.Rule.{part_less, one_part};
+    ghost use Rattle.kc_share.specs.Rule.{view_less_part, part_view};
 
-    ghost left = { part_less };
+    ghost left = { view_less_part };
 
-    ghost right = { one_part };
+    ghost right = { part_view };
 }
 
 /// The first of the kept stripes goes.
 pub(crate) struct FirstKept;
 
 impl Split<View> for FirstKept {
-    ghost use Rattle.kc_share.specs.Rule.{without_first, first_alone};
+    ghost use Rattle.kc_share.specs.Rule.{view_without_first, first_kept_view};
 
-    ghost left = { without_first };
+    ghost left = { view_without_first };
 
-    ghost right = { first_alone };
+    ghost right = { first_kept_view };
 }
 
 /// All goes.
 pub(crate) struct Whole;
 
 impl Split<View> for Whole {
-    ghost use Rattle.kc_share.specs.Rule.{blank};
+    ghost use Rattle.kc_share.specs.Rule.{blank_view};
 
-    ghost left = { λ view. blank };
+    ghost left = { λ view. blank_view };
 
     ghost right = { λ view. view };
 }
@@ -54,20 +54,20 @@ impl Split<View> for Whole {
 pub(crate) struct Together;
 
 impl Join<View> for Together {
-    ghost use Rattle.kc_share.specs.Rule.{joined, blank};
+    ghost use Rattle.kc_share.specs.Rule.{joined_view, blank_view};
 
-    ghost both = { joined };
+    ghost both = { joined_view };
 
-    ghost spent = { blank };
+    ghost spent = { blank_view };
 }
 
 /// A load that tells what is known.
 pub(crate) struct Look;
 
 impl Play<(), View> for Look {
-    ghost use Rattle.kc_share.specs.Rule.{Looked};
+    ghost use Rattle.kc_share.specs.Rule.{IsLook};
 
-    ghost then = { Looked };
+    ghost then = { IsLook };
 }
 
 /// The entry of one booking.
@@ -87,9 +87,9 @@ impl Event for Brand {
 pub(crate) struct Book<E: Event>(PhantomData<E>);
 
 impl<E: Event> Play<(), View> for Book<E> {
-    ghost use Rattle.kc_share.specs.Rule.{Booked};
+    ghost use Rattle.kc_share.specs.Rule.{IsBooking};
 
-    ghost then = { Booked E.entry };
+    ghost then = { IsBooking E.entry };
 }
 
 /// The right to take steps, with a view.

@@ -1,6 +1,6 @@
-//! What somebody booked.
+//! What is booked with a share.
 ghost use Rattle.std.specs.Prelude.{◌≡◌, ◌<◌, ◌≤◌, []};
-ghost use Rattle.kc_share.specs.Share.{held, words_in, entries_in};
+ghost use Rattle.kc_share.specs.Share.{share_of, word_total_in, entry_total_in};
 
 use crate::books::Books;
 use crate::rule::Seat;
@@ -9,8 +9,9 @@ use std::marker::{Model, PhantomData};
 /// How many stripes there are at most.
 pub(crate) const MOST: usize = 64;
 
-/// What its holder booked, in each stripe, and his parts of the whole. What a contract sees of it is a `Held`: the
-/// plan of its sheet, the parts, and the list of all that was booked with it. That list has no bytes.
+/// The right to book, with a number of the sheet's parts, and how much was booked with it in each stripe. What a
+/// contract sees of it is a `ShareSeen`: the plan of its sheet, its parts, and the list of all that was booked with it.
+/// That list has no bytes.
 #[derive(Drop)]
 pub struct Share<N: Books> {
     pub(crate) seat: Seat,
@@ -22,13 +23,21 @@ pub struct Share<N: Books> {
 
 impl<N: Books> Model for Share<N> {
     ghost use Rattle.std.specs.Prelude.{◌≡◌, ◌<◌, ◌≤◌, []};
-    ghost use Rattle.kc_share.specs.Share.{Held, held, words_in, entries_in, TellEach};
+    ghost use Rattle.kc_share.specs.Share.{ShareSeen, share_of, word_total_in, entry_total_in, AreNumbersOf};
 
-    ghost Value = { Held };
+    ghost Value = { ShareSeen };
 
-    ghost view = { λ s. held s.seat.me.0.plan s.seat.me.0.parts s.seat.me.0.booked };
+    ghost view = { λ s. share_of s.seat.me.0.plan s.seat.me.0.parts s.seat.me.0.booked };
 
-    ghost invariant = { λ s. (s.seat.table_id ≡ N.table) × (s.seat.me.1 ≡ []) × (s.seat.me.0.kept ≡ []) × (s.parts ≡ s.seat.me.0.parts) × (0 < s.parts) × (s.seat.me.0.plan.stripes ≤ 64) × TellEach (λ stripe. words_in stripe s.seat.me.0.booked) s.words × TellEach (λ stripe. entries_in stripe s.seat.me.0.booked) s.entries };
+    ghost invariant = { λ s.
+        (s.seat.table_id ≡ N.table)
+        × (s.seat.me.1 ≡ [])
+        × (s.seat.me.0.kept ≡ [])
+        × (s.parts ≡ s.seat.me.0.parts)
+        × (0 < s.parts)
+        × (s.seat.me.0.plan.stripes ≤ 64)
+        × AreNumbersOf (λ stripe. word_total_in stripe s.seat.me.0.booked) s.words
+        × AreNumbersOf (λ stripe. entry_total_in stripe s.seat.me.0.booked) s.entries };
 }
 
 impl<N: Books> Share<N> {
@@ -38,7 +47,7 @@ impl<N: Books> Share<N> {
         requires view { (seat.me.0.parts ≡ parts) × (seat.me.0.booked ≡ []) × (seat.me.0.kept ≡ []) × (seat.me.1 ≡ []) }
         requires parts { 0 < parts }
         requires stripes { seat.me.0.plan.stripes ≤ 64 }
-        ensures { result ≡ held seat.me.0.plan parts [] }
+        ensures { result ≡ share_of seat.me.0.plan parts [] }
     {
         Share {
             seat,
@@ -59,7 +68,7 @@ impl<N: Books> Share<N> {
     /// How many words it booked into a stripe. The stripe's number is below the number of stripes.
     pub fn words(&self, stripe: u32) -> u64
         requires { stripe < self.now.plan.stripes }
-        ensures { result ≡ words_in stripe self.now.booked }
+        ensures { result ≡ word_total_in stripe self.now.booked }
     {
         self.words[stripe as usize]
     }
@@ -67,7 +76,7 @@ impl<N: Books> Share<N> {
     /// How many batches it booked into a stripe. The stripe's number is below the number of stripes.
     pub fn entries(&self, stripe: u32) -> u64
         requires { stripe < self.now.plan.stripes }
-        ensures { result ≡ entries_in stripe self.now.booked }
+        ensures { result ≡ entry_total_in stripe self.now.booked }
     {
         self.entries[stripe as usize]
     }

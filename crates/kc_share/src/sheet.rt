@@ -1,7 +1,7 @@
 //! Sheets, and how their keepers and their first share are made.
 ghost use Rattle.std.specs.Prelude.{◌≡◌, ◌+◌, ◌<◌, ◌≤◌, [], IfOk, MatchBool};
-ghost use Rattle.kc_share.specs.Share.{held, kept};
-ghost use Rattle.kc_share.specs.Sheet.{plan_of, opened};
+ghost use Rattle.kc_share.specs.Share.{share_of, kept_stripe};
+ghost use Rattle.kc_share.specs.Sheet.{plan_of, opening_of};
 
 use crate::books::Books;
 use crate::entry::Plan;
@@ -21,14 +21,20 @@ pub struct Sheet {
 
 impl Model for Sheet {
     ghost use Rattle.std.specs.Prelude.{◌≡◌, ◌<◌, ◌≤◌, []};
-    ghost use Rattle.kc_share.specs.Sheet.{Unopened, unopened};
+    ghost use Rattle.kc_share.specs.Sheet.{SheetSeen, sheet_of};
     ghost use Rattle.kc_share.specs.Rule.{first_view};
 
-    ghost Value = { Unopened };
+    ghost Value = { SheetSeen };
 
-    ghost view = { λ s. unopened s.table.shared.table_id s.table.shared.key };
+    ghost view = { λ s. sheet_of s.table.shared.table_id s.table.shared.key };
 
-    ghost invariant = { λ s. (s.table.shared.table_id.words ≡ 1) × (s.first.table_id ≡ s.table.shared.table_id) × (s.first.me ≡ (first_view s.table.shared.key, [])) × (s.plan ≡ s.table.shared.key) × (s.plan.stripes ≤ 64) × (0 < s.plan.parts) };
+    ghost invariant = { λ s.
+        (s.table.shared.table_id.words ≡ 1)
+        × (s.first.table_id ≡ s.table.shared.table_id)
+        × (s.first.me ≡ (first_view s.table.shared.key, []))
+        × (s.plan ≡ s.table.shared.key)
+        × (s.plan.stripes ≤ 64)
+        × (0 < s.plan.parts) };
 }
 
 impl Sheet {
@@ -52,7 +58,7 @@ impl Sheet {
     pub fn open<N: Books>(self) -> (OpenSheet<N>, Opening<N>)
         requires { self.table ≡ N.table }
         ensures sheet { result.0 ≡ self.plan }
-        ensures opening { result.1 ≡ opened self.plan 0 }
+        ensures opening { result.1 ≡ opening_of self.plan 0 }
     {
         let Sheet { table, first, plan } = self;
         let sheet = OpenSheet {
@@ -81,14 +87,19 @@ pub struct Opening<N: Books> {
 
 impl<N: Books> Model for Opening<N> {
     ghost use Rattle.std.specs.Prelude.{◌≡◌, ◌-◌, ◌<◌, ◌≤◌, []};
-    ghost use Rattle.kc_share.specs.Sheet.{Opened, opened};
+    ghost use Rattle.kc_share.specs.Sheet.{OpeningSeen, opening_of};
     ghost use Rattle.kc_share.specs.Rule.{view_of, empty_stripes};
 
-    ghost Value = { Opened };
+    ghost Value = { OpeningSeen };
 
-    ghost view = { λ o. opened o.plan o.next };
+    ghost view = { λ o. opening_of o.plan o.next };
 
-    ghost invariant = { λ o. (o.seat.table_id ≡ N.table) × (o.seat.me ≡ (view_of o.plan o.plan.parts [] (empty_stripes o.next (o.plan.stripes - o.next)), [])) × (o.next ≤ o.plan.stripes) × (o.plan.stripes ≤ 64) × (0 < o.plan.parts) };
+    ghost invariant = { λ o.
+        (o.seat.table_id ≡ N.table)
+        × (o.seat.me ≡ (view_of o.plan o.plan.parts [] (empty_stripes o.next (o.plan.stripes - o.next)), []))
+        × (o.next ≤ o.plan.stripes)
+        × (o.plan.stripes ≤ 64)
+        × (0 < o.plan.parts) };
 }
 
 impl<N: Books> Opening<N> {
@@ -123,8 +134,8 @@ impl<N: Books> OpenSheet<N> {
     /// Makes the next stripe's keeper, with an empty journal. There is a stripe left.
     pub fn next_keeper(&self, opening: &mut Opening<N>) -> Keeper<N>
         requires { opening.old.next < opening.old.plan.stripes }
-        ensures keeper { result ≡ kept opening.old.next [] }
-        ensures opening { opening.new ≡ opened opening.old.plan (opening.old.next + 1) }
+        ensures keeper { result ≡ kept_stripe opening.old.next [] }
+        ensures opening { opening.new ≡ opening_of opening.old.plan (opening.old.next + 1) }
     {
         let stripe = opening.next;
         let seat = self.table.shared.split_seat::<FirstKept>(&mut opening.seat);
@@ -135,7 +146,7 @@ impl<N: Books> OpenSheet<N> {
     /// Makes the first share, which has all parts, once each stripe has its keeper.
     pub fn first_share(&self, opening: Opening<N>) -> Share<N>
         requires { opening.next ≡ opening.plan.stripes }
-        ensures { result ≡ held opening.plan opening.plan.parts [] }
+        ensures { result ≡ share_of opening.plan opening.plan.parts [] }
     {
         let Opening {
             seat,

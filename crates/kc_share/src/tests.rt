@@ -1,7 +1,7 @@
 //! Shares of one sheet, in one thread and in two.
 ghost use Rattle.std.specs.Prelude.{◌≡◌, ◌<◌, ◌≤◌, ◌^◌, [], length, All, IfOk, IfSome, MatchBool};
-ghost use Rattle.kc_share.specs.Entries.{entry_of, words_of};
-ghost use Rattle.kc_share.specs.Share.{words_in, entries_in, with_booking};
+ghost use Rattle.kc_share.specs.Entries.{entry_of, word_total};
+ghost use Rattle.kc_share.specs.Share.{share_of, word_total_in, entry_total_in, with_booking};
 
 use crate::{Books, Keeper, OpenSheet, Share, Sheet};
 use kc_fastx::SeqRead;
@@ -18,7 +18,7 @@ struct Place<N: Books> {
     keeper: Keeper<N>,
     words: u64,
     entries: u64,
-    ghost words_are: { words ≡ words_of keeper.journal },
+    ghost words_are: { words ≡ word_total keeper.journal },
     ghost entries_are: { entries ≡ length keeper.journal },
 }
 
@@ -64,8 +64,8 @@ impl<N: Books> Place<N> {
     fn settle(&mut self, sheet: &OpenSheet<N>, share: &mut Share<N>) -> (u64, u64)
         requires { share.old.parts ≡ share.old.plan.parts }
         ensures share { share.new ≡ share.old }
-        ensures words { result.0 ≡ words_in self.old.keeper.stripe share.old.booked }
-        ensures entries { result.1 ≡ entries_in self.old.keeper.stripe share.old.booked }
+        ensures words { result.0 ≡ word_total_in self.old.keeper.stripe share.old.booked }
+        ensures entries { result.1 ≡ entry_total_in self.old.keeper.stripe share.old.booked }
     {
         sheet.look(share, &mut self.keeper);
         (self.words, self.entries)
@@ -120,7 +120,7 @@ fn places_of<N: Books>(
     sheet: Sheet,
 ) -> Result<(OpenSheet<N>, Vec<Mutex<Place<N>>>, Share<N>), AllocError>
     requires { sheet.table ≡ N.table }
-    ensures { IfOk result (λ made. (made.2.parts ≡ sheet.plan.parts) × (made.2.plan ≡ sheet.plan) × (made.2.booked ≡ [])) }
+    ensures { IfOk result (λ made. made.2 ≡ share_of sheet.plan sheet.plan.parts []) }
 {
     let (sheet, mut opening) = sheet.open::<N>();
     let mut places = Vec::new(alloc);
@@ -131,8 +131,8 @@ fn places_of<N: Books>(
     Ok((sheet, places, share))
 }
 
-// Two threads, with a share of one part each, book half of the batches each, everywhere. Then the shares are joined, and
-// each place is settled: what its journal has, and what the whole share has.
+// Two threads, with a share of one part each, book half of the batches each, everywhere. Then the shares are joined,
+// and each place is settled: what its journal has, and what the whole share has.
 fn book_by_two<N: Books + Send + Sync, R: Threads + Wait + Sync>(
     rt: &R,
     alloc: Global,
@@ -205,8 +205,8 @@ fn what_two_threads_booked_is_what_the_journals_have(rt: HostRuntime) -> Result<
     Ok(())
 }
 
-// Of a share of three parts one is split off. The share books 5 words into stripe 1, the other 7 words into stripe 0, and
-// the shares are joined.
+// Of a share of three parts one is split off. The share books 5 words into stripe 1, the other 7 words into stripe 0,
+// and the shares are joined.
 fn book_by_hand<N: Books>(sheet: Sheet, batch: &Batch) -> [[u64; 5]; 3]
     requires name { sheet.table ≡ N.table }
     requires plan { (sheet.plan.stripes ≡ 2) × (sheet.plan.parts ≡ 3) }

@@ -1,4 +1,4 @@
-use Rattle.std.proofs.Common.{◌≡◌, ◌<◌, ◌≤◌, [], ℕ, sym, refl, arith}
+use Rattle.std.proofs.Common.{sym, refl}
 use Rattle.kc_share.proofs.Steps.{no_words, no_entries}
 use Rattle.kc_share.proofs.share.Share.of.Goals as goal
 

@@ -1,4 +1,4 @@
-use Rattle.std.proofs.Common.{◌≡◌, [], ◌++◌, sym, ap, ◌∙◌, arith}
+use Rattle.std.proofs.Common.{◌++◌, sym, ap, ◌∙◌, arith}
 use Rattle.kc_share.proofs.Steps.{both_join, looks}
 use Rattle.kc_share.proofs.Sharing.{both_looked, words_have_room, entries_have_room, words_added, entries_added}
 use Rattle.kc_share.proofs.sheet.OpenSheet.join.Goals as goal

@@ -1,8 +1,8 @@
-use Rattle.std.proofs.Common.{◌≡◌, ◌+◌, ◌^◌, ◌<◌, length, sym, ap, ◌∙◌, subst, arith}
+use Rattle.std.proofs.Common.{◌+◌, ◌^◌, ◌<◌, length, sym, ap, ◌∙◌, arith}
 use Rattle.kc_share.specs.declared.entry.Entry.{Entry}
 use Rattle.kc_share.specs.declared.entry.KeptStripe.{KeptStripe}
-use Rattle.kc_share.specs.Entries.{entry_of, words_of}
-use Rattle.kc_share.specs.Share.{first_of}
+use Rattle.kc_share.specs.Entries.{word_total}
+use Rattle.kc_share.specs.Share.{first_kept}
 use Rattle.kc_share.proofs.Steps.{books}
 use Rattle.kc_share.proofs.Sharing.{keeps_one, same_parts, booking_leaves, booking_tells, words_room, entries_room, words_told, entries_told}
 use Rattle.kc_share.proofs.sheet.OpenSheet.note_as.Goals as goal
@@ -15,8 +15,8 @@ load-requires g c =
     let view = ap (λ m. m.0) keeper.1 in
     let it = c.keeper.view_is in
     let parts = same_parts _ _ _ _ share.2 view took.1 in
-    let few_words : words_of (first_of c.keeper.inside.seat.me.0.kept).journal + g.E.Event.entry.words < 2 ^ 64 = omega (arith, c.requires.words, ap (λ (k : KeptStripe). words_of k.journal) it, ap (λ (e : Entry). e.words) c.requires.entry) in
-    let few_entries : length (first_of c.keeper.inside.seat.me.0.kept).journal + 1 < 2 ^ 64 = omega (arith, c.requires.entries, ap (λ (k : KeptStripe). length k.journal) it) in
+    let few_words : word_total (first_kept c.keeper.inside.seat.me.0.kept).journal + g.E.Event.entry.words < 2 ^ 64 = omega (arith, c.requires.words, ap (λ (k : KeptStripe). word_total k.journal) it, ap (λ (e : Entry). e.words) c.requires.entry) in
+    let few_entries : length (first_kept c.keeper.inside.seat.me.0.kept).journal + 1 < 2 ^ 64 = omega (arith, c.requires.entries, ap (λ (k : KeptStripe). length k.journal) it) in
     (took.0 ∙ sym c.self.invariant.0, omega arith, books _ _ _ _ _ _ (keeps_one _ _ _ _ share.2 view took.1) (omega (arith, parts, share.3, share.4)) few_words few_entries)
 
 pub overflow_add-share : goal.overflow_add-share
@@ -40,8 +40,8 @@ invariant_of-share g c =
     let share = c.share.invariant in
     let keeper = c.keeper.invariant in
     let left = booking_leaves _ _ _ _ share.2 (ap (λ m. m.0) keeper.1) c.take_in.ensures.share.1 _ _ _ _ c.load.ensures.2 c.give_back.ensures.share.1 c.give_back.ensures.keeper.1 in
-    let words = words_told c.share.inside.seat.me.0 (first_of c.keeper.inside.seat.me.0.kept) g.E.Event.entry c.share.inside.words c.keeper.inside.stripe c.share.told.0 keeper.2 keeper.3 c.args.words (sym (ap (λ (e : Entry). e.words) c.requires.entry)) share.6 in
-    let entries = entries_told c.share.inside.seat.me.0 (first_of c.keeper.inside.seat.me.0.kept) g.E.Event.entry c.share.inside.entries c.keeper.inside.stripe c.share.told.1 keeper.2 keeper.3 share.7 in (
+    let words = words_told c.share.inside.seat.me.0 (first_kept c.keeper.inside.seat.me.0.kept) g.E.Event.entry c.share.inside.words c.keeper.inside.stripe c.share.told.0 keeper.2 keeper.3 c.args.words (sym (ap (λ (e : Entry). e.words) c.requires.entry)) share.6 in
+    let entries = entries_told c.share.inside.seat.me.0 (first_kept c.keeper.inside.seat.me.0.kept) g.E.Event.entry c.share.inside.entries c.keeper.inside.stripe c.share.told.1 keeper.2 keeper.3 share.7 in (
       c.give_back.ensures.share.0,
       ap (λ m. m.1) left,
       ap (λ m. m.0.kept) left,
