@@ -1,9 +1,12 @@
 -- The bins of counts: how they are read, and what moves them.
 use Rattle.std.proofs.Common.{◌≡◌, ℕ, zero, suc, ◌+◌, ◌-◌, ◌^◌, ◌<◌, ◌≤◌, ⊎_elim, cond, eqb, List, [], ◌∷◌, ◌++◌, length, get_or, set, take, All, sum_by, refl, ap, sym, ◌∙◌, subst, arith, eq-eqb, ne_eqb, length-set, replicate}
 use Rattle.std.proofs.lemmas.Bool.{cases_eq, cases_lt, cond-true, cond-false}
-use Rattle.std.proofs.lemmas.List.{ext_get_or, get_or-set_same, get_or-set_other, get_or_default, get_or_past, map_push, take_more, length-map, length-take-le, get_or-replicate, length-replicate}
+use Rattle.std.proofs.lemmas.List.{ext_get_or, get_or-set_same, get_or-set_other, get_or_default, get_or_past, map_push, take_more, length-map, length-take-le, get_or-replicate, length-replicate, length-append}
+use Rattle.std.proofs.lemmas.List.Elements.{All-from_get_or}
 use Rattle.std.proofs.lemmas.List.FromFn.{length-map-range_with_len, get_or-map-range_with_len}
 use Rattle.std.proofs.lemmas.List.Sums.{sum_by-cons, sum_by-append, count_by-le-length}
+use Rattle.kc_base.proofs.Sums.{sum_by-map}
+use Rattle.kc_base.proofs.Permutations.{WeighTheSame}
 use Rattle.kc_tally.specs.declared.row.Row.{Row}
 use Rattle.kc_tally.specs.Histogram.{last_bin, bin_of, bin_size, bins_of, bin_at, gained, lost, raised, counted_in, joined_bins, counts_of, bin_count}
 
@@ -285,11 +288,89 @@ room-for-row rows bins i bin h few within is =
 
 bin_size-rows : (rows : List Row) (bin : ℕ) → bin_size (counts_of rows) bin ≡ bin_count rows bin
 unfolding bin_size
-bin_size-rows [] bin = refl
-bin_size-rows (row ∷ rows) bin =
-    bin_size-cons row.count (counts_of rows) bin ∙ ap (λ n. one_at (bin_of row.count) bin + n) (bin_size-rows rows bin)
-    ∙ sym (sum_by-cons (λ (r : Row). one_at (bin_of r.count) bin) row rows)
+bin_size-rows rows bin = sum_by-map (λ c. one_at (bin_of c) bin) (λ (row : Row). row.count) rows
 
 -- a bin of rows is how many rows have a count there
 pub bin_count-is : (rows : List Row) (bin : ℕ) → 1 ≤ bin → bin ≤ last_bin → bin_at (bins_of (counts_of rows)) bin ≡ bin_count rows bin
 bin_count-is rows bin some within = bin_at-bins_of (counts_of rows) bin some within ∙ bin_size-rows rows bin
+
+-- ---- for callers: counts that change, that are joined, and that are put in another order
+
+-- one of the counts went from `count` to `count + 1`, and the others stayed: however counts are weighed, the lists differ by these two
+abbrev pub IsOneMore : List ℕ → List ℕ → ℕ → Type 0
+IsOneMore old new count = (h : ℕ → ℕ) → sum_by h new + h count ≡ sum_by h old + h (count + 1)
+
+pub IsOneMore-at : (before after : List ℕ) (count : ℕ) → IsOneMore (before ++ count ∷ after) (before ++ (count + 1) ∷ after) count
+IsOneMore-at before after count h =
+    let old = sum_by-append h before (count ∷ after) in
+    let new = sum_by-append h before ((count + 1) ∷ after) in
+    let was = sum_by-cons h count after in
+    let is = sum_by-cons h (count + 1) after in
+    omega (arith, old, new, was, is)
+
+-- a word is in the bin that it leaves, as `raise` asks
+pub raise-some : (old new : List ℕ) (count : ℕ) → IsOneMore old new count → 1 ≤ count → 1 ≤ bin_at (bins_of old) (bin_of count)
+raise-some old new count more some =
+    let step = more (λ c. one_at c count) in
+    let one = one_at-here count count refl in
+    let none = one_at-past (count + 1) count (λ e. omega (arith, e)) in
+    let here = bin_size-here old count (omega (arith, step, one, none)) in
+    let is = bin_at-bins_of old (bin_of count) (bin_of-some count some) (bin_of-most count) in
+    omega (arith, here, is)
+
+-- the size of the other bin fits, as `raise` asks
+pub raise-fits : (old : List ℕ) (count : ℕ) → length old + 1 < 2 ^ 64 → bin_at (bins_of old) (bin_of (count + 1)) + 1 < 2 ^ 64
+raise-fits old count few = let most = bin_at-most old (bin_of (count + 1)) (bin_of-most (count + 1)) in omega (arith, most, few)
+
+-- a raised count moves two bins
+pub bins_of-raised : (old new : List ℕ) (count : ℕ) → IsOneMore old new count → raised (bins_of old) count ≡ bins_of new
+unfolding bin_size
+bins_of-raised old new count more =
+    bins_of-from new (raised (bins_of old) count) (length-raised (bins_of old) count ∙ length-bins_of old) (λ i h.
+    let step = raised-at (bins_of old) count i (length-bins_of old) (raise-some old new count more) in
+    let before = get_or-bins_of old i h in
+    let weighs = more (λ c. one_at (bin_of c) (i + 1)) in
+    let sum : get_or (raised (bins_of old) count) i 0 ≡ sum_by (λ c. one_at (bin_of c) (i + 1)) new = omega (arith, step, before, weighs) in
+    sum)
+
+-- counts that weigh the same but for counts of 0 have the same bins
+pub bins_of-same : (counts others : List ℕ) → ((h : ℕ → ℕ) → h 0 ≡ 0 → sum_by h counts ≡ sum_by h others) → bins_of counts ≡ bins_of others
+unfolding bin_size
+bins_of-same counts others same =
+    bins_of-from others (bins_of counts) (length-bins_of counts) (λ i h.
+    get_or-bins_of counts i h ∙ same (λ c. one_at (bin_of c) (i + 1)) (one_at-past 0 (i + 1) (λ e. omega (arith, e))))
+
+pub bins_of-permuted : (counts others : List ℕ) → WeighTheSame counts others → bins_of counts ≡ bins_of others
+bins_of-permuted counts others same = bins_of-same counts others (λ h none. same h)
+
+-- a count of 0 is in no bin
+pub bins_of-zero : (counts : List ℕ) → bins_of (0 ∷ counts) ≡ bins_of counts
+bins_of-zero counts = bins_of-same (0 ∷ counts) counts (λ h none. let first = sum_by-cons h 0 counts in omega (arith, first, none))
+
+-- a word that was in no list comes into bin 1
+pub bins_of-new : (old new : List ℕ) → ((h : ℕ → ℕ) → sum_by h new ≡ sum_by h old + h 1) → raised (bins_of old) 0 ≡ bins_of new
+bins_of-new old new more =
+    ap (λ bins. raised bins 0) (sym (bins_of-zero old)) ∙ bins_of-raised (0 ∷ old) new 0 (λ h. let first = sum_by-cons h 0 old in let step = more h in omega (arith, first, step))
+
+-- joined counts have both bins
+pub bins_of-append : (counts others : List ℕ) → joined_bins (bins_of counts) (bins_of others) ≡ bins_of (counts ++ others)
+bins_of-append counts others =
+    let same : length (bins_of counts) ≡ length (bins_of others) = length-bins_of counts ∙ sym (length-bins_of others) in
+    bins_of-from (counts ++ others) (joined_bins (bins_of counts) (bins_of others)) (length-joined_bins (bins_of counts) (bins_of others) same ∙ length-bins_of counts) (λ i h.
+    get_or-joined_bins (bins_of counts) (bins_of others) i same ∙ ap (λ n. n + get_or (bins_of others) i 0) (get_or-bins_of counts i h)
+    ∙ ap (λ n. bin_size counts (i + 1) + n) (get_or-bins_of others i h) ∙ sym (bin_size-append counts others (i + 1)))
+
+-- the bins of fewer than 2 ^ 64 counts fit
+pub bins_of-fit : (counts : List ℕ) → length counts < 2 ^ 64 → All (λ size. size < 2 ^ 64) (bins_of counts)
+bins_of-fit counts few = All-from_get_or (λ size. size < 2 ^ 64) (bins_of counts) 0 (λ i h.
+    let long = length-bins_of counts in
+    let is = get_or-bins_of counts i (omega (arith, h, long)) in
+    let most = bin_size-most counts (i + 1) in
+    omega (arith, is, most, few))
+
+-- the joined bins fit, as `add` asks
+pub joined_bins-fit : (counts more bins others : List ℕ) → bins ≡ bins_of counts → others ≡ bins_of more → length counts + length more < 2 ^ 64
+    → All (λ size. size < 2 ^ 64) (joined_bins bins others)
+joined_bins-fit counts more bins others is also few =
+    let joined : joined_bins bins others ≡ bins_of (counts ++ more) = ap (λ b. joined_bins b others) is ∙ ap (joined_bins (bins_of counts)) also ∙ bins_of-append counts more in
+    subst (All (λ size. size < 2 ^ 64)) (sym joined) (bins_of-fit (counts ++ more) (let long = length-append counts more in omega (arith, long, few)))

@@ -8,6 +8,7 @@ use Rattle.kc_word.specs.Occurrences.{occurrences, words_of}
 use Rattle.kc_word.specs.Cutting.{as_reads, NumberedPieces, stretches, position_total, batch_of, cutting, KeepsOccurrences, KeepsWords}
 use Rattle.kc_word.specs.Place.{number_at, IsPlace}
 use Rattle.kc_word.proofs.Windows.{windows}
+use Rattle.kc_word.proofs.Stretches.{stretches_from, stretches-are}
 use Rattle.kc_word.proofs.Taking.{stretches-skip, stretches-nil}
 use Rattle.kc_word.proofs.Cuttings.{length-cut, stretches-windows, length-all_windows, cutting-words, cutting-occurrences}
 
@@ -27,30 +28,30 @@ IsCutTo-none k size pieces some = record {
 }
 
 -- behind the last position there is no stretch
-stretches-past : (k low high : ℕ) (pieces : List (List ℕ)) → position_total k pieces ≤ low → stretches k low high 0 pieces ≡ []
+stretches-past : (k low high : ℕ) (pieces : List (List ℕ)) → position_total k pieces ≤ low → stretches k low high pieces ≡ []
 stretches-past k low high pieces h =
     let whole = ap (position_total k) (take_all (length pieces) pieces (omega arith)) in
-    stretches-skip k low high 0 (length pieces) pieces (omega (arith, whole, h))
-    ∙ ap (stretches k low high (0 + position_total k (take (length pieces) pieces))) (drop_all (length pieces) pieces (omega arith))
+    stretches-are k low high pieces ∙ stretches-skip k low high 0 (length pieces) pieces (omega (arith, whole, h))
+    ∙ ap (stretches_from k low high (0 + position_total k (take (length pieces) pieces))) (drop_all (length pieces) pieces (omega arith))
     ∙ stretches-nil k low high (0 + position_total k (take (length pieces) pieces))
 
 -- where there is no stretch there is no position left
-positions-past : (k low size : ℕ) (pieces : List (List ℕ)) → 1 ≤ k → 1 ≤ size → stretches k low (low + size) 0 pieces ≡ [] → position_total k pieces ≤ low
+positions-past : (k low size : ℕ) (pieces : List (List ℕ)) → 1 ≤ k → 1 ≤ size → stretches k low (low + size) pieces ≡ [] → position_total k pieces ≤ low
 positions-past k low size pieces some size_some none =
-    let empty = sym (stretches-windows k low (low + size) 0 pieces some) ∙ ap (flat_map (λ part. windows k part)) none in
+    let empty = sym (stretches-windows k low (low + size) 0 pieces some) ∙ ap (flat_map (λ part. windows k part)) (sym (stretches-are k low (low + size) pieces) ∙ none) in
     let gone = ap length empty in
     let long = length-cut (low - 0) (low + size - 0) (flat_map (λ piece. windows k piece) pieces) in
     let total = length-all_windows k pieces in
     omega (arith, gone, long, total, size_some)
 
-pub IsCutTo-left : (k size index position : ℕ) (pieces : List (List ℕ)) (batches : List NumberedPieces) (parts : List (List ℕ)) → (length parts ≡ 0 → ⊥) → parts ≡ stretches k (number_at k pieces index position) (number_at k pieces index position + size) 0 pieces → IsCutTo k size pieces index position batches
+pub IsCutTo-left : (k size index position : ℕ) (pieces : List (List ℕ)) (batches : List NumberedPieces) (parts : List (List ℕ)) → (length parts ≡ 0 → ⊥) → parts ≡ stretches k (number_at k pieces index position) (number_at k pieces index position + size) pieces → IsCutTo k size pieces index position batches
     → number_at k pieces index position < position_total k pieces
 IsCutTo-left k size index position pieces batches parts some is done =
     ⊎_elim (λ h. h) (λ h. absurd (some (ap length (is ∙ stretches-past k (number_at k pieces index position) (number_at k pieces index position + size) pieces h)))) (cases_lt (number_at k pieces index position) (position_total k pieces))
 
 -- one batch more
 pub IsCutTo-more : (k size index position index' position' : ℕ) (pieces : List (List ℕ)) (batches after : List NumberedPieces) (parts : List (List ℕ)) (n : ℕ) → (length parts ≡ 0 → ⊥)
-    → parts ≡ stretches k (number_at k pieces index position) (number_at k pieces index position + size) 0 pieces
+    → parts ≡ stretches k (number_at k pieces index position) (number_at k pieces index position + size) pieces
     → IsPlace k pieces index' position' → number_at k pieces index' position' ≡ min (number_at k pieces index position + size) (position_total k pieces)
     → n ≡ length batches → after ≡ batches ++ record { number = n; pieces = parts } ∷ []
     → IsCutTo k size pieces index position batches → IsCutTo k size pieces index' position' after
@@ -60,8 +61,8 @@ IsCutTo-more k size index position index' position' pieces batches after parts n
     let low : number_at k pieces index position ≡ length batches * size = omega (arith, number, left) in
     let high : number_at k pieces index position + size ≡ (length batches + 1) * size = omega (arith, low) in
     let long : length after ≡ length batches + 1 = ap length is_after ∙ length_push batches (record { number = n; pieces = parts }) in
-    let same : parts ≡ stretches k (length batches * size) ((length batches + 1) * size) 0 pieces =
-    is ∙ ap (λ l. stretches k l (number_at k pieces index position + size) 0 pieces) low ∙ ap (λ h. stretches k (length batches * size) h 0 pieces) high in
+    let same : parts ≡ stretches k (length batches * size) ((length batches + 1) * size) pieces =
+    is ∙ ap (λ l. stretches k l (number_at k pieces index position + size) pieces) low ∙ ap (λ h. stretches k (length batches * size) h pieces) high in
     let more : length after * size ≡ length batches * size + size = ap (λ m. m * size) long ∙ omega arith in
     record {
       place = place;
@@ -83,7 +84,7 @@ batch_count-is total size n some few enough =
 
 -- when no position is left, the batches are the cutting
 pub IsCutTo-all : (k size index position : ℕ) (pieces : List (List ℕ)) (batches : List NumberedPieces) (parts : List (List ℕ)) → 1 ≤ k → 1 ≤ size → length parts ≡ 0
-    → parts ≡ stretches k (number_at k pieces index position) (number_at k pieces index position + size) 0 pieces → IsCutTo k size pieces index position batches → batches ≡ cutting k size pieces
+    → parts ≡ stretches k (number_at k pieces index position) (number_at k pieces index position + size) pieces → IsCutTo k size pieces index position batches → batches ≡ cutting k size pieces
 unfolding cutting
 IsCutTo-all k size index position pieces batches parts some size_some none is done =
     let past = positions-past k (number_at k pieces index position) size pieces some size_some (sym is ∙ nil_from_length parts none) in

@@ -10,6 +10,7 @@ pub mod Counting
 pub mod Tallies
 pub mod Looking
 pub mod Rows
+pub mod Stretches
 pub mod Cuttings
 pub mod Taking
 pub mod Batching

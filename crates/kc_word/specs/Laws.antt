@@ -1,5 +1,5 @@
 -- What holds of words, occurrences and tallies, whatever the reads are.
-use Rattle.std.specs.Prelude.{◌≡◌, ℕ, ◌+◌, ◌^◌, ◌<◌, ◌≤◌, ◌==◌, List, ◌++◌, map, length, slice_index_or, sum_by, count_by, IsTrue, All}
+use Rattle.std.specs.Prelude.{◌≡◌, ℕ, ◌+◌, ◌-◌, ◌*◌, ◌^◌, min, ◌<◌, ◌≤◌, ◌==◌, List, ◌++◌, map, length, slice_index_or, sum_by, count_by, IsTrue, All}
 use Rattle.std.specs.List.{flat_map}
 use Rattle.std.specs.Char.{to_ascii_uppercase}
 use Rattle.kc_word.specs.Base.{are_bases}
@@ -72,6 +72,12 @@ CuttingNumbers = (k size i : ℕ) (pieces : List (List ℕ)) (d : NumberedPieces
 -- the batches of a cutting have together as many positions as the pieces
 abbrev pub CuttingPositions : Type 0
 CuttingPositions = (k size : ℕ) (pieces : List (List ℕ)) → 1 ≤ k → 1 ≤ size → sum_by (λ batch. position_total k batch.pieces) (cutting k size pieces) ≡ position_total k pieces
+
+-- batch i of a cutting has `size` positions, or those that the batches before it left, and at least one
+abbrev pub BatchPositions : Type 0
+BatchPositions = (k size i : ℕ) (pieces : List (List ℕ)) → 1 ≤ k → 1 ≤ size → i < length (cutting k size pieces)
+    → (position_total k (batch_of k size pieces i).pieces ≡ min size (position_total k pieces - i * size))
+    × (1 ≤ position_total k (batch_of k size pieces i).pieces)
 
 -- pieces have at most as many positions as bytes
 abbrev pub PositionsWithinBytes : Type 0

@@ -117,7 +117,7 @@ fn take_positions(
     ensures some { 1 ≤ k }
     ensures place { OnOk result (IsPlace k pieces.now next.new.piece next.new.position) }
     ensures taken { IfOk result (λ parts. let low = number_at k pieces.now next.old.piece next.old.position in
-        parts.items ≡ stretches k low (low + size) 0 pieces.now) }
+        parts.items ≡ stretches k low (low + size) pieces.now) }
     ensures moved { OnOk result (let low = number_at k pieces.now next.old.piece next.old.position in
         number_at k pieces.now next.new.piece next.new.position ≡ min (low + size) (position_total k pieces.now)) }
 {

@@ -1,5 +1,5 @@
 //! Laws of words, occurrences and tallies. Each is the contract of a function that does nothing.
-ghost use Rattle.kc_word.specs.Laws.{NumberOfText, PackedText, OrderOfTexts, ReversedTwice, OneCanonicalForm, OneTally, JoinedOccurrences, JoinedTally, TallyTotal, BoundedTally, CountedWords, CuttingWords, CuttingOccurrences, CuttingNumbers, CuttingPositions, PositionsWithinBytes, CleanedLength, WordsAreBelow, WordsAreForms, WordsAreFew, CleanedWords};
+ghost use Rattle.kc_word.specs.Laws.{NumberOfText, PackedText, OrderOfTexts, ReversedTwice, OneCanonicalForm, OneTally, JoinedOccurrences, JoinedTally, TallyTotal, BoundedTally, CountedWords, CuttingWords, CuttingOccurrences, CuttingNumbers, CuttingPositions, BatchPositions, PositionsWithinBytes, CleanedLength, WordsAreBelow, WordsAreForms, WordsAreFew, CleanedWords};
 
 /// A number below 4^k is the number of its text.
 pub fn number_of_text()
@@ -74,6 +74,11 @@ pub fn cutting_numbers()
 /// The batches of a cutting have together as many positions as the pieces.
 pub fn cutting_positions()
     ensures { CuttingPositions }
+{}
+
+/// Batch i of a cutting has `size` positions, or those that the batches before it left, and at least one.
+pub fn batch_positions()
+    ensures { BatchPositions }
 {}
 
 /// Pieces have at most as many positions as bytes.

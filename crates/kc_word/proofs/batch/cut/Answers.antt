@@ -9,14 +9,14 @@ use Rattle.kc_word.proofs.batch.cut.Goals as goal
 
 pub loop-batches-smaller : goal.loop-batches-smaller
 loop-batches-smaller c =
-    let taken = subst (λ xs. c.in_ok-parts.parts.items ≡ stretches c.args.k (number_at c.args.k xs c.loop-batches.next.piece c.loop-batches.next.position) (number_at c.args.k xs c.loop-batches.next.piece c.loop-batches.next.position + c.args.size) 0 xs) c.deref.ensures.value c.in_ok-parts.ensures.taken in
+    let taken = subst (λ xs. c.in_ok-parts.parts.items ≡ stretches c.args.k (number_at c.args.k xs c.loop-batches.next.piece c.loop-batches.next.position) (number_at c.args.k xs c.loop-batches.next.piece c.loop-batches.next.position + c.args.size) xs) c.deref.ensures.value c.in_ok-parts.ensures.taken in
     let moved = subst (λ xs. number_at c.args.k xs c.take_positions.new.next.piece c.take_positions.new.next.position ≡ min (number_at c.args.k xs c.loop-batches.next.piece c.loop-batches.next.position + c.args.size) (position_total c.args.k xs)) c.deref.ensures.value c.in_ok-parts.ensures.moved in
     let left = IsCutTo-left c.args.k c.args.size c.loop-batches.next.piece c.loop-batches.next.position c.args.pieces.items _ c.in_ok-parts.parts.items (λ e. eqb-false c.in_ok-parts.parts.len 0 (sym c.is_empty.ensures ∙ c.if-is_empty.false) (omega (arith, e, c.in_ok-parts.parts.ok))) taken c.loop-batches.invariant in
     omega (arith, moved, left)
 
 pub loop-batches-preserved : goal.loop-batches-preserved
 loop-batches-preserved c =
-    let taken = subst (λ xs. c.in_ok-parts.parts.items ≡ stretches c.args.k (number_at c.args.k xs c.loop-batches.next.piece c.loop-batches.next.position) (number_at c.args.k xs c.loop-batches.next.piece c.loop-batches.next.position + c.args.size) 0 xs) c.deref.ensures.value c.in_ok-parts.ensures.taken in
+    let taken = subst (λ xs. c.in_ok-parts.parts.items ≡ stretches c.args.k (number_at c.args.k xs c.loop-batches.next.piece c.loop-batches.next.position) (number_at c.args.k xs c.loop-batches.next.piece c.loop-batches.next.position + c.args.size) xs) c.deref.ensures.value c.in_ok-parts.ensures.taken in
     let moved = subst (λ xs. number_at c.args.k xs c.take_positions.new.next.piece c.take_positions.new.next.position ≡ min (number_at c.args.k xs c.loop-batches.next.piece c.loop-batches.next.position + c.args.size) (position_total c.args.k xs)) c.deref.ensures.value c.in_ok-parts.ensures.moved in
     let place = subst (λ xs. IsPlace c.args.k xs c.take_positions.new.next.piece c.take_positions.new.next.position) c.deref.ensures.value c.in_ok-parts.ensures.place in
     IsCutTo-more c.args.k c.args.size c.loop-batches.next.piece c.loop-batches.next.position c.take_positions.new.next.piece c.take_positions.new.next.position c.args.pieces.items
@@ -28,7 +28,7 @@ loop-batches-preserved c =
 
 pub returns-clause-cutting : goal.returns-clause-cutting
 returns-clause-cutting c =
-    let taken = subst (λ xs. c.in_ok-parts.parts.items ≡ stretches c.args.k (number_at c.args.k xs c.loop-batches.next.piece c.loop-batches.next.position) (number_at c.args.k xs c.loop-batches.next.piece c.loop-batches.next.position + c.args.size) 0 xs) c.deref.ensures.value c.in_ok-parts.ensures.taken in
+    let taken = subst (λ xs. c.in_ok-parts.parts.items ≡ stretches c.args.k (number_at c.args.k xs c.loop-batches.next.piece c.loop-batches.next.position) (number_at c.args.k xs c.loop-batches.next.piece c.loop-batches.next.position + c.args.size) xs) c.deref.ensures.value c.in_ok-parts.ensures.taken in
     IsCutTo-all c.args.k c.args.size c.loop-batches.next.piece c.loop-batches.next.position c.args.pieces.items (map (λ batch. batch.value) c.loop-batches.batches.items) c.in_ok-parts.parts.items c.take_positions.ensures.some c.requires (sym c.in_ok-parts.parts.ok.0 ∙ eqb-true c.in_ok-parts.parts.len 0 (sym c.is_empty.ensures ∙ c.if-is_empty.true)) taken c.loop-batches.invariant
 
 pub returns-clause-occurrences : goal.returns-clause-occurrences
