@@ -1,0 +1,7 @@
+//! The words of a count divided among stripes: how they are divided, the keys of a batch's words in each
+//! stripe, and a stripe that always holds the counts of the batches that it names.
+#![tactic(auto)]
+
+mod setup;
+
+pub use setup::Setup;
