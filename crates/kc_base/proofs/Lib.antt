@@ -1,0 +1,5 @@
+pub mod Distinct
+pub mod Lists
+pub mod Permutations
+pub mod Sums
+pub mod Walks

@@ -1,0 +1,9 @@
+//! What the crates above have in common: a counter that only contracts see, and lemmas on lists in `proofs/`.
+#![tactic(auto)]
+
+mod counter;
+
+pub use counter::Counter;
+
+#[cfg(test)]
+mod tests;

@@ -1,0 +1,12 @@
+//! What no contract says of a counter.
+use crate::Counter;
+use std::test::Fail;
+
+#[test]
+fn a_counter_takes_no_bytes(rt: HostRuntime) -> Result<(), Fail> {
+    let mut counter = Counter::zero();
+    counter.tick();
+    let _more = counter.and_one();
+    assert_eq!(rt; std::mem::size_of::<Counter>(), 0);
+    Ok(())
+}
