@@ -2,6 +2,8 @@
 //! stripe, and a stripe that always holds the counts of the batches that it names.
 #![tactic(auto)]
 
+mod cut;
 mod setup;
 
+pub use cut::{Cut, cut_up};
 pub use setup::Setup;

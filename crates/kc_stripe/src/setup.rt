@@ -1,6 +1,6 @@
 //! How the words of a count are divided among stripes.
 ghost use Rattle.std.specs.Prelude.{◌≡◌, ℕ, ◌^◌, ◌<◌, ◌≤◌, ◌↔◌, IsSome, IfSome};
-ghost use Rattle.kc_stripe.specs.Setup.{StripeSetup, IsSetup, word_count, stripe_count, key_bits, stripe_of, key_of, StandsAt, KeepsWordsApart};
+ghost use Rattle.kc_stripe.specs.Setup.{StripeSetup, IsSetup, HasBits, word_count, stripe_count, key_bits, stripe_of, key_of, StandsAt, KeepsWordsApart};
 
 use kc_hash::Hash;
 use kc_word::{Rule, Word};
@@ -77,6 +77,15 @@ impl Setup {
         ensures at_most { result ≤ 64 }
     {
         1 << self.stripe_bits
+    }
+
+    /// How many bits of a code tell the stripes apart.
+    pub(crate) fn stripe_bits(&self) -> u32
+        ensures value { result ≡ self.now.stripe_bits }
+        ensures at_most { result ≤ 6 }
+        ensures bits { HasBits self.now.rule.k self.now.hash self.now.stripe_bits }
+    {
+        self.stripe_bits
     }
 
     /// The number of bits of a key.
