@@ -66,27 +66,21 @@ int main(void) {
             if (invertible(columns, bits)) break;
         }
         build(&tables, columns);
-        uint64_t least = UINT64_MAX, sum = 0;
         for (int round = 0; round < 7; round++) {
-            uint64_t start = nanoseconds();
-            sum = 0;
+            uint64_t start = nanoseconds(), sum = 0;
             for (uint64_t turn = 0; turn < TURNS; turn++) sum += sum_of(&tables, words, turn, bits);
             uint64_t took = nanoseconds() - start;
-            if (took < least) least = took;
+            printf("apply%d %llu %llu\n", bits, (unsigned long long)took, (unsigned long long)sum);
         }
-        printf("apply %d %llu %llu\n", bits, (unsigned long long)least, (unsigned long long)sum);
-        least = UINT64_MAX;
         for (int round = 0; round < 7; round++) {
-            uint64_t start = nanoseconds();
-            sum = 0;
+            uint64_t start = nanoseconds(), sum = 0;
             for (uint64_t turn = 0; turn < TURNS; turn++) {
                 build(&built, columns);
                 sum += apply(&built, (turn << 32) >> (64 - bits));
             }
             uint64_t took = nanoseconds() - start;
-            if (took < least) least = took;
+            printf("build%d %llu %llu\n", bits, (unsigned long long)took, (unsigned long long)sum);
         }
-        printf("build %d %llu %llu\n", bits, (unsigned long long)least, (unsigned long long)sum);
     }
     return 0;
 }

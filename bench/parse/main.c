@@ -1,6 +1,6 @@
 // The plain C loop that parsing is measured against, and the maker of the files that both programs read.
-//   main make fasta|line|fastq FILE    writes a seeded file
-//   main FILE ROUNDS                   prints the least time of parsing the bytes, and of reading and parsing, in microseconds
+//   main make fasta|line|fastq BASES FILE    writes a seeded file
+//   main FILE                                prints how long parsing its bytes took, and reading and parsing it
 #include <stdio.h>
 #include <stdlib.h>
 #include <string.h>
@@ -13,21 +13,21 @@ static void put_bases(FILE *out, size_t count) {
     for (size_t i = 0; i < count; i++) putc("ACGT"[xorshift(&state) >> 62], out);
 }
 
-static int make(const char *kind, const char *path) {
+static int make(const char *kind, size_t bases, const char *path) {
     FILE *out = fopen(path, "wb");
     if (!out) return 1;
     if (strcmp(kind, "fastq") == 0) {
-        for (int i = 0; i < 900000; i++) {
-            fprintf(out, "@read%d\n", i);
+        for (size_t i = 0; i < bases / 1000 * 18; i++) {
+            fprintf(out, "@read%zu\n", i);
             put_bases(out, 100);
             fputs("\n+\n", out);
             for (int j = 0; j < 100; j++) putc(33 + (int)(xorshift(&state) >> 40) % 41, out);
             putc('\n', out);
         }
     } else {
-        size_t wrap = strcmp(kind, "line") == 0 ? 50000000 : 70;
+        size_t wrap = strcmp(kind, "line") == 0 ? bases : 70;
         fputs(">seeded\n", out);
-        for (size_t left = 50000000; left > 0;) {
+        for (size_t left = bases; left > 0;) {
             size_t count = left < wrap ? left : wrap;
             put_bases(out, count);
             putc('\n', out);
@@ -138,18 +138,16 @@ static size_t finish(struct reads *reads) {
 }
 
 int main(int argc, char **argv) {
-    if (argc == 4 && strcmp(argv[1], "make") == 0) return make(argv[2], argv[3]);
-    if (argc != 3) return 1;
-    uint64_t best_parse = UINT64_MAX, best_all = UINT64_MAX;
-    size_t sum = 0, length;
-    for (int round = 0; round < atoi(argv[2]); round++) {
+    if (argc == 5 && strcmp(argv[1], "make") == 0) return make(argv[2], strtoull(argv[3], NULL, 10), argv[4]);
+    if (argc != 2) return 1;
+    for (int round = 0; round < 2; round++) {
+        size_t length;
         char *bytes = load(argv[1], &length);
         struct reads reads = {0};
         uint64_t start = nanoseconds();
         parse(bytes, bytes + length, &reads);
         uint64_t took = nanoseconds() - start;
-        if (took < best_parse) best_parse = took;
-        sum = finish(&reads);
+        printf("parse %llu %zu\n", (unsigned long long)took, finish(&reads));
         free(bytes);
         memset(&reads, 0, sizeof reads);
         start = nanoseconds();
@@ -157,9 +155,7 @@ int main(int argc, char **argv) {
         parse(bytes, bytes + length, &reads);
         free(bytes);
         took = nanoseconds() - start;
-        if (took < best_all) best_all = took;
-        sum = finish(&reads);
+        printf("read %llu %zu\n", (unsigned long long)took, finish(&reads));
     }
-    printf("%llu %llu %zu\n", (unsigned long long)best_parse / 1000, (unsigned long long)best_all / 1000, sum);
     return 0;
 }

@@ -1,4 +1,5 @@
-// The table of remainders in C, as `kc_table::QuotientTable` has it: 20 million keys readied, then counted.
+// The table of remainders in C, as `kc_table::QuotientTable` has it:
+//   main KEYS    readies so many keys, then counts them, and prints how long that took, in nanoseconds
 #include <stdio.h>
 #include <stdlib.h>
 
@@ -114,8 +115,9 @@ static inline void add(Table *table, uint64_t key) {
 
 static uint64_t state = 1;
 
-int main(void) {
-    const uint64_t n = 20000000;
+int main(int argc, char **argv) {
+    if (argc != 2) return 1;
+    const uint64_t n = strtoull(argv[1], NULL, 10);
     uint64_t *keys = malloc(n * sizeof *keys);
     for (uint64_t i = 0; i < n; i++) {
         uint64_t word = split_mix(&state);
@@ -138,8 +140,9 @@ int main(void) {
             stored += table.rows[place].tag != 0;
             total += table.rows[place].count;
         }
-        printf("%u %.0f %.0f %u %llu %llu\n", logs[run], (readied - start) / 1e6, (added - readied) / 1e6, table.log,
-               (unsigned long long)stored, (unsigned long long)total);
+        printf("ready%u %llu %u\n", logs[run], (unsigned long long)(readied - start), table.log);
+        printf("add%u %llu %llu %llu\n", logs[run], (unsigned long long)(added - readied), (unsigned long long)stored,
+               (unsigned long long)total);
         free(table.rows);
     }
     return 0;

@@ -1,23 +1,22 @@
 // The plain C loop that the words of batches are measured against, and the maker of the file that both programs read.
-//   main make FILE           writes seeded reads
-//   main FILE K ROUNDS       prints the least time of the words of all batches, both strands, in microseconds, and their sum
+//   main make READS FILE     writes seeded reads
+//   main FILE K              prints how long the words of all batches took, both strands, and their sum
 #include <stdio.h>
 #include <stdlib.h>
 #include <string.h>
 
 #include "../common.h"
 
-#define READS 333334
 #define LENGTH 150
 #define SIZE 65536
 
 static uint64_t state = 88172645463325252ull;
 
-static int make(const char *path) {
+static int make(long reads, const char *path) {
     FILE *out = fopen(path, "wb");
     if (!out) return 1;
-    for (int i = 0; i < READS; i++) {
-        fprintf(out, ">%d\n", i);
+    for (long i = 0; i < reads; i++) {
+        fprintf(out, ">%ld\n", i);
         for (int j = 0; j < LENGTH; j++) {
             uint64_t r = xorshift(&state);
             putc(r % 1000 == 0 ? 'N' : "ACGT"[r >> 62], out);
@@ -87,9 +86,9 @@ static size_t words(const struct batch *batch, int k, uint64_t *out) {
 }
 
 int main(int argc, char **argv) {
-    if (argc == 3 && strcmp(argv[1], "make") == 0) return make(argv[2]);
-    if (argc != 4) return 2;
-    int k = atoi(argv[2]), rounds = atoi(argv[3]);
+    if (argc == 4 && strcmp(argv[1], "make") == 0) return make(atol(argv[2]), argv[3]);
+    if (argc != 3) return 2;
+    int k = atoi(argv[2]);
     memset(codes, 4, sizeof codes);
     for (int i = 0; i < 4; i++) codes[(unsigned char)"ACGT"[i]] = i;
     FILE *in = fopen(argv[1], "rb");
@@ -98,11 +97,8 @@ int main(int argc, char **argv) {
     while (fgets(line, sizeof line, in))
         if (line[0] != '>') cut((unsigned char *)line, strcspn(line, "\n"), k);
     fclose(in);
-    uint64_t best = UINT64_MAX;
-    uint64_t sum = 0;
-    for (int round = 0; round < rounds; round++) {
-        uint64_t start = nanoseconds();
-        sum = 0;
+    for (int round = 0; round < 3; round++) {
+        uint64_t start = nanoseconds(), sum = 0;
         for (size_t i = 0; i < batch_count; i++) {
             uint64_t *out = malloc(batches[i].positions * sizeof *out);
             size_t n = words(&batches[i], k, out);
@@ -110,8 +106,7 @@ int main(int argc, char **argv) {
             free(out);
         }
         uint64_t took = nanoseconds() - start;
-        if (took < best) best = took;
+        printf("words %llu %llu\n", (unsigned long long)took, (unsigned long long)sum);
     }
-    printf("%llu %llu\n", (unsigned long long)best / 1000, (unsigned long long)sum);
     return 0;
 }

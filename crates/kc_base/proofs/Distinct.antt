@@ -1,5 +1,6 @@
 -- Lists whose elements differ, and lists whose elements differ by a key.
-use Rattle.std.proofs.Common.{◌≡◌, ◌≢◌, ℕ, ◌<◌, ◌≤◌, ◌⊎◌, inl, inr, List, [], ◌∷◌, ◌++◌, length, get_or, map, Bool, true, false, cond, filter, count_by, Contains, refl, sym, ap, ◌∙◌, subst, ⊎_elim, arith}
+use Rattle.std.proofs.Common.{◌≡◌, ◌≢◌, ℕ, ◌<◌, ◌≤◌, ◌⊎◌, inl, inr, List, [], ◌∷◌, ◌++◌, length, get_or, map, Bool}
+use Rattle.std.proofs.Common.{true, false, cond, filter, count_by, Contains, refl, sym, ap, ◌∙◌, subst, ⊎_elim, arith}
 use Rattle.std.specs.List.{AllByRecursion, IsDistinct}
 use Rattle.std.proofs.lemmas.List.Elements.{All-from_recursion, recursion_from_All, All-contains, All-push}
 use Rattle.std.proofs.lemmas.List.{get_or_default}
@@ -9,20 +10,27 @@ use Rattle.kc_base.proofs.Lists.{Contains-cons, Contains-cons_cases, Contains-ma
 use Rattle.kc_base.proofs.Sums.{count_by-none, count_by-some}
 
 -- what is filtered keeps its keys apart
-pub IsDistinct-filter_by : {K X : Type 0} (e : K → K → Bool) (key : X → K) (p : X → Bool) (xs : List X) → IsDistinct e (map key xs) → IsDistinct e (map key (filter p xs))
+pub IsDistinct-filter_by : {K X : Type 0} (e : K → K → Bool) (key : X → K) (p : X → Bool) (xs : List X)
+    → IsDistinct e (map key xs) → IsDistinct e (map key (filter p xs))
 unfolding IsDistinct
 IsDistinct-filter_by e key p [] apart = tt
-IsDistinct-filter_by {K} {X} e key p (x ∷ xs) apart = by (p x) (IsDistinct-filter_by e key p xs (IsDistinct-tail e (key x) (map key xs) apart)) (others xs (IsDistinct-head e (key x) (map key xs) apart))
+IsDistinct-filter_by {K} {X} e key p (x ∷ xs) apart =
+    by (p x) (IsDistinct-filter_by e key p xs (IsDistinct-tail e (key x) (map key xs) apart)) (others xs (IsDistinct-head e (key x) (map key xs) apart))
   where
-    by : (b : Bool) → IsDistinct e (map key (filter p xs)) → AllByRecursion (λ k. e (key x) k ≡ false) (map key (filter p xs)) → IsDistinct e (map key (cond b (x ∷ filter p xs) (filter p xs)))
+    by : (b : Bool) → IsDistinct e (map key (filter p xs))
+        → AllByRecursion (λ k. e (key x) k ≡ false) (map key (filter p xs))
+        → IsDistinct e (map key (cond b (x ∷ filter p xs) (filter p xs)))
     by true rest head = IsDistinct-cons e (key x) (map key (filter p xs)) head rest
     by false rest head = rest
 
-    kept : (b : Bool) (y : X) (ys zs : List X) → e (key x) (key y) ≡ false → AllByRecursion (λ k. e (key x) k ≡ false) (map key zs) → AllByRecursion (λ k. e (key x) k ≡ false) (map key (cond b (y ∷ zs) zs))
+    kept : (b : Bool) (y : X) (ys zs : List X) → e (key x) (key y) ≡ false
+        → AllByRecursion (λ k. e (key x) k ≡ false) (map key zs)
+        → AllByRecursion (λ k. e (key x) k ≡ false) (map key (cond b (y ∷ zs) zs))
     kept true y ys zs here rest = (here, rest)
     kept false y ys zs here rest = rest
 
-    others : (ys : List X) → AllByRecursion (λ k. e (key x) k ≡ false) (map key ys) → AllByRecursion (λ k. e (key x) k ≡ false) (map key (filter p ys))
+    others : (ys : List X) → AllByRecursion (λ k. e (key x) k ≡ false) (map key ys)
+        → AllByRecursion (λ k. e (key x) k ≡ false) (map key (filter p ys))
     others [] all = tt
     others (y ∷ ys) all = kept (p y) y ys (filter p ys) all.0 (others ys all.1)
 
@@ -68,7 +76,8 @@ module _ {K : Type 0} (equal : K → K → Bool) (tells : (x y : K) → ((equal 
       (tells x y)
 
   -- one key more that isn't there yet
-  pub IsDistinct-push_new : (xs : List K) (y : K) → IsDistinct equal xs → ¬ Contains xs y → IsDistinct equal (xs ++ y ∷ [])
+  pub IsDistinct-push_new : (xs : List K) (y : K) → IsDistinct equal xs → ¬ Contains xs y
+      → IsDistinct equal (xs ++ y ∷ [])
   unfolding IsDistinct
   IsDistinct-push_new [] y distinct new = (tt, tt)
   IsDistinct-push_new (x ∷ xs) y distinct new = IsDistinct-cons equal x (xs ++ y ∷ [])
@@ -84,7 +93,8 @@ module _ {K : Type 0} (equal : K → K → Bool) (tells : (x y : K) → ((equal 
       absurd (let both : true ≡ false = sym (equal_same x x refl) ∙ never in cc)
 
   -- of elements that differ by their keys, two with one key are one
-  pub one_by_key : {X : Type 0} (key : X → K) (xs : List X) (x y : X) → IsDistinct equal (map key xs) → Contains xs x → Contains xs y → key x ≡ key y → x ≡ y
+  pub one_by_key : {X : Type 0} (key : X → K) (xs : List X) (x y : X) → IsDistinct equal (map key xs) → Contains xs x
+      → Contains xs y → key x ≡ key y → x ≡ y
   one_by_key key [] x y distinct (k, within, is) there same = absurd (omega arith)
   one_by_key {X} key (z ∷ zs) x y distinct here there same = ⊎_elim
       (λ (first : z ≡ x). ⊎_elim

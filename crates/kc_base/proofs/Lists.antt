@@ -1,12 +1,17 @@
 -- Lists made from lists: parts, maps, filters, lists of lists and ranges, and what stands in them.
-use Rattle.std.proofs.Common.{◌≡◌, ◌≢◌, ℕ, zero, suc, ◌+◌, ◌-◌, ◌<◌, ◌≤◌, ◌⊎◌, inl, inr, List, [], ◌∷◌, ◌++◌, length, get_or, map, take, drop, set, Bool, true, false, ◌&&◌, cond, Option, Some, None, filter, filter_map, option_to_list, slice_get, All, Contains, refl, sym, ap, subst, ◌∙◌, ⊎_elim, arith, append-nil}
+use Rattle.std.proofs.Common.{◌≡◌, ◌≢◌, ℕ, zero, suc, ◌+◌, ◌-◌, ◌<◌, ◌≤◌, ◌⊎◌, inl, inr, List, [], ◌∷◌, ◌++◌, length}
+use Rattle.std.proofs.Common.{get_or, map, take, drop, set, Bool, true, false, ◌&&◌, cond, Option, Some, None, filter}
+use Rattle.std.proofs.Common.{filter_map, option_to_list, slice_get, All, Contains, refl, sym, ap, subst, ◌∙◌, ⊎_elim}
+use Rattle.std.proofs.Common.{arith, append-nil}
 use Rattle.std.specs.List.{cons_option, flat_map, list_all, range_with_len}
 use Rattle.std.specs.List.Sorted.{IsStrictlyIncreasing}
 use Rattle.std.specs.Prelude.{MatchOption}
 use Rattle.std.proofs.lemmas.Bool.{cases_lt}
 use Rattle.std.proofs.lemmas.List.{get_or_append_left, get_or_push, length_push, map-id, take_at, take_more}
 use Rattle.std.proofs.lemmas.List.Concat.{flat_map-append}
-use Rattle.std.proofs.lemmas.List.Elements.{All-append, All-cons, All-head, All-nil, All-tail, Contains-append_cases, Contains-append_left, Contains-append_right, filter-append, filter_map-append}
+use Rattle.std.proofs.lemmas.List.Elements.{All-append, All-cons, All-head, All-nil, All-tail, Contains-append_cases}
+use Rattle.std.proofs.lemmas.List.Elements.{Contains-append_left, Contains-append_right, filter-append}
+use Rattle.std.proofs.lemmas.List.Elements.{filter_map-append}
 use Rattle.std.proofs.lemmas.List.FromFn.{map-range_with_len_more}
 
 -- ---- parts
@@ -49,14 +54,16 @@ and_both : (a b : Bool) → (a && b) ≡ true → (a ≡ true) × (b ≡ true)
 and_both true b is = (refl, is)
 and_both false b is = (is, absurd (cc))
 
-pub list_all-take : {X : Type 0} (p : X → Bool) (n : ℕ) (xs : List X) → list_all p xs ≡ true → list_all p (take n xs) ≡ true
+pub list_all-take : {X : Type 0} (p : X → Bool) (n : ℕ) (xs : List X) → list_all p xs ≡ true
+    → list_all p (take n xs) ≡ true
 list_all-take p zero xs all = refl
 list_all-take p (suc n) [] all = refl
 list_all-take p (suc n) (x ∷ xs) all =
     let (here, rest) = and_both (p x) (list_all p xs) all in
     ap (λ b. b && list_all p (take n xs)) here ∙ list_all-take p n xs rest
 
-pub list_all-drop : {X : Type 0} (p : X → Bool) (n : ℕ) (xs : List X) → list_all p xs ≡ true → list_all p (drop n xs) ≡ true
+pub list_all-drop : {X : Type 0} (p : X → Bool) (n : ℕ) (xs : List X) → list_all p xs ≡ true
+    → list_all p (drop n xs) ≡ true
 list_all-drop p zero xs all = all
 list_all-drop p (suc n) [] all = refl
 list_all-drop p (suc n) (x ∷ xs) all = list_all-drop p n xs (and_both (p x) (list_all p xs) all).1
@@ -66,7 +73,8 @@ slice_get-set_same [] k x within = absurd (omega arith)
 slice_get-set_same (y ∷ ys) zero x within = refl
 slice_get-set_same (y ∷ ys) (suc k) x within = slice_get-set_same ys k x (omega arith)
 
-pub slice_get-set_other : {X : Type 0} (xs : List X) (k j : ℕ) (x : X) → j ≢ k → slice_get (set xs k x) j ≡ slice_get xs j
+pub slice_get-set_other : {X : Type 0} (xs : List X) (k j : ℕ) (x : X) → j ≢ k
+    → slice_get (set xs k x) j ≡ slice_get xs j
 slice_get-set_other [] k j x apart = refl
 slice_get-set_other (y ∷ ys) zero zero x apart = absurd (apart refl)
 slice_get-set_other (y ∷ ys) zero (suc j) x apart = refl
@@ -74,7 +82,8 @@ slice_get-set_other (y ∷ ys) (suc k) zero x apart = refl
 slice_get-set_other (y ∷ ys) (suc k) (suc j) x apart = slice_get-set_other ys k j x (λ same. apart (ap suc same))
 
 -- a greater number at the end
-pub IsStrictlyIncreasing-push : (xs : List ℕ) (y : ℕ) → IsStrictlyIncreasing xs → All (λ x. x < y) xs → IsStrictlyIncreasing (xs ++ y ∷ [])
+pub IsStrictlyIncreasing-push : (xs : List ℕ) (y : ℕ) → IsStrictlyIncreasing xs → All (λ x. x < y) xs
+    → IsStrictlyIncreasing (xs ++ y ∷ [])
 IsStrictlyIncreasing-push xs y rising below k within =
     let long = length_push xs y in
     let inside : k < length xs = omega (arith, long, within) in
@@ -88,7 +97,9 @@ IsStrictlyIncreasing-push xs y rising below k within =
 
 pub map-same : {X Y : Type 0} (f g : X → Y) (xs : List X) → All (λ x. f x ≡ g x) xs → map f xs ≡ map g xs
 map-same f g [] same = refl
-map-same f g (x ∷ xs) same = ap (λ y. y ∷ map f xs) (All-head (λ z. f z ≡ g z) x xs same) ∙ ap (λ ys. g x ∷ ys) (map-same f g xs (All-tail (λ z. f z ≡ g z) x xs same))
+map-same f g (x ∷ xs) same =
+    ap (λ y. y ∷ map f xs) (All-head (λ z. f z ≡ g z) x xs same)
+    ∙ ap (λ ys. g x ∷ ys) (map-same f g xs (All-tail (λ z. f z ≡ g z) x xs same))
 
 pub filter-same : {X : Type 0} (p q : X → Bool) (xs : List X) → All (λ x. p x ≡ q x) xs → filter p xs ≡ filter q xs
 filter-same p q [] same = refl
@@ -96,32 +107,44 @@ filter-same p q (x ∷ xs) same =
     ap (λ b. cond b (x ∷ filter p xs) (filter p xs)) (All-head (λ z. p z ≡ q z) x xs same)
     ∙ ap (λ rest. cond (q x) (x ∷ rest) rest) (filter-same p q xs (All-tail (λ z. p z ≡ q z) x xs same))
 
-pub filter_map-same : {X Y : Type 0} (f g : X → Option Y) (xs : List X) → All (λ x. f x ≡ g x) xs → filter_map f xs ≡ filter_map g xs
+pub filter_map-same : {X Y : Type 0} (f g : X → Option Y) (xs : List X) → All (λ x. f x ≡ g x) xs
+    → filter_map f xs ≡ filter_map g xs
 filter_map-same f g [] same = refl
 filter_map-same f g (x ∷ xs) same =
-    ap (λ o. cons_option o (filter_map f xs)) (All-head (λ z. f z ≡ g z) x xs same) ∙ ap (cons_option (g x)) (filter_map-same f g xs (All-tail (λ z. f z ≡ g z) x xs same))
+    ap (λ o. cons_option o (filter_map f xs)) (All-head (λ z. f z ≡ g z) x xs same)
+    ∙ ap (cons_option (g x)) (filter_map-same f g xs (All-tail (λ z. f z ≡ g z) x xs same))
 
-pub flat_map-same : {X Y : Type 0} (f g : X → List Y) (xs : List X) → All (λ x. f x ≡ g x) xs → flat_map f xs ≡ flat_map g xs
+pub flat_map-same : {X Y : Type 0} (f g : X → List Y) (xs : List X) → All (λ x. f x ≡ g x) xs
+    → flat_map f xs ≡ flat_map g xs
 flat_map-same f g [] same = refl
-flat_map-same f g (x ∷ xs) same = ap (λ ys. ys ++ flat_map f xs) (All-head (λ z. f z ≡ g z) x xs same) ∙ ap (λ ys. g x ++ ys) (flat_map-same f g xs (All-tail (λ z. f z ≡ g z) x xs same))
+flat_map-same f g (x ∷ xs) same =
+    ap (λ ys. ys ++ flat_map f xs) (All-head (λ z. f z ≡ g z) x xs same)
+    ∙ ap (λ ys. g x ++ ys) (flat_map-same f g xs (All-tail (λ z. f z ≡ g z) x xs same))
 
 -- ---- one after the other
 
-pub filter_map-map : {X Y Z : Type 0} (f : Y → Option Z) (g : X → Y) (xs : List X) → filter_map f (map g xs) ≡ filter_map (λ x. f (g x)) xs
+pub filter_map-map : {X Y Z : Type 0} (f : Y → Option Z) (g : X → Y) (xs : List X)
+    → filter_map f (map g xs) ≡ filter_map (λ x. f (g x)) xs
 filter_map-map f g [] = refl
 filter_map-map f g (x ∷ xs) = ap (cons_option (f (g x))) (filter_map-map f g xs)
 
-pub filter_map-flat_map : {X Y Z : Type 0} (f : Y → Option Z) (g : X → List Y) (xs : List X) → filter_map f (flat_map g xs) ≡ flat_map (λ x. filter_map f (g x)) xs
+pub filter_map-flat_map : {X Y Z : Type 0} (f : Y → Option Z) (g : X → List Y) (xs : List X)
+    → filter_map f (flat_map g xs) ≡ flat_map (λ x. filter_map f (g x)) xs
 filter_map-flat_map f g [] = refl
-filter_map-flat_map f g (x ∷ xs) = filter_map-append f (g x) (flat_map g xs) ∙ ap (λ zs. filter_map f (g x) ++ zs) (filter_map-flat_map f g xs)
+filter_map-flat_map f g (x ∷ xs) =
+    filter_map-append f (g x) (flat_map g xs) ∙ ap (λ zs. filter_map f (g x) ++ zs) (filter_map-flat_map f g xs)
 
-pub filter-flat_map : {X Y : Type 0} (p : Y → Bool) (g : X → List Y) (xs : List X) → filter p (flat_map g xs) ≡ flat_map (λ x. filter p (g x)) xs
+pub filter-flat_map : {X Y : Type 0} (p : Y → Bool) (g : X → List Y) (xs : List X)
+    → filter p (flat_map g xs) ≡ flat_map (λ x. filter p (g x)) xs
 filter-flat_map p g [] = refl
-filter-flat_map p g (x ∷ xs) = filter-append p (g x) (flat_map g xs) ∙ ap (λ ys. filter p (g x) ++ ys) (filter-flat_map p g xs)
+filter-flat_map p g (x ∷ xs) =
+    filter-append p (g x) (flat_map g xs) ∙ ap (λ ys. filter p (g x) ++ ys) (filter-flat_map p g xs)
 
-pub flat_map-flat_map : {X Y Z : Type 0} (f : Y → List Z) (g : X → List Y) (xs : List X) → flat_map f (flat_map g xs) ≡ flat_map (λ x. flat_map f (g x)) xs
+pub flat_map-flat_map : {X Y Z : Type 0} (f : Y → List Z) (g : X → List Y) (xs : List X)
+    → flat_map f (flat_map g xs) ≡ flat_map (λ x. flat_map f (g x)) xs
 flat_map-flat_map f g [] = refl
-flat_map-flat_map f g (x ∷ xs) = flat_map-append f (g x) (flat_map g xs) ∙ ap (λ zs. flat_map f (g x) ++ zs) (flat_map-flat_map f g xs)
+flat_map-flat_map f g (x ∷ xs) =
+    flat_map-append f (g x) (flat_map g xs) ∙ ap (λ zs. flat_map f (g x) ++ zs) (flat_map-flat_map f g xs)
 
 pub filter_map-one : {X Y : Type 0} (f : X → Option Y) (x : X) → filter_map f (x ∷ []) ≡ option_to_list (f x)
 filter_map-one f x = by (f x)
@@ -139,31 +162,43 @@ length-filter_map f (x ∷ xs) = omega (arith, by (f x) (filter_map f xs), lengt
     by (Some y) ys = omega arith
 
 -- a loop's step: one more of the parts that are joined
-pub flat_map_take_more : {X Y : Type 0} (f : X → List Y) (xs : List X) (k : ℕ) (d : X) → k < length xs → flat_map f (take (k + 1) xs) ≡ flat_map f (take k xs) ++ f (get_or xs k d)
+pub flat_map_take_more : {X Y : Type 0} (f : X → List Y) (xs : List X) (k : ℕ) (d : X) → k < length xs
+    → flat_map f (take (k + 1) xs) ≡ flat_map f (take k xs) ++ f (get_or xs k d)
 flat_map_take_more f xs k d within =
-    ap (flat_map f) (take_more xs k d within) ∙ flat_map-append f (take k xs) (get_or xs k d ∷ []) ∙ ap (λ ys. flat_map f (take k xs) ++ ys) (append-nil (f (get_or xs k d)))
+    ap (flat_map f) (take_more xs k d within) ∙ flat_map-append f (take k xs) (get_or xs k d ∷ [])
+    ∙ ap (λ ys. flat_map f (take k xs) ++ ys) (append-nil (f (get_or xs k d)))
 
 -- ---- ranges
 
 pub All-range : (P : ℕ → Type 0) (a n : ℕ) → ((x : ℕ) → a ≤ x → x < a + n → P x) → All P (range_with_len a n)
 All-range P a zero each = All-nil P
-All-range P a (suc n) each = All-cons P a (range_with_len (a + 1) n) (each a (omega arith) (omega arith)) (All-range P (a + 1) n (λ x low high. each x (omega arith) (omega arith)))
+All-range P a (suc n) each =
+    All-cons P a (range_with_len (a + 1) n) (each a (omega arith) (omega arith)) (All-range P (a + 1) n (λ x low high. each x (omega arith) (omega arith)))
 
 pub range_more : (n : ℕ) → range_with_len 0 (n + 1) ≡ range_with_len 0 n ++ n ∷ []
-range_more n = sym (map-id (range_with_len 0 (n + 1))) ∙ map-range_with_len_more (λ (x : ℕ). x) 0 n n (omega arith) ∙ ap (λ (xs : List ℕ). xs ++ n ∷ []) (map-id (range_with_len 0 n))
+range_more n =
+    sym (map-id (range_with_len 0 (n + 1))) ∙ map-range_with_len_more (λ (x : ℕ). x) 0 n n (omega arith)
+    ∙ ap (λ (xs : List ℕ). xs ++ n ∷ []) (map-id (range_with_len 0 n))
 
-pub flat_map-range_more : {X : Type 0} (f : ℕ → List X) (n : ℕ) → flat_map f (range_with_len 0 (n + 1)) ≡ flat_map f (range_with_len 0 n) ++ f n
-flat_map-range_more f n = ap (flat_map f) (range_more n) ∙ flat_map-append f (range_with_len 0 n) (n ∷ []) ∙ ap (λ ys. flat_map f (range_with_len 0 n) ++ ys) (append-nil (f n))
+pub flat_map-range_more : {X : Type 0} (f : ℕ → List X) (n : ℕ)
+    → flat_map f (range_with_len 0 (n + 1)) ≡ flat_map f (range_with_len 0 n) ++ f n
+flat_map-range_more f n =
+    ap (flat_map f) (range_more n) ∙ flat_map-append f (range_with_len 0 n) (n ∷ [])
+    ∙ ap (λ ys. flat_map f (range_with_len 0 n) ++ ys) (append-nil (f n))
 
 -- ---- what stands in a list
 
-pub All-flat_map : {X Y : Type 0} (P : Y → Type 0) (f : X → List Y) (xs : List X) → All (λ x. All P (f x)) xs → All P (flat_map f xs)
+pub All-flat_map : {X Y : Type 0} (P : Y → Type 0) (f : X → List Y) (xs : List X) → All (λ x. All P (f x)) xs
+    → All P (flat_map f xs)
 All-flat_map P f [] each = All-nil P
-All-flat_map P f (x ∷ xs) each = All-append P (f x) (flat_map f xs) (All-head (λ y. All P (f y)) x xs each) (All-flat_map P f xs (All-tail (λ y. All P (f y)) x xs each))
+All-flat_map P f (x ∷ xs) each =
+    All-append P (f x) (flat_map f xs) (All-head (λ y. All P (f y)) x xs each) (All-flat_map P f xs (All-tail (λ y. All P (f y)) x xs each))
 
-pub All-filter_map : {X Y : Type 0} (P : Y → Type 0) (f : X → Option Y) (xs : List X) → All (λ x. MatchOption (f x) (Unit {0}) P) xs → All P (filter_map f xs)
+pub All-filter_map : {X Y : Type 0} (P : Y → Type 0) (f : X → Option Y) (xs : List X)
+    → All (λ x. MatchOption (f x) (Unit {0}) P) xs → All P (filter_map f xs)
 All-filter_map P f [] each = All-nil P
-All-filter_map {X} {Y} P f (x ∷ xs) each = by (f x) (filter_map f xs) (All-head (λ y. MatchOption (f y) (Unit {0}) P) x xs each) (All-filter_map P f xs (All-tail (λ y. MatchOption (f y) (Unit {0}) P) x xs each))
+All-filter_map {X} {Y} P f (x ∷ xs) each =
+    by (f x) (filter_map f xs) (All-head (λ y. MatchOption (f y) (Unit {0}) P) x xs each) (All-filter_map P f xs (All-tail (λ y. MatchOption (f y) (Unit {0}) P) x xs each))
   where
     by : (o : Option Y) (ys : List Y) → MatchOption o (Unit {0}) P → All P ys → All P (cons_option o ys)
     by None ys here rest = rest
@@ -176,7 +211,8 @@ pub Contains-cons_cases : {X : Type 0} (xs : List X) (x y : X) → Contains (y �
 Contains-cons_cases xs x y (zero, within, is) = inl is
 Contains-cons_cases xs x y (suc k, within, is) = inr (k, omega arith, is)
 
-pub Contains-filter : {X : Type 0} (p : X → Bool) (xs : List X) (x : X) → p x ≡ true → Contains xs x → Contains (filter p xs) x
+pub Contains-filter : {X : Type 0} (p : X → Bool) (xs : List X) (x : X) → p x ≡ true → Contains xs x
+    → Contains (filter p xs) x
 Contains-filter p [] x passes (k, within, is) = absurd (omega arith)
 Contains-filter {X} p (y ∷ ys) x passes stands = ⊎_elim
     (λ (here : y ≡ x). first (p y) (ap p here ∙ passes) here)
@@ -198,7 +234,8 @@ Contains-map f (y ∷ ys) x stands = ⊎_elim
     (λ (later : Contains ys x). Contains-cons (map f ys) (f x) (f y) (Contains-map f ys x later))
     (Contains-cons_cases ys x y stands)
 
-pub Contains-flat_map : {X Y : Type 0} (f : X → List Y) (xs : List X) (x : X) (y : Y) → Contains xs x → Contains (f x) y → Contains (flat_map f xs) y
+pub Contains-flat_map : {X Y : Type 0} (f : X → List Y) (xs : List X) (x : X) (y : Y) → Contains xs x → Contains (f x) y
+    → Contains (flat_map f xs) y
 Contains-flat_map f [] x y (k, within, is) inside = absurd (omega arith)
 Contains-flat_map {X} {Y} f (z ∷ zs) x y stands inside = ⊎_elim
     (λ (here : z ≡ x). Contains-append_left (f z) (flat_map f zs) y (subst (λ (w : X). Contains (f w) y) (sym here) inside))
@@ -206,7 +243,8 @@ Contains-flat_map {X} {Y} f (z ∷ zs) x y stands inside = ⊎_elim
     (Contains-cons_cases zs x z stands)
 
 -- what stands in joined parts stands in one of them
-pub Contains-flat_map_cases : {X Y : Type 0} (f : X → List Y) (xs : List X) (y : Y) → Contains (flat_map f xs) y → (x : X) × Contains xs x × Contains (f x) y
+pub Contains-flat_map_cases : {X Y : Type 0} (f : X → List Y) (xs : List X) (y : Y) → Contains (flat_map f xs) y
+    → (x : X) × Contains xs x × Contains (f x) y
 Contains-flat_map_cases f [] y (k, within, is) = absurd (omega arith)
 Contains-flat_map_cases f (x ∷ xs) y stands = ⊎_elim
     (λ (here : Contains (f x) y). (x, (0, omega arith, refl), here))

@@ -1,9 +1,12 @@
--- Lists with the same elements: they weigh the same however their elements are weighed, and lists that weigh the same have the same elements.
-use Rattle.std.proofs.Common.{◌≡◌, ◌≢◌, ℕ, suc, ◌<◌, ◌⊎◌, List, [], ◌∷◌, length, get_or, Bool, true, false, cond, filter, sum_by, refl, sym, ap, ◌∙◌, ⊎_elim, arith}
+-- Lists with the same elements: they weigh the same however their elements are weighed, and lists that weigh the same
+-- have the same elements.
+use Rattle.std.proofs.Common.{◌≡◌, ◌≢◌, ℕ, suc, ◌<◌, ◌⊎◌, List, [], ◌∷◌, length, get_or, Bool, true, false, cond}
+use Rattle.std.proofs.Common.{filter, sum_by, refl, sym, ap, ◌∙◌, ⊎_elim, arith}
 use Rattle.std.specs.List.{remove}
 use Rattle.std.specs.List.Sorted.{IsPermutation}
 use Rattle.std.proofs.lemmas.List.Sums.{sum_by-cons, sum_by-remove}
-use Rattle.std.proofs.lemmas.List.Sorted.{IsPermutation-refl, IsPermutation-sym, IsPermutation-trans, IsPermutation-cons, IsPermutation-remove, sum_by-IsPermutation}
+use Rattle.std.proofs.lemmas.List.Sorted.{IsPermutation-refl, IsPermutation-sym, IsPermutation-trans}
+use Rattle.std.proofs.lemmas.List.Sorted.{IsPermutation-cons, IsPermutation-remove, sum_by-IsPermutation}
 use Rattle.kc_base.proofs.Sums.{sum_by-filter, sum_by-ones}
 
 -- the lists weigh the same, however their elements are weighed
@@ -16,7 +19,8 @@ weights-from_IsPermutation xs ys same h = sym (sum_by-IsPermutation h xs ys same
 pub length-from_weights : {X : Type 0} (xs ys : List X) → WeighTheSame xs ys → length xs ≡ length ys
 length-from_weights xs ys same = sym (sum_by-ones xs) ∙ same (λ _. 1) ∙ sum_by-ones ys
 
-pub weights-filter : {X : Type 0} (p : X → Bool) (xs ys : List X) → WeighTheSame xs ys → WeighTheSame (filter p xs) (filter p ys)
+pub weights-filter : {X : Type 0} (p : X → Bool) (xs ys : List X) → WeighTheSame xs ys
+    → WeighTheSame (filter p xs) (filter p ys)
 weights-filter p xs ys same h = sum_by-filter h p xs ∙ same (λ x. cond (p x) (h x) 0) ∙ sym (sum_by-filter h p ys)
 
 -- where a test tells whether two elements are the same, as `eqb` by `eqb_tells` for numbers
@@ -61,5 +65,6 @@ module _ {X : Type 0} (equal : X → X → Bool) (tells : (x y : X) → ((equal 
       (IsPermutation-sym ys (x ∷ remove ys at.0) (IsPermutation-remove ys at.0 x at.1 at.2))
 
   -- what passes a test is the same elements where the lists have the same elements
-  pub IsPermutation-filter : (p : X → Bool) (xs ys : List X) → IsPermutation xs ys → IsPermutation (filter p xs) (filter p ys)
+  pub IsPermutation-filter : (p : X → Bool) (xs ys : List X) → IsPermutation xs ys
+      → IsPermutation (filter p xs) (filter p ys)
   IsPermutation-filter p xs ys same = IsPermutation-from_weights (filter p xs) (filter p ys) (weights-filter p xs ys (weights-from_IsPermutation xs ys same))

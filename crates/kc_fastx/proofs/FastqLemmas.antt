@@ -6,14 +6,13 @@ use Rattle.std.proofs.lemmas.List.{append_assoc, length-append, take-append-le, 
 use Rattle.std.proofs.lemmas.List.Folds.{list_all-append}
 use Rattle.kc_fastx.specs.declared.faults.FastxFault.{FastxFault}
 use Rattle.kc_fastx.specs.declared.faults.FastxFault.TheVariants.{BadStart, BadBase, BadQuality, LongQuality, Truncated, TooLong, Read as ReadFailed, Memory}
-use Rattle.kc_fastx.specs.Lines.{Line, Cursor, begins_with, line_count, skip_blanks}
+use Rattle.kc_fastx.specs.Lines.{Line, Cursor, begins_with, line_count, skip_blanks, ends_or_begins_with}
 use Rattle.kc_fastx.specs.Reads.{Read, is_quality_byte, read_of}
-use Rattle.kc_fastx.specs.Records.{Records, BeginsWithSequence, SequenceFails, FirstFault, ends_or_begins_with}
-use Rattle.kc_fastx.specs.Fastq.{BeginsWithFastqTitle, HasPlus, BeginsWithQuality, HasShortQuality, IsFastqBody, IsFastqRecord, QualityFails, FastqBodyFails, FastqFails}
-use Rattle.kc_fastx.specs.ReadsOf.{IsFastq}
+use Rattle.kc_fastx.specs.Records.{Records, BeginsWithSequence, SequenceFails, FirstFault}
+use Rattle.kc_fastx.specs.Fastq.{BeginsWithFastqTitle, HasPlus, BeginsWithQuality, HasShortQuality, IsFastqBody, IsFastqRecord, QualityFails, FastqBodyFails, FastqFails, at_sign, plus_sign}
+use Rattle.kc_fastx.specs.Parsing.{IsFastq}
 use Rattle.kc_fastx.specs.Faults.{UnlessMemory}
-use Rattle.kc_fastx.proofs.SequenceLemmas.{TakesLine, line_count-more, joined-push, both_true}
-use Rattle.kc_fastx.proofs.FastaLemmas.{Records-push}
+use Rattle.kc_fastx.proofs.RecordsLemmas.{TakesLine, TakesTitle, line_count-more, joined-push, both_true, Records-push}
 
 -- from `start` on, the lines up to `now` are quality lines that join to at most `need` bytes, every front to fewer
 pub record QualitySoFar (need : ℕ) (start now : Cursor) (quals : List ℕ) : Type 0 where
@@ -48,17 +47,23 @@ front_shorter need taken line below here i h =
     (λ (e : length taken ≡ i). rw (take_at taken (line ∷ []) i e) here)
     (last_or_below i (length taken) (omega (arith, length-append taken (line ∷ []))))
 
+-- behind qualities that are too short, `next` has taken one line of qualities more than `now`, which does not make them too long
+pub record TakesQualityLine (need : ℕ) (quals : List ℕ) (now next : Cursor) (line : Line) : Type 0 where
+  pub short : length quals < need
+  pub step : TakesLine now next line
+  pub accepted : list_all is_quality_byte line ≡ true
+  pub fits : length quals + length line ≤ need
+
 pub quality_more : (need : ℕ) (start now next : Cursor) (quals : List ℕ) (line : Line) → QualitySoFar need start now quals
-    → length quals < need → TakesLine now next line → list_all is_quality_byte line ≡ true → length quals + length line ≤ need
-    → QualitySoFar need start next (quals ++ line)
-quality_more need start now next quals line before short step good fits = record {
+    → TakesQualityLine need quals now next line → QualitySoFar need start next (quals ++ line)
+quality_more need start now next quals line before taken = record {
   taken = before.taken ++ line ∷ [];
-  split = before.split ∙ ap (λ rest. before.taken ++ rest) step.left ∙ sym (append_assoc before.taken (line ∷ []) next.left);
+  split = before.split ∙ ap (λ rest. before.taken ++ rest) taken.step.left ∙ sym (append_assoc before.taken (line ∷ []) next.left);
   joined = joined-push quals before.taken line before.joined;
-  accepted = list_all-append is_quality_byte quals line ∙ both_true (list_all is_quality_byte quals) (list_all is_quality_byte line) before.accepted good;
-  fits = omega (arith, length-append quals line);
-  fronts_shorter = front_shorter need before.taken line before.fronts_shorter (subst (λ qs. length qs < need) before.joined short);
-  counted = line_count-more now next line step ∙ before.counted;
+  accepted = list_all-append is_quality_byte quals line ∙ both_true (list_all is_quality_byte quals) (list_all is_quality_byte line) before.accepted taken.accepted;
+  fits = omega (arith, taken.fits, length-append quals line);
+  fronts_shorter = front_shorter need before.taken line before.fronts_shorter (subst (λ qs. length qs < need) before.joined taken.short);
+  counted = line_count-more now next line taken.step ∙ before.counted;
 }
 
 -- the quality is whole
@@ -96,12 +101,12 @@ unless_memory P Q f TooLong p = f TooLong p
 unless_memory P Q f ReadFailed p = f ReadFailed p
 
 -- the sequence, and the line with `+` where it ends
-pub has_plus : (start middle after : Cursor) (bases : List ℕ) (plus : Line) → BeginsWithSequence 43 start.left bases middle.left
-    → ends_or_begins_with 43 middle.left ≡ true → middle.left ≡ plus ∷ after.left → HasPlus start.left bases after.left
+pub has_plus : (start middle after : Cursor) (bases : List ℕ) (plus : Line) → BeginsWithSequence plus_sign start.left bases middle.left
+    → ends_or_begins_with plus_sign middle.left ≡ true → middle.left ≡ plus ∷ after.left → HasPlus start.left bases after.left
 has_plus start middle after bases plus sequence at e = record {
   plus = plus;
-  sequence = subst (λ rest. BeginsWithSequence 43 start.left bases rest) e sequence;
-  is_plus = subst (λ ls. ends_or_begins_with 43 ls ≡ true) e at;
+  sequence = subst (λ rest. BeginsWithSequence plus_sign start.left bases rest) e sequence;
+  is_plus = subst (λ ls. ends_or_begins_with plus_sign ls ≡ true) e at;
 }
 
 pub fastq_body : (start after end : Cursor) (bases quals : List ℕ) → HasPlus start.left bases after.left
@@ -109,7 +114,7 @@ pub fastq_body : (start after end : Cursor) (bases quals : List ℕ) → HasPlus
 fastq_body start after end bases quals front quality = record { after = after.left; front = front; quals = quals; quality = quality; has_quals = refl }
 
 -- a sequence that fails makes the record fail
-pub body_fails-sequence : (count : ℕ) (body : List Line) (fault : FastxFault) → SequenceFails count 43 body fault → FastqBodyFails count body fault
+pub body_fails-sequence : (count : ℕ) (body : List Line) (fault : FastxFault) → SequenceFails count plus_sign body fault → FastqBodyFails count body fault
 body_fails-sequence count body (BadBase number) h = h
 body_fails-sequence count body (BadStart number) h = h
 body_fails-sequence count body (BadQuality number) h = absurd h
@@ -132,10 +137,10 @@ body_fails-quality count body bases after front ReadFailed h = h
 body_fails-quality count body bases after front Memory h = h
 
 -- the lines end behind the sequence
-pub body_fails-end : (start middle : Cursor) (bases : List ℕ) → BeginsWithSequence 43 start.left bases middle.left → middle.left ≡ []
+pub body_fails-end : (start middle : Cursor) (bases : List ℕ) → BeginsWithSequence plus_sign start.left bases middle.left → middle.left ≡ []
     → line_count middle ≡ line_count start → FastqBodyFails (line_count start) start.left (Truncated middle.taken)
 body_fails-end start middle bases sequence e counted =
-    inl (bases, subst (λ rest. BeginsWithSequence 43 start.left bases rest) e sequence, omega (arith, ap length e, counted))
+    inl (bases, subst (λ rest. BeginsWithSequence plus_sign start.left bases rest) e sequence, omega (arith, ap length e, counted))
 
 -- from `start` on stand whole records that say these reads, and `now` is past the blank lines behind them
 pub record FastqSoFar (start now : Cursor) (reads : List Read) : Type 0 where
@@ -147,22 +152,30 @@ pub record FastqSoFar (start now : Cursor) (reads : List Read) : Type 0 where
 pub fastq_none : (start now : Cursor) → now.left ≡ skip_blanks start.left → line_count now ≡ line_count start → FastqSoFar start now []
 fastq_none start now e counted = record { here = start.left; so_far = refl; past_blanks = e; counted = counted }
 
-pub fastq_title : (start now next : Cursor) (reads : List Read) (title : Line) (before : FastqSoFar start now reads) → now.left ≡ title ∷ next.left
-    → begins_with 64 title ≡ true → BeginsWithFastqTitle before.here next.left
-fastq_title start now next reads title before e is = record { title = title; whole = sym before.past_blanks ∙ e; is_title = is }
+fastq_title : (start now next : Cursor) (reads : List Read) (before : FastqSoFar start now reads) → TakesTitle at_sign now next
+    → BeginsWithFastqTitle before.here next.left
+fastq_title start now next reads before t = record { title = t.title; whole = sym before.past_blanks ∙ t.step.left; is_title = t.is_title }
 
--- one record more, and the blank lines behind it
-pub fastq_more : (start now next after past : Cursor) (reads : List Read) (title : Line) (read : Read) → FastqSoFar start now reads
-    → TakesLine now next title → begins_with 64 title ≡ true → IsFastqBody next.left read after.left → line_count after ≡ line_count next
-    → past.left ≡ skip_blanks after.left → line_count past ≡ line_count after → FastqSoFar start past (reads ++ read ∷ [])
-fastq_more start now next after past reads title read before step is body same e counted =
-    let one : IsFastqRecord before.here read after.left =
-    record { body = next.left; title = fastq_title start now next reads title before step.left is; record_body = body } in
+-- `past` has taken one record more than `now`: a title, the body that says this read, and the blank lines behind it
+pub record TakesFastqRecord (now past : Cursor) (read : Read) : Type 0 where
+  pub next : Cursor
+  pub title : TakesTitle at_sign now next
+  pub after : List Line
+  pub body : IsFastqBody next.left read after
+  pub past_blanks : past.left ≡ skip_blanks after
+  pub counted : line_count past ≡ line_count next
+
+pub fastq_more : (start now past : Cursor) (reads : List Read) (read : Read) → FastqSoFar start now reads → TakesFastqRecord now past read
+    → FastqSoFar start past (reads ++ read ∷ [])
+fastq_more start now past reads read before taken =
+    let t = taken.title in
+    let one : IsFastqRecord before.here read taken.after =
+    record { body = taken.next.left; title = fastq_title start now taken.next reads before t; record_body = taken.body } in
     record {
-      here = after.left;
-      so_far = Records-push IsFastqRecord start.left reads before.here read after.left before.so_far one;
-      past_blanks = e;
-      counted = counted ∙ same ∙ line_count-more now next title step ∙ before.counted;
+      here = taken.after;
+      so_far = Records-push IsFastqRecord start.left reads before.here read taken.after before.so_far one;
+      past_blanks = taken.past_blanks;
+      counted = taken.counted ∙ line_count-more now taken.next t.title t.step ∙ before.counted;
     }
 
 -- no line is left behind the blank ones
@@ -171,7 +184,7 @@ fastq_all start now reads before e = record { rest = before.here; records = befo
 
 -- a line that is no title stands where one is due
 pub fastq_bad_start : (start now next : Cursor) (reads : List Read) (line : Line) → FastqSoFar start now reads → TakesLine now next line
-    → begins_with 64 line ≡ false → FirstFault IsFastqRecord (FastqFails (line_count start)) start.left (BadStart next.taken)
+    → begins_with at_sign line ≡ false → FirstFault IsFastqRecord (FastqFails (line_count start)) start.left (BadStart next.taken)
 fastq_bad_start start now next reads line before step is = (
   reads,
   before.here,
@@ -194,15 +207,15 @@ fastq_fails-body count ls body title ReadFailed h = (body, title, h)
 fastq_fails-body count ls body title Memory h = (body, title, h)
 
 -- a record that fails behind its title
-pub fastq_fails : (start now next : Cursor) (reads : List Read) (title : Line) → FastqSoFar start now reads → TakesLine now next title
-    → begins_with 64 title ≡ true → (fault : FastxFault) → FastqBodyFails (line_count next) next.left fault
+pub fastq_fails : (start now next : Cursor) (reads : List Read) → FastqSoFar start now reads → TakesTitle at_sign now next
+    → (fault : FastxFault) → FastqBodyFails (line_count next) next.left fault
     → FirstFault IsFastqRecord (FastqFails (line_count start)) start.left fault
-fastq_fails start now next reads title before step is fault fails = (
+fastq_fails start now next reads before t fault fails = (
   reads,
   before.here,
   before.so_far,
-  fastq_fails-body (line_count start) before.here next.left (fastq_title start now next reads title before step.left is) fault
-      (subst (λ count. FastqBodyFails count next.left fault) (line_count-more now next title step ∙ before.counted) fails),
+  fastq_fails-body (line_count start) before.here next.left (fastq_title start now next reads before t) fault
+      (subst (λ count. FastqBodyFails count next.left fault) (line_count-more now next t.title t.step ∙ before.counted) fails),
 )
 
 -- no line is made: blank lines are passed over, and a record's lines are taken

@@ -2,23 +2,28 @@
 use Rattle.std.specs.Prelude.{◌≡◌, ℕ, true, List, ◌∷◌, None}
 use Rattle.kc_fastx.specs.declared.faults.FastxFault.{FastxFault}
 use Rattle.kc_fastx.specs.Reads.{Read}
-use Rattle.kc_fastx.specs.Lines.{Line, begins_with}
-use Rattle.kc_fastx.specs.Records.{BeginsWithSequence, ends_or_begins_with, SequenceFails}
+use Rattle.kc_fastx.specs.Lines.{Line, begins_with, ends_or_begins_with}
+use Rattle.kc_fastx.specs.Records.{BeginsWithSequence, SequenceFails}
+
+-- the byte that begins a title
+abbrev pub greater_than : ℕ
+greater_than = 62
 
 -- the lines are a title, whose text is not kept, and then the body
 pub record BeginsWithFastaTitle (ls body : List Line) : Type 0 where
   pub title : Line
   pub whole : ls ≡ title ∷ body
-  pub is_title : begins_with 62 title ≡ true
+  pub is_title : begins_with greater_than title ≡ true
 
 -- the lines begin with a record: a title and its sequence, up to the next title or the end
 pub record IsFastaRecord (ls : List Line) (read : Read) (rest : List Line) : Type 0 where
   pub body : List Line
   pub title : BeginsWithFastaTitle ls body
-  pub sequence : BeginsWithSequence 62 body read.bases rest
-  pub ends : ends_or_begins_with 62 rest ≡ true
+  pub sequence : BeginsWithSequence greater_than body read.bases rest
+  pub ends : ends_or_begins_with greater_than rest ≡ true
   pub no_quals : read.quals ≡ None
 
 -- how the record at the front of the lines fails, where there are `count` lines in all: by its sequence
 abbrev pub FastaFails : ℕ → List Line → FastxFault → Type 0
-FastaFails count ls fault = (body : List Line) × BeginsWithFastaTitle ls body × SequenceFails count 62 body fault
+FastaFails count ls fault =
+    (body : List Line) × BeginsWithFastaTitle ls body × SequenceFails count greater_than body fault

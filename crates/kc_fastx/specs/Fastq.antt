@@ -1,5 +1,5 @@
--- Sanger FASTQ (Cock et al. 2010), with wrapped lines: a title with `@`, the sequence, a line with `+`, and the quality,
--- which is as long as the sequence, and whose lines may themselves begin with `@` or `+`.
+-- Sanger FASTQ (Cock et al. 2010), with wrapped lines: a title with `@`, the sequence, a line with `+`, and the
+-- quality, which is as long as the sequence, and whose lines may themselves begin with `@` or `+`.
 use Rattle.std.specs.Prelude.{◌≡◌, ℕ, ◌+◌, ◌<◌, true, false, List, [], ◌∷◌, ◌++◌, length, take, Some, ◌⊎◌}
 use Rattle.std.specs.List.{concat, list_all}
 use Rattle.kc_fastx.specs.declared.faults.FastxFault.{FastxFault}
@@ -8,17 +8,25 @@ use Rattle.kc_fastx.specs.Reads.{Read, is_quality_byte}
 use Rattle.kc_fastx.specs.Lines.{Line, begins_with, skip_blanks}
 use Rattle.kc_fastx.specs.Records.{BeginsWithSequence, SequenceFails, IsLineNumber}
 
+-- the byte that begins a title
+abbrev pub at_sign : ℕ
+at_sign = 64
+
+-- the byte that begins the line between sequence and quality
+abbrev pub plus_sign : ℕ
+plus_sign = 43
+
 -- the lines, but for blank ones in front, are a title, whose text is not kept, and then the body
 pub record BeginsWithFastqTitle (ls body : List Line) : Type 0 where
   pub title : Line
   pub whole : skip_blanks ls ≡ title ∷ body
-  pub is_title : begins_with 64 title ≡ true
+  pub is_title : begins_with at_sign title ≡ true
 
 -- the body begins with the sequence and a line that begins with `+`; the other lines come behind it
 pub record HasPlus (body : List Line) (bases : List ℕ) (after : List Line) : Type 0 where
   pub plus : Line
-  pub sequence : BeginsWithSequence 43 body bases (plus ∷ after)
-  pub is_plus : begins_with 43 plus ≡ true
+  pub sequence : BeginsWithSequence plus_sign body bases (plus ∷ after)
+  pub is_plus : begins_with plus_sign plus ≡ true
 
 -- the lines begin with quality lines, which are `need` bytes long together, while every proper front of them is shorter
 pub record BeginsWithQuality (need : ℕ) (ls : List Line) (quals : List ℕ) (rest : List Line) : Type 0 where
@@ -68,21 +76,25 @@ abbrev pub FailsBehindPlus : ℕ → List Line → FastxFault → Type 0
 FailsBehindPlus count body fault =
     (bases : List ℕ) × (after : List Line) × HasPlus body bases after × QualityFails count (length bases) after fault
 
--- how a record fails behind its title, where there are `count` lines in all: by its sequence, by its quality, or because
--- the lines end before the one with `+`
+-- the sequence lines go on to the end, which is line `count`
+abbrev pub EndsInSequence : ℕ → List Line → ℕ → Type 0
+EndsInSequence count body number = (bases : List ℕ) × BeginsWithSequence plus_sign body bases [] × (number ≡ count)
+
+-- how a record fails behind its title, where there are `count` lines in all: by its sequence, by its quality, or
+-- because the lines end before the one with `+`
 abbrev pub FastqBodyFails : ℕ → List Line → FastxFault → Type 0
-FastqBodyFails count body (BadBase number) = SequenceFails count 43 body (BadBase number)
+FastqBodyFails count body (BadBase number) = SequenceFails count plus_sign body (BadBase number)
 FastqBodyFails count body (BadQuality number) = FailsBehindPlus count body (BadQuality number)
 FastqBodyFails count body (LongQuality number) = FailsBehindPlus count body (LongQuality number)
 FastqBodyFails count body (Truncated number) =
-    ((bases : List ℕ) × BeginsWithSequence 43 body bases [] × (number ≡ count)) ⊎ FailsBehindPlus count body (Truncated number)
+    EndsInSequence count body number ⊎ FailsBehindPlus count body (Truncated number)
 FastqBodyFails count body _ = ⊥
 
 -- where a title is due stands a line that is neither blank nor a title
 pub record HasBadStart (ls more : List Line) : Type 0 where
   pub line : Line
   pub whole : skip_blanks ls ≡ line ∷ more
-  pub no_title : begins_with 64 line ≡ false
+  pub no_title : begins_with at_sign line ≡ false
 
 -- how the record at the front of the lines fails, where there are `count` lines in all
 abbrev pub FastqFails : ℕ → List Line → FastxFault → Type 0

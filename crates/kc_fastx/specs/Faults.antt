@@ -1,7 +1,10 @@
--- The numbers of the faults (our formats page), and what a contract says of them.
+-- The numbers of the faults (our formats page), what a contract says of them, and the faults of a source.
 use Rattle.std.specs.Prelude.{ℕ, ⊤}
+use Rattle.kc_io.specs.declared.taking.TakeFault.{TakeFault}
+use Rattle.kc_io.specs.declared.taking.TakeFault.TheVariants as taking
 use Rattle.kc_fastx.specs.declared.faults.FastxFault.{FastxFault}
-use Rattle.kc_fastx.specs.declared.faults.FastxFault.TheVariants.{BadStart, BadBase, BadQuality, LongQuality, Truncated, TooLong, Read, Memory}
+use Rattle.kc_fastx.specs.declared.faults.FastxFault.TheVariants.{BadStart, BadBase, BadQuality, LongQuality, Truncated}
+use Rattle.kc_fastx.specs.declared.faults.FastxFault.TheVariants.{TooLong, Read, Memory}
 
 abbrev pub fault_number : FastxFault → ℕ
 fault_number (BadStart line) = 1
@@ -17,3 +20,9 @@ fault_number Memory = 8
 abbrev pub UnlessMemory : (FastxFault → Type 0) → FastxFault → Type 0
 UnlessMemory Is Memory = ⊤
 UnlessMemory Is fault = Is fault
+
+-- the fault that says why the bytes of a source could not be taken
+abbrev pub taking_fault : TakeFault → FastxFault
+taking_fault taking.TooLong = TooLong
+taking_fault taking.Read = Read
+taking_fault taking.Memory = Memory

@@ -2,7 +2,6 @@ pub mod Fasta
 pub mod Fastq
 pub mod Faults
 pub mod Lines
+pub mod Parsing
 pub mod Reads
-pub mod ReadsOf
 pub mod Records
-pub mod Sources

@@ -1,19 +1,29 @@
 -- What a sequence read is: its bases and, where its format has them, a quality for each base.
-use Rattle.std.specs.Prelude.{◌≡◌, ℕ, Bool, true, ◌&&◌, ◌||◌, ◌==◌, nat_le, List, length, Option, None, Some}
-use Rattle.std.specs.List.{list_all}
+use Rattle.std.specs.Prelude.{◌≡◌, ℕ, Bool, true, ◌&&◌, ◌||◌, ◌==◌, List, length, Option, None, Some}
+use Rattle.std.specs.List.{list_all, sum_by}
+use Rattle.std.specs.Char.{is_ascii_alphabetic, is_ascii_graphic}
 
 -- a read: its bases, as they stand in the file, and none or its quality bytes
 pub record Read : Type 0 where
   pub bases : List ℕ
   pub quals : Option (List ℕ)
 
+abbrev pub full_stop : ℕ
+full_stop = 46
+
+abbrev pub hyphen : ℕ
+hyphen = 45
+
+abbrev pub asterisk : ℕ
+asterisk = 42
+
 -- a byte that a sequence line may hold: a letter, `.`, `-` or `*`
 abbrev pub is_sequence_byte : ℕ → Bool
-is_sequence_byte b = nat_le 65 b && nat_le b 90 || nat_le 97 b && nat_le b 122 || b == 46 || b == 45 || b == 42
+is_sequence_byte b = is_ascii_alphabetic b || b == full_stop || b == hyphen || b == asterisk
 
--- a byte that stands for a score from 0 to 93: `!` to `~` (Cock et al. 2010, Sanger FASTQ)
+-- a byte that stands for a score from 0 to 93: `!` to `~`, 33 to 126 (Cock et al. 2010, Sanger FASTQ)
 abbrev pub is_quality_byte : ℕ → Bool
-is_quality_byte q = nat_le 33 q && nat_le q 126
+is_quality_byte q = is_ascii_graphic q
 
 -- a base each has one quality byte, where there are any
 abbrev pub has_quality_each : List ℕ → Option (List ℕ) → Bool
@@ -28,3 +38,7 @@ pub record IsRead (read : Read) : Type 0 where
 -- the read of these bases and qualities
 abbrev pub read_of : List ℕ → Option (List ℕ) → Read
 read_of bases quals = record { bases = bases; quals = quals }
+
+-- how many bases the reads have together
+abbrev pub base_count : List Read → ℕ
+base_count reads = sum_by (λ read. length read.bases) reads

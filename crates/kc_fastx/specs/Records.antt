@@ -1,13 +1,17 @@
 -- What FASTA and FASTQ share: records that follow one another, and the sequence lines of one.
-use Rattle.std.specs.Prelude.{◌≡◌, ℕ, ◌+◌, Bool, true, false, List, [], ◌∷◌, ◌++◌, length}
+use Rattle.std.specs.Prelude.{◌≡◌, ℕ, ◌+◌, true, false, List, [], ◌∷◌, ◌++◌, length}
 use Rattle.std.specs.List.{concat, list_all, list_any}
 use Rattle.kc_fastx.specs.declared.faults.FastxFault.{FastxFault}
 use Rattle.kc_fastx.specs.declared.faults.FastxFault.TheVariants.{BadBase}
 use Rattle.kc_fastx.specs.Reads.{Read, is_sequence_byte}
 use Rattle.kc_fastx.specs.Lines.{Line, begins_with}
 
+-- what a format takes for a record: lines begin with one that says a read, and the rest comes behind it
+abbrev pub RecordForm : Type 1
+RecordForm = List Line → Read → List Line → Type 0
+
 -- the lines are records that say these reads, one after another, and then the rest
-abbrev pub Records : (List Line → Read → List Line → Type 0) → List Line → List Read → List Line → Type 0
+abbrev pub Records : RecordForm → List Line → List Read → List Line → Type 0
 Records Record ls [] rest = ls ≡ rest
 Records Record ls (read ∷ reads) rest = (middle : List Line) × Record ls read middle × Records Record middle reads rest
 
@@ -19,11 +23,6 @@ pub record BeginsWithSequence (stop : ℕ) (ls : List Line) (bases : List ℕ) (
   pub none_stops : list_any (begins_with stop) sequence ≡ false
   pub joined : bases ≡ concat sequence
   pub accepted : list_all is_sequence_byte bases ≡ true
-
--- no line is left, or the next one begins with the byte
-abbrev pub ends_or_begins_with : ℕ → List Line → Bool
-ends_or_begins_with byte [] = true
-ends_or_begins_with byte (line ∷ ls) = begins_with byte line
 
 -- behind sequence lines stands a line of the sequence that holds another byte; `more` comes behind it
 pub record HasBadSequence (stop : ℕ) (ls : List Line) (more : List Line) : Type 0 where
@@ -39,9 +38,11 @@ IsLineNumber count more number = number + length more ≡ count
 
 -- how sequence lines fail, where there are `count` lines in all: a bad base, at its line
 abbrev pub SequenceFails : ℕ → ℕ → List Line → FastxFault → Type 0
-SequenceFails count stop ls (BadBase number) = (more : List Line) × HasBadSequence stop ls more × IsLineNumber count more number
+SequenceFails count stop ls (BadBase number) =
+    (more : List Line) × HasBadSequence stop ls more × IsLineNumber count more number
 SequenceFails count stop ls _ = ⊥
 
 -- whole records, and then one that fails
-abbrev pub FirstFault : (List Line → Read → List Line → Type 0) → (List Line → FastxFault → Type 0) → List Line → FastxFault → Type 0
-FirstFault Record Fails ls fault = (reads : List Read) × (here : List Line) × Records Record ls reads here × Fails here fault
+abbrev pub FirstFault : RecordForm → (List Line → FastxFault → Type 0) → List Line → FastxFault → Type 0
+FirstFault Record Fails ls fault =
+    (reads : List Read) × (here : List Line) × Records Record ls reads here × Fails here fault

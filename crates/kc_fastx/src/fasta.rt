@@ -1,14 +1,14 @@
-// FASTA.
+//! FASTA.
 ghost use Rattle.std.specs.Prelude.{◌≡◌, true, [], IfOk, IfErr};
-ghost use Rattle.kc_fastx.specs.Lines.{line_count};
-ghost use Rattle.kc_fastx.specs.Records.{Records, FirstFault, ends_or_begins_with};
-ghost use Rattle.kc_fastx.specs.Fasta.{IsFastaRecord, FastaFails};
+ghost use Rattle.kc_fastx.specs.Lines.{line_count, ends_or_begins_with};
+ghost use Rattle.kc_fastx.specs.Records.{Records, FirstFault};
+ghost use Rattle.kc_fastx.specs.Fasta.{IsFastaRecord, FastaFails, greater_than};
 ghost use Rattle.kc_fastx.specs.Faults.{UnlessMemory};
 
 use crate::faults::FastxFault;
-use crate::line_cursor::LineCursor;
+use crate::lines::LineCursor;
 use crate::reads::SeqRead;
-use crate::sequences::take_sequence;
+use crate::records::take_sequence;
 use std::alloc::Global;
 
 // The reads of the lines that are left, of which the first begins with `>`.
@@ -16,13 +16,15 @@ pub(crate) fn parse_fasta(
     alloc: Global,
     lines: &mut LineCursor<'_>,
 ) -> Result<Vec<SeqRead>, FastxFault>
-    requires { ends_or_begins_with 62 lines.old.left ≡ true }
+    requires { ends_or_begins_with greater_than lines.old.left ≡ true }
     ensures ok { IfOk result (λ reads. Records IsFastaRecord lines.old.left reads.items []) }
-    ensures err { IfErr result (UnlessMemory (FirstFault IsFastaRecord (FastaFails (line_count lines.old)) lines.old.left)) }
+    ensures err { let Fails = FastaFails (line_count lines.old) in
+        IfErr result (UnlessMemory (FirstFault IsFastaRecord Fails lines.old.left)) }
 {
     let mut reads = Vec::new(alloc);
     'records: while let Some(_title) = lines.next_line() {
-        let bases = take_sequence(alloc, lines, b'>')?;
+        let room = lines.room_before(alloc, b'>')?;
+        let bases = take_sequence(room, lines, b'>')?;
         reads.push(SeqRead::without_quals(bases))?;
     }
     Ok(reads)

@@ -1,15 +1,16 @@
-// Sanger FASTQ.
-ghost use Rattle.std.specs.Prelude.{◌≡◌, IfOk, IfErr, OnOk};
+//! Sanger FASTQ.
+ghost use Rattle.std.specs.Prelude.{◌≡◌, ◌≤◌, [], vec_capacity, IfOk, IfErr, OnOk};
 ghost use Rattle.kc_fastx.specs.Lines.{line_count};
 ghost use Rattle.kc_fastx.specs.Records.{FirstFault};
-ghost use Rattle.kc_fastx.specs.Fastq.{IsFastqRecord, IsFastqBody, FastqFails, FastqBodyFails, BeginsWithQuality, QualityFails};
-ghost use Rattle.kc_fastx.specs.ReadsOf.{IsFastq};
+ghost use Rattle.kc_fastx.specs.Fastq.{IsFastqRecord, IsFastqBody, FastqFails, FastqBodyFails};
+ghost use Rattle.kc_fastx.specs.Fastq.{BeginsWithQuality, QualityFails};
+ghost use Rattle.kc_fastx.specs.Parsing.{IsFastq};
 ghost use Rattle.kc_fastx.specs.Faults.{UnlessMemory};
 
 use crate::faults::FastxFault;
-use crate::line_cursor::{LineCursor, does_begin_with};
+use crate::lines::{LineCursor, does_begin_with};
 use crate::reads::{SeqRead, are_quality_bytes};
-use crate::sequences::take_sequence;
+use crate::records::take_sequence;
 use std::alloc::Global;
 
 // The reads of the lines that are left.
@@ -18,7 +19,8 @@ pub(crate) fn parse_fastq(
     lines: &mut LineCursor<'_>,
 ) -> Result<Vec<SeqRead>, FastxFault>
     ensures ok { IfOk result (λ reads. IsFastq lines.old.left reads.items) }
-    ensures err { IfErr result (UnlessMemory (FirstFault IsFastqRecord (FastqFails (line_count lines.old)) lines.old.left)) }
+    ensures err { let Fails = FastqFails (line_count lines.old) in
+        IfErr result (UnlessMemory (FirstFault IsFastqRecord Fails lines.old.left)) }
 {
     let mut reads = Vec::new(alloc);
     lines.pass_blanks();
@@ -38,25 +40,29 @@ fn take_record(alloc: Global, lines: &mut LineCursor<'_>) -> Result<SeqRead, Fas
     ensures counted { OnOk result (line_count lines.new ≡ line_count lines.old) }
     ensures err { IfErr result (UnlessMemory (FastqBodyFails (line_count lines.old) lines.old.left)) }
 {
-    let bases = take_sequence(alloc, lines, b'+')?;
+    let room = lines.room_before(alloc, b'+')?;
+    let bases = take_sequence(room, lines, b'+')?;
     let Some(_plus) = lines.next_line() else {
         return Err(FastxFault::Truncated(lines.taken()));
     };
-    let quals = take_quality(alloc, lines, bases.len())?;
+    let room = lines.room_for(alloc, bases.len())?;
+    let quals = take_quality(room, lines, bases.len())?;
     Ok(SeqRead::with_quals(bases, quals))
 }
 
-// Takes quality lines while they are shorter than `need` together, and joins them.
+// Takes quality lines while they are shorter than `need` together, and joins them in `quals`, which is empty and has no
+// more room than bytes are left.
 fn take_quality(
-    alloc: Global,
+    mut quals: Vec<u8>,
     lines: &mut LineCursor<'_>,
     need: usize,
 ) -> Result<Vec<u8>, FastxFault>
+    requires empty { quals.items ≡ [] }
+    requires room { vec_capacity quals ≤ lines.old.byte_count }
     ensures ok { IfOk result (λ quals. BeginsWithQuality need lines.old.left quals.items lines.new.left) }
     ensures counted { OnOk result (line_count lines.new ≡ line_count lines.old) }
     ensures err { IfErr result (UnlessMemory (QualityFails (line_count lines.old) need lines.old.left)) }
 {
-    let mut quals = Vec::with_capacity(alloc, need)?;
     'lines: while quals.len() < need {
         let Some(line) = lines.next_line() else {
             return Err(FastxFault::Truncated(lines.taken()));

@@ -1,8 +1,10 @@
+//! Why no reads are given.
 ghost use Rattle.std.specs.Prelude.{◌≡◌};
 ghost use Rattle.kc_fastx.specs.declared.faults.FastxFault.{FastxFault};
 ghost use Rattle.kc_fastx.specs.declared.faults.FastxFault.TheVariants.{Memory};
-ghost use Rattle.kc_fastx.specs.Faults.{fault_number};
+ghost use Rattle.kc_fastx.specs.Faults.{fault_number, taking_fault};
 
+use kc_io::TakeFault;
 use std::alloc::{AllocError, AllocFailed};
 use thiserror::Error;
 
@@ -49,6 +51,18 @@ impl FastxFault {
             FastxFault::TooLong => 6,
             FastxFault::Read => 7,
             FastxFault::Memory => 8,
+        }
+    }
+}
+
+impl From<TakeFault> for FastxFault {
+    ghost from_gives = { λ why fault. fault ≡ taking_fault why };
+
+    fn from(why: TakeFault) -> FastxFault {
+        match why {
+            TakeFault::TooLong => FastxFault::TooLong,
+            TakeFault::Read => FastxFault::Read,
+            TakeFault::Memory => FastxFault::Memory,
         }
     }
 }

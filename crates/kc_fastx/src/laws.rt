@@ -1,20 +1,24 @@
 //! What the definitions promise of themselves, each as the contract of a function that does nothing.
 ghost use Rattle.std.specs.Prelude.{◌≡◌, ℕ, List, [], ◌∷◌, Some, None, Result, codes};
 ghost use Rattle.kc_fastx.specs.declared.faults.FastxFault.{FastxFault};
-ghost use Rattle.kc_fastx.specs.declared.faults.FastxFault.TheVariants.{BadStart, BadBase, BadQuality, LongQuality, Truncated};
+ghost use Rattle.kc_fastx.specs.declared.faults.FastxFault.TheVariants.{BadStart, BadBase, BadQuality};
+ghost use Rattle.kc_fastx.specs.declared.faults.FastxFault.TheVariants.{LongQuality, Truncated};
 ghost use Rattle.kc_fastx.specs.Reads.{Read, read_of};
-ghost use Rattle.kc_fastx.specs.ReadsOf.{HasReads, HasFault, IsReadsOf, AreReadsOf};
+ghost use Rattle.kc_fastx.specs.Parsing.{HasReads, HasFault, IsReadsOf, AreReadsOf};
 
 /// Every byte string has an answer, its reads or its first fault, and no byte string has two.
 pub fn one_answer()
     ensures some { (bytes : List ℕ) → (answer : Result (List Read) FastxFault) × IsReadsOf bytes answer }
-    ensures only { (bytes : List ℕ) (one other : Result (List Read) FastxFault) → IsReadsOf bytes one → IsReadsOf bytes other → one ≡ other }
+    ensures only { (bytes : List ℕ) (one other : Result (List Read) FastxFault)
+        → IsReadsOf bytes one → IsReadsOf bytes other → one ≡ other }
 {}
 
 /// So has every list of sources: the joined reads, or the number of the first source with a fault, and that fault.
 pub fn one_answer_of_all()
-    ensures some { (sources : List (List ℕ)) → (answer : Result (List Read) (ℕ × FastxFault)) × AreReadsOf sources answer }
-    ensures only { (sources : List (List ℕ)) (one other : Result (List Read) (ℕ × FastxFault)) → AreReadsOf sources one → AreReadsOf sources other → one ≡ other }
+    ensures some { (sources : List (List ℕ))
+        → (answer : Result (List Read) (ℕ × FastxFault)) × AreReadsOf sources answer }
+    ensures only { (sources : List (List ℕ)) (one other : Result (List Read) (ℕ × FastxFault))
+        → AreReadsOf sources one → AreReadsOf sources other → one ≡ other }
 {}
 
 /// Worked rows of the definitions. A plain program that answers what they say computes them.

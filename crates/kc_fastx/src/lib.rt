@@ -1,21 +1,31 @@
-//! Readers of sequence files: FASTA and Sanger FASTQ, from a source of bytes to a list of reads.
+//! Readers of sequence files: FASTA and Sanger FASTQ, from bytes to a list of reads.
+//!
+//! `parse` answers the reads of bytes in memory, and `read_all` those of a `Source`, up to a limit of bytes. A
+//! `SeqRead` has its bases as they stand in the file and, from FASTQ, a quality for each base. A `FastxFault` says why
+//! there are no reads, with its line. What the reads of some bytes are is defined in `specs/` (`Lines`, `Fasta`,
+//! `Fastq`, `Parsing`), and `laws` says that any bytes have one answer.
+//!
+//! ```text
+//! let mut source = FromBytes::new(b"@q\nACGT\n+\nII!I\n");
+//! let (reads, byte_count) = read_all(alloc, &mut source, 1 << 36)?;
+//! for read in &reads {
+//!     count(read.bases(), read.quals());    // b"ACGT" and Some(b"II!I")
+//! }
+//! ```
 #![tactic(auto)]
 
-mod failures;
 mod fasta;
 mod fastq;
 mod faults;
 pub mod laws;
-mod line_cursor;
+mod lines;
 mod parsing;
 mod reads;
-mod sequences;
-mod sources;
+mod records;
 #[cfg(test)]
 mod tests;
 
-pub use failures::Failures;
 pub use faults::FastxFault;
+pub use kc_io::{Failed, FromBytes, FromRead, Source};
 pub use parsing::{parse, read_all};
 pub use reads::SeqRead;
-pub use sources::{Failed, FromBytes, FromRead, Source};

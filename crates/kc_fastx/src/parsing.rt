@@ -1,14 +1,15 @@
-ghost use Rattle.std.specs.Prelude.{◌^◌, ◌<◌, ◌≤◌, length, IfOk, IfErr};
-ghost use Rattle.kc_fastx.specs.ReadsOf.{HasReads, HasFault, base_count};
-ghost use Rattle.kc_fastx.specs.Sources.{GivesReads, TakesAll, TakingFails, RefusesFor};
+//! From bytes, or from a source of them, to reads.
+ghost use Rattle.std.specs.Prelude.{◌≤◌, length, IfOk, IfErr};
+ghost use Rattle.kc_fastx.specs.Reads.{base_count};
+ghost use Rattle.kc_fastx.specs.Parsing.{HasReads, HasFault, most_bytes, GivesReads, RefusesFor};
 ghost use Rattle.kc_fastx.specs.Faults.{UnlessMemory};
 
 use crate::fasta::parse_fasta;
 use crate::fastq::parse_fastq;
 use crate::faults::FastxFault;
-use crate::line_cursor::LineCursor;
+use crate::lines::LineCursor;
 use crate::reads::SeqRead;
-use crate::sources::Source;
+use kc_io::{Source, take_all};
 use std::alloc::Global;
 
 /// The reads of FASTA or FASTQ bytes: the first line that isn't blank decides which.
@@ -29,62 +30,25 @@ pub fn parse(alloc: Global, bytes: &[u8]) -> Result<Vec<SeqRead>, FastxFault>
     }
 }
 
-/// Takes all bytes of the source, and then answers what `parse` answers of them, with their number.
+/// Takes all bytes of the source, and then answers what `parse` answers of them, with their number. It reads at most
+/// `limit + 1` times, and never into an empty slice.
 ///
 /// # Errors
-/// `TooLong` where the source gave more than `limit` bytes, and `Read` where it failed, whichever the reading met first;
-/// these before any line is looked at. Else the first fault of the bytes, with its line. `Memory` where a growth was refused.
+/// `TooLong` where the source gave more than `limit` bytes, and `Read` where it failed, whichever the reading met
+/// first; these before any line is looked at. Else the first fault of the bytes, with its line. `Memory` where a growth
+/// was refused.
 pub fn read_all<R: Source>(
     alloc: Global,
     reader: &mut R,
     limit: u64,
 ) -> Result<(Vec<SeqRead>, u64), FastxFault>
-    requires { limit ≤ 2 ^ 36 }
-    ensures reads { IfOk result (λ answer. GivesReads (R.seen reader.old) (R.seen reader.new) limit answer.0.items answer.1) }
-    ensures fault { IfErr result (UnlessMemory (RefusesFor (R.seen reader.old) (R.seen reader.new) limit)) }
+    requires { limit ≤ most_bytes }
+    ensures reads { let Gives = GivesReads (R.seen reader.old) (R.seen reader.new) limit in
+        IfOk result (λ answer. Gives answer.0.items answer.1) }
+    ensures fault { IfErr result (RefusesFor (R.seen reader.old) (R.seen reader.new) limit) }
     ensures bases { IfOk result (λ answer. base_count answer.0.items ≤ answer.1) }
 {
     let bytes = take_all(alloc, reader, limit)?;
     let reads = parse(alloc, &bytes)?;
     Ok((reads, bytes.len() as u64))
-}
-
-// How many bytes are asked of a source at a time.
-const BLOCK: usize = 65536;
-
-// Takes all bytes of the source.
-fn take_all<R: Source>(alloc: Global, reader: &mut R, limit: u64) -> Result<Vec<u8>, FastxFault>
-    requires { limit ≤ 2 ^ 36 }
-    ensures ok { IfOk result (λ bytes. TakesAll (R.seen reader.old) (R.seen reader.new) limit bytes.items) }
-    ensures err { IfErr result (UnlessMemory (TakingFails (R.seen reader.old) (R.seen reader.new) limit)) }
-{
-    let mut block = vec![in alloc; 0u8; BLOCK]?;
-    take_by_blocks(alloc, reader, limit, block.as_mut_slice())
-}
-
-// Takes all bytes of the source, by way of the block.
-fn take_by_blocks<R: Source>(
-    alloc: Global,
-    reader: &mut R,
-    limit: u64,
-    block: &mut [u8],
-) -> Result<Vec<u8>, FastxFault>
-    requires limit { limit ≤ 2 ^ 36 }
-    requires room { 0 < length block.old }
-    ensures ok { IfOk result (λ bytes. TakesAll (R.seen reader.old) (R.seen reader.new) limit bytes.items) }
-    ensures err { IfErr result (UnlessMemory (TakingFails (R.seen reader.old) (R.seen reader.new) limit)) }
-{
-    let mut bytes = Vec::new(alloc);
-    'reading: loop {
-        let Ok(count) = reader.read(block) else {
-            return Err(FastxFault::Read);
-        };
-        if count == 0 {
-            return Ok(bytes);
-        }
-        if count as u64 > limit - bytes.len() as u64 {
-            return Err(FastxFault::TooLong);
-        }
-        bytes.extend_from_slice(&block[..count])?;
-    }
 }

@@ -1,3 +1,4 @@
+//! What a sequence read is.
 ghost use Rattle.std.specs.Prelude.{◌≡◌, ◌↔◌, true, vec_len, Some, None, IsSome, IfSome};
 ghost use Rattle.std.specs.List.{list_all};
 ghost use Rattle.std.specs.Option.{option_copied, option_map};
@@ -16,13 +17,13 @@ pub struct SeqRead {
 
 impl Model for SeqRead {
     ghost use Rattle.std.specs.Option.{option_map};
-    ghost use Rattle.kc_fastx.specs.Reads.{Read, IsRead};
+    ghost use Rattle.kc_fastx.specs.Reads.{Read, IsRead, read_of};
 
     ghost Value = { Read };
 
-    ghost view = { λ r. record { bases = r.bases.items; quals = option_map (λ quals. quals.items) r.quals } };
+    ghost view = { λ r. read_of r.bases.items (option_map (λ quals. quals.items) r.quals) };
 
-    ghost invariant = { λ r. IsRead (record { bases = r.bases.items; quals = option_map (λ quals. quals.items) r.quals }) };
+    ghost invariant = { λ r. IsRead (read_of r.bases.items (option_map (λ quals. quals.items) r.quals)) };
 }
 
 impl SeqRead {

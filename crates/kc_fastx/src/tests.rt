@@ -1,11 +1,12 @@
-// Worked rows of both formats, and sources that give their bytes slowly or fail.
+//! Worked rows of both formats, and sources that give their bytes slowly or fail.
 use crate::{FastxFault, FromBytes, FromRead, SeqRead, parse, read_all};
 use std::alloc::{AllocError, Global};
 use std::io;
 use std::io::Read;
 use std::test::Fail;
 
-// What was answered as one text: the bases of each read, its qualities behind a blank where it has them, and a bar; or the fault.
+// What was answered as one text: the bases of each read, its qualities behind a blank where it has them, and a bar; or
+// the fault.
 fn shown(alloc: Global, answer: &Result<Vec<SeqRead>, FastxFault>) -> Result<Vec<u8>, AllocError> {
     let mut text = Vec::new(alloc);
     match answer {

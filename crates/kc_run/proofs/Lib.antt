@@ -1,5 +1,4 @@
-pub mod Weights
-pub mod Steps
-pub mod Seats
-pub mod Distinct
-pub mod Rows
+pub mod NumbersBelow
+pub mod DrawLemmas
+pub mod TicketLemmas
+pub mod LawLemmas

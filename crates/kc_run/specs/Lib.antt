@@ -1,2 +1,3 @@
 pub mod Tickets
-pub mod Draws
+pub mod WholeDraws
+pub mod Laws

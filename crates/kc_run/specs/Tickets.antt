@@ -1,10 +1,11 @@
--- Numbered tickets as callers see them: a roll of tickets, and the seats that draw from it. They are this project's own.
-use Rattle.std.specs.Prelude.{◌≡◌, ◌↔◌, ℕ, ◌<◌, ◌≤◌, ◌∷◌, [], ◌++◌, List, length, All, Any, Contains, filter, nat_lt, nat_eq}
-use Rattle.std.specs.List.{range_with_len, IsDistinct}
+-- Numbered tickets as callers see them: a roll of tickets, and the seats that draw from it. They are this project's
+-- own.
+use Rattle.std.specs.Prelude.{◌≡◌, ℕ, ◌≤◌, ◌∷◌, [], ◌++◌, List, Any, filter, nat_lt}
+use Rattle.std.specs.List.{range_with_len}
 use Rattle.std.specs.List.Sorted.{IsPermutation}
 use Rattle.atomic_table.specs.Seated.{TableId}
 
--- Tickets: the table of their words, the limit below which numbers are answered, and how many seats draw.
+-- Tickets: the table of their cells, the limit below which numbers are answered, and how many seats draw.
 pub record Roll : Type 0 where
   pub table : TableId
   pub limit : ℕ
@@ -25,8 +26,8 @@ abbrev pub IsDone : Drawer → Type 0
 IsDone seat = Any (λ number. seat.limit ≤ number) seat.drawn
 
 -- the numbers that the seat was answered: of those that it drew, the ones below the limit
-abbrev pub answered : Drawer → List ℕ
-answered seat = filter (λ number. nat_lt number seat.limit) seat.drawn
+abbrev pub answers_of : Drawer → List ℕ
+answers_of seat = filter (λ number. nat_lt number seat.limit) seat.drawn
 
 -- the seat has drawn this number after those that it had, and nothing else of it changed
 abbrev pub Draws : Drawer → Drawer → ℕ → Type 0
@@ -39,13 +40,3 @@ numbers_below n = range_with_len 0 n
 -- these are the numbers below n, each once, in some order
 abbrev pub AreNumbersBelow : ℕ → List ℕ → Type 0
 AreNumbersBelow n numbers = IsPermutation numbers (numbers_below n)
-
--- each number below n stands once among them, and no other number stands there
-abbrev pub EachStandsOnce : Type 0
-EachStandsOnce = (n : ℕ) (numbers : List ℕ) → AreNumbersBelow n numbers → IsDistinct nat_eq numbers × ((number : ℕ) → Contains numbers number ↔ (number < n))
-
--- n distinct numbers below n leave none out
-abbrev pub NoneIsLeftOut : Type 0
-NoneIsLeftOut =
-    (n : ℕ) (numbers : List ℕ) → IsDistinct nat_eq numbers → All (λ number. number < n) numbers → length numbers ≡ n
-    → (number : ℕ) → number < n → Contains numbers number

@@ -1,9 +1,9 @@
 //! Seats that draw, one after the other and in threads.
 ghost use Rattle.std.specs.Prelude.{◌≡◌, ◌<◌, ◌≤◌, ◌^◌, [], All, IfOk, length, nat_eq, slice_get, vec_len};
 ghost use Rattle.std.specs.List.{flat_map, IsDistinct};
-ghost use Rattle.kc_run.specs.Tickets.{IsSeatOf, IsDone, answered, AreNumbersBelow};
+ghost use Rattle.kc_run.specs.Tickets.{IsSeatOf, IsDone, answers_of, AreNumbersBelow};
 
-use crate::law::{each_stands_once, none_is_left_out};
+use crate::laws::{each_stands_once, none_is_left_out};
 use crate::{Seat, Tickets};
 use std::alloc::{AllocError, Global};
 use std::process::Abort;
@@ -19,9 +19,10 @@ struct Drained(Snapshot<Tickets>);
 
 impl Promise<Result<(Seat, Vec<u64>), AllocError>> for Drained {
     ghost use Rattle.std.specs.Prelude.{◌≡◌, IfOk};
-    ghost use Rattle.kc_run.specs.Tickets.{IsSeatOf, IsDone, answered};
+    ghost use Rattle.kc_run.specs.Tickets.{IsSeatOf, IsDone, answers_of};
 
-    ghost kept_by = { λ promise result. IfOk result (λ ended. IsSeatOf promise.0.value ended.0 × IsDone ended.0 × (ended.1.items ≡ answered ended.0)) };
+    ghost kept_by = { λ promise result. IfOk result (λ ended.
+        IsSeatOf promise.0.value ended.0 × IsDone ended.0 × (ended.1.items ≡ answers_of ended.0)) };
 }
 
 type Draining = PromisedHandle<Result<(Seat, Vec<u64>), AllocError>, Drained>;
@@ -29,7 +30,8 @@ type Draining = PromisedHandle<Result<(Seat, Vec<u64>), AllocError>, Drained>;
 fn drain(alloc: Global, tickets: &Tickets, mut seat: Seat) -> Result<(Seat, Vec<u64>), AllocError>
     requires own { IsSeatOf tickets.now seat }
     requires fresh { seat.drawn ≡ [] }
-    ensures { IfOk result (λ ended. IsSeatOf tickets.now ended.0 × IsDone ended.0 × (ended.1.items ≡ answered ended.0)) }
+    ensures { IfOk result (λ ended.
+        IsSeatOf tickets.now ended.0 × IsDone ended.0 × (ended.1.items ≡ answers_of ended.0)) }
 {
     let mut numbers = Vec::new(alloc);
     while let Some(number) = tickets.draw(&mut seat) {
@@ -48,7 +50,8 @@ fn start_all<'s, E>(
     requires own { All (IsSeatOf tickets.now) seats.items }
     requires fresh { All (λ seat. seat.drawn ≡ []) seats.items }
     ensures len { IfOk result (λ threads. vec_len threads ≡ vec_len seats) }
-    ensures promised { IfOk result (λ threads. All (λ thread. thread.promise.0.value ≡ tickets.entry.now) threads.items) }
+    ensures promised { IfOk result (λ threads.
+        All (λ thread. thread.promise.0.value ≡ tickets.entry.now) threads.items) }
 {
     let mut threads = Vec::with_capacity(alloc, seats.len())?;
     while let Some(seat) = seats.pop() {
@@ -69,7 +72,8 @@ fn join_all<R: Threads>(
     ensures len { IfOk result (λ ended. vec_len ended.0 ≡ vec_len threads) }
     ensures own { IfOk result (λ ended. All (IsSeatOf tickets.now) ended.0.items) }
     ensures done { IfOk result (λ ended. All IsDone ended.0.items) }
-    ensures numbers { IfOk result (λ ended. flat_map (λ v. v.items) ended.1.items ≡ flat_map answered ended.0.items) }
+    ensures numbers { IfOk result (λ ended.
+        flat_map (λ v. v.items) ended.1.items ≡ flat_map answers_of ended.0.items) }
 {
     let (mut seats, mut all) = (Vec::new(alloc), Vec::new(alloc));
     while let Some(thread) = threads.pop() {
@@ -99,7 +103,10 @@ fn share_out<R: Threads + Wait>(
         rt,
         |scope| -> Result<(Vec<Seat>, Vec<Vec<u64>>), AllocError>
             requires { All (IsSeatOf shared.now) row.items × All (λ seat. seat.drawn ≡ []) row.items }
-            ensures { IfOk result (λ ended. (vec_len ended.0 ≡ vec_len row) × All (IsSeatOf shared.entry.now) ended.0.items × All IsDone ended.0.items × (flat_map (λ v. v.items) ended.1.items ≡ flat_map answered ended.0.items)) }
+            ensures { IfOk result (λ ended.
+                (vec_len ended.0 ≡ vec_len row)
+                × All (IsSeatOf shared.entry.now) ended.0.items × All IsDone ended.0.items
+                × (flat_map (λ v. v.items) ended.1.items ≡ flat_map answers_of ended.0.items)) }
         {
             let threads = start_all(scope, alloc, shared, row)?;
             join_all(rt, alloc, shared, threads)
@@ -110,21 +117,21 @@ fn share_out<R: Threads + Wait>(
     Ok(all)
 }
 
-// What the seat at this place draws next. A seat that is done draws no more.
-fn draw_at(tickets: &Tickets, seats: &mut Vec<Seat>, place: usize) -> Option<u64>
+// What the seat at this index draws next. A seat that is done draws no more.
+fn draw_at(tickets: &Tickets, seats: &mut Vec<Seat>, index: usize) -> Option<u64>
     requires own { All (IsSeatOf tickets.now) seats.old.items }
-    requires place { place < vec_len seats.old }
+    requires index { index < vec_len seats.old }
     ensures own { All (IsSeatOf tickets.now) seats.new.items }
     ensures len { vec_len seats.new ≡ vec_len seats.old }
 {
-    let seat = &mut seats[place];
+    let seat = &mut seats[index];
     if seat.is_done() {
         return None;
     }
     tickets.draw(seat)
 }
 
-// Each row of `draws` is a seat's place, what it is to be answered, and whether it is done then.
+// Each row of `draws` is a seat's index, what it is to be answered, and whether it is done then.
 fn play<R: Abort>(
     rt: &R,
     alloc: Global,
@@ -136,14 +143,14 @@ fn play<R: Abort>(
     requires seats { (1 ≤ seats) × (seats ≤ 64) }
 {
     let (tickets, mut row) = Tickets::new(alloc, limit, seats)?;
-    for &(place, number, done) in draws {
-        assert!(rt; place < row.len());
+    for &(index, number, done) in draws {
+        assert!(rt; index < row.len());
         assert_eq!(rt;
-            draw_at(&tickets, &mut row, place),
+            draw_at(&tickets, &mut row, index),
             number,
-            "of seat {place}"
+            "of seat {index}"
         );
-        assert_eq!(rt; row[place].is_done(), done, "of seat {place}");
+        assert_eq!(rt; row[index].is_done(), done, "of seat {index}");
     }
     tickets.close(row);
     Ok(())
@@ -167,8 +174,8 @@ fn as_many_seats_as_numbers_are_answered(rt: HostRuntime) -> Result<(), Fail> {
     let (tickets, mut seats) = Tickets::new(rt.alloc(), 3, 64)?;
     assert_eq!(rt; seats.len(), 64);
     let (mut some, mut none) = (0u64, 0u64);
-    for place in 0..64 {
-        match draw_at(&tickets, &mut seats, place) {
+    for index in 0..64 {
+        match draw_at(&tickets, &mut seats, index) {
             Some(number) => {
                 assert_eq!(rt; number, some);
                 some += 1;
@@ -198,16 +205,16 @@ fn threads_are_answered_each_number_once(rt: HostRuntime) -> Result<(), Fail> {
 }
 
 // Where a number stands among distinct numbers that are all below their own count.
-fn place_of(numbers: &[u64], number: u64) -> usize
+fn index_of(numbers: &[u64], number: u64) -> usize
     requires distinct { IsDistinct nat_eq numbers.now }
     requires below { All (λ x. x < length numbers.now) numbers.now }
     requires number { number < length numbers.now }
     ensures { slice_get numbers.now result ≡ Some number }
 {
     none_is_left_out();
-    for place in 0..numbers.len() {
-        if numbers[place] == number {
-            return place;
+    for index in 0..numbers.len() {
+        if numbers[index] == number {
+            return index;
         }
     }
     unreachable!()
@@ -215,10 +222,10 @@ fn place_of(numbers: &[u64], number: u64) -> usize
 
 #[test]
 fn as_many_distinct_numbers_leave_none_out(rt: HostRuntime) {
-    let places = [
-        place_of(&[2, 0, 1], 0),
-        place_of(&[2, 0, 1], 1),
-        place_of(&[2, 0, 1], 2),
+    let indices = [
+        index_of(&[2, 0, 1], 0),
+        index_of(&[2, 0, 1], 1),
+        index_of(&[2, 0, 1], 2),
     ];
-    assert_eq!(rt; places, [1, 2, 0]);
+    assert_eq!(rt; indices, [1, 2, 0]);
 }

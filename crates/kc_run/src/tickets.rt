@@ -1,19 +1,22 @@
-//! Numbers that threads draw from one atomic word, each once and without a lock.
+//! Numbers that threads draw from one atomic cell, each once and without a lock.
 //!
-//! Word 0 is the next number, word 1 the limit, and word 2 the number of seats. `specs/Draws.antt` has the rule that
-//! the words and the seats keep between any two atomic steps.
-ghost use Rattle.std.specs.Prelude.{◌≡◌, ◌<◌, ◌≤◌, ◌^◌, ◌↔◌, [], ◌∷◌, ◌++◌, ◌+◌, All, IfOk, IsNone, IsTrue, MatchOption, OnSome, length, sum_by, vec_len, ℕ};
+//! Cell 0 has the next number, cell 1 the limit, and cell 2 the number of seats. `specs/WholeDraws.antt` has the rule
+//! that the cells and the seats keep between any two atomic steps.
+ghost use Rattle.std.specs.Prelude.{◌≡◌, ◌<◌, ◌≤◌, ◌^◌, ◌↔◌, [], ◌∷◌, ◌++◌, ◌+◌, All, IfOk, IsNone, IsTrue};
+ghost use Rattle.std.specs.Prelude.{MatchOption, OnSome, length, sum_by, vec_len, ℕ};
 ghost use Rattle.std.specs.List.{flat_map};
-ghost use Rattle.kc_run.specs.Tickets.{IsSeatOf, IsDone, Draws, answered, AreNumbersBelow};
-ghost use Rattle.kc_run.specs.Draws.{lighter, drawer};
+ghost use Rattle.kc_run.specs.Tickets.{IsSeatOf, IsDone, Draws, answers_of, AreNumbersBelow};
+ghost use Rattle.kc_run.specs.WholeDraws.{lighter_view, drawer_of};
 
 use atomic_table::{Join, Play, Split, Table, TableRule};
 use std::alloc::{AllocError, Global};
 use std::collections::LinkedList;
 use std::marker::Model;
 
+// The cell of the next number.
 const NEXT: usize = 0;
 
+// The cell of the limit.
 const LIMIT: usize = 1;
 
 // What the tickets are told once, when they are made.
@@ -31,53 +34,53 @@ struct View {
     drawn: LinkedList<u64>,
 }
 
-// The rule of the words and of all views.
+// The rule of the cells and of all views.
 struct WholeDraws;
 
 impl TableRule<(), View, Plan> for WholeDraws {
-    ghost use Rattle.kc_run.specs.Draws.{Kept, first_view};
+    ghost use Rattle.kc_run.specs.WholeDraws.{HasWholeDraws, first_view};
 
-    ghost holds = { Kept };
+    ghost holds = { HasWholeDraws };
 
     ghost first = { first_view };
 }
 
-// One fetch_add on word 0.
+// One fetch_add on the next number.
 struct Draw;
 
 impl Play<(), View> for Draw {
-    ghost use Rattle.kc_run.specs.Draws.{Drew};
+    ghost use Rattle.kc_run.specs.WholeDraws.{TakesNumber};
 
-    ghost then = { Drew };
+    ghost then = { TakesNumber };
 }
 
-// One load of word 1.
+// One load of the limit.
 struct Decide;
 
 impl Play<(), View> for Decide {
-    ghost use Rattle.kc_run.specs.Draws.{Decided};
+    ghost use Rattle.kc_run.specs.WholeDraws.{FindsLimit};
 
-    ghost then = { Decided };
+    ghost then = { FindsLimit };
 }
 
 // A seat is made of one unit of the first seat's weight.
 struct OneSeat;
 
 impl Split<View> for OneSeat {
-    ghost use Rattle.kc_run.specs.Draws.{lighter, newcomer};
+    ghost use Rattle.kc_run.specs.WholeDraws.{lighter_view, new_view};
 
-    ghost left = { lighter };
+    ghost left = { lighter_view };
 
-    ghost right = { newcomer };
+    ghost right = { new_view };
 }
 
 // A seat comes back into another.
 struct Return;
 
 impl Join<View> for Return {
-    ghost use Rattle.kc_run.specs.Draws.{gathered, spent_view};
+    ghost use Rattle.kc_run.specs.WholeDraws.{joined_view, spent_view};
 
-    ghost both = { gathered };
+    ghost both = { joined_view };
 
     ghost spent = { spent_view };
 }
@@ -98,9 +101,13 @@ impl Model for Tickets {
 
     ghost Value = { Roll };
 
-    ghost view = { λ t. record { table = t.table.shared.table_id; limit = t.table.shared.key.limit; seats = t.table.shared.key.seats } };
+    ghost view = { λ t.
+        let shared = t.table.shared in
+        record { table = shared.table_id; limit = shared.key.limit; seats = shared.key.seats } };
 
-    ghost invariant = { λ t. (t.table.shared.table_id.words ≡ 3) × (t.table.shared.table_id.slots ≡ 0) × (1 ≤ t.table.shared.key.seats) };
+    ghost invariant = { λ t.
+        let shared = t.table.shared in
+        (shared.table_id.words ≡ 3) × (shared.table_id.slots ≡ 0) × (1 ≤ shared.key.seats) };
 }
 
 /// The right to draw from some tickets. One thread has it at a time, and it may go to another.
@@ -117,11 +124,13 @@ impl Model for Seat {
 
     ghost Value = { Drawer };
 
-    ghost use Rattle.kc_run.specs.Draws.{drawer};
+    ghost use Rattle.kc_run.specs.WholeDraws.{drawer_of};
 
-    ghost view = { λ s. drawer s.token.table_id s.token.me.0 };
+    ghost view = { λ s. drawer_of s.token.table_id s.token.me.0 };
 
-    ghost invariant = { λ s. (s.token.me.1 ≡ []) × (s.token.me.0.weight ≡ 1) × (IsTrue s.done ↔ IsDone (drawer s.token.table_id s.token.me.0)) };
+    ghost invariant = { λ s.
+        (s.token.me.1 ≡ []) × (s.token.me.0.weight ≡ 1)
+        × (IsTrue s.done ↔ IsDone (drawer_of s.token.table_id s.token.me.0)) };
 }
 
 impl Tickets {
@@ -156,7 +165,7 @@ impl Tickets {
         requires own { first.old.table_id ≡ self.now.table }
         requires view { (1 < first.old.me.0.weight) × (first.old.me.0.drawn ≡ []) × (first.old.me.1 ≡ []) }
         requires limit { first.old.me.0.limit ≡ self.now.limit }
-        ensures first { (first.new.table_id ≡ first.old.table_id) × (first.new.me ≡ (lighter first.old.me.0, [])) }
+        ensures first { (first.new.table_id ≡ first.old.table_id) × (first.new.me ≡ (lighter_view first.old.me.0, [])) }
         ensures own { IsSeatOf self.now result }
         ensures fresh { result.drawn ≡ [] }
     {
@@ -177,9 +186,9 @@ impl Tickets {
             (λ number. (number < self.now.limit) × Draws seat.old seat.new number) }
         ensures done { IsNone result ↔ IsDone seat.new }
         ensures answered { MatchOption result
-            (answered seat.new ≡ answered seat.old)
-            (λ number. answered seat.new ≡ answered seat.old ++ number ∷ []) }
-        ensures bounded { OnSome result (length (answered seat.new) ≤ self.now.limit) }
+            (answers_of seat.new ≡ answers_of seat.old)
+            (λ number. answers_of seat.new ≡ answers_of seat.old ++ number ∷ []) }
+        ensures bounded { OnSome result (length (answers_of seat.new) ≤ self.now.limit) }
     {
         let shared = &self.table.shared;
         let number = shared.fetch_add::<Draw>(&mut seat.token, NEXT, 1);
@@ -193,14 +202,15 @@ impl Tickets {
 
     /// Ends the draws, with all the seats that `new` gave, and takes no memory.
     ///
-    /// What the seats drew, taken together, are the numbers below some number, each once. Where every seat is done, what
-    /// the draws were answered are the numbers below the limit, each once, so there were as many answers as the limit.
+    /// What the seats drew, taken together, are the numbers below some number, each once. Where every seat is done,
+    /// what the draws were answered are the numbers below the limit, each once, so there were as many answers as the
+    /// limit.
     pub fn close(self, mut seats: Vec<Seat>)
         requires own { All (IsSeatOf self) seats.items }
         requires all { vec_len seats ≡ self.seats }
         ensures drawn { (next : ℕ) × AreNumbersBelow next (flat_map (λ seat. seat.drawn) seats.items) }
-        ensures answered { All IsDone seats.items → AreNumbersBelow self.limit (flat_map answered seats.items) }
-        ensures count { All IsDone seats.items → sum_by (λ seat. length (answered seat)) seats.items ≡ self.limit }
+        ensures answered { All IsDone seats.items → AreNumbersBelow self.limit (flat_map answers_of seats.items) }
+        ensures count { All IsDone seats.items → sum_by (λ seat. length (answers_of seat)) seats.items ≡ self.limit }
     {
         let Tickets { table } = self;
         let Some(first) = seats.pop() else {
@@ -220,7 +230,7 @@ impl Seat {
     // A seat that has drawn nothing.
     fn of(token: Token) -> Seat
         requires { (token.me.0.weight ≡ 1) × (token.me.0.drawn ≡ []) × (token.me.1 ≡ []) }
-        ensures { result ≡ drawer token.table_id token.me.0 }
+        ensures { result ≡ drawer_of token.table_id token.me.0 }
     {
         Seat { token, done: false }
     }
@@ -233,7 +243,7 @@ impl Seat {
     }
 
     fn into_token(self) -> Token
-        ensures { (drawer result.table_id result.me.0 ≡ self) × (result.me.0.weight ≡ 1) × (result.me.1 ≡ []) }
+        ensures { (drawer_of result.table_id result.me.0 ≡ self) × (result.me.0.weight ≡ 1) × (result.me.1 ≡ []) }
     {
         let Seat { token, done: _ } = self;
         token

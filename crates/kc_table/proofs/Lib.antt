@@ -1,7 +1,7 @@
-pub mod Numbers
+pub mod Contents
+pub mod KeyCounts
 pub mod Places
-pub mod RowLists
-pub mod SlotLists
+pub mod ReprobingSteps
+pub mod SlotSteps
 pub mod Soundness
-pub mod Walked
 pub mod Walks

@@ -4,8 +4,8 @@ use Rattle.std.proofs.Math.Nat.{mod-add-mod, add-mul-mod_self_left, add-mul-div_
 use Rattle.std.proofs.Math.Pow.{mod-mod-pow}
 use Rattle.std.proofs.lemmas.Nat.{div-mul-add, mod-mul-add, div-add-mod', pow_pos}
 use Rattle.std.proofs.lemmas.Bool.{eqb-true, cases_lt}
-use Rattle.kc_table.specs.Place.{triangle, place}
-use Rattle.kc_table.specs.Slot.{probe_of, key_in, tag_of}
+use Rattle.kc_table.specs.Reprobing.{triangle, place, reprobe_of, tag_of}
+use Rattle.kc_table.specs.Slot.{key_in}
 
 pub triangle-suc : (i : ℕ) → triangle (i + 1) ≡ triangle i + (i + 1)
 triangle-suc i =
@@ -40,9 +40,9 @@ place_back s t m pos below =
     mod-add-mod (s + (m - 1) * t) m t ∙ ap (λ n. n % m) sum ∙ add-mul-mod_self_left s m t ∙ mod-eq_of_lt below
 
 -- the key of a slot has that slot for its place
-pub place-key_in : (log s tag : ℕ) → s < 2 ^ log → place (key_in log s tag) (probe_of tag) log ≡ s
+pub place-key_in : (log s tag : ℕ) → s < 2 ^ log → place (key_in log s tag) (reprobe_of tag) log ≡ s
 place-key_in log s tag below =
-    let t = triangle (probe_of tag) in
+    let t = triangle (reprobe_of tag) in
     ap (λ h. (h + t) % 2 ^ log) (mod-mul-add (tag / 64) (2 ^ log) ((s + (2 ^ log - 1) * t) % 2 ^ log) (mod-lt _ (pow_pos log)))
     ∙ place_back s t (2 ^ log) (pow_pos log) below
 
@@ -52,21 +52,21 @@ tag_of-mod log key i small = mod-mul-add (key / 2 ^ log) 64 (i + 1) (omega arith
 pub tag_of-div : (log key i : ℕ) → i < 63 → tag_of log key i / 64 ≡ key / 2 ^ log
 tag_of-div log key i small = div-mul-add (key / 2 ^ log) 64 (i + 1) (omega arith)
 
-pub probe_of-tag_of : (log key i : ℕ) → i < 63 → probe_of (tag_of log key i) ≡ i
-probe_of-tag_of log key i small = ap (λ n. n - 1) (tag_of-mod log key i small) ∙ omega arith
+pub reprobe_of-tag_of : (log key i : ℕ) → i < 63 → reprobe_of (tag_of log key i) ≡ i
+reprobe_of-tag_of log key i small = ap (λ n. n - 1) (tag_of-mod log key i small) ∙ omega arith
 
 -- a key is found again from its place and its tag
 pub key_in-tag_of : (key i log : ℕ) → i < 63 → key_in log (place key i log) (tag_of log key i) ≡ key
 key_in-tag_of key i log small =
     let p = place key i log in
-    ap (λ r. r * 2 ^ log + (p + (2 ^ log - 1) * triangle (probe_of (tag_of log key i))) % 2 ^ log) (tag_of-div log key i small)
-    ∙ ap (λ n. key / 2 ^ log * 2 ^ log + (p + (2 ^ log - 1) * triangle n) % 2 ^ log) (probe_of-tag_of log key i small)
+    ap (λ r. r * 2 ^ log + (p + (2 ^ log - 1) * triangle (reprobe_of (tag_of log key i))) % 2 ^ log) (tag_of-div log key i small)
+    ∙ ap (λ n. key / 2 ^ log * 2 ^ log + (p + (2 ^ log - 1) * triangle n) % 2 ^ log) (reprobe_of-tag_of log key i small)
     ∙ ap (λ h. key / 2 ^ log * 2 ^ log + h) (home_back (key % 2 ^ log) (triangle i) (2 ^ log) (pow_pos log) (mod-lt _ (pow_pos log)))
     ∙ div-add-mod' key (2 ^ log)
 
-pub tag_of-key_in : (log s tag : ℕ) → 1 ≤ tag % 64 → tag_of log (key_in log s tag) (probe_of tag) ≡ tag
+pub tag_of-key_in : (log s tag : ℕ) → 1 ≤ tag % 64 → tag_of log (key_in log s tag) (reprobe_of tag) ≡ tag
 tag_of-key_in log s tag probed =
-    ap (λ r. r * 64 + (probe_of tag + 1)) (div-mul-add (tag / 64) (2 ^ log) ((s + (2 ^ log - 1) * triangle (probe_of tag)) % 2 ^ log) (mod-lt _ (pow_pos log)))
+    ap (λ r. r * 64 + (reprobe_of tag + 1)) (div-mul-add (tag / 64) (2 ^ log) ((s + (2 ^ log - 1) * triangle (reprobe_of tag)) % 2 ^ log) (mod-lt _ (pow_pos log)))
     ∙ omega (arith, div-add-mod' tag 64)
 
 -- for which i the numbers up to i add up to t, modulo 64

@@ -1,46 +1,35 @@
--- What the trait `Counts` and its types are seen as.
-use Rattle.std.specs.Prelude.{◌≡◌, refl, ℕ, ◌+◌, ◌≤◌, ◌^◌, if◌then◌else◌, IsTrue, List, All, Contains, Some, None, nat_eq, map, unwrap_or}
+-- What the trait `Counts` is seen as.
+use Rattle.std.specs.Prelude.{◌≡◌, ℕ, ◌+◌, ◌<◌, ◌≤◌, ◌^◌, if◌then◌else◌, IsTrue, List, All, Contains, Some, nat_eq, map, unwrap_or}
 use Rattle.std.specs.List.{IsDistinct}
 use Rattle.std.specs.Ordering.{nat_cmp}
-use Rattle.std.specs.FinMap.{FinMap, get, contains_key, insert, code}
-use Rattle.std.specs.Coded.{Coded, code_by, coded×, coded_ℕ}
+use Rattle.std.specs.FinMap.{FinMap, get, contains_key, insert}
 
--- The finite map that a table is (Marçais and Kingsford 2011: a k-mer's hash is the key, its count the number).
--- A key in the map is called stored. Its number may be 0.
-abbrev pub Numbers : Type 0
-Numbers = FinMap nat_cmp ℕ
+-- The finite map that a table is (Marçais and Kingsford 2011: a k-mer's hash is the key, and the key has a count).
+-- A key in the map is called stored. Its count may be 0.
+abbrev pub KeyCounts : Type 0
+KeyCounts = FinMap nat_cmp ℕ
 
-abbrev pub IsStored : Numbers → ℕ → Type 0
-IsStored numbers key = IsTrue (contains_key numbers key)
+abbrev pub IsStored : KeyCounts → ℕ → Type 0
+IsStored counts key = IsTrue (contains_key counts key)
 
--- the key's number, and 0 where the key is not stored
-abbrev pub number_at : Numbers → ℕ → ℕ
-number_at numbers key = unwrap_or (get numbers key) 0
+-- the key's count, and 0 where the key is not stored
+abbrev pub count_at : KeyCounts → ℕ → ℕ
+count_at counts key = unwrap_or (get counts key) 0
 
 -- the map with the key stored: at 0, unless it was stored before
-abbrev pub readied : Numbers → ℕ → Numbers
-readied numbers key = if contains_key numbers key then numbers else insert numbers key 0
+abbrev pub readied : KeyCounts → ℕ → KeyCounts
+readied counts key = if contains_key counts key then counts else insert counts key 0
 
--- the map with the key's number one more
-abbrev pub added : Numbers → ℕ → Numbers
-added numbers key = insert numbers key (number_at numbers key + 1)
+-- the map with the key's count one more
+abbrev pub added : KeyCounts → ℕ → KeyCounts
+added counts key = insert counts key (count_at counts key + 1)
 
--- The rows are the keys whose number is at least 1, each once, with its number.
-pub record AreRowsOf (numbers : Numbers) (rows : List (ℕ × ℕ)) : Type 0 where
+-- The rows are the keys whose count is at least 1, each once, with its count.
+pub record AreRowsOf (counts : KeyCounts) (rows : List (ℕ × ℕ)) : Type 0 where
   pub once : IsDistinct nat_eq (map (λ row. row.0) rows)
-  pub told : All (λ row. (get numbers row.0 ≡ Some row.1) × (1 ≤ row.1)) rows
-  pub complete : (key : ℕ) → 1 ≤ number_at numbers key → Contains rows (key, number_at numbers key)
+  pub told : All (λ row. (get counts row.0 ≡ Some row.1) × (1 ≤ row.1)) rows
+  pub complete : (key : ℕ) → 1 ≤ count_at counts key → Contains rows (key, count_at counts key)
 
--- no stored key has more bits
-abbrev pub IsWithin : ℕ → Numbers → Type 0
-IsWithin bits numbers = (key : ℕ) → 2 ^ bits ≤ key → get numbers key ≡ None
-
--- What a table without a limit is seen as: its keys' bits, and the map.
-pub record Plain : Type 0 where
-  pub bits : ℕ
-  pub numbers : Numbers
-
--- it is stored as the pair of its fields
-abbrev pub plain_code : Coded Plain
-plain_code =
-    code_by (ℕ × Numbers) (coded× coded_ℕ (code coded_ℕ coded_ℕ)) (λ t. (t.bits, t.numbers)) (λ p. record { bits = p.0; numbers = p.1 }) (λ _. refl)
+-- each stored key is a number of so many bits
+abbrev pub IsWithin : ℕ → KeyCounts → Type 0
+IsWithin bits counts = (key : ℕ) → IsStored counts key → key < 2 ^ bits

@@ -1,8 +1,7 @@
 pub mod Counts
-pub mod Held
-pub mod Limited
-pub mod Place
-pub mod Probed
+pub mod LimitedCounts
+pub mod PlainCounts
+pub mod QuotientTable
+pub mod Reprobing
 pub mod Slot
-pub mod Sound
-pub mod Table
+pub mod Slots

@@ -1,20 +1,56 @@
--- How a slot holds a key. A row's tag is 0 in an empty slot, and else the key's remainder times 64 and one more than
--- its probe number. Its place gives back the low bits (Marçais and Kingsford 2011).
-use Rattle.std.specs.Prelude.{◌≡◌, refl, ℕ, ◌+◌, ◌-◌, ◌*◌, ◌/◌, ◌%◌, ◌^◌}
-use Rattle.kc_table.specs.Place.{triangle}
+-- What the slots of a table hold, and what their tags keep.
+use Rattle.std.specs.Prelude.{◌≡◌, ◌≢◌, refl, ℕ, ◌+◌, ◌-◌, ◌*◌, ◌/◌, ◌%◌, ◌^◌, ◌<◌, ◌≤◌, ◌==◌, if◌then◌else◌, List, [], ◌∷◌, Option, Some, None, slice_index_or}
+use Rattle.kc_table.specs.declared.slots.Slot.{Slot}
+use Rattle.kc_table.specs.Counts.{KeyCounts}
+use Rattle.kc_table.specs.QuotientTable.{SlotList, counts_in}
+use Rattle.kc_table.specs.Reprobing.{triangle, place, reprobe_of, tag_of}
 
--- which of its places the key stands at
-abbrev pub probe_of : ℕ → ℕ
-probe_of tag = tag % 64 - 1
-
--- the tag of a key at its place i
-abbrev pub tag_of : ℕ → ℕ → ℕ → ℕ
-tag_of log key i = key / 2 ^ log * 64 + (i + 1)
-
--- the key in a slot: its remainder, and the home that has this slot for that place
+-- The key in a slot: its remainder, and the home that has this slot for that place. So the low bits of a key are not
+-- stored (Marçais and Kingsford 2011).
 abbrev pub key_in : ℕ → ℕ → ℕ → ℕ
-key_in log slot tag = tag / 64 * 2 ^ log + (slot + (2 ^ log - 1) * triangle (probe_of tag)) % 2 ^ log
+key_in log index tag = tag / 64 * 2 ^ log + (index + (2 ^ log - 1) * triangle (reprobe_of tag)) % 2 ^ log
 
 -- the key 773 in a table of 256 slots, at its place 3: the tag in its slot, and the key found from both
-slot_rows : (tag_of 8 773 3 ≡ 196) × (probe_of 196 ≡ 3) × (key_in 8 11 196 ≡ 773) × (key_in 8 2 (tag_of 8 255 2) ≡ 255)
+slot_rows : (tag_of 8 773 3 ≡ 196) × (reprobe_of 196 ≡ 3) × (key_in 8 11 196 ≡ 773) × (key_in 8 2 (tag_of 8 255 2) ≡ 255)
 slot_rows = (refl, refl, refl, refl)
+
+abbrev pub empty_slot : Slot
+empty_slot = record { tag = 0; count = 0 }
+
+-- the tag of the slot at this index, and 0 past the end
+abbrev pub tag_at : List Slot → ℕ → ℕ
+tag_at slots index = (slice_index_or slots index empty_slot).tag
+
+abbrev pub slot_count : List Slot → ℕ → ℕ
+slot_count slots index = (slice_index_or slots index empty_slot).count
+
+-- what the slot at this index holds
+abbrev pub content_of : ℕ → ℕ → Slot → Option (ℕ × ℕ)
+content_of log index slot = if slot.tag == 0 then None else Some (key_in log index slot.tag, slot.count)
+
+-- what the slots from this index on hold
+abbrev pub contents_from : ℕ → ℕ → List Slot → SlotList
+contents_from log index [] = []
+contents_from log index (slot ∷ slots) = content_of log index slot ∷ contents_from log (index + 1) slots
+
+abbrev pub contents_of : ℕ → List Slot → SlotList
+contents_of log slots = contents_from log 0 slots
+
+-- the map that the slots hold
+abbrev pub counts_of : ℕ → List Slot → KeyCounts
+counts_of log slots = counts_in (contents_of log slots)
+
+-- The tags of a table of 2 ^ log slots for keys of so many bits. A tag that is not 0 has a reprobe number and a
+-- remainder that fits; a key stands behind places that are all taken; no two slots give one key; and where there is a
+-- slot for each possible key, each stands at its home.
+pub record IsSound (bits log : ℕ) (tag : ℕ → ℕ) : Type 0 where
+  pub few_bits : bits ≤ 62
+  pub few_slots : log ≤ 40
+  pub no_wider : log ≤ bits
+  pub remainder_fits : bits ≤ log + 58
+  pub inside : (s : ℕ) → tag s ≢ 0 → s < 2 ^ log
+  pub probed : (s : ℕ) → tag s ≢ 0 → 1 ≤ tag s % 64
+  pub short : (s : ℕ) → tag s ≢ 0 → tag s / 64 < 2 ^ (bits - log)
+  pub reached : (s j : ℕ) → tag s ≢ 0 → j < reprobe_of (tag s) → tag (place (key_in log s (tag s)) j log) ≢ 0
+  pub apart : (s t : ℕ) → tag s ≢ 0 → tag t ≢ 0 → key_in log s (tag s) ≡ key_in log t (tag t) → s ≡ t
+  pub at_home : log ≡ bits → (s : ℕ) → tag s ≢ 0 → reprobe_of (tag s) ≡ 0

@@ -7,6 +7,7 @@ mod fault;
 mod limited;
 mod plain;
 mod quotient;
+mod reprobing;
 mod slots;
 mod steps;
 

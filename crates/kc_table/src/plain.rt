@@ -3,7 +3,7 @@ ghost use Rattle.std.specs.Prelude.{◌≡◌, ◌≤◌, IfOk, filter, nat_lt};
 ghost use Rattle.std.specs.Ordering.{nat_cmp};
 ghost use Rattle.std.specs.BTreeMap.{IsOrdered};
 ghost use Rattle.std.specs.FinMap as map;
-ghost use Rattle.kc_table.specs.Counts.{Plain};
+ghost use Rattle.kc_table.specs.PlainCounts.{Plain};
 
 use crate::counts::Counts;
 use crate::fault::TableFault;
@@ -20,14 +20,15 @@ pub struct PlainCounts {
 
 impl Model for PlainCounts {
     ghost use Rattle.std.specs.Prelude.{◌<◌, ◌^◌, ◌≤◌, ℕ};
-    ghost use Rattle.kc_table.specs.Counts.{Plain, plain_code, IsWithin};
+    ghost use Rattle.kc_table.specs.Counts.{IsWithin};
+    ghost use Rattle.kc_table.specs.PlainCounts.{Plain, plain_code};
     ghost use Rattle.std.specs.FinMap.{from_entries};
 
     ghost Value = { Plain };
 
     ghost coded = { plain_code };
 
-    ghost view = { λ p. record { bits = p.bits; numbers = from_entries p.map.entries } };
+    ghost view = { λ p. record { bits = p.bits; counts = from_entries p.map.entries } };
 
     ghost invariant = { λ p. (p.bits ≤ 62) × IsWithin p.bits (from_entries p.map.entries) };
 }
@@ -36,7 +37,7 @@ impl PlainCounts {
     /// An empty map whose keys have this number of bits.
     pub fn new(alloc: Global, bits: u32) -> Self
         requires { bits ≤ 62 }
-        ensures { result ≡ record { bits = bits; numbers = map.empty } }
+        ensures { result ≡ record { bits = bits; counts = map.empty } }
     {
         PlainCounts {
             bits,
@@ -46,7 +47,7 @@ impl PlainCounts {
 
     // Whether the key is stored.
     pub(crate) fn is_stored(&self, key: u64) -> bool
-        ensures { result ≡ map.contains_key self.now.numbers key }
+        ensures { result ≡ map.contains_key self.now.counts key }
     {
         self.map.contains_key(&key)
     }
@@ -55,9 +56,13 @@ impl PlainCounts {
 impl Counts for PlainCounts {
     ghost bits = { λ p. p.bits };
 
-    ghost numbers = { λ p. p.numbers };
+    ghost counts = { λ p. p.counts };
 
     ghost may_be_full = { λ _ _ _. ⊥ };
+
+    fn key_bits(&self) -> u32 {
+        self.bits
+    }
 
     fn ready(&mut self, key: u64) -> Result<(), TableFault> {
         if self.map.contains_key(&key) {
@@ -70,8 +75,15 @@ impl Counts for PlainCounts {
     }
 
     fn add(&mut self, key: u64) {
+        self.increment(key);
+    }
+
+    fn increment(&mut self, key: u64) -> u64 {
         match self.map.get_mut(&key) {
-            Some(number) => *number += 1,
+            Some(count) => {
+                *count += 1;
+                *count
+            }
             None => unreachable!(),
         }
     }
@@ -85,13 +97,13 @@ impl Counts for PlainCounts {
     }
 }
 
-// The entries whose number is at least 1, in the keys' order.
+// The entries whose count is at least 1, in the keys' order.
 fn counted(alloc: Global, map: &BTreeMap<u64, u64>) -> Result<Vec<(u64, u64)>, AllocError>
     ensures entries { IfOk result (λ v. v.items ≡ filter (λ e. nat_lt 0 e.1) map.now.entries) }
     ensures ordered { IsOrdered nat_cmp map.now }
 {
     map.iter()
-        .filter(|(_, number)| **number > 0)
-        .map(|(key, number)| (*key, *number))
+        .filter(|(_, count)| **count > 0)
+        .map(|(key, count)| (*key, *count))
         .collect(alloc)
 }

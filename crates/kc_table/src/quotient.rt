@@ -2,18 +2,19 @@
 ghost use Rattle.std.specs.Prelude.{◌≡◌, ℕ, ◌+◌, ◌<◌, ◌≤◌, ◌^◌, ◌↔◌, min, IfOk, IfSome, IsSome};
 ghost use Rattle.std.specs.FinMap.{empty};
 ghost use Rattle.kc_table.specs.Counts.{IsStored};
-ghost use Rattle.kc_table.specs.Place.{IsPlaceOf};
-ghost use Rattle.kc_table.specs.Table.{Table, numbers_in, MayBeFull, HoldsKey};
+ghost use Rattle.kc_table.specs.QuotientTable.{Table, counts_in, MayBeFull, HoldsKey};
+ghost use Rattle.kc_table.specs.Reprobing.{IsPlaceOf};
 
 use crate::counts::Counts;
 use crate::fault::TableFault;
-use crate::slots::{Probe, Slots};
+use crate::reprobing::Reprobing;
+use crate::slots::Slots;
 use crate::steps::Steps;
 use std::alloc::{AllocError, Global};
 use std::marker::Model;
 
 /// The map as a table of 2^log slots, which grows up to 2^max_log. A slot holds a key's remainder and
-/// probe number in one word, and its count in another; the slot's place gives the rest of the key.
+/// reprobe number in one word, and its count in another; the slot's place gives the rest of the key.
 #[derive(Drop)]
 pub struct QuotientTable {
     alloc: Global,
@@ -22,13 +23,17 @@ pub struct QuotientTable {
 }
 
 impl Model for QuotientTable {
-    ghost use Rattle.kc_table.specs.Table.{Table};
+    ghost use Rattle.kc_table.specs.QuotientTable.{Table, IsWithinLimits};
+    ghost use Rattle.kc_table.specs.Slot.{contents_of};
 
     ghost Value = { Table };
 
-    ghost use Rattle.kc_table.specs.Sound.{slots_of, IsWithinLimits};
-
-    ghost view = { λ t. record { bits = t.slots.bits; max_log = t.max_log; log = t.slots.log; slots = slots_of t.slots.log t.slots.rows.items } };
+    ghost view = { λ t. record {
+      bits = t.slots.bits;
+      max_log = t.max_log;
+      log = t.slots.log;
+      slots = contents_of t.slots.log t.slots.slots.items;
+    } };
 
     ghost invariant = { λ t. IsWithinLimits t.slots.bits t.slots.log t.max_log };
 }
@@ -49,7 +54,7 @@ impl QuotientTable {
         ensures bits { IfOk result (λ t. t.bits ≡ bits) }
         ensures log { IfOk result (λ t. t.log ≡ log) }
         ensures max_log { IfOk result (λ t. t.max_log ≡ max_log) }
-        ensures empty { IfOk result (λ t. numbers_in t.slots ≡ empty) }
+        ensures empty { IfOk result (λ t. counts_in t.slots ≡ empty) }
     {
         let slots = Slots::empty(alloc, bits, log)?;
         Ok(QuotientTable {
@@ -70,16 +75,16 @@ impl QuotientTable {
     #[inline]
     pub fn find(&self, key: u64, steps: &mut Steps) -> Option<u64>
         requires { key < 2 ^ self.now.bits }
-        ensures stored { IsSome result ↔ IsStored (numbers_in self.now.slots) key }
+        ensures stored { IsSome result ↔ IsStored (counts_in self.now.slots) key }
         ensures slot { IfSome result (λ s. HoldsKey self.now.slots s key) }
         ensures place { IfSome result (λ s. IsPlaceOf self.now.log key s) }
         ensures home { self.now.log ≡ self.now.bits → IfSome result (λ s. s ≡ key) }
         ensures reads { steps.new.count ≤ steps.old.count + 63 }
     {
-        match self.slots.probe(key, steps) {
-            Probe::Found { place } => Some(place as u64),
-            Probe::Free { .. } => None,
-            Probe::Crowded => None,
+        match self.slots.reprobe(key, steps) {
+            Reprobing::Found { place } => Some(place as u64),
+            Reprobing::Free { .. } => None,
+            Reprobing::Crowded => None,
         }
     }
 }
@@ -87,19 +92,23 @@ impl QuotientTable {
 impl Counts for QuotientTable {
     ghost bits = { λ t. t.bits };
 
-    ghost numbers = { λ t. numbers_in t.slots };
+    ghost counts = { λ t. counts_in t.slots };
 
     ghost may_be_full = { MayBeFull };
 
+    fn key_bits(&self) -> u32 {
+        self.slots.bits
+    }
+
     #[inline]
     fn ready(&mut self, key: u64) -> Result<(), TableFault> {
-        match self.slots.probe(key, &mut Steps::new()) {
-            Probe::Found { .. } => Ok(()),
-            Probe::Free { place, tag } => {
+        match self.slots.reprobe(key, &mut Steps::new()) {
+            Reprobing::Found { .. } => Ok(()),
+            Reprobing::Free { place, tag } => {
                 self.slots.put(key, place, tag, 0);
                 Ok(())
             }
-            Probe::Crowded => {
+            Reprobing::Crowded => {
                 self.slots = self.slots.grown(self.alloc, key, self.max_log)?;
                 Ok(())
             }
@@ -108,6 +117,11 @@ impl Counts for QuotientTable {
 
     #[inline]
     fn add(&mut self, key: u64) {
+        self.increment(key);
+    }
+
+    #[inline]
+    fn increment(&mut self, key: u64) -> u64 {
         match self.find(key, &mut Steps::new()) {
             Some(place) => self.slots.count(key, place as usize),
             None => unreachable!(),
@@ -117,7 +131,7 @@ impl Counts for QuotientTable {
     #[inline]
     fn get(&self, key: u64) -> u64 {
         match self.find(key, &mut Steps::new()) {
-            Some(place) => self.slots.rows[place as usize].count,
+            Some(place) => self.slots.slots[place as usize].count,
             None => 0,
         }
     }

@@ -1,31 +1,22 @@
-//! A table of fixed size: rows that hold a key's remainder and probe number, and its count.
+//! A table of fixed size, whose slots hold a key's remainder, its reprobe number and its count.
 ghost use Rattle.std.specs.Prelude.{◌≡◌, ◌≢◌, ℕ, ◌+◌, ◌<◌, ◌≤◌, ◌^◌, length, true, false, None};
 ghost use Rattle.std.specs.Prelude.{IfOk, IfSome, IfNone, filter, nat_lt};
 ghost use Rattle.std.specs.FinMap.{empty, insert, get};
-ghost use Rattle.kc_table.specs.Slot.{key_in};
-ghost use Rattle.kc_table.specs.Sound.{IsSound, IsFound, IsFree, IsOut, IsTooSmall, IsTight, tag_at, slots_of};
-ghost use Rattle.kc_table.specs.Table.{entries_in};
-ghost use Rattle.kc_table.specs.Probed.{IsProbed};
+ghost use Rattle.kc_table.specs.QuotientTable.{entries_in};
+ghost use Rattle.kc_table.specs.Reprobing.{IsFound, IsFree, IsOut, IsReprobing};
+ghost use Rattle.kc_table.specs.Slot.{key_in, IsSound, tag_at, contents_of};
 
 use crate::fault::TableFault;
+use crate::reprobing::Reprobing;
 use crate::steps::Steps;
 use std::alloc::{AllocError, Global};
 
 /// A slot. The tag is 0 where the slot is empty; else it is the key's remainder times 64 and one more
-/// than its probe number.
+/// than its reprobe number.
 #[derive(Clone, Copy)]
-pub(crate) struct Row {
+pub(crate) struct Slot {
     pub tag: u64,
     pub count: u64,
-}
-
-/// What a walk over a key's places found: the key, the first place that is free with the key's tag
-/// there, or 63 other keys.
-#[derive(Drop)]
-pub(crate) enum Probe {
-    Found { place: usize },
-    Free { place: usize, tag: u64 },
-    Crowded,
 }
 
 /// A table of 2^log slots for keys of so many bits.
@@ -33,17 +24,17 @@ pub(crate) enum Probe {
 pub(crate) struct Slots {
     pub bits: u32,
     pub log: u32,
-    pub rows: Vec<Row>,
-    ghost sized: { length rows.items ≡ 2 ^ log },
-    ghost sound: { IsSound bits log (tag_at rows.items) },
+    pub slots: Vec<Slot>,
+    ghost sized: { length slots.items ≡ 2 ^ log },
+    ghost sound: { IsSound bits log (tag_at slots.items) },
 }
 
-impl Row {
-    const EMPTY: Row = Row { tag: 0, count: 0 };
+impl Slot {
+    const EMPTY: Slot = Slot { tag: 0, count: 0 };
 }
 
 impl Slots {
-    ghost use Rattle.kc_table.specs.Held.{held, tags_of, counts_of};
+    ghost use Rattle.kc_table.specs.Slots.{held, tags_of, slot_counts, IsTooSmall, IsTight};
 
     /// A table whose slots are empty.
     pub fn empty(alloc: Global, bits: u32, log: u32) -> Result<Slots, AllocError>
@@ -55,8 +46,8 @@ impl Slots {
         ensures log { IfOk result (λ t. t.log ≡ log) }
         ensures empty { IfOk result (λ t. held t ≡ empty) }
     {
-        let rows = vec![in alloc; Row::EMPTY; 1 << log]?;
-        Ok(Slots { bits, log, rows })
+        let slots = vec![in alloc; Slot::EMPTY; 1 << log]?;
+        Ok(Slots { bits, log, slots })
     }
 
     #[inline(always)]
@@ -66,18 +57,18 @@ impl Slots {
         ensures counted { steps.new.count ≡ steps.old.count + 1 }
     {
         steps.tick();
-        self.rows[place].tag
+        self.slots[place].tag
     }
 
     /// Walks over the key's places up to the key itself or a free one. A slot is never emptied, so
     /// the key stands behind no free place.
     #[inline(always)]
-    pub fn probe(&self, key: u64, steps: &mut Steps) -> Probe
+    pub fn reprobe(&self, key: u64, steps: &mut Steps) -> Reprobing
         requires { key < 2 ^ self.now.bits }
-        ensures probed { IsProbed self.now.log (tags_of self.now) key result }
+        ensures probed { IsReprobing self.now.log (tags_of self.now) key result }
         ensures steps { steps.new.count ≤ steps.old.count + 63 }
     {
-        let mask = self.rows.len() - 1;
+        let mask = self.slots.len() - 1;
         let remainder = (key >> self.log) * 64;
         let mut place = key as usize & mask;
         for i in 0..63 {
@@ -85,13 +76,13 @@ impl Slots {
             let wanted = remainder + (i as u64 + 1);
             let tag = self.read(place, steps);
             if tag == wanted {
-                return Probe::Found { place };
+                return Reprobing::Found { place };
             }
             if tag == 0 {
-                return Probe::Free { place, tag: wanted };
+                return Reprobing::Free { place, tag: wanted };
             }
         }
-        Probe::Crowded
+        Reprobing::Crowded
     }
 
     /// Puts a new key at its first free place.
@@ -103,38 +94,41 @@ impl Slots {
         ensures log { self.new.log ≡ self.old.log }
         ensures put { held self.new ≡ insert (held self.old) key count }
     {
-        self.rows[place] = Row { tag, count };
+        self.slots[place] = Slot { tag, count };
     }
 
-    /// Adds one to the number of the key in this slot.
+    /// Adds one to the count of the key in this slot, and tells the new count.
     #[inline(always)]
-    pub fn count(&mut self, key: u64, place: usize)
+    pub fn count(&mut self, key: u64, place: usize) -> u64
         requires found { IsFound self.old.log (tags_of self.old) key place }
-        requires room { counts_of self.old place < 2 ^ 62 }
+        requires room { slot_counts self.old place < 2 ^ 62 }
         ensures bits { self.new.bits ≡ self.old.bits }
         ensures log { self.new.log ≡ self.old.log }
-        ensures counted { held self.new ≡ insert (held self.old) key (counts_of self.old place + 1) }
+        ensures told { result ≡ slot_counts self.old place + 1 }
+        ensures counted { held self.new ≡ insert (held self.old) key (slot_counts self.old place + 1) }
     {
-        let row = self.rows[place];
-        self.rows[place] = Row {
-            tag: row.tag,
-            count: row.count + 1,
+        let slot = self.slots[place];
+        let count = slot.count + 1;
+        self.slots[place] = Slot {
+            tag: slot.tag,
+            count,
         };
+        count
     }
 
-    /// The key in a slot, by its remainder and the home that has this place for its probe number.
+    /// The key in a slot, by its remainder and the home that has this slot for its reprobe number.
     #[inline(always)]
-    pub fn key_at(&self, place: usize, tag: u64) -> u64
-        requires tag { tag ≡ tags_of self.now place }
+    pub fn key_at(&self, index: usize, tag: u64) -> u64
+        requires tag { tag ≡ tags_of self.now index }
         requires some { tag ≢ 0 }
-        ensures key { result ≡ key_in self.now.log place tag }
+        ensures key { result ≡ key_in self.now.log index tag }
         ensures in_range { result < 2 ^ self.now.bits }
     {
-        let mask = self.rows.len() - 1;
-        let probe = tag as usize % 64 - 1;
-        let turn = probe * (probe + 1) / 2;
+        let mask = self.slots.len() - 1;
+        let reprobe = tag as usize % 64 - 1;
+        let turn = reprobe * (reprobe + 1) / 2;
         // To step back by `turn` round the table is to go forward by `mask` times as much.
-        let home = (place + mask * turn) & mask;
+        let home = (index + mask * turn) & mask;
         (tag / 64 << self.log) + home as u64
     }
 
@@ -148,13 +142,13 @@ impl Slots {
         ensures taken { result ≡ true → held self.new ≡ insert (held self.old) key count }
         ensures out { result ≡ false → IsOut self.old.log (tags_of self.old) key }
     {
-        match self.probe(key, &mut Steps::new()) {
-            Probe::Free { place, tag } => {
+        match self.reprobe(key, &mut Steps::new()) {
+            Reprobing::Free { place, tag } => {
                 self.put(key, place, tag, count);
                 true
             }
-            Probe::Crowded => false,
-            Probe::Found { .. } => unreachable!(),
+            Reprobing::Crowded => false,
+            Reprobing::Found { .. } => unreachable!(),
         }
     }
 
@@ -169,13 +163,13 @@ impl Slots {
         ensures crowded { IfOk result (λ r. IfNone r (IsTooSmall self.now.bits log (held self.now))) }
     {
         let mut table = Slots::empty(alloc, self.bits, log)?;
-        for place in 0..self.rows.len() {
-            let row = self.rows[place];
-            if row.tag == 0 {
+        for index in 0..self.slots.len() {
+            let slot = self.slots[index];
+            if slot.tag == 0 {
                 continue;
             }
-            let key = self.key_at(place, row.tag);
-            if !table.take(key, row.count) {
+            let key = self.key_at(index, slot.tag);
+            if !table.take(key, slot.count) {
                 return Ok(None);
             }
         }
@@ -183,7 +177,7 @@ impl Slots {
     }
 
     /// The smallest larger table, of up to 2^max_log slots, that takes all keys of this one and one
-    /// new key, whose number is 0.
+    /// new key, whose count is 0.
     pub fn grown(&self, alloc: Global, key: u64, max_log: u32) -> Result<Slots, TableFault>
         requires in_range { key < 2 ^ self.now.bits }
         requires new { get (held self.now) key ≡ None }
@@ -210,20 +204,20 @@ impl Slots {
         Err(TableFault::Full)
     }
 
-    /// Each key whose number is at least 1, with its number.
+    /// Each key whose count is at least 1, with its count.
     pub fn entries(&self, alloc: Global) -> Result<Vec<(u64, u64)>, AllocError>
-        ensures { IfOk result (λ v. v.items ≡ filter (λ e. nat_lt 0 e.1) (entries_in (slots_of self.now.log self.now.rows.items))) }
+        ensures { IfOk result (λ v. v.items ≡ filter (λ e. nat_lt 0 e.1) (entries_in (contents_of self.now.log self.now.slots.items))) }
     {
         let mut entries = Vec::new(alloc);
-        for slot in 0..self.rows.len() {
-            let row = self.rows[slot];
-            if row.tag == 0 {
+        for index in 0..self.slots.len() {
+            let slot = self.slots[index];
+            if slot.tag == 0 {
                 continue;
             }
-            if row.count == 0 {
+            if slot.count == 0 {
                 continue;
             }
-            entries.push((self.key_at(slot, row.tag), row.count))?;
+            entries.push((self.key_at(index, slot.tag), slot.count))?;
         }
         Ok(entries)
     }

@@ -43,14 +43,14 @@ fn count_each<C: Counts>(rt: &impl Abort, table: &mut C, keys: &[u64]) -> Result
     Ok(())
 }
 
-fn numbers<C: Counts>(alloc: Global, table: &C, keys: &[u64]) -> Result<Vec<u64>, AllocError>
+fn counts<C: Counts>(alloc: Global, table: &C, keys: &[u64]) -> Result<Vec<u64>, AllocError>
     requires { All (λ key. key < 2 ^ C.bits table.now) keys.now }
 {
-    let mut numbers = Vec::new(alloc);
+    let mut counts = Vec::new(alloc);
     for key in keys {
-        numbers.push(table.get(*key))?;
+        counts.push(table.get(*key))?;
     }
-    Ok(numbers)
+    Ok(counts)
 }
 
 fn sorted_rows<C: Counts>(alloc: Global, table: &C) -> Result<Vec<(u64, u64)>, AllocError> {
@@ -85,7 +85,7 @@ fn is_a_finite_map<C: Counts + Send>(
     table.ready(7)?;
     table.ready(3)?;
     assert_eq!(rt;
-        numbers(alloc, table, &[0, 1, 2, 3, 4, 5, 6, 7])?.as_slice(),
+        counts(alloc, table, &[0, 1, 2, 3, 4, 5, 6, 7])?.as_slice(),
         [1, 0, 0, 0, 0, 0, 0, 2].as_slice()
     );
     assert_eq!(rt;
@@ -126,9 +126,9 @@ fn a_home_is_shared_by_63_keys(rt: HostRuntime) -> Result<(), Fail> {
     assert_eq!(rt; table.ready(last), Err(TableFault::Full));
     assert_eq!(rt; table.find(last, &mut steps), None);
     assert!(rt;
-        numbers(alloc, &table, &keys)?
+        counts(alloc, &table, &keys)?
             .iter()
-            .all(|number| *number == 1)
+            .all(|count| *count == 1)
     );
     assert_eq!(rt; table.get(last), 0);
     assert_eq!(rt; table.log(), 8);
@@ -145,9 +145,9 @@ fn a_64th_key_of_a_home_is_taken_by_a_larger_table(rt: HostRuntime) -> Result<()
     table.ready(256 * 63 + 5)?;
     assert_eq!(rt; table.log(), 9);
     assert!(rt;
-        numbers(alloc, &table, &keys)?
+        counts(alloc, &table, &keys)?
             .iter()
-            .all(|number| *number == 1)
+            .all(|count| *count == 1)
     );
     assert_eq!(rt; table.get(256 * 63 + 5), 0);
     Ok(())
@@ -196,7 +196,7 @@ fn a_limited_map_answers_as_chosen(rt: HostRuntime) -> Result<(), Fail> {
         count_each(&rt, &mut table, &[3, 7])?;
         assert_eq!(rt; table.ready(9), Err(refusal));
         assert_eq!(rt;
-            numbers(alloc, &table, &[3, 7, 9])?.as_slice(),
+            counts(alloc, &table, &[3, 7, 9])?.as_slice(),
             [1, 1, 0].as_slice()
         );
         assert_eq!(rt; table.ready(3), Ok(()));

@@ -3,6 +3,7 @@ use Rattle.std.proofs.Common.{◌≡◌, ℕ, zero, suc, ◌+◌, ◌^◌, ◌<�
 use Rattle.std.proofs.lemmas.Bool.{false_from_ne_true, cases_lt, cases_eq, cases_order, cond-true, cond-false, and_parts, and_from, leb-true}
 use Rattle.std.proofs.lemmas.List.{length-map, length-take-le, length-drop, drop_more, length-append}
 use Rattle.std.proofs.lemmas.List.Sums.{sum_by-cons, sum_by-append, length-filter}
+use Rattle.std.proofs.lemmas.List.Elements.{All-from_recursion}
 use Rattle.std.proofs.lemmas.List.Filters.{length-filter_both}
 use Rattle.std.proofs.lemmas.List.FromFn.{length-range_with_len}
 use Rattle.std.proofs.lemmas.Slice.Eq.{bytes_eq-Decides}
@@ -17,7 +18,7 @@ use Rattle.kc_word.specs.Word.{number, text, form}
 use Rattle.kc_word.specs.Rule.{CountingRule}
 use Rattle.kc_word.specs.Occurrences.{is_usable, passes_floor, word_at, form_at, positions, position_count, occurrences_in, occurrences, words_in, words_of}
 use Rattle.kc_word.specs.Tally.{count_of, IsTally}
-use Rattle.kc_word.proofs.WordLemmas.{number-lt, text-number, number-text, length-form, are_bases-form}
+use Rattle.kc_word.proofs.WordLemmas.{number-lt, text-number, number-text, length-form, are_bases-form, canonical-twice}
 
 -- ---- a word at a position is a word of k bases
 
@@ -35,23 +36,50 @@ bases-usable rule read (suc k) p h all =
     ap (λ xs. are_bases (map to_ascii_uppercase (take (suc k) xs))) (drop_more read.bases p 0 (omega (arith, h)))
     ∙ and_from (is_base (to_ascii_uppercase (get_or read.bases p 0))) _ base (bases-usable rule read k (p + 1) (omega (arith, h)) parts.1)
 
-pub form_at-IsWord : (rule : CountingRule) (read : Read) (p : ℕ) → MatchOption (form_at rule read p) (Unit {0}) (IsWord rule.k)
-unfolding form_at word_at
-form_at-IsWord rule read p =
+word_at-IsWord : (rule : CountingRule) (read : Read) (p : ℕ) → MatchOption (word_at rule read p) (Unit {0}) (IsWord rule.k)
+unfolding word_at
+word_at-IsWord rule read p =
     by (leb (p + rule.k) (length read.bases)) (list_all (λ j. is_usable rule read j) (range_with_len p rule.k)) refl refl
   where
     by : (a b : Bool) → leb (p + rule.k) (length read.bases) ≡ a → list_all (λ j. is_usable rule read j) (range_with_len p rule.k) ≡ b
-        → MatchOption (option_map (form rule.both) (cond (a && b) (Some (map to_ascii_uppercase (take rule.k (drop p read.bases)))) None)) (Unit {0}) (IsWord rule.k)
+        → MatchOption (cond (a && b) (Some (map to_ascii_uppercase (take rule.k (drop p read.bases)))) None) (Unit {0}) (IsWord rule.k)
     by true true e f =
         let fits = leb-true (p + rule.k) (length read.bases) e in
         let rest = length-drop p read.bases in
         record {
-          long = length-form rule.both (map to_ascii_uppercase (take rule.k (drop p read.bases))) ∙ length-map (take rule.k (drop p read.bases)) to_ascii_uppercase
-              ∙ length-take-le rule.k (drop p read.bases) (omega (arith, fits, rest));
-          bases = are_bases-form rule.both (map to_ascii_uppercase (take rule.k (drop p read.bases))) (bases-usable rule read rule.k p fits f);
+          long = length-map (take rule.k (drop p read.bases)) to_ascii_uppercase ∙ length-take-le rule.k (drop p read.bases) (omega (arith, fits, rest));
+          bases = bases-usable rule read rule.k p fits f;
         }
     by true false e f = tt
     by false b e f = tt
+
+form-twice : (both : Bool) (word : List ℕ) → are_bases word ≡ true → form both (form both word) ≡ form both word
+unfolding form
+form-twice false word bases = refl
+form-twice true word bases = canonical-twice word bases
+
+-- a word of k bases in the form under which it counts
+pub record IsForm (rule : CountingRule) (word : List ℕ) : Type 0 where
+  pub is : IsWord rule.k word
+  pub kept : form rule.both word ≡ word
+
+pub form_at-IsForm : (rule : CountingRule) (read : Read) (p : ℕ) → MatchOption (form_at rule read p) (Unit {0}) (IsForm rule)
+unfolding form_at
+form_at-IsForm rule read p = by (word_at rule read p) (word_at-IsWord rule read p)
+  where
+    by : (o : Option (List ℕ)) → MatchOption o (Unit {0}) (IsWord rule.k) → MatchOption (option_map (form rule.both) o) (Unit {0}) (IsForm rule)
+    by None is = tt
+    by (Some word) is = record {
+      is = record { long = length-form rule.both word ∙ is.long; bases = are_bases-form rule.both word is.bases };
+      kept = form-twice rule.both word is.bases;
+    }
+
+form_at-IsWord : (rule : CountingRule) (read : Read) (p : ℕ) → MatchOption (form_at rule read p) (Unit {0}) (IsWord rule.k)
+form_at-IsWord rule read p = by (form_at rule read p) (form_at-IsForm rule read p)
+  where
+    by : (o : Option (List ℕ)) → MatchOption o (Unit {0}) (IsForm rule) → MatchOption o (Unit {0}) (IsWord rule.k)
+    by None form = tt
+    by (Some word) form = form.is
 
 -- ---- the words of reads are below 4 ^ k
 
@@ -94,6 +122,40 @@ All-words_in rule read = below-All rule.k (words_in rule read) (words_in-below r
 -- each word of reads is below 4 ^ k
 pub All-words_of : (rule : CountingRule) (reads : List Read) → All (λ n. n < 4 ^ rule.k) (words_of rule reads)
 All-words_of rule reads = below-All rule.k (words_of rule reads) (words_of-below rule reads)
+
+-- ---- the words of reads stand in the form under which they count
+
+Kept : CountingRule → List ℕ → Type 0
+Kept rule = AllByRecursion (λ n. form rule.both (text rule.k n) ≡ text rule.k n)
+
+kept-append : (rule : CountingRule) (xs ys : List ℕ) → Kept rule xs → Kept rule ys → Kept rule (xs ++ ys)
+unfolding Kept
+kept-append rule [] ys h g = g
+kept-append rule (x ∷ xs) ys h g = (h.0, kept-append rule xs ys h.1 g)
+
+kept-filter_map : (rule : CountingRule) (f : ℕ → Option (List ℕ)) → ((p : ℕ) → MatchOption (f p) (Unit {0}) (IsForm rule)) → (ps : List ℕ) → Kept rule (filter_map (λ p. option_map number (f p)) ps)
+unfolding Kept
+kept-filter_map rule f each [] = tt
+kept-filter_map rule f each (p ∷ ps) = by (f p) (each p) (kept-filter_map rule f each ps)
+  where
+    by : (o : Option (List ℕ)) → MatchOption o (Unit {0}) (IsForm rule) → Kept rule (filter_map (λ q. option_map number (f q)) ps) → Kept rule (cons_option (option_map number o) (filter_map (λ q. option_map number (f q)) ps))
+    by None h rest = rest
+    by (Some word) h rest =
+        let same = text-number rule.k word h.is.long h.is.bases in (ap (form rule.both) same ∙ h.kept ∙ sym same, rest)
+
+words_in-kept : (rule : CountingRule) (read : Read) → Kept rule (words_in rule read)
+unfolding words_in
+words_in-kept rule read = kept-filter_map rule (form_at rule read) (form_at-IsForm rule read) (positions rule read)
+
+words_of-kept : (rule : CountingRule) (reads : List Read) → Kept rule (words_of rule reads)
+unfolding words_of Kept
+words_of-kept rule [] = tt
+words_of-kept rule (read ∷ reads) = kept-append rule (words_in rule read) (words_of rule reads) (words_in-kept rule read) (words_of-kept rule reads)
+
+-- each word of reads stands in the form under which it counts
+pub All-forms : (rule : CountingRule) (reads : List Read) → All (λ n. form rule.both (text rule.k n) ≡ text rule.k n) (words_of rule reads)
+unfolding Kept
+All-forms rule reads = All-from_recursion (λ n. form rule.both (text rule.k n) ≡ text rule.k n) (words_of rule reads) (words_of-kept rule reads)
 
 -- ---- occurrences are counts in the list of all words
 

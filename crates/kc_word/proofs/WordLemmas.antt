@@ -282,6 +282,13 @@ canonical-reverse_complement word h =
     let this = number-canonical word h in
     omega (arith, other, back, this))
 
+pub canonical-twice : (word : List ℕ) → are_bases word ≡ true → canonical (canonical word) ≡ canonical word
+canonical-twice word bases = pick (ltb (number (reverse_complement word)) (number word)) (canonical-cases word bases)
+  where
+    pick : (b : Bool) → canonical word ≡ cond b (reverse_complement word) word → canonical (canonical word) ≡ canonical word
+    pick true e = ap canonical e ∙ canonical-reverse_complement word bases
+    pick false e = ap canonical e
+
 pub length-form : (both : Bool) (word : List ℕ) → length (form both word) ≡ length word
 unfolding form
 length-form true word = length-canonical word

@@ -6,7 +6,7 @@ use Rattle.kc_word.specs.Base.{are_bases}
 use Rattle.std.specs.Ordering.{nat_cmp}
 use Rattle.std.specs.Cmp.Lexicographic.{slice_cmp}
 use Rattle.kc_fastx.specs.Reads.{Read}
-use Rattle.kc_word.specs.Word.{number, text, reverse_complement, canonical}
+use Rattle.kc_word.specs.Word.{number, text, reverse_complement, canonical, form}
 use Rattle.kc_word.specs.Rule.{CountingRule}
 use Rattle.kc_word.specs.Occurrences.{occurrences, words_of}
 use Rattle.kc_word.specs.Cutting.{as_reads, cleaned, cutting, NumberedPieces, batch_of, position_total}
@@ -84,6 +84,11 @@ CleanedLength = (rule : CountingRule) (read : Read) → length (cleaned rule rea
 -- the number of each word of the reads is below 4 ^ k
 abbrev pub WordsAreBelow : Type 0
 WordsAreBelow = (rule : CountingRule) (reads : List Read) → All (λ word. word < 4 ^ rule.k) (words_of rule reads)
+
+-- each word of the reads stands in the form under which it counts
+abbrev pub WordsAreForms : Type 0
+WordsAreForms = (rule : CountingRule) (reads : List Read)
+    → All (λ word. form rule.both (text rule.k word) ≡ text rule.k word) (words_of rule reads)
 
 -- the reads have at most as many words as bases
 abbrev pub WordsAreFew : Type 0

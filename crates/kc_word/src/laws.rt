@@ -1,5 +1,5 @@
 //! Laws of words, occurrences and tallies. Each is the contract of a function that does nothing.
-ghost use Rattle.kc_word.specs.Laws.{NumberOfText, PackedText, OrderOfTexts, ReversedTwice, OneCanonicalForm, OneTally, JoinedOccurrences, JoinedTally, TallyTotal, BoundedTally, CountedWords, CuttingWords, CuttingOccurrences, CuttingNumbers, CuttingPositions, PositionsWithinBytes, CleanedLength, WordsAreBelow, WordsAreFew, CleanedWords};
+ghost use Rattle.kc_word.specs.Laws.{NumberOfText, PackedText, OrderOfTexts, ReversedTwice, OneCanonicalForm, OneTally, JoinedOccurrences, JoinedTally, TallyTotal, BoundedTally, CountedWords, CuttingWords, CuttingOccurrences, CuttingNumbers, CuttingPositions, PositionsWithinBytes, CleanedLength, WordsAreBelow, WordsAreForms, WordsAreFew, CleanedWords};
 
 /// A number below 4^k is the number of its text.
 pub fn number_of_text()
@@ -86,9 +86,11 @@ pub fn cleaned_length()
     ensures { CleanedLength }
 {}
 
-/// The words of reads are below 4^k, at most as many as the bases, and those of the cleaned pieces.
+/// The words of reads are below 4^k and in the forms under which they count, at most as many as the bases, and those of
+/// the cleaned pieces.
 pub fn words_of_reads()
     ensures below { WordsAreBelow }
+    ensures forms { WordsAreForms }
     ensures few { WordsAreFew }
     ensures cleaned { CleanedWords }
 {}

@@ -1,11 +1,9 @@
-use Rattle.std.proofs.Common.{◌≡◌, true, length}
-use Rattle.kc_fastx.specs.Records.{ends_or_begins_with}
-use Rattle.kc_fastx.specs.Fasta.{IsFastaRecord}
-use Rattle.kc_fastx.proofs.FastaLemmas.{RecordsSoFar}
+use Rattle.std.proofs.Common.{length}
+use Rattle.kc_fastx.proofs.FastaLemmas.{FastaSoFar}
 use Rattle.kc_fastx.proofs.fasta.parse_fasta.Given as goal
 
 abbrev pub invariant-records : goal.invariant-records
-invariant-records l = RecordsSoFar IsFastaRecord l.fn.lines l.lines l.reads.items × (ends_or_begins_with 62 l.lines.left ≡ true)
+invariant-records l = FastaSoFar l.fn.lines l.lines l.reads.items
 
 abbrev pub decreases-records : goal.decreases-records
 decreases-records l = length l.lines.left

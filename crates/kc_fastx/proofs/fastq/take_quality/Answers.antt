@@ -1,7 +1,7 @@
 use Rattle.std.proofs.Common.{◌≡◌, true, ◌+◌, ◌<◌, ◌≤◌, length, arith}
 use Rattle.std.specs.List.{list_all}
 use Rattle.kc_fastx.specs.Reads.{is_quality_byte}
-use Rattle.kc_fastx.proofs.SequenceLemmas.{TakesLine}
+use Rattle.kc_fastx.proofs.RecordsLemmas.{TakesLine}
 use Rattle.kc_fastx.proofs.FastqLemmas.{quality_more}
 use Rattle.kc_fastx.proofs.fastq.take_quality.Goals as goal
 
@@ -12,4 +12,5 @@ lines-preserved c =
     let short : length c.lines.quals.items < c.args.need = omega arith in
     let fits : length c.lines.quals.items + length c.in-Some.line.now ≤ c.args.need = omega arith in
     rw c.in_ok-extend_from_slice.ensures.items
-    (quality_more c.args.need c.args.lines.now c.lines.lines c.next_line.new.self c.lines.quals.items c.in-Some.line.now c.lines.invariant short step good fits)
+    (quality_more c.args.need c.args.lines.now c.lines.lines c.next_line.new.self c.lines.quals.items c.in-Some.line.now c.lines.invariant
+    (record { short = short; step = step; accepted = good; fits = fits }))

@@ -1,5 +1,5 @@
-use Rattle.kc_fastx.proofs.AnswerLemmas.{answer}
-use Rattle.kc_fastx.proofs.Plain.{same_answer}
+use Rattle.kc_fastx.proofs.LawsAnswers.{answer}
+use Rattle.kc_fastx.proofs.LawsPlain.{same_answer}
 use Rattle.kc_fastx.proofs.laws.one_answer.Goals as goal
 
 pub returns : goal.returns

@@ -1,4 +1,4 @@
-use Rattle.kc_fastx.proofs.AllReadsLemmas.{answer_of_all, same_answer_of_all}
+use Rattle.kc_fastx.proofs.LawsOfAll.{answer_of_all, same_answer_of_all}
 use Rattle.kc_fastx.proofs.laws.one_answer_of_all.Goals as goal
 
 pub returns : goal.returns

@@ -3,9 +3,9 @@ use Rattle.std.specs.Prelude.{codes}
 use Rattle.kc_fastx.specs.declared.faults.FastxFault.TheVariants.{BadStart, BadBase, BadQuality, LongQuality, Truncated}
 use Rattle.kc_fastx.specs.declared.faults.FastxFault.{FastxFault}
 use Rattle.kc_fastx.specs.Reads.{Read, read_of}
-use Rattle.kc_fastx.specs.ReadsOf.{IsReadsOf}
-use Rattle.kc_fastx.proofs.Plain.{reads_of, fasta_of, fastq_of, body_of, sequence_of, quality_of}
-use Rattle.kc_fastx.proofs.PlainAnswers.{reads_of-is}
+use Rattle.kc_fastx.specs.Parsing.{IsReadsOf}
+use Rattle.kc_fastx.proofs.LawsPlain.{reads_of, fasta_of, fastq_of, body_of, sequence_of, quality_of}
+use Rattle.kc_fastx.proofs.LawsPlain.{reads_of-is}
 use Rattle.kc_fastx.proofs.laws.worked_rows.Goals as goal
 
 row : (bytes : List ℕ) (answer : Result (List Read) FastxFault) → reads_of bytes ≡ answer → IsReadsOf bytes answer

@@ -2,14 +2,14 @@ use Rattle.std.proofs.Common.{refl}
 use Rattle.std.specs.List.{IsDistinct}
 use Rattle.kc_run.proofs.tests.as_many_distinct_numbers_leave_none_out.Goals as goal
 
-pub place_of-requires-clause-distinct : goal.place_of-requires-clause-distinct
+pub index_of-requires-clause-distinct : goal.index_of-requires-clause-distinct
 unfolding IsDistinct
-place_of-requires-clause-distinct g c = ((refl, (refl, tt)), ((refl, tt), (tt, tt)))
+index_of-requires-clause-distinct g c = ((refl, (refl, tt)), ((refl, tt), (tt, tt)))
 
-pub place_of-requires-2-clause-distinct : goal.place_of-requires-2-clause-distinct
+pub index_of-requires-2-clause-distinct : goal.index_of-requires-2-clause-distinct
 unfolding IsDistinct
-place_of-requires-2-clause-distinct g c = ((refl, (refl, tt)), ((refl, tt), (tt, tt)))
+index_of-requires-2-clause-distinct g c = ((refl, (refl, tt)), ((refl, tt), (tt, tt)))
 
-pub place_of-requires-3-clause-distinct : goal.place_of-requires-3-clause-distinct
+pub index_of-requires-3-clause-distinct : goal.index_of-requires-3-clause-distinct
 unfolding IsDistinct
-place_of-requires-3-clause-distinct g c = ((refl, (refl, tt)), ((refl, tt), (tt, tt)))
+index_of-requires-3-clause-distinct g c = ((refl, (refl, tt)), ((refl, tt), (tt, tt)))

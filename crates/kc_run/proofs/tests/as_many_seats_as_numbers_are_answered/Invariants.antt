@@ -3,5 +3,6 @@ use Rattle.std.specs.Prelude.{All}
 use Rattle.kc_run.specs.Tickets.{IsSeatOf}
 use Rattle.kc_run.proofs.tests.as_many_seats_as_numbers_are_answered.Given as goal
 
-abbrev pub invariant-loop-place : goal.invariant-loop-place
-invariant-loop-place g l = All (IsSeatOf l.tickets) l.seats.items × (vec_len l.seats ≡ l.tickets.seats) × (l.some + l.none ≤ l.place)
+abbrev pub invariant-loop-index : goal.invariant-loop-index
+invariant-loop-index g l =
+    All (IsSeatOf l.tickets) l.seats.items × (vec_len l.seats ≡ l.tickets.seats) × (l.some + l.none ≤ l.index)

@@ -1,9 +1,9 @@
 use Rattle.std.proofs.Common.{◌≡◌, ◌-◌, length}
-use Rattle.kc_run.specs.Tickets.{IsSeatOf, IsDone, answered}
+use Rattle.kc_run.specs.Tickets.{IsSeatOf, IsDone, answers_of}
 use Rattle.kc_run.proofs.tests.drain.Given as goal
 
 abbrev pub invariant-loop-number : goal.invariant-loop-number
-invariant-loop-number l = IsSeatOf l.tickets l.seat × (¬ IsDone l.seat) × (l.numbers.items ≡ answered l.seat)
+invariant-loop-number l = IsSeatOf l.tickets l.seat × (¬ IsDone l.seat) × (l.numbers.items ≡ answers_of l.seat)
 
 abbrev pub decreases-loop-number : goal.decreases-loop-number
-decreases-loop-number l = l.tickets.limit - length (answered l.seat)
+decreases-loop-number l = l.tickets.limit - length (answers_of l.seat)

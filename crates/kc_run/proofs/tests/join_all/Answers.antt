@@ -2,7 +2,7 @@ use Rattle.std.proofs.Common.{◌≡◌, [], ◌∷◌, ◌++◌, Some, Vec, ℕ
 use Rattle.std.specs.List.{flat_map}
 use Rattle.std.proofs.lemmas.List.Concat.{flat_map-append}
 use Rattle.std.proofs.lemmas.List.Elements.{All-push, All-pop, All-same}
-use Rattle.kc_run.specs.Tickets.{Roll, IsSeatOf, IsDone, answered}
+use Rattle.kc_run.specs.Tickets.{Roll, IsSeatOf, IsDone, answers_of}
 use Rattle.kc_run.proofs.tests.join_all.Goals as goal
 
 pub loop-thread-preserved : goal.loop-thread-preserved
@@ -19,8 +19,9 @@ loop-thread-preserved g c =
       counted = omega (arith, c.in_ok-push.ensures.len, c.in-Some.ensures.cases);
       own = All-same (IsSeatOf c.args.tickets.now) c.push.new.self.items _ seats (All-push (IsSeatOf c.args.tickets.now) c.loop-thread.seats.items seat i.own own);
       done = All-same IsDone c.push.new.self.items _ seats (All-push IsDone c.loop-thread.seats.items seat i.done ended.1);
-      numbers = ap (flat_map (λ (v : Vec ℕ Global). v.items)) all ∙ flat_map-append (λ (v : Vec ℕ Global). v.items) c.loop-thread.all.items (c.in_ok-seat.numbers ∷ [])
+      numbers = ap (flat_map (λ (v : Vec ℕ Global). v.items)) all
+          ∙ flat_map-append (λ (v : Vec ℕ Global). v.items) c.loop-thread.all.items (c.in_ok-seat.numbers ∷ [])
           ∙ ap (λ xs. xs ++ (c.in_ok-seat.numbers.items ++ [])) i.numbers
-          ∙ ap (λ xs. flat_map answered c.loop-thread.seats.items ++ (xs ++ [])) ended.2
-          ∙ sym (ap (flat_map answered) seats ∙ flat_map-append answered c.loop-thread.seats.items (seat ∷ []));
+          ∙ ap (λ xs. flat_map answers_of c.loop-thread.seats.items ++ (xs ++ [])) ended.2
+          ∙ sym (ap (flat_map answers_of) seats ∙ flat_map-append answers_of c.loop-thread.seats.items (seat ∷ []));
     }

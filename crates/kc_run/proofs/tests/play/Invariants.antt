@@ -3,5 +3,5 @@ use Rattle.std.specs.Prelude.{All}
 use Rattle.kc_run.specs.Tickets.{IsSeatOf}
 use Rattle.kc_run.proofs.tests.play.Given as goal
 
-abbrev pub invariant-loop-place : goal.invariant-loop-place
-invariant-loop-place g l = All (IsSeatOf l.tickets) l.row.items × (vec_len l.row ≡ l.tickets.seats)
+abbrev pub invariant-loop-index : goal.invariant-loop-index
+invariant-loop-index g l = All (IsSeatOf l.tickets) l.row.items × (vec_len l.row ≡ l.tickets.seats)

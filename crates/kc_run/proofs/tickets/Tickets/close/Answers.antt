@@ -1,8 +1,8 @@
 use Rattle.std.proofs.Common.{◌≡◌, ◌++◌, ◌+◌, Some, ◌<◌, length, length-append, ap, ◌∙◌, arith}
 use Rattle.kc_run.specs.Tickets.{Roll, Drawer, IsSeatOf}
 use Rattle.std.proofs.lemmas.List.Elements.{All-pop, All-weaker}
-use Rattle.kc_run.proofs.Steps.{returns_seat, has_all}
-use Rattle.kc_run.proofs.Seats.{takes_in, all_taken, answers, answer_count}
+use Rattle.kc_run.proofs.DrawLemmas.{return_keeps, whole_view_has_all}
+use Rattle.kc_run.proofs.TicketLemmas.{takes_in, all_taken, all_answers, answer_count}
 use Rattle.kc_run.proofs.tickets.Tickets.close.Goals as goal
 
 pub join_seat-requires : goal.join_seat-requires
@@ -10,7 +10,7 @@ join_seat-requires c =
     let i = c.loop-seat.invariant in
     let token = c.into_token.ensures in
     let mine = (All-pop (λ (seat : Drawer). seat.table ≡ c.self.inside.table.shared.table_id) _ _ (Some c.in-Some-pop.seat) c.in-Some-pop.ensures.items i.own).1 in
-    (i.table, ap (λ (d : Drawer). d.table) token.0 ∙ mine, token.2, omega arith, returns_seat _ _ _ _ _ i.heavy (omega arith))
+    (i.table, ap (λ (d : Drawer). d.table) token.0 ∙ mine, token.2, omega arith, return_keeps _ _ _ _ _ i.heavy (omega arith))
 
 pub loop-seat-preserved : goal.loop-seat-preserved
 loop-seat-preserved c =
@@ -36,14 +36,14 @@ returns-clause-drawn c =
     let (next, is, whole) = last.1.0 in
     let none_left : length c.loop-seat.seats.items ≡ 0 = omega (arith, c.in_default-pop.ensures.cases) in
     let weight : c.loop-seat.whole.me.0.weight ≡ c.self.inside.table.shared.key.seats = omega arith in
-    (next, all_taken next _ c.loop-seat.seats.items _ none_left i.drawn (has_all c.loop-seat.whole.id c.loop-seat.whole.me.0 whole last.1.1 weight))
+    (next, all_taken next _ c.loop-seat.seats.items _ none_left i.drawn (whole_view_has_all c.loop-seat.whole.id c.loop-seat.whole.me.0 whole last.1.1 weight))
 
 pub returns-clause-answered : goal.returns-clause-answered
 returns-clause-answered c done =
     let drawn = returns-clause-drawn c in
     let some : 0 < length c.args.seats.items = omega (arith, ap (λ (r : Roll). r.seats) c.self.view_is) in
     let same = All-weaker (IsSeatOf c.args.self) (λ (seat : Drawer). seat.limit ≡ c.args.self.limit) (λ seat own. own.1) c.args.seats.items c.requires.own in
-    answers c.args.self.limit drawn.0 c.args.seats.items some same drawn.1 done
+    all_answers c.args.self.limit drawn.0 c.args.seats.items some same drawn.1 done
 
 pub returns-clause-count : goal.returns-clause-count
 returns-clause-count c done = answer_count c.args.self.limit c.args.seats.items (returns-clause-answered c done)

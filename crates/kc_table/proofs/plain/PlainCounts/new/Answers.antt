@@ -1,4 +1,4 @@
-use Rattle.kc_table.proofs.Numbers.{IsWithin-empty}
+use Rattle.kc_table.proofs.KeyCounts.{IsWithin-empty}
 use Rattle.kc_table.proofs.plain.PlainCounts.new.Goals as goal
 
 pub invariant_of-result : goal.invariant_of-result

@@ -1,5 +1,5 @@
 use Rattle.std.proofs.Common.{rules}
-use Rattle.kc_table.proofs.Numbers.{get-entries}
+use Rattle.kc_table.proofs.KeyCounts.{get-entries}
 use Rattle.kc_table.proofs.plain.PlainCountsCounts.get.Goals as goal
 
 pub returns : goal.returns

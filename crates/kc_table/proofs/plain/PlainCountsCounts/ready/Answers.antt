@@ -1,5 +1,5 @@
 use Rattle.std.proofs.Common.{rules}
-use Rattle.kc_table.proofs.Numbers.{readied_by_look, readied_by_write, within_by_write}
+use Rattle.kc_table.proofs.KeyCounts.{readied_by_look, readied_by_write, within_by_write}
 use Rattle.kc_table.proofs.plain.PlainCountsCounts.ready.Goals as goal
 
 pub returns-then-contains_key-clause-stored : goal.returns-then-contains_key-clause-stored

@@ -1,28 +1,28 @@
 use Rattle.std.proofs.Common.{◌≡◌, ◌<◌, ◌≤◌, ◌∙◌, sym, ap, length, arith, rules, Some}
-use Rattle.kc_table.specs.Table.{Holds}
-use Rattle.kc_table.specs.Sound.{slots_of}
-use Rattle.kc_table.proofs.RowLists.{slot_read_empty, slot_read_held, length-slots_from}
-use Rattle.kc_table.proofs.SlotLists.{counted_in-empty, counted_in-zero, counted_in-push, counted_in-all}
+use Rattle.kc_table.specs.QuotientTable.{Holds}
+use Rattle.kc_table.specs.Slot.{contents_of}
+use Rattle.kc_table.proofs.SlotSteps.{slot_read_empty, slot_read_held, length-contents_from}
+use Rattle.kc_table.proofs.Contents.{counted_in-empty, counted_in-zero, counted_in-push, counted_in-all}
 use Rattle.kc_table.proofs.slots.Slots.entries.Goals as goal
 
-pub loop-slot-preserved-then-row-eq0 : goal.loop-slot-preserved-then-row-eq0
-loop-slot-preserved-then-row-eq0 c =
-    let below : c.loop-slot.slot < length c.args.self.now.rows.items = search rules in
-    c.loop-slot.invariant ∙ sym (counted_in-empty _ c.loop-slot.slot (slot_read_empty _ _ _ _ below c.index-row.ensures c.if-row-eq0.true))
+pub loop-index-preserved-then-slot-eq0 : goal.loop-index-preserved-then-slot-eq0
+loop-index-preserved-then-slot-eq0 c =
+    let below : c.loop-index.index < length c.args.self.now.slots.items = search rules in
+    c.loop-index.invariant ∙ sym (counted_in-empty _ c.loop-index.index (slot_read_empty _ _ _ _ below c.index-slot.ensures c.if-slot-eq0.true))
 
-pub loop-slot-preserved-then-row-eq0-2 : goal.loop-slot-preserved-then-row-eq0-2
-loop-slot-preserved-then-row-eq0-2 c =
-    let below : c.loop-slot.slot < length c.args.self.now.rows.items = search rules in
-    c.loop-slot.invariant ∙ sym (counted_in-zero _ c.loop-slot.slot _ _ (slot_read_held _ _ _ _ below c.index-row.ensures c.if-row-eq0.false) c.if-row-eq0-2.true)
+pub loop-index-preserved-then-slot-eq0-2 : goal.loop-index-preserved-then-slot-eq0-2
+loop-index-preserved-then-slot-eq0-2 c =
+    let below : c.loop-index.index < length c.args.self.now.slots.items = search rules in
+    c.loop-index.invariant ∙ sym (counted_in-zero _ c.loop-index.index _ _ (slot_read_held _ _ _ _ below c.index-slot.ensures c.if-slot-eq0.false) c.if-slot-eq0-2.true)
 
-pub loop-slot-preserved : goal.loop-slot-preserved
-loop-slot-preserved c =
-    let below : c.loop-slot.slot < length c.args.self.now.rows.items = search rules in
-    let held : Holds (slots_of c.args.self.now.log c.args.self.now.rows.items) c.loop-slot.slot c.key_at.result c.index-row.result.now.count =
-    slot_read_held _ _ _ _ below c.index-row.ensures c.if-row-eq0.false ∙ ap (λ k. Some (Some (k, c.index-row.result.now.count))) (sym c.key_at.ensures.key) in
-    counted_in-push _ c.loop-slot.slot _ _ _ _ c.loop-slot.invariant c.in_ok-push.ensures.items held c.if-row-eq0-2.false
+pub loop-index-preserved : goal.loop-index-preserved
+loop-index-preserved c =
+    let below : c.loop-index.index < length c.args.self.now.slots.items = search rules in
+    let held : Holds (contents_of c.args.self.now.log c.args.self.now.slots.items) c.loop-index.index c.key_at.result c.index-slot.result.now.count =
+    slot_read_held _ _ _ _ below c.index-slot.ensures c.if-slot-eq0.false ∙ ap (λ k. Some (Some (k, c.index-slot.result.now.count))) (sym c.key_at.ensures.key) in
+    counted_in-push _ c.loop-index.index _ _ _ _ c.loop-index.invariant c.in_ok-push.ensures.items held c.if-slot-eq0-2.false
 
 pub returns : goal.returns
 returns c =
-    let all : length c.args.self.now.rows.items ≤ c.loop-slot.slot = search rules in
-    c.loop-slot.invariant ∙ counted_in-all _ c.loop-slot.slot (let same : length (slots_of c.args.self.now.log c.args.self.now.rows.items) ≡ length c.args.self.now.rows.items = length-slots_from c.args.self.now.log 0 c.args.self.now.rows.items in omega arith)
+    let all : length c.args.self.now.slots.items ≤ c.loop-index.index = search rules in
+    c.loop-index.invariant ∙ counted_in-all _ c.loop-index.index (let same : length (contents_of c.args.self.now.log c.args.self.now.slots.items) ≡ length c.args.self.now.slots.items = length-contents_from c.args.self.now.log 0 c.args.self.now.slots.items in omega arith)

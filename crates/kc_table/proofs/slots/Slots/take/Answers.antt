@@ -1,12 +1,12 @@
 use Rattle.std.proofs.Common.{◌≡◌, ◌∙◌, sym, Option, ℕ, Some, None}
-use Rattle.kc_table.proofs.RowLists.{holds_found, slots_apart}
-use Rattle.kc_table.proofs.SlotLists.{get-numbers_in}
+use Rattle.kc_table.proofs.SlotSteps.{holds_found, slots_apart}
+use Rattle.kc_table.proofs.Contents.{get-counts_in}
 use Rattle.kc_table.proofs.slots.Slots.take.Goals as goal
 
 pub unreachable-requires : goal.unreachable-requires
 unreachable-requires c =
-    let rows = c.args.self.now.rows.items in
+    let rows = c.args.self.now.slots.items in
     let sound = c.args.self.now.sound in
     let never : ◌≡◌ {A = Option ℕ} (Some _) None =
-    sym (get-numbers_in _ c.in-Found.place c.args.key _ (slots_apart rows sound) (holds_found rows sound c.args.key c.in-Found.place c.in-Found.ensures.probed)) ∙ c.requires.new in
+    sym (get-counts_in _ c.in-Found.place c.args.key _ (slots_apart rows sound) (holds_found rows sound c.args.key c.in-Found.place c.in-Found.ensures.probed)) ∙ c.requires.new in
     cc

@@ -1,0 +1,9 @@
+use Rattle.std.proofs.Common.{◌≡◌, length}
+use Rattle.kc_fastx.specs.Lines.{line_count, skip_blanks}
+use Rattle.kc_fastx.proofs.lines.LineCursor.pass_blanks.Given as goal
+
+abbrev pub invariant-loop-ahead : goal.invariant-loop-ahead
+invariant-loop-ahead l = (skip_blanks l.self.left ≡ skip_blanks l.fn.self.left) × (line_count l.self ≡ line_count l.fn.self)
+
+abbrev pub decreases-loop-ahead : goal.decreases-loop-ahead
+decreases-loop-ahead l = length l.self.left

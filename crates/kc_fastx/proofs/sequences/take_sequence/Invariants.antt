@@ -1,9 +1,0 @@
-use Rattle.std.proofs.Common.{length}
-use Rattle.kc_fastx.proofs.SequenceLemmas.{SequenceSoFar}
-use Rattle.kc_fastx.proofs.sequences.take_sequence.Given as goal
-
-abbrev pub invariant-lines : goal.invariant-lines
-invariant-lines l = SequenceSoFar l.stop l.fn.lines l.lines l.bases.items
-
-abbrev pub decreases-lines : goal.decreases-lines
-decreases-lines l = length l.lines.left

@@ -1,0 +1,33 @@
+//! What the records of both formats share: their sequence lines.
+ghost use Rattle.std.specs.Prelude.{◌≡◌, ◌≤◌, true, [], vec_capacity, IfOk, IfErr, OnOk};
+ghost use Rattle.kc_fastx.specs.Lines.{line_count, ends_or_begins_with};
+ghost use Rattle.kc_fastx.specs.Records.{BeginsWithSequence, SequenceFails};
+ghost use Rattle.kc_fastx.specs.Faults.{UnlessMemory};
+
+use crate::faults::FastxFault;
+use crate::lines::LineCursor;
+use crate::reads::are_sequence_bytes;
+
+// Takes the sequence lines up to the end or the next line that begins with `stop`, and joins them in `bases`, which is
+// empty and has no more room than bytes are left. No sequence byte is `stop`, so that room for the bytes in front of
+// the next such byte is enough where the sequence is good.
+pub(crate) fn take_sequence(
+    mut bases: Vec<u8>,
+    lines: &mut LineCursor<'_>,
+    stop: u8,
+) -> Result<Vec<u8>, FastxFault>
+    requires empty { bases.items ≡ [] }
+    requires room { vec_capacity bases ≤ lines.old.byte_count }
+    ensures ok { IfOk result (λ bases. BeginsWithSequence stop lines.old.left bases.items lines.new.left) }
+    ensures ends { OnOk result (ends_or_begins_with stop lines.new.left ≡ true) }
+    ensures counted { OnOk result (line_count lines.new ≡ line_count lines.old) }
+    ensures err { IfErr result (UnlessMemory (SequenceFails (line_count lines.old) stop lines.old.left)) }
+{
+    'lines: while let Some(line) = lines.next_line_before(stop) {
+        if !are_sequence_bytes(line) {
+            return Err(FastxFault::BadBase(lines.taken()));
+        }
+        bases.extend_from_slice(line)?;
+    }
+    Ok(bases)
+}

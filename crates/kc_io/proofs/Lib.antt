@@ -1,0 +1,4 @@
+pub mod KnownBytesLemmas
+pub mod SinksLemmas
+pub mod TakingLemmas
+pub mod Walks

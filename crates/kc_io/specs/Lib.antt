@@ -1,0 +1,5 @@
+pub mod Answers
+pub mod History
+pub mod Sinks
+pub mod Sources
+pub mod Taking

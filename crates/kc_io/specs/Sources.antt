@@ -1,0 +1,8 @@
+-- What proofs see of a source of bytes.
+use Rattle.std.specs.Prelude.{ℕ, List, Option}
+use Rattle.kc_io.specs.History.{History}
+
+pub record Seen : Type 0 where
+  -- the bytes that are left, where the source tells them
+  pub left : Option (List ℕ)
+  pub history : History

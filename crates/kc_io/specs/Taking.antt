@@ -1,0 +1,30 @@
+-- What the taking of all bytes of a source leaves of it.
+use Rattle.std.specs.Prelude.{◌≡◌, ℕ, ◌+◌, ◌<◌, ◌≤◌, List, [], ◌∷◌, ◌++◌, length, All}
+use Rattle.std.specs.Io.KnownBytes.{Consumes, IsAtEnd}
+use Rattle.kc_io.specs.declared.taking.TakeFault.{TakeFault}
+use Rattle.kc_io.specs.declared.taking.TakeFault.TheVariants.{TooLong, Read, Memory}
+use Rattle.kc_io.specs.Sources.{Seen}
+
+-- These bytes were taken from the front of the source, by at most `limit + 1` reads, each with room for a byte. Meanwhile the
+-- ends behind so many bytes were told, and `failed` reads failed.
+pub record Takes (old new : Seen) (limit : ℕ) (bytes ended : List ℕ) (failed : ℕ) : Type 0 where
+  pub consumed : Consumes old.left new.left bytes
+  pub given : new.history.bytes ≡ old.history.bytes ++ bytes
+  pub ends : new.history.ends ≡ old.history.ends ++ ended
+  pub failures : new.history.failures ≡ old.history.failures + failed
+  pub rooms : List ℕ
+  pub asked : new.history.asked ≡ old.history.asked ++ rooms
+  pub with_room : All (λ room. 0 < room) rooms
+  pub few : length rooms ≤ limit + 1
+
+-- all bytes were taken, at most `limit`, up to an end that was told behind them, and no read failed
+pub record TakesAll (old new : Seen) (limit : ℕ) (bytes : List ℕ) : Type 0 where
+  pub taken : Takes old new limit bytes (length new.history.bytes ∷ []) 0
+  pub at_end : IsAtEnd new.left
+  pub within : length bytes ≤ limit
+
+-- why not all bytes were taken: more than `limit` came, or a read failed before that, or there was no memory for them
+abbrev pub TakingFails : Seen → Seen → ℕ → TakeFault → Type 0
+TakingFails old new limit TooLong = (bytes : List ℕ) × Takes old new limit bytes [] 0 × (limit < length bytes)
+TakingFails old new limit Read = (bytes : List ℕ) × Takes old new limit bytes [] 1 × (length bytes ≤ limit)
+TakingFails old new limit Memory = (bytes : List ℕ) × Takes old new limit bytes [] 0 × (length bytes ≤ limit)

@@ -1,0 +1,7 @@
+//! That a read or a write failed.
+use thiserror::Error;
+
+/// A read or a write failed. Why is not kept.
+#[derive(Clone, Copy, Debug, PartialEq, Eq, Error)]
+#[error("a read or a write failed")]
+pub struct Failed;

@@ -1,0 +1,130 @@
+//! Single calls of a reader or a writer of std, each of which goes into the history as it was answered.
+//!
+//! What std's streams answer no contract tells. So `read`, `write` and `flush` below are to be read by eye: one call of the
+//! stream, what it came to, and its record. What the layers above do with the answers is proved over the record.
+ghost use Rattle.std.specs.Prelude.{◌≡◌, ◌-◌, ◌^◌, ◌<◌, ◌≤◌, length, IfSome, OnSome, IfNone, IfOk, MatchOption};
+ghost use Rattle.std.specs.Io.KnownBytes.{ReadConsumes, WriteAppends, Keeps};
+ghost use Rattle.kc_io.specs.History.{no_history, after, after_flush};
+ghost use Rattle.kc_io.specs.Answers.{settled};
+ghost use Rattle.kc_io.specs.Sinks.{write_answer};
+
+use crate::failures::Failed;
+use crate::histories::Heard;
+use std::io;
+use std::io::{ErrorKind, Read, Write};
+
+/// A stream with the history of its calls. Nothing but these calls reaches the stream.
+#[derive(Drop)]
+pub struct Recorded<S> {
+    stream: S,
+    heard: Heard,
+    // how many more calls in a row may be interrupted before one is a failure
+    tries: u64,
+}
+
+impl<S> Recorded<S> {
+    /// The stream, of which nothing was asked yet.
+    pub fn new(stream: S) -> Recorded<S>
+        ensures stream { result.stream ≡ stream }
+        ensures heard { result.heard.history ≡ no_history }
+        ensures tries { result.tries ≡ 2 ^ 64 - 1 }
+    {
+        Recorded {
+            stream,
+            heard: Heard::nothing(),
+            tries: u64::MAX,
+        }
+    }
+
+    /// The stream, for good.
+    pub fn into_inner(self) -> S
+        ensures { result ≡ self.stream }
+    {
+        let Recorded {
+            stream,
+            heard: _,
+            tries: _,
+        } = self;
+        stream
+    }
+}
+
+impl<R: Read> Recorded<R> {
+    /// One read of the stream; None where it was interrupted and is to be tried again.
+    pub fn read(&mut self, buffer: &mut [u8]) -> Option<Result<usize, Failed>>
+        ensures bound { IfSome result (λ answer. IfOk answer (λ n. n ≤ length buffer.new)) }
+        ensures bytes { MatchOption result (Keeps (R.remaining self.old.stream) (R.remaining self.new.stream))
+            (λ answer. ReadConsumes (R.remaining self.old.stream) (R.remaining self.new.stream) answer buffer.new) }
+        ensures history { MatchOption result (self.new.heard.history ≡ self.old.heard.history)
+            (λ answer. self.new.heard.history ≡ after self.old.heard.history answer buffer.new) }
+        ensures again { IfNone result (self.new.tries < self.old.tries) }
+    {
+        let answer = self.stream.read(buffer);
+        let Some(answer) = settle(&mut self.tries, answer) else {
+            return None;
+        };
+        self.heard = self.heard.and(&answer, buffer);
+        Some(answer)
+    }
+}
+
+impl<W: Write> Recorded<W> {
+    /// One write to the stream; None where it was interrupted and is to be tried again. To take none of a text that has bytes
+    /// is to fail.
+    pub fn write(&mut self, bytes: &[u8]) -> Option<Result<usize, Failed>>
+        ensures bound { IfSome result (λ answer. IfOk answer (λ n. n ≤ length bytes.now)) }
+        ensures bytes { MatchOption result (Keeps (W.contents self.old.stream) (W.contents self.new.stream))
+            (λ answer. WriteAppends (W.contents self.old.stream) (W.contents self.new.stream) answer bytes.now) }
+        ensures history { MatchOption result (self.new.heard.history ≡ self.old.heard.history)
+            (λ answer. self.new.heard.history ≡ after self.old.heard.history answer bytes.now) }
+        ensures some { IfSome result (λ answer. write_answer answer bytes.now ≡ answer) }
+        ensures again { IfNone result (self.new.tries < self.old.tries) }
+    {
+        let answer = self.stream.write(bytes);
+        let Some(answer) = settle(&mut self.tries, answer) else {
+            return None;
+        };
+        let answer = match answer {
+            Ok(0) if !bytes.is_empty() => Err(Failed),
+            Ok(n) => Ok(n),
+            Err(Failed) => Err(Failed),
+        };
+        self.heard = self.heard.and(&answer, bytes);
+        Some(answer)
+    }
+
+    /// One flush of the stream; None where it was interrupted and is to be tried again.
+    pub fn flush(&mut self) -> Option<Result<(), Failed>>
+        ensures bytes { Keeps (W.contents self.old.stream) (W.contents self.new.stream) }
+        ensures history { MatchOption result (self.new.heard.history ≡ self.old.heard.history)
+            (λ answer. self.new.heard.history ≡ after_flush self.old.heard.history answer) }
+        ensures again { IfNone result (self.new.tries < self.old.tries) }
+    {
+        let answer = self.stream.flush();
+        let Some(answer) = settle(&mut self.tries, answer) else {
+            return None;
+        };
+        self.heard = self.heard.and_flush(&answer);
+        Some(answer)
+    }
+}
+
+// What an answer of std's came to, where so many more interruptions are borne.
+fn settle<T>(tries: &mut u64, answer: io::Result<T>) -> Option<Result<T, Failed>>
+    ensures settled { result ≡ settled answer tries.old }
+    ensures again { IfNone result (tries.new < tries.old) }
+    ensures anew { OnSome result (tries.new ≡ 2 ^ 64 - 1) }
+{
+    let left = *tries;
+    *tries = u64::MAX;
+    match answer {
+        Ok(value) => Some(Ok(value)),
+        Err(error) => match error.kind() {
+            ErrorKind::Interrupted if left > 0 => {
+                *tries = left - 1;
+                None
+            }
+            _ => Some(Err(Failed)),
+        },
+    }
+}

@@ -1,0 +1,166 @@
+//! Where bytes go.
+ghost use Rattle.std.specs.Prelude.{◌≡◌, ◌≤◌, length, IfOk, Some};
+ghost use Rattle.std.specs.Io.KnownBytes.{WriteAppends, Keeps};
+ghost use Rattle.kc_io.specs.History.{no_history, after, after_flush};
+ghost use Rattle.kc_io.specs.Sinks.{Written, write_answer};
+
+use crate::failures::Failed;
+use crate::histories::Heard;
+use crate::recorded::Recorded;
+use std::io::Write;
+use std::marker::Model;
+
+/// A place that takes bytes. Proofs see the bytes written to it, where it tells them, and the history of its calls.
+pub trait Sink {
+    ghost seen: { Self → Written };
+
+    /// Takes the first n of the bytes, where it answers Ok(n). To take none of a text that has bytes is a failure.
+    ///
+    /// # Errors
+    /// `Failed` where the write failed. No byte was taken.
+    fn write(&mut self, bytes: &[u8]) -> Result<usize, Failed>
+        ensures within { IfOk result (λ n. n ≤ length bytes.now) }
+        ensures appends { WriteAppends (seen self.old).bytes (seen self.new).bytes result bytes.now }
+        ensures history { (seen self.new).history ≡ after (seen self.old).history (write_answer result bytes.now) bytes.now };
+
+    /// Hands on what was taken.
+    ///
+    /// # Errors
+    /// `Failed` where that failed.
+    fn flush(&mut self) -> Result<(), Failed>
+        ensures keeps { Keeps (seen self.old).bytes (seen self.new).bytes }
+        ensures history { (seen self.new).history ≡ after_flush (seen self.old).history result };
+}
+
+/// A sink over a vector, which tells its bytes. It fails where the vector can't grow.
+#[derive(Drop)]
+pub struct ToVec {
+    bytes: Vec<u8>,
+    heard: Heard,
+}
+
+impl Model for ToVec {
+    ghost use Rattle.std.specs.Prelude.{Some};
+    ghost use Rattle.kc_io.specs.Sinks.{Written};
+
+    ghost Value = { Written };
+
+    ghost view = { λ s. record { bytes = Some s.bytes.items; history = s.heard.history } };
+}
+
+impl ToVec {
+    /// A sink behind these bytes.
+    pub fn new(bytes: Vec<u8>) -> ToVec
+        ensures { result ≡ record { bytes = Some bytes.items; history = no_history } }
+    {
+        ToVec {
+            bytes,
+            heard: Heard::nothing(),
+        }
+    }
+
+    /// The bytes.
+    pub fn as_slice(&self) -> &[u8]
+        ensures { self.now.bytes ≡ Some result.now }
+    {
+        self.bytes.as_slice()
+    }
+
+    /// The vector.
+    pub fn into_inner(self) -> Vec<u8>
+        ensures { self.bytes ≡ Some result.items }
+    {
+        let ToVec { bytes, heard: _ } = self;
+        bytes
+    }
+}
+
+impl Sink for ToVec {
+    ghost seen = { λ s. s };
+
+    fn write(&mut self, bytes: &[u8]) -> Result<usize, Failed> {
+        let answer = match self.bytes.extend_from_slice(bytes) {
+            Ok(()) => Ok(bytes.len()),
+            Err(_) => Err(Failed),
+        };
+        self.heard = self.heard.and(&answer, bytes);
+        answer
+    }
+
+    fn flush(&mut self) -> Result<(), Failed> {
+        self.heard = self.heard.and_flush(&Ok(()));
+        Ok(())
+    }
+}
+
+/// A sink over any writer of std. It tells its bytes where the writer does. A call that is interrupted is tried again; the
+/// 2^64th interruption in a row is a failure.
+#[derive(Drop)]
+pub struct ToWrite<W: Write> {
+    recorded: Recorded<W>,
+}
+
+impl<W: Write> Model for ToWrite<W> {
+    ghost use Rattle.kc_io.specs.Sinks.{Written};
+
+    ghost Value = { Written };
+
+    ghost view = { λ s. record { bytes = W.contents s.recorded.stream; history = s.recorded.heard.history } };
+}
+
+impl<W: Write> ToWrite<W> {
+    /// A sink over this writer.
+    pub fn new(writer: W) -> ToWrite<W>
+        ensures { result ≡ record { bytes = W.contents writer; history = no_history } }
+    {
+        ToWrite {
+            recorded: Recorded::new(writer),
+        }
+    }
+
+    /// The writer.
+    pub fn into_inner(self) -> W
+        ensures { W.contents result ≡ self.bytes }
+    {
+        self.recorded.into_inner()
+    }
+}
+
+impl<W: Write> Sink for ToWrite<W> {
+    ghost seen = { λ s. s };
+
+    fn write(&mut self, bytes: &[u8]) -> Result<usize, Failed> {
+        write_settled(&mut self.recorded, bytes)
+    }
+
+    fn flush(&mut self) -> Result<(), Failed> {
+        flush_settled(&mut self.recorded)
+    }
+}
+
+// Writes until a write isn't interrupted.
+fn write_settled<W: Write>(recorded: &mut Recorded<W>, bytes: &[u8]) -> Result<usize, Failed>
+    ensures within { IfOk result (λ n. n ≤ length bytes.now) }
+    ensures appends { WriteAppends (W.contents recorded.old.stream) (W.contents recorded.new.stream) result bytes.now }
+    ensures history { recorded.new.heard.history ≡ after recorded.old.heard.history (write_answer result bytes.now) bytes.now }
+{
+    'writing: loop {
+        match recorded.write(bytes) {
+            Some(answer) => return answer,
+            None => {}
+        }
+    }
+}
+
+// Flushes until a flush isn't interrupted.
+fn flush_settled<W: Write>(recorded: &mut Recorded<W>) -> Result<(), Failed>
+    ensures keeps { Keeps (W.contents recorded.old.stream) (W.contents recorded.new.stream) }
+    ensures history { recorded.new.heard.history ≡ after_flush recorded.old.heard.history result }
+{
+    'flushing: loop {
+        match recorded.flush() {
+            Some(answer) => return answer,
+            None => {}
+        }
+    }
+}

@@ -1,0 +1,114 @@
+//! Where bytes come from.
+ghost use Rattle.std.specs.Prelude.{◌≡◌, ◌≤◌, Some, length, IfOk};
+ghost use Rattle.std.specs.Io.KnownBytes.{ReadConsumes};
+ghost use Rattle.kc_io.specs.History.{no_history, after};
+ghost use Rattle.kc_io.specs.Sources.{Seen};
+
+use crate::failures::Failed;
+use crate::histories::Heard;
+use crate::recorded::Recorded;
+use std::io::Read;
+use std::marker::Model;
+
+/// A source of bytes. Proofs see the bytes that it has left, where it tells them, and the history of its reads.
+pub trait Source {
+    ghost seen: { Self → Seen };
+
+    /// Moves the next `n` bytes to the front of the buffer and answers `Ok(n)`; 0 only at the end or for an empty buffer.
+    ///
+    /// # Errors
+    /// `Failed` where the read failed. The bytes that are left stay.
+    fn read(&mut self, buffer: &mut [u8]) -> Result<usize, Failed>
+        ensures bound { IfOk result (λ n. n ≤ length buffer.new) }
+        ensures bytes { ReadConsumes (seen self.old).left (seen self.new).left result buffer.new }
+        ensures history { (seen self.new).history ≡ after (seen self.old).history result buffer.new };
+}
+
+/// A source that reads from a slice, and tells its bytes. It never fails.
+#[derive(Drop)]
+pub struct FromBytes<'a> {
+    left: &'a [u8],
+    heard: Heard,
+}
+
+impl<'a> Model for FromBytes<'a> {
+    ghost use Rattle.std.specs.Prelude.{Some};
+    ghost use Rattle.kc_io.specs.Sources.{Seen};
+
+    ghost Value = { Seen };
+
+    ghost view = { λ s. record { left = Some s.left.now; history = s.heard.history } };
+}
+
+impl<'a> FromBytes<'a> {
+    /// A source of these bytes.
+    pub fn new(bytes: &'a [u8]) -> FromBytes<'a>
+        ensures { result ≡ record { left = Some bytes.now; history = no_history } }
+    {
+        FromBytes {
+            left: bytes,
+            heard: Heard::nothing(),
+        }
+    }
+}
+
+impl Source for FromBytes<'_> {
+    ghost seen = { λ s. s };
+
+    fn read(&mut self, buffer: &mut [u8]) -> Result<usize, Failed> {
+        let count = self.left.len().min(buffer.len());
+        let (front, rest) = self.left.split_at(count);
+        buffer[..count].copy_from_slice(front);
+        self.left = rest;
+        self.heard = self.heard.and(&Ok(count), buffer);
+        Ok(count)
+    }
+}
+
+/// A source over any reader of std. It tells its bytes where the reader does. A read that is interrupted is tried again; the
+/// 2^64th interruption in a row is a failure.
+#[derive(Drop)]
+pub struct FromRead<R: Read> {
+    recorded: Recorded<R>,
+}
+
+impl<R: Read> Model for FromRead<R> {
+    ghost use Rattle.kc_io.specs.Sources.{Seen};
+
+    ghost Value = { Seen };
+
+    ghost view = { λ s. record { left = R.remaining s.recorded.stream; history = s.recorded.heard.history } };
+}
+
+impl<R: Read> FromRead<R> {
+    /// A source over this reader.
+    pub fn new(reader: R) -> FromRead<R>
+        ensures { result ≡ record { left = R.remaining reader; history = no_history } }
+    {
+        FromRead {
+            recorded: Recorded::new(reader),
+        }
+    }
+}
+
+impl<R: Read> Source for FromRead<R> {
+    ghost seen = { λ s. s };
+
+    fn read(&mut self, buffer: &mut [u8]) -> Result<usize, Failed> {
+        read_settled(&mut self.recorded, buffer)
+    }
+}
+
+// Reads until a read isn't interrupted.
+fn read_settled<R: Read>(recorded: &mut Recorded<R>, buffer: &mut [u8]) -> Result<usize, Failed>
+    ensures bound { IfOk result (λ n. n ≤ length buffer.new) }
+    ensures bytes { ReadConsumes (R.remaining recorded.old.stream) (R.remaining recorded.new.stream) result buffer.new }
+    ensures history { recorded.new.heard.history ≡ after recorded.old.heard.history result buffer.new }
+{
+    'reading: loop {
+        match recorded.read(buffer) {
+            Some(answer) => return answer,
+            None => {}
+        }
+    }
+}

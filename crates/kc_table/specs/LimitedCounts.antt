@@ -1,0 +1,26 @@
+-- What `LimitedCounts` is seen as, and when it may answer that it is full.
+use Rattle.std.specs.Prelude.{◌≡◌, ℕ, ◌≤◌, refl, None}
+use Rattle.std.specs.Coded.{Coded, code_by, coded×, coded_ℕ}
+use Rattle.std.specs.FinMap.{get, len, code}
+use Rattle.kc_table.specs.declared.fault.TableFault.{TableFault}
+use Rattle.kc_table.specs.declared.fault.TableFault.TheVariants.{Full}
+use Rattle.kc_table.specs.contracts.fault.TableFault.{the_row}
+use Rattle.kc_table.specs.Counts.{KeyCounts}
+
+-- its keys' bits, the map, how many keys it takes, and what it answers to a new key beyond
+pub record Limited : Type 0 where
+  pub bits : ℕ
+  pub counts : KeyCounts
+  pub limit : ℕ
+  pub refusal : TableFault
+
+-- it is stored as the tuple of its fields
+abbrev pub limited_code : Coded Limited
+limited_code =
+    code_by (ℕ × (KeyCounts × (ℕ × TableFault))) (coded× coded_ℕ (coded× (code coded_ℕ coded_ℕ) (coded× coded_ℕ the_row.coded)))
+    (λ t. (t.bits, (t.counts, (t.limit, t.refusal))))
+    (λ p. record { bits = p.0; counts = p.1.0; limit = p.1.1.0; refusal = p.1.1.1 }) (λ _. refl)
+
+-- a new key, where the map has as many keys as the table takes and the answer chosen is `Full`
+abbrev pub IsAtLimit : Limited → KeyCounts → ℕ → Type 0
+IsAtLimit table counts key = (table.refusal ≡ Full) × (table.limit ≤ len counts) × (get counts key ≡ None)

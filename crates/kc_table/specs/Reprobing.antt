@@ -1,0 +1,62 @@
+-- The places of a key in a table of 2 ^ log slots, tried one after another (the reprobing of Marçais and Kingsford
+-- 2011), and what was found there.
+use Rattle.std.specs.Prelude.{◌≡◌, ◌≢◌, refl, ℕ, ◌+◌, ◌-◌, ◌*◌, ◌/◌, ◌%◌, ◌^◌, ◌<◌}
+use Rattle.kc_table.specs.declared.reprobing.Reprobing.{Reprobing}
+use Rattle.kc_table.specs.declared.reprobing.Reprobing.TheVariants.{Found, Free, Crowded}
+
+-- the sum of the numbers up to i
+abbrev pub triangle : ℕ → ℕ
+triangle i = i * (i + 1) / 2
+
+-- A key's home is its low bits. Its place i, for i from 0 to 62, is as far behind its home as the numbers up to i
+-- add up to, and round the end of the table.
+abbrev pub place : ℕ → ℕ → ℕ → ℕ
+place key i log = (key % 2 ^ log + triangle i) % 2 ^ log
+
+-- the first places of the keys 5, 261 and 773 in a table of 256 slots, and one round its end
+place_rows : (place 5 0 8 ≡ 5) × (place 261 1 8 ≡ 6) × (place 773 3 8 ≡ 11) × (place 255 2 8 ≡ 2)
+place_rows = (refl, refl, refl, refl)
+
+-- slot is one of the key's places
+abbrev pub IsPlaceOf : ℕ → ℕ → ℕ → Type 0
+IsPlaceOf log key slot = (i : ℕ) × (i < 63) × (slot ≡ place key i log)
+
+-- A slot's tag is 0 where it is empty, and else its key's remainder times 64 and one more than the number of reprobes.
+-- Here is the tag of a key at its place i.
+abbrev pub tag_of : ℕ → ℕ → ℕ → ℕ
+tag_of log key i = key / 2 ^ log * 64 + (i + 1)
+
+-- which of its places the key stands at
+abbrev pub reprobe_of : ℕ → ℕ
+reprobe_of tag = tag % 64 - 1
+
+-- the key's place j holds another key
+pub record IsTaken (log : ℕ) (tag : ℕ → ℕ) (key j : ℕ) : Type 0 where
+  pub some : tag (place key j log) ≢ 0
+  pub other : tag (place key j log) ≢ tag_of log key j
+
+-- the key stands in this slot
+pub record IsFound (log : ℕ) (tag : ℕ → ℕ) (key slot : ℕ) : Type 0 where
+  pub reprobe : ℕ
+  pub small : reprobe < 63
+  pub here : slot ≡ place key reprobe log
+  pub is : tag slot ≡ tag_of log key reprobe
+
+-- the key's first place that is not taken is this empty slot, and `new` is the key's tag there
+pub record IsFree (log : ℕ) (tag : ℕ → ℕ) (key slot new : ℕ) : Type 0 where
+  pub reprobe : ℕ
+  pub small : reprobe < 63
+  pub here : slot ≡ place key reprobe log
+  pub is : new ≡ tag_of log key reprobe
+  pub empty : tag slot ≡ 0
+  pub before : (j : ℕ) → j < reprobe → IsTaken log tag key j
+
+-- all places of the key are taken
+abbrev pub IsOut : ℕ → (ℕ → ℕ) → ℕ → Type 0
+IsOut log tag key = (j : ℕ) → j < 63 → IsTaken log tag key j
+
+-- what was found at the key's places
+abbrev pub IsReprobing : ℕ → (ℕ → ℕ) → ℕ → Reprobing → Type 0
+IsReprobing log tag key (Found place) = IsFound log tag key place
+IsReprobing log tag key (Free place new) = IsFree log tag key place new
+IsReprobing log tag key Crowded = IsOut log tag key

@@ -1,0 +1,4 @@
+pub mod Bins
+pub mod MapCounts
+pub mod Rows
+pub mod Tallies

@@ -1,0 +1,38 @@
+-- What holds of tallies, whatever the reads are.
+use Rattle.std.specs.Prelude.{◌≡◌, ℕ, ◌+◌, ◌^◌, ◌<◌, ◌≤◌, List, ◌++◌, length, sum_by}
+use Rattle.kc_fastx.specs.Reads.{Read}
+use Rattle.kc_word.specs.Rule.{CountingRule}
+use Rattle.kc_word.specs.Occurrences.{words_of}
+use Rattle.kc_tally.specs.declared.row.Row.{Row}
+use Rattle.kc_tally.specs.Tally.{count_of, total_of, AreRows, IsTally, TallySeen, IsTallyOf}
+
+-- the tally of given reads is one finite map: two lists of rows that are its rows are equal
+abbrev pub OneTally : Type 0
+OneTally = (rule : CountingRule) (reads : List Read) (rows others : List Row)
+    → IsTally rule reads rows → IsTally rule reads others → rows ≡ others
+
+-- and one value
+abbrev pub OneValue : Type 0
+OneValue = (rule : CountingRule) (reads : List Read) (tally other : TallySeen)
+    → IsTallyOf rule reads tally → IsTallyOf rule reads other → tally ≡ other
+
+-- the tally of reads that are joined is the sum of the tallies of both parts
+abbrev pub JoinedTally : Type 0
+JoinedTally = (rule : CountingRule) (reads more : List Read) (rows others sums : List Row)
+    → IsTally rule reads rows → IsTally rule more others → IsTally rule (reads ++ more) sums
+    → (n : ℕ) → n < 4 ^ rule.k → count_of sums n ≡ count_of rows n + count_of others n
+
+-- the counts of a tally add up to the number of all words, and are together at most the number of bases
+abbrev pub TallyTotal : Type 0
+TallyTotal = (rule : CountingRule) (reads : List Read) (rows : List Row)
+    → IsTally rule reads rows → total_of rows ≡ length (words_of rule reads)
+
+abbrev pub BoundedTally : Type 0
+BoundedTally = (rule : CountingRule) (reads : List Read) (rows : List Row)
+    → 1 ≤ rule.k → IsTally rule reads rows → total_of rows ≤ sum_by (λ read. length read.bases) reads
+
+-- the rows of a tally of at most 2 ^ 62 bases are the rows of a `Tally`
+abbrev pub RowsOfTally : Type 0
+RowsOfTally = (rule : CountingRule) (reads : List Read) (rows : List Row)
+    → 1 ≤ rule.k → sum_by (λ read. length read.bases) reads ≤ 2 ^ 62
+    → IsTally rule reads rows → AreRows rule.k rule.both rows

@@ -1,0 +1,114 @@
+//! Histograms: how many words have which count.
+ghost use Rattle.std.specs.Prelude.{◌≡◌, ◌+◌, ◌^◌, ◌<◌, ◌≤◌, ℕ, [], length, All, IfOk};
+ghost use Rattle.kc_tally.specs.Histogram.{last_bin, bin_of, bins_of, bin_at, gained, lost, counted_in, raised, joined_bins, counts_of};
+
+use crate::row::Row;
+use std::alloc::{AllocError, Global};
+use std::marker::Model;
+
+// The number of the bins, and of the last one.
+const LAST_BIN: u64 = 10_001;
+
+/// The sizes of the bins 1 to 10,001. A count from 1 to 10,000 has a bin of its own, and all greater ones share the last.
+#[derive(Drop)]
+pub struct Histogram {
+    bins: Vec<u64>,
+}
+
+impl Model for Histogram {
+    ghost use Rattle.std.specs.Prelude.{◌≡◌, List, ℕ, length};
+    ghost use Rattle.kc_tally.specs.Histogram.{last_bin};
+
+    ghost Value = { List ℕ };
+
+    ghost view = { λ h. h.bins.items };
+
+    ghost invariant = { λ h. length h.bins.items ≡ last_bin };
+}
+
+impl Histogram {
+    /// The histogram of no words. Its memory is taken here.
+    pub fn new(alloc: Global) -> Result<Histogram, AllocError>
+        ensures { IfOk result (λ bins. bins ≡ bins_of []) }
+    {
+        let bins = vec![in alloc; 0; LAST_BIN as usize]?;
+        Ok(Histogram { bins })
+    }
+
+    /// The histogram of the counts of these rows.
+    pub fn of_rows(alloc: Global, rows: &[Row]) -> Result<Histogram, AllocError>
+        ensures { IfOk result (λ bins. bins ≡ bins_of (counts_of rows.now)) }
+    {
+        let mut histogram = Histogram::new(alloc)?;
+        for row in rows {
+            histogram.count_in(row.count);
+        }
+        Ok(histogram)
+    }
+
+    /// How many words have a count that falls in the bin. Condition: the bin is 1 to 10,001.
+    pub fn bin(&self, bin: u64) -> u64
+        requires some { 1 ≤ bin }
+        requires within { bin ≤ last_bin }
+        ensures { result ≡ bin_at self.now bin }
+    {
+        self.bins[bin as usize - 1]
+    }
+
+    /// One word's count went from `count` to `count + 1`: the word leaves its bin, where it was in one, and comes into
+    /// the bin of `count + 1`. Conditions: a word is in the bin that it leaves, and the size of the other one fits.
+    pub fn raise(&mut self, count: u64)
+        requires some { 1 ≤ count → 1 ≤ bin_at self.old (bin_of count) }
+        requires fits { bin_at self.old (bin_of (count + 1)) + 1 < 2 ^ 64 }
+        ensures { self.new ≡ raised self.old count }
+    {
+        if count >= LAST_BIN {
+            // the word stays in the last bin
+            return;
+        }
+        if count > 0 {
+            self.lose(count);
+        }
+        self.gain(count + 1);
+    }
+
+    /// Adds the bins of another histogram. Condition: the sums fit.
+    pub fn add(&mut self, other: &Histogram)
+        requires { All (λ size. size < 2 ^ 64) (joined_bins self.old other.now) }
+        ensures { self.new ≡ joined_bins self.old other.now }
+    {
+        for i in 0..LAST_BIN as usize {
+            self.bins[i] += other.bins[i];
+        }
+    }
+
+    // Counts in one more word.
+    fn count_in(&mut self, count: u64)
+        requires { bin_at self.old (bin_of count) + 1 < 2 ^ 64 }
+        ensures { self.new ≡ counted_in self.old count }
+    {
+        if count > 0 {
+            self.gain(count.min(LAST_BIN));
+        }
+    }
+
+    // A word more in the bin.
+    fn gain(&mut self, bin: u64)
+        requires some { 1 ≤ bin }
+        requires within { bin ≤ last_bin }
+        requires fits { bin_at self.old bin + 1 < 2 ^ 64 }
+        ensures { self.new ≡ gained self.old bin }
+    {
+        self.bins[bin as usize - 1] += 1;
+    }
+
+    // A word less in the bin.
+    fn lose(&mut self, bin: u64)
+        requires some { 1 ≤ bin }
+        requires within { bin ≤ last_bin }
+        requires there { 1 ≤ bin_at self.old bin }
+        ensures { self.new ≡ lost self.old bin }
+    {
+        self.bins[bin as usize - 1] -= 1;
+    }
+}

@@ -1,0 +1,10 @@
+//! A row of a tally.
+
+/// A word's number, and how often the word occurs.
+#[derive(Clone, Copy, PartialEq, Eq, Debug)]
+pub struct Row {
+    /// The number of the word.
+    pub word: u64,
+    /// Its count.
+    pub count: u64,
+}
