@@ -1,6 +1,6 @@
 use Rattle.std.proofs.Common.{◌≡◌, ◌∙◌, ◌≤◌, Vec, Global, ℕ, List, ap, ap₂, map, length, arith}
 use Rattle.std.proofs.lemmas.Grind.{common_steps}
-use Rattle.kc_table.proofs.Numbers.{IfOk-weaker}
+use Rattle.kc_table.proofs.KeyCounts.{IfOk-weaker}
 use Rattle.kc_hash.specs.Product.{product}
 use Rattle.kc_word.specs.Rule.{CountingRule}
 use Rattle.kc_word.specs.Occurrences.{words_of}
