@@ -2,7 +2,7 @@
 
 ghost use Rattle.std.specs.Prelude.{◌≡◌, ℕ, ◌<◌, ◌^◌, List, length, IfOk, IfErr, IsErr};
 ghost use Rattle.kc_hash.specs.Matrix.{IsWidth};
-ghost use Rattle.kc_hash.specs.Product.{product, identity, AreInverse, IsInKernel, IsNonsingular, IsOneToOne};
+ghost use Rattle.kc_hash.specs.Product.{product, identity, AreInverse, IsInKernel, IsNonsingular, IsOneToOne, IsOnto};
 ghost use Rattle.kc_hash.specs.Seeds.{turn_columns, NoneIsNonsingular};
 ghost use Rattle.kc_hash.specs.Undone.{IsHash, inverse_of, inverse_is};
 
@@ -88,6 +88,7 @@ impl Hash {
         ensures width { IsWidth result }
         ensures stays { (x : ℕ) → x < 2 ^ result → product self.now x < 2 ^ result }
         ensures one_to_one { IsOneToOne self.now }
+        ensures onto { IsOnto self.now }
     {
         self.matrix.bits()
     }

@@ -3,10 +3,10 @@ use Rattle.std.proofs.Common.{◌≡◌, ◌≢◌, ℕ, ◌+◌, ◌-◌, ◌*�
 use Rattle.std.proofs.lemmas.Bool.{cases_lt}
 use Rattle.std.proofs.lemmas.Nat.{pow-add, pow_below, one_shl, shl_whole, and_mask, shr_below, shr_split, mul-add-lt, div-mul-add, mod-mul-add}
 use Rattle.std.proofs.Math.Pow.{pow_mono}
-use Rattle.kc_hash.specs.Product.{product, IsOneToOne}
+use Rattle.kc_hash.specs.Product.{product, IsOneToOne, IsOnto}
 use Rattle.kc_word.proofs.Letters.{pow-four}
 use Rattle.kc_word.specs.Rule.{CountingRule}
-use Rattle.kc_stripe.specs.Setup.{StripeSetup, IsSetup, HasBits, key_bits, StandsAt, KeepsWordsApart}
+use Rattle.kc_stripe.specs.Setup.{StripeSetup, IsSetup, HasBits, key_bits, StandsAt, DividesWords}
 
 -- ---- the bits of words
 
@@ -87,19 +87,6 @@ is_setup rule hash stripes n w b seen whole power few =
     let most : 2 ^ b ≤ 2 ^ w = pow_mono {i = b} {j = w} few in
     record { word_bits = sym seen.hash_bits ∙ whole ∙ seen.word_bits; power = (b, same); at_most = seen.at_most; few = omega arith }
 
--- ---- one place for each word
-
-pub words_apart : (setup : StripeSetup) → HasBits setup.rule.k setup.hash setup.stripe_bits
-    → ((x : ℕ) → x < 2 ^ length setup.hash → product setup.hash x < 2 ^ length setup.hash) → IsOneToOne setup.hash → KeepsWordsApart setup
-words_apart setup bits stays one = record {
-  fits = λ word below. high-bits setup.rule.k setup.stripe_bits (length setup.hash) (product setup.hash word) bits.word_bits bits.stripe_bits_few (stays word (word-fits setup.rule.k (length setup.hash) word bits.word_bits below));
-  apart = λ word other below other_below same_stripe same_key.
-      one word other (word-fits setup.rule.k (length setup.hash) word bits.word_bits below) (word-fits setup.rule.k (length setup.hash) other bits.word_bits other_below)
-      (sym (shr_split (product setup.hash word) setup.stripe_bits)
-      ∙ ap₂ (λ high low. high * 2 ^ setup.stripe_bits + low) same_key same_stripe
-      ∙ shr_split (product setup.hash other) setup.stripe_bits);
-}
-
 -- ---- the code of a stripe and a key
 
 pub code-shifted : (k s key : ℕ) → 2 * k ≤ 62 → s ≤ 2 * k → key < 2 ^ (2 * k - s) → key * 2 ^ s % 2 ^ 64 ≡ key * 2 ^ s
@@ -146,6 +133,7 @@ code_at-fits_64 setup stripe key asked =
     let narrow : 2 ^ length setup.hash ≤ 2 ^ 62 = pow_mono {i = length setup.hash} {j = 62} (rw asked.bits.word_bits asked.bits.at_most) in
     omega arith
 
+-- a word that has the code has the stripe and the key, and the other way round
 pub StandsAt-hashed : (setup : StripeSetup) (stripe key word : ℕ) → IsAskedFor setup stripe key → word < 2 ^ length setup.hash
     → product setup.hash word ≡ code_at setup stripe key → StandsAt setup stripe key word
 StandsAt-hashed setup stripe key word asked below hashed =
@@ -156,13 +144,31 @@ StandsAt-hashed setup stripe key word asked below hashed =
       has_key = ap (λ x. x / 2 ^ setup.stripe_bits) whole ∙ div-mul-add key (2 ^ setup.stripe_bits) stripe asked.stripe_fits;
     }
 
--- whatever word has the stripe and the key is the one that the hash gives back for this code
-pub StandsAt-only : (setup seen : StripeSetup) (stripe key found word : ℕ) → setup ≡ seen → IsAskedFor setup stripe key
-    → ((x : ℕ) → x < 2 ^ length setup.hash → product setup.hash x ≡ code_at setup stripe key → found ≡ x)
-    → StandsAt seen stripe key word → found ≡ word
-StandsAt-only setup seen stripe key found word same asked only at =
-    let here : StandsAt setup stripe key word = rw same at in
-    only word (word-fits setup.rule.k (length setup.hash) word asked.bits.word_bits here.is_word)
-    (sym (shr_split (product setup.hash word) setup.stripe_bits)
-    ∙ ap₂ (λ high low. high * 2 ^ setup.stripe_bits + low) here.has_key here.has_stripe
-    ∙ sym (code_at-whole setup stripe key asked))
+pub product-StandsAt : (setup : StripeSetup) (stripe key word : ℕ) → IsAskedFor setup stripe key → StandsAt setup stripe key word
+    → product setup.hash word ≡ code_at setup stripe key
+product-StandsAt setup stripe key word asked at =
+    sym (shr_split (product setup.hash word) setup.stripe_bits)
+    ∙ ap₂ (λ high low. high * 2 ^ setup.stripe_bits + low) at.has_key at.has_stripe
+    ∙ sym (code_at-whole setup stripe key asked)
+
+pub word-StandsAt : (setup : StripeSetup) (stripe key word : ℕ) → HasBits setup.rule.k setup.hash setup.stripe_bits → StandsAt setup stripe key word → word < 2 ^ length setup.hash
+word-StandsAt setup stripe key word bits at = word-fits setup.rule.k (length setup.hash) word bits.word_bits at.is_word
+
+-- ---- one place for each word, and one word for each place
+
+pub divides : (setup : StripeSetup) → HasBits setup.rule.k setup.hash setup.stripe_bits
+    → ((x : ℕ) → x < 2 ^ length setup.hash → product setup.hash x < 2 ^ length setup.hash) → IsOneToOne setup.hash → IsOnto setup.hash → DividesWords setup
+divides setup bits stays one onto = record {
+  fits = λ word below.
+      high-bits setup.rule.k setup.stripe_bits (length setup.hash) (product setup.hash word) bits.word_bits bits.stripe_bits_few
+      (stays word (word-fits setup.rule.k (length setup.hash) word bits.word_bits below));
+  found = λ stripe key stripe_fits key_fits.
+      let asked : IsAskedFor setup stripe key = record { bits = bits; stripe_fits = stripe_fits; key_fits = key_fits } in
+      let (word, below, hashed) = onto (code_at setup stripe key) (code_at-fits setup stripe key asked) in
+      (word, StandsAt-hashed setup stripe key word asked below hashed);
+  only = λ stripe key word other at also.
+      one word other (word-StandsAt setup stripe key word bits at) (word-StandsAt setup stripe key other bits also)
+      (sym (shr_split (product setup.hash word) setup.stripe_bits)
+      ∙ ap₂ (λ high low. high * 2 ^ setup.stripe_bits + low) (at.has_key ∙ sym also.has_key) (at.has_stripe ∙ sym also.has_stripe)
+      ∙ shr_split (product setup.hash other) setup.stripe_bits);
+}

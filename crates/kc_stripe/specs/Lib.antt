@@ -1,2 +1,3 @@
 pub mod Setup
 pub mod Cut
+pub mod Counted

@@ -61,7 +61,8 @@ module _ (setup : StripeSetup) where
     pub has_stripe : stripe_of word ≡ stripe
     pub has_key : key_of word ≡ key
 
-  -- each word has a key of so many bits, and no two words have one stripe and one key
-  pub record KeepsWordsApart : Type 0 where
+  -- each word has a stripe and a key, and each stripe and key has one word
+  pub record DividesWords : Type 0 where
     pub fits : (word : ℕ) → word < word_count → key_of word < 2 ^ key_bits
-    pub apart : (word other : ℕ) → word < word_count → other < word_count → stripe_of word ≡ stripe_of other → key_of word ≡ key_of other → word ≡ other
+    pub found : (stripe key : ℕ) → stripe < stripe_count → key < 2 ^ key_bits → (word : ℕ) × StandsAt stripe key word
+    pub only : (stripe key word other : ℕ) → StandsAt stripe key word → StandsAt stripe key other → word ≡ other

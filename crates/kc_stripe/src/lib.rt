@@ -2,6 +2,7 @@
 //! stripe, and a stripe that always holds the counts of the batches that it names.
 #![tactic(auto)]
 
+mod counted;
 mod cut;
 mod setup;
 

@@ -1,6 +1,7 @@
 //! How the words of a count are divided among stripes.
-ghost use Rattle.std.specs.Prelude.{◌≡◌, ℕ, ◌^◌, ◌<◌, ◌≤◌, ◌↔◌, IsSome, IfSome};
-ghost use Rattle.kc_stripe.specs.Setup.{StripeSetup, IsSetup, HasBits, word_count, stripe_count, key_bits, stripe_of, key_of, StandsAt, KeepsWordsApart};
+ghost use Rattle.std.specs.Prelude.{◌≡◌, ℕ, ◌^◌, ◌<◌, ◌≤◌, ◌↔◌, length, IsSome, IfSome};
+ghost use Rattle.kc_hash.specs.Product.{product};
+ghost use Rattle.kc_stripe.specs.Setup.{StripeSetup, IsSetup, HasBits, word_count, stripe_count, key_bits, stripe_of, key_of, StandsAt, DividesWords};
 
 use kc_hash::Hash;
 use kc_word::{Rule, Word};
@@ -92,7 +93,7 @@ impl Setup {
     pub fn key_bits(&self) -> u32
         ensures value { result ≡ key_bits self.now }
         ensures at_most { result ≤ 62 }
-        ensures words { KeepsWordsApart self.now }
+        ensures words { DividesWords self.now }
     {
         self.hash.bits() - self.stripe_bits
     }
@@ -123,6 +124,18 @@ impl Setup {
         ensures found { StandsAt self.now stripe key result.0 }
         ensures only { (word : ℕ) → StandsAt self.now stripe key word → result.0 ≡ word }
     {
-        Word(self.hash.back((key << self.stripe_bits) + stripe as u64))
+        Word(self.hash.back(self.code_at(stripe, key)))
+    }
+
+    /// The code of the word that has this stripe and this key.
+    pub(crate) fn code_at(&self, stripe: u32, key: u64) -> u64
+        requires stripe { stripe < stripe_count self.now }
+        requires key { key < 2 ^ key_bits self.now }
+        ensures within { result < 2 ^ length self.now.hash }
+        ensures stands { (word : ℕ) → word < 2 ^ length self.now.hash → product self.now.hash word ≡ result → StandsAt self.now stripe key word }
+        ensures hashed { (word : ℕ) → StandsAt self.now stripe key word → product self.now.hash word ≡ result }
+        ensures bits { HasBits self.now.rule.k self.now.hash self.now.stripe_bits }
+    {
+        (key << self.stripe_bits) + stripe as u64
     }
 }

@@ -1,20 +1,16 @@
-use Rattle.std.proofs.Common.{rules}
-use Rattle.kc_stripe.proofs.Codes.{asked_for, code_at-fits, code_at-fits_64, StandsAt-hashed, StandsAt-only}
+use Rattle.kc_stripe.proofs.Codes.{word-StandsAt}
 use Rattle.kc_stripe.proofs.setup.Setup.word_of.Goals as goal
 
-pub overflow_add-key : goal.overflow_add-key
-overflow_add-key c =
-    let fits = code_at-fits_64 _ c.args.stripe c.args.key (asked_for _ _ _ _ c.self.view_is c.self.invariant c.requires.stripe c.requires.key) in
-    search rules
-
 pub back-requires : goal.back-requires
-back-requires c = code_at-fits _ _ _ (asked_for _ _ _ _ c.self.view_is c.self.invariant c.requires.stripe c.requires.key)
+back-requires c = rw (← c.self.view_is) at c.code_at.ensures.within
 
 pub returns-clause-found : goal.returns-clause-found
 returns-clause-found c =
-    rw (← c.self.view_is)
-    (StandsAt-hashed _ _ _ _ (asked_for _ _ _ _ c.self.view_is c.self.invariant c.requires.stripe c.requires.key) c.back.ensures.within c.back.ensures.hashed)
+    let stands = rw (← c.self.view_is) at c.code_at.ensures.stands in
+    rw (← c.self.view_is) (stands c.back.result c.back.ensures.within c.back.ensures.hashed)
 
 pub returns-clause-only : goal.returns-clause-only
-returns-clause-only c = λ word.
-    StandsAt-only _ _ _ _ _ word c.self.view_is (asked_for _ _ _ _ c.self.view_is c.self.invariant c.requires.stripe c.requires.key) c.back.ensures.only
+returns-clause-only c = λ word at.
+    let here = rw (← c.self.view_is) at at in
+    let hashed = rw (← c.self.view_is) at c.code_at.ensures.hashed in
+    c.back.ensures.only word (word-StandsAt _ _ _ word c.self.invariant here) (hashed word here)
