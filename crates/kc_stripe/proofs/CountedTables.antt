@@ -157,6 +157,7 @@ pub record IsAddedTo {C : Type 0} (bits : C → ℕ) (counts : C → KeyCounts) 
   pub stored : (q : ℕ) → IsStored (counts old.table) q → IsStored (counts new.table) q
   pub limits : KeepsLimits bits full old.table new.table
   pub total : new.total ≡ old.total + i
+  pub bins : IsCounted (bits new.table) (counts new.table) new.bins new.total
 
 pub counted-more : (m now new : KeyCounts) (keys : List ℕ) (i q : ℕ) → i < length keys → new ≡ added now (get_or keys i 0)
     → ((k : ℕ) → count_at now k ≡ count_at m k + count_by (λ key. eqb key k) (take i keys))
@@ -177,12 +178,13 @@ counted-more m now new keys i q within is so_far =
 
 pub IsAddedTo-more : {C : Type 0} (bits : C → ℕ) (counts : C → KeyCounts) (full : C → KeyCounts → ℕ → Type 0) (old now new : TableSeen C) (keys : List ℕ) (i : ℕ) → i < length keys
     → counts new.table ≡ added (counts now.table) (get_or keys i 0) → KeepsLimits bits full now.table new.table → new.total ≡ now.total + 1
-    → IsAddedTo bits counts full old now keys i → IsAddedTo bits counts full old new keys (i + 1)
-IsAddedTo-more bits counts full old now new keys i within is limits more so_far = record {
+    → IsCounted (bits new.table) (counts new.table) new.bins new.total → IsAddedTo bits counts full old now keys i → IsAddedTo bits counts full old new keys (i + 1)
+IsAddedTo-more bits counts full old now new keys i within is limits more bins so_far = record {
   counted = λ q. counted-more (counts old.table) (counts now.table) (counts new.table) keys i q within is so_far.counted;
   stored = λ q stored. subst (λ (m : KeyCounts). IsStored m q) (sym is) (IsStored-added (counts now.table) (get_or keys i 0) q (so_far.stored q stored));
   limits = KeepsLimits-then bits full old.table now.table new.table so_far.limits limits;
   total = more ∙ ap (λ n. n + 1) so_far.total ∙ omega arith;
+  bins = bins;
 }
 
 -- whatever `ready` answers, the counts stay

@@ -32,7 +32,8 @@ impl<C: Counts + Drop> CountedTable<C> {
     /// A table in which nothing is stored, with an empty histogram.
     pub fn new(alloc: Global, table: C) -> Result<CountedTable<C>, AllocError>
         requires { C.counts table ≡ empty }
-        ensures { IfOk result (λ counted. counted.table ≡ table) }
+        ensures table { IfOk result (λ counted. counted.table ≡ table) }
+        ensures counted { IfOk result (λ counted. IsCounted (C.bits counted.table) (C.counts counted.table) counted.bins counted.total) }
     {
         // what is known of the table's keys
         let _bits = table.key_bits();
@@ -96,7 +97,10 @@ impl<C: Counts> CountedTable<C> {
             ≡ count_at (C.counts self.old.table) q + count_by (λ key. key == q) keys.now }
         ensures limits { KeepsLimits C.bits C.may_be_full self.old.table self.new.table }
         ensures total { self.new.total ≡ self.old.total + length keys.now }
+        ensures counted { IsCounted (C.bits self.new.table) (C.counts self.new.table) self.new.bins self.new.total }
     {
+        // what is known of an empty list of keys
+        let _total = self.total();
         for key in keys {
             self.add(*key);
         }
@@ -123,6 +127,7 @@ impl<C: Counts> CountedTable<C> {
         ensures counts { C.counts self.new.table ≡ added (C.counts self.old.table) key }
         ensures limits { KeepsLimits C.bits C.may_be_full self.old.table self.new.table }
         ensures total { self.new.total ≡ self.old.total + 1 }
+        ensures counted { IsCounted (C.bits self.new.table) (C.counts self.new.table) self.new.bins self.new.total }
     {
         let count = self.table.increment(key);
         self.histogram.raise(count - 1);

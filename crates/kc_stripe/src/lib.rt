@@ -4,7 +4,11 @@
 
 mod counted;
 mod cut;
+mod fault;
 mod setup;
+mod stripe;
 
 pub use cut::{Cut, cut_up};
+pub use fault::BookFault;
 pub use setup::Setup;
+pub use stripe::Stripe;

@@ -22,3 +22,9 @@ invariant_of-self g c =
     rw (c.increment-count.ensures.same_bits, c.increment-count.ensures.counted, c.raise.ensures)
     (IsCounted-added _ _ _ _ c.args.key c.increment-count.result c.self.invariant (rw (← c.self.view_is) at c.requires.in_range)
     (rw (← c.self.view_is) at c.requires.room) c.increment-count.ensures.told)
+
+pub returns-clause-counted : goal.returns-clause-counted
+returns-clause-counted g c =
+    rw (c.increment-count.ensures.same_bits, c.increment-count.ensures.counted, c.raise.ensures)
+    (IsCounted-added _ _ _ _ c.args.key c.increment-count.result c.self.invariant (rw (← c.self.view_is) at c.requires.in_range)
+    (rw (← c.self.view_is) at c.requires.room) c.increment-count.ensures.told)
