@@ -12,7 +12,7 @@ use crate::cut::Cut;
 use crate::fault::BookFault;
 use crate::setup::Setup;
 use kc_table::Counts;
-use kc_word::Batch;
+use kc_word::{Batch, laws};
 use std::alloc::{AllocError, Global};
 use std::collections::HashSet;
 use std::marker::Model;
@@ -85,6 +85,10 @@ impl<C: Counts> Stripe<C> {
         ensures limits { KeepsLimits C.bits C.may_be_full self.old.table self.new.table }
     {
         self.check(cut)?;
+        // what is known of the words of batches
+        laws::words_of_reads();
+        laws::counted_words();
+        laws::joined_occurrences();
         // what can fail comes first, and changes no count and no name in the journal
         let batch = cut.batch().clone()?;
         self.journal.reserve(1)?;
