@@ -1,29 +1,41 @@
-# kcount: a proved counter of the words of length k in sequence reads.
+# kcount: a proved counter of k-mers, the words of length k, in sequence reads.
 PREFIX ?= /usr/local
 DESTDIR ?=
+CRATE ?=
 
-.PHONY: build demo memory test install clean
+.PHONY: build demo check edits memory test bench figures install clean help
 
-# Proves the program and everything below it, and builds it as bin/kcount.
-build:
+build: ## proves the program and everything below it, and builds it as bin/kcount
 	cd crates/kcount && rt run -- --version > /dev/null
 	install -D crates/kcount/out/kcount bin/kcount
 
-# Counts the words of length 4 in a small FASTA file.
-demo: build
+demo: build ## counts the words of length 4 in a small FASTA file
 	./bin/kcount count -m 4 --print dump --column < examples/reads.fa
 
-# Refuses each growth of memory in turn.
-memory: build
+check: ## proves one crate over what earlier runs kept: make check CRATE=kc_word (none: all)
+	$(if $(CRATE),cd crates/$(CRATE) && rt check,rt all check)
+
+edits: ## tries one crate's must-fail edits: make edits CRATE=kc_word (none: all)
+	rt must-fail $(CRATE)
+
+memory: build ## refuses each growth of memory in turn
 	tests/memory.sh
 
-# The gate: every proof from nothing, the edits that must fail, the tests and the program's stored run. Before it, the
-# growths are refused, which the gate can't do.
-test: memory
+# Before the gate the growths are refused, which the gate can't do.
+test: memory ## the gate: every proof from nothing, the edits that must fail, the tests and the program's stored run
 	rt ci
 
-install: build
+bench: build ## runs the benchmarks and prints the table of docs/STATUS.md
+	bench/all.sh
+
+figures: ## prints how large each crate is, as docs/STATUS.md has it
+	@tools/figures.sh
+
+install: build ## installs bin/kcount under PREFIX
 	install -D bin/kcount $(DESTDIR)$(PREFIX)/bin/kcount
 
-clean:
+clean: ## removes what was built
 	rm -rf bin crates/*/out
+
+help: ## lists the targets
+	@sed -n 's/^\([a-z]*\):.*## \(.*\)/\1	\2/p' Makefile | expand -t 12

@@ -1,38 +1,49 @@
 #!/bin/bash
 # Refuses each growth in turn, and looks at what is answered:
 #   tests/memory.sh
-# Each run of the program either does without that growth and writes the whole dump, or writes nothing, says on standard
-# error that there is no memory, and ends with status 1. Tickets and a growing table are asked the same by a test of their
-# crates. It needs bin/kcount, a C compiler and the toolchain.
+# Each run of the program, over FASTA and over FASTQ, either does without that growth and writes the whole dump, or writes
+# nothing, says on standard error that there is no memory, and ends with status 1. Tickets and a growing table are asked the
+# same by a test of their crates. It needs bin/kcount, a C compiler and the toolchain.
 set -euo pipefail
 here=$(cd "$(dirname "$0")" && pwd)
 kcount=$here/../bin/kcount
 work=$(mktemp -d)
 trap 'rm -rf "$work"' EXIT
 cc -O2 -shared -fPIC -o "$work/refuse.so" "$here/refuse_memory.c" -ldl
+# The dump is the same of both: in the second the G of CG stands below the floor.
 printf '>a\nACGTA\n>b\nAC\n>c\nNGTN\n' > "$work/reads.fa"
+printf '@a\nACG\nTA\n+\nIIIII\n@b\nACGTN\n+a\nII"\nII\n' > "$work/reads.fq"
 printf 'ACG 2\nGTA 1\n' > "$work/wanted"
 
-refused=0
-passed=0
-for n in $(seq 1 2000); do
-    status=0
-    REFUSE=$n LD_PRELOAD="$work/refuse.so" "$kcount" count -m 3 -C --batch 2 --print dump --column \
-        < "$work/reads.fa" > "$work/got" 2> "$work/said" || status=$?
-    if [ "$status" = 0 ]; then
-        cmp -s "$work/got" "$work/wanted" || { echo "growth $n refused: status 0 and another dump"; exit 1; }
-        passed=$((passed + 1))
-        [ "$passed" -lt 20 ] || break
-    else
-        [ "$status" = 1 ] || { echo "growth $n refused: status $status"; cat "$work/said"; exit 1; }
-        [ ! -s "$work/got" ] || { echo "growth $n refused: something was written"; exit 1; }
-        grep -qxE 'kcount: (8|46): no memory|Error: .*' "$work/said" || { echo "growth $n refused: $(cat "$work/said")"; exit 1; }
-        refused=$((refused + 1))
-        passed=0
-    fi
-done
-[ "$refused" -gt 0 ] && [ "$passed" -ge 20 ] || { echo "no growth was refused, or there is no end of them"; exit 1; }
-echo "memory: $refused growths refused in turn, each answered as such"
+# Refuses one growth after the other of a count of this file, until twenty in a row are not missed.
+refuse_growths() {
+    local refused=0 passed=0 n number status
+    : > "$work/answers"
+    for n in $(seq 1 2000); do
+        status=0
+        REFUSE=$n LD_PRELOAD="$work/refuse.so" "$kcount" count -m 3 -C --batch 2 --min-qual-char '#' --print dump --column \
+            < "$1" > "$work/got" 2> "$work/said" || status=$?
+        if [ "$status" = 0 ]; then
+            cmp -s "$work/got" "$work/wanted" || { echo "growth $n refused: status 0 and another dump"; exit 1; }
+            passed=$((passed + 1))
+            [ "$passed" -lt 20 ] || break
+        else
+            [ "$status" = 1 ] || { echo "growth $n refused: status $status"; cat "$work/said"; exit 1; }
+            [ ! -s "$work/got" ] || { echo "growth $n refused: something was written"; exit 1; }
+            grep -qxE 'kcount: (8|46): no memory|Error: .*' "$work/said" || { echo "growth $n refused: $(cat "$work/said")"; exit 1; }
+            cat "$work/said" >> "$work/answers"
+            refused=$((refused + 1))
+            passed=0
+        fi
+    done
+    [ "$refused" -gt 0 ] && [ "$passed" -ge 20 ] || { echo "no growth was refused, or there is no end of them"; exit 1; }
+    for number in 8 46; do
+        grep -q "^kcount: $number:" "$work/answers" || { echo "no growth was answered $number"; exit 1; }
+    done
+    echo "memory: $refused growths refused in turn, each answered as such (${1##*.})"
+}
+refuse_growths "$work/reads.fa"
+refuse_growths "$work/reads.fq"
 
 # one test of a crate, with its n-th growth refused
 refused_test() {

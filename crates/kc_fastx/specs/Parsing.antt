@@ -54,8 +54,8 @@ pub record GivesReads (old new : Seen) (limit : ℕ) (reads : List Read) (count 
   pub has_reads : HasReads bytes reads
   pub counted : count ≡ length bytes
 
--- why `read_all` gave no reads: the taking failed, or all bytes were taken and have this fault; memory was refused in the
--- taking or behind it
+-- why `read_all` gave no reads: the taking failed, or all bytes were taken and have this fault. Memory was refused in
+-- the taking, when bytes from the front were taken and no read had failed, or behind it
 abbrev pub RefusesFor : Seen → Seen → ℕ → FastxFault → Type 0
 RefusesFor old new limit TooLong = TakingFails old new limit taking.TooLong
 RefusesFor old new limit ReadFailed = TakingFails old new limit taking.Read

@@ -1,7 +1,9 @@
 pub mod Contents
+pub mod Crowding
 pub mod KeyCounts
 pub mod Places
 pub mod ReprobingSteps
+pub mod Resizing
 pub mod SlotSteps
 pub mod Soundness
-pub mod Walks
+pub mod Writing

@@ -1,10 +1,12 @@
--- Places and keys: a slot, a probe number and a remainder give one key, and a key's places differ.
-use Rattle.std.proofs.Common.{◌≡◌, ◌∙◌, ℕ, zero, suc, ◌+◌, ◌-◌, ◌*◌, ◌/◌, ◌%◌, ◌^◌, ◌<◌, ◌≤◌, Bool, true, false, ◌&&◌, List, [], ◌∷◌, get_or, nat_eq, refl, sym, ap, arith, mod-lt, mod-eq_of_lt, suc-mul, add-zero, inl, inr}
-use Rattle.std.proofs.Math.Nat.{mod-add-mod, add-mul-mod_self_left, add-mul-div_right, mod-mod}
+-- Places and keys: a slot, a number of reprobes and a remainder give one key, and a key's places differ.
+use Rattle.std.proofs.Common.{◌≡◌, ◌∙◌, ℕ, zero, suc, ◌+◌, ◌-◌, ◌*◌, ◌/◌, ◌%◌, ◌^◌, ◌<◌, ◌≤◌, Bool, true, false, ◌&&◌, List, [], ◌∷◌, get_or, nat_eq, min, unwrap_or, refl, sym, ap, arith, mod-lt, mod-eq_of_lt, suc-mul, add-zero, inl, inr}
+use Rattle.std.proofs.Math.Nat.{mod-add-mod, add-mul-mod_self_left, add-mul-div_right, mod-mod, min-le_left}
+use Rattle.std.specs.List.{find, range_with_len}
 use Rattle.std.proofs.Math.Pow.{mod-mod-pow}
 use Rattle.std.proofs.lemmas.Nat.{div-mul-add, mod-mul-add, div-add-mod', pow_pos}
 use Rattle.std.proofs.lemmas.Bool.{eqb-true, cases_lt}
 use Rattle.kc_table.specs.Reprobing.{triangle, place, reprobe_of, tag_of}
+use Rattle.kc_table.specs.QuotientTable.{different_places}
 use Rattle.kc_table.specs.Slot.{key_in}
 
 pub triangle-suc : (i : ℕ) → triangle (i + 1) ≡ triangle i + (i + 1)
@@ -69,9 +71,9 @@ tag_of-key_in log s tag probed =
     ap (λ r. r * 64 + (reprobe_of tag + 1)) (div-mul-add (tag / 64) (2 ^ log) ((s + (2 ^ log - 1) * triangle (reprobe_of tag)) % 2 ^ log) (mod-lt _ (pow_pos log)))
     ∙ omega (arith, div-add-mod' tag 64)
 
--- for which i the numbers up to i add up to t, modulo 64
-turns : List ℕ
-turns = 0 ∷ 1 ∷ 11 ∷ 2 ∷ 55 ∷ 25 ∷ 3 ∷ 42 ∷ 16 ∷ 49 ∷ 4 ∷ 45 ∷ 39 ∷ 54 ∷ 12 ∷ 5 ∷ 32 ∷ 30 ∷ 20 ∷ 34 ∷ 23 ∷ 6 ∷ 28 ∷ 53 ∷ 48 ∷ 17 ∷ 36 ∷ 13 ∷ 7 ∷ 41 ∷ 44 ∷ 26 ∷ 63 ∷ 62 ∷ 52 ∷ 61 ∷ 8 ∷ 38 ∷ 60 ∷ 21 ∷ 47 ∷ 14 ∷ 59 ∷ 18 ∷ 24 ∷ 9 ∷ 51 ∷ 58 ∷ 31 ∷ 33 ∷ 43 ∷ 29 ∷ 40 ∷ 57 ∷ 35 ∷ 10 ∷ 15 ∷ 46 ∷ 27 ∷ 50 ∷ 56 ∷ 22 ∷ 19 ∷ 37 ∷ []
+-- for which i below 64 the numbers up to i add up to t, modulo m
+turn : ℕ → ℕ → ℕ
+turn m t = unwrap_or (find (λ i. nat_eq (triangle i % m) t) (range_with_len 0 64)) 0
 
 and_left : (a b : Bool) → a && b ≡ true → a ≡ true
 and_left true b both = refl
@@ -94,21 +96,57 @@ from_all_below p (suc n) all i below =
       | inr past ↦ let top : i ≡ n = omega arith in ap p top ∙ and_left (p n) (all_below p n) all
     ]
 
-turned : (i : ℕ) → i < 63 → get_or turns (triangle i % 64) 0 ≡ i
-unfolding all_below turns
-turned i small = eqb-true _ _ (from_all_below (λ i. nat_eq (get_or turns (triangle i % 64) 0) i) 63 refl i small)
+-- the first n triangles differ, modulo m
+triangles_differ : (m n : ℕ) → all_below (λ i. nat_eq (turn m (triangle i % m)) i) n ≡ true
+    → (i j : ℕ) → i < n → j < n → triangle i % m ≡ triangle j % m → i ≡ j
+triangles_differ m n all i j si sj same =
+    let at : (i : ℕ) → i < n → turn m (triangle i % m) ≡ i = λ i small. eqb-true _ _ (from_all_below (λ i. nat_eq (turn m (triangle i % m)) i) n all i small) in
+    sym (at i si) ∙ ap (turn m) same ∙ at j sj
 
-cancelled : (h a b : ℕ) → (h + a) % 64 ≡ (h + b) % 64 → a % 64 ≡ b % 64
-cancelled h a b same = omega arith
+all_turned : (log : ℕ) → log ≤ 6 → all_below (λ i. nat_eq (turn (2 ^ log) (triangle i % 2 ^ log)) i) (min 63 (2 ^ log)) ≡ true
+unfolding all_below turn
+all_turned zero few = refl
+all_turned (suc zero) few = refl
+all_turned (suc (suc zero)) few = refl
+all_turned (suc (suc (suc zero))) few = refl
+all_turned (suc (suc (suc (suc zero)))) few = refl
+all_turned (suc (suc (suc (suc (suc zero))))) few = refl
+all_turned (suc (suc (suc (suc (suc (suc zero)))))) few = refl
+all_turned (suc (suc (suc (suc (suc (suc (suc n))))))) few = absurd (omega arith)
 
--- the 63 places of a key differ, where there are at least 64 slots
-pub places_differ : (key i j log : ℕ) → 6 ≤ log → i < 63 → j < 63 → place key i log ≡ place key j log → i ≡ j
-places_differ key i j log large si sj same =
-    let split : log - 6 + 6 ≡ log = omega arith in
-    let low : (n : ℕ) → n % 2 ^ log % 64 ≡ n % 64 = λ n. ap (λ l. n % 2 ^ l % 64) (sym split) ∙ mod-mod-pow n (log - 6) 6 in
+cancelled : (m h a b : ℕ) → 0 < m → (h + a) % m ≡ (h + b) % m → a % m ≡ b % m
+cancelled m h a b pos same =
+    let back : (x : ℕ) → ((h + x) % m + (m - 1) * h) % m ≡ x % m =
+    λ x.
+    let sum : h + x + (m - 1) * h ≡ x + m * h = omega (arith, round m h pos) in
+    mod-add-mod (h + x) m ((m - 1) * h) ∙ ap (λ n. n % m) sum ∙ add-mul-mod_self_left x m h in
+    sym (back a) ∙ ap (λ n. (n + (m - 1) * h) % m) same ∙ back b
+
+-- two places that differ in a table of 2 ^ l slots, no larger than one of 64 or of 2 ^ log
+record AreSpread (l log i j : ℕ) : Type 0 where
+  few : l ≤ 6
+  narrow : l ≤ log
+  first : i < min 63 (2 ^ l)
+  second : j < min 63 (2 ^ l)
+
+-- places differ where they do in a table of 2 ^ l slots
+differ_by : (key i j log l : ℕ) → AreSpread l log i j → place key i log ≡ place key j log → i ≡ j
+differ_by key i j log l spread same =
+    let narrow : l ≤ log = spread.narrow in
+    let split : log - l + l ≡ log = omega arith in
+    let low : (n : ℕ) → n % 2 ^ log % 2 ^ l ≡ n % 2 ^ l = λ n. ap (λ k. n % 2 ^ k % 2 ^ l) (sym split) ∙ mod-mod-pow n (log - l) l in
     let h = key % 2 ^ log in
-    let lows : (h + triangle i) % 64 ≡ (h + triangle j) % 64 = sym (low (h + triangle i)) ∙ ap (λ n. n % 64) same ∙ low (h + triangle j) in
-    sym (turned i si) ∙ ap (λ t. get_or turns t 0) (cancelled h (triangle i) (triangle j) lows) ∙ turned j sj
+    let lows : (h + triangle i) % 2 ^ l ≡ (h + triangle j) % 2 ^ l = sym (low (h + triangle i)) ∙ ap (λ n. n % 2 ^ l) same ∙ low (h + triangle j) in
+    triangles_differ (2 ^ l) (min 63 (2 ^ l)) (all_turned l spread.few) i j spread.first spread.second (cancelled (2 ^ l) h (triangle i) (triangle j) (pow_pos l) lows)
+
+-- the places of a key differ, as many as there are slots for
+pub places_differ : (key i j log : ℕ) → i < different_places log → j < different_places log → place key i log ≡ place key j log → i ≡ j
+places_differ key i j log si sj same =
+    let most : different_places log ≤ 63 = min-le_left 63 (2 ^ log) in
+    elim (cases_lt 6 log) [
+      | inl large ↦ differ_by key i j log 6 (record { few = omega arith; narrow = omega arith; first = omega arith; second = omega arith }) same
+      | inr few ↦ differ_by key i j log log (record { few = few; narrow = omega arith; first = si; second = sj }) same
+    ]
 
 -- a key below the size of the table is its own home
 pub place-home : (key log : ℕ) → key < 2 ^ log → place key 0 log ≡ key

@@ -1,17 +1,43 @@
--- How far a walk over a key's places has come.
+-- How far the walk over a key's places has come.
 use Rattle.std.proofs.Common.{◌≡◌, ◌≢◌, ◌∙◌, ℕ, ◌+◌, ◌-◌, ◌*◌, ◌/◌, ◌%◌, ◌^◌, ◌<◌, ◌≤◌, sym, ap, arith, subst, bit_and, add-zero, inl, inr, mod-lt, mod-eq_of_lt, pow_mono}
 use Rattle.std.proofs.Math.Nat.{mod-mod}
 use Rattle.std.proofs.lemmas.Nat.{and_mask, mul-le}
 use Rattle.std.proofs.lemmas.Bool.{cases_lt}
-use Rattle.kc_table.specs.Reprobing.{triangle, place, tag_of, reprobe_of, IsTaken, IsFound, IsFree}
+use Rattle.kc_table.specs.Reprobing.{triangle, place, tag_of, reprobe_of, IsTaken, IsFound, IsFree, AreTakenBefore}
+use Rattle.kc_table.specs.Sizes.{place_count}
 use Rattle.kc_table.specs.Slot.{key_in}
 use Rattle.kc_table.proofs.Places.{place_step}
 
+-- A walk over the places of a key: its next place is the i-th, it stands at the one before, and the count of slot reads
+-- has come from `begun` to `count`.
+pub record Walk : Type 0 where
+  pub log : ℕ
+  pub tag : ℕ → ℕ
+  pub key : ℕ
+  pub i : ℕ
+  pub stand : ℕ
+  pub begun : ℕ
+  pub count : ℕ
+
 -- the first i places are taken by others, the walk stands at the last of them, and each was read once
-pub record IsWalked (log : ℕ) (tag : ℕ → ℕ) (key i stand begun count : ℕ) : Type 0 where
-  pub here : stand ≡ place key (i - 1) log
-  pub taken : (j : ℕ) → j < i → IsTaken log tag key j
-  pub counted : count ≤ begun + i
+pub record IsWalked (w : Walk) : Type 0 where
+  pub here : w.stand ≡ place w.key (w.i - 1) w.log
+  pub taken : AreTakenBefore w.log w.tag w.key w.i
+  pub counted : w.count ≡ w.begun + w.i
+
+-- the next place, the tag read there, the key's own tag there, and the count of slot reads after it
+pub record Look : Type 0 where
+  pub next : ℕ
+  pub read : ℕ
+  pub wanted : ℕ
+  pub after : ℕ
+
+pub record IsLook (w : Walk) (l : Look) : Type 0 where
+  pub small : w.i < place_count
+  pub here : l.next ≡ place w.key w.i w.log
+  pub read_is : l.read ≡ w.tag l.next
+  pub wanted_is : l.wanted ≡ tag_of w.log w.key w.i
+  pub step : l.after ≡ w.count + 1
 
 masked : (log n mask : ℕ) → mask ≡ 2 ^ log - 1 → bit_and n mask ≡ n % 2 ^ log
 masked log n mask is = ap (bit_and n) is ∙ and_mask n log
@@ -19,42 +45,50 @@ masked log n mask is = ap (bit_and n) is ∙ and_mask n log
 pub next_place : (log key i stand mask : ℕ) → mask ≡ 2 ^ log - 1 → stand ≡ place key (i - 1) log → bit_and (stand + i) mask ≡ place key i log
 next_place log key i stand mask is here = masked log (stand + i) mask is ∙ ap (λ n. (n + i) % 2 ^ log) here ∙ place_step key i log
 
-pub walked_none : (log : ℕ) (tag : ℕ → ℕ) (key mask begun : ℕ) → mask ≡ 2 ^ log - 1 → IsWalked log tag key 0 (bit_and key mask) begun begun
+pub walked_none : (log : ℕ) (tag : ℕ → ℕ) (key mask begun : ℕ) → mask ≡ 2 ^ log - 1
+    → IsWalked (record { log = log; tag = tag; key = key; i = 0; stand = bit_and key mask; begun = begun; count = begun })
 walked_none log tag key mask begun is = record {
   here = masked log key mask is ∙ sym (ap (λ n. n % 2 ^ log) (add-zero (key % 2 ^ log)) ∙ mod-mod key (2 ^ log));
   taken = λ j none. absurd (omega arith);
   counted = omega arith;
 }
 
-pub walked_more : (log : ℕ) (tag : ℕ → ℕ) (key i stand begun count next read wanted after : ℕ) → IsWalked log tag key i stand begun count
-    → next ≡ place key i log → read ≡ tag next → read ≢ wanted → read ≢ 0 → wanted ≡ tag_of log key i → after ≡ count + 1 → IsWalked log tag key (i + 1) next begun after
-walked_more log tag key i stand begun count next read wanted after walked here is other some want step = record {
-  here = let back : i + 1 - 1 ≡ i = omega arith in here ∙ ap (λ n. place key n log) (sym back);
-  taken = λ j below. elim (cases_lt j i) [
-    | inl before ↦ walked.taken j before
-    | inr past ↦
-        let last : i ≡ j = omega arith in
-        subst (IsTaken log tag key) last (record {
-          some = λ none. some (is ∙ ap tag here ∙ none);
-          other = λ same. other (is ∙ ap tag here ∙ same ∙ sym want);
-        })
-  ];
-  counted = let so_far : count ≤ begun + i = walked.counted in omega arith;
-}
+module _ (w : Walk) (l : Look) (walked : IsWalked w) (look : IsLook w l) where
+  -- the place is taken by another key
+  pub walked_more : l.read ≢ l.wanted → l.read ≢ 0
+      → IsWalked (record { log = w.log; tag = w.tag; key = w.key; i = w.i + 1; stand = l.next; begun = w.begun; count = l.after })
+  walked_more other some = record {
+    here = let back : w.i + 1 - 1 ≡ w.i = omega arith in look.here ∙ ap (λ n. place w.key n w.log) (sym back);
+    taken = λ j below. elim (cases_lt j w.i) [
+      | inl before ↦ walked.taken j before
+      | inr past ↦
+          let last : w.i ≡ j = omega arith in
+          subst (IsTaken w.log w.tag w.key) last (record {
+            some = λ none. some (look.read_is ∙ ap w.tag look.here ∙ none);
+            other = λ same. other (look.read_is ∙ ap w.tag look.here ∙ same ∙ sym look.wanted_is);
+          })
+    ];
+    counted = let so_far : w.count ≡ w.begun + w.i = walked.counted in let step : l.after ≡ w.count + 1 = look.step in omega arith;
+  }
 
-pub walked_found : (log : ℕ) (tag : ℕ → ℕ) (key i next read wanted : ℕ) → i < 63 → next ≡ place key i log → read ≡ tag next → read ≡ wanted → wanted ≡ tag_of log key i → IsFound log tag key next
-walked_found log tag key i next read wanted small here is same want = record { reprobe = i; small = small; here = here; is = sym is ∙ same ∙ want }
+  reads : l.after - w.begun ≡ w.i + 1
+  reads = let so_far : w.count ≡ w.begun + w.i = walked.counted in let step : l.after ≡ w.count + 1 = look.step in omega arith
 
-pub walked_free : (log : ℕ) (tag : ℕ → ℕ) (key i stand begun count next read wanted : ℕ) → IsWalked log tag key i stand begun count
-    → i < 63 → next ≡ place key i log → read ≡ tag next → read ≡ 0 → wanted ≡ tag_of log key i → IsFree log tag key next wanted
-walked_free log tag key i stand begun count next read wanted walked small here is none want = record {
-  reprobe = i;
-  small = small;
-  here = here;
-  is = want;
-  empty = sym is ∙ none;
-  before = walked.taken;
-}
+  -- the key stands there
+  pub walked_found : l.read ≡ l.wanted
+      → (found : IsFound w.log w.tag w.key l.next) × AreTakenBefore w.log w.tag w.key found.reprobe × (l.after - w.begun ≡ found.reprobe + 1)
+  walked_found same = (
+    record { reprobe = w.i; small = look.small; here = look.here; is = sym look.read_is ∙ same ∙ look.wanted_is },
+    walked.taken,
+    reads,
+  )
+
+  -- the place is empty
+  pub walked_free : l.read ≡ 0 → (free : IsFree w.log w.tag w.key l.next l.wanted) × (l.after - w.begun ≡ free.reprobe + 1)
+  walked_free none = (
+    record { reprobe = w.i; small = look.small; here = look.here; is = look.wanted_is; empty = sym look.read_is ∙ none; before = walked.taken },
+    reads,
+  )
 
 triangle-le : (tag : ℕ) → triangle (reprobe_of tag) ≤ 1953
 triangle-le tag =

@@ -123,6 +123,11 @@ module _ {bits log : ℕ} {tag : ℕ → ℕ} (sound : IsSound bits log tag) (ke
     reached = λ s j some. by_slot (λ s t. j < reprobe_of t → after (place (key_in log s t) j log) ≢ 0)
         (λ under. subst (λ k. after (place k j log) ≢ 0) (sym here_key) (keeps (place key j log) (free.before j (subst (λ n. j < n) here_reprobe under)).some))
         (λ s apart old under. keeps (place (key_in log s (tag s)) j log) (sound.reached s j old under)) s some;
+    first = λ s j some. by_slot (λ s t. j < reprobe_of t → place (key_in log s t) j log ≢ s)
+        (λ under same.
+        let before = free.before j (subst (λ n. j < n) here_reprobe under) in
+        before.some (ap tag (ap (λ k. place k j log) (sym here_key) ∙ same) ∙ free.empty))
+        (λ s apart old. sound.first s j old) s some;
     apart = λ s t some_s some_t same. elim (cases_eq s slot) [
       | inl at_s ↦ elim (cases_eq t slot) [ inl at_t ↦ at_s ∙ sym at_t | inr off_t ↦ absurd (not_elsewhere t off_t some_t (sym same ∙ ap (λ x. key_in log x (after x)) at_s ∙ here_key)) ]
       | inr off_s ↦ elim (cases_eq t slot) [

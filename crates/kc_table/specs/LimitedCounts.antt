@@ -17,10 +17,15 @@ pub record Limited : Type 0 where
 -- it is stored as the tuple of its fields
 abbrev pub limited_code : Coded Limited
 limited_code =
-    code_by (ℕ × (KeyCounts × (ℕ × TableFault))) (coded× coded_ℕ (coded× (code coded_ℕ coded_ℕ) (coded× coded_ℕ the_row.coded)))
+    code_by (ℕ × (KeyCounts × (ℕ × TableFault)))
+    (coded× coded_ℕ (coded× (code coded_ℕ coded_ℕ) (coded× coded_ℕ the_row.coded)))
     (λ t. (t.bits, (t.counts, (t.limit, t.refusal))))
     (λ p. record { bits = p.0; counts = p.1.0; limit = p.1.1.0; refusal = p.1.1.1 }) (λ _. refl)
 
--- a new key, where the map has as many keys as the table takes and the answer chosen is `Full`
+-- a new key, where the map has as many keys as the table takes
+abbrev pub HasReachedLimit : Limited → KeyCounts → ℕ → Type 0
+HasReachedLimit table counts key = (table.limit ≤ len counts) × (get counts key ≡ None)
+
+-- and where the answer chosen is `Full`
 abbrev pub IsAtLimit : Limited → KeyCounts → ℕ → Type 0
-IsAtLimit table counts key = (table.refusal ≡ Full) × (table.limit ≤ len counts) × (get counts key ≡ None)
+IsAtLimit table counts key = (table.refusal ≡ Full) × HasReachedLimit table counts key

@@ -1,9 +1,12 @@
--- What `QuotientTable` is seen as, and when it may answer that it is full.
-use Rattle.std.specs.Prelude.{◌≡◌, ◌≢◌, refl, ℕ, ◌<◌, ◌≤◌, ◌⊎◌, List, [], ◌∷◌, Option, Some, None, slice_get}
-use Rattle.std.specs.List.{filter_map}
+-- What `QuotientTable` is seen as, how far a key is looked for, when the table grows, and when it may answer that it is
+-- full.
+use Rattle.std.specs.Prelude.{◌≡◌, ◌≢◌, refl, ℕ, ◌+◌, ◌*◌, ◌^◌, ◌<◌, ◌≤◌, ◌==◌, ◌⊎◌, Bool, true, ◌&&◌, not, min}
+use Rattle.std.specs.Prelude.{List, [], ◌∷◌, All, Option, Some, None, length, map, slice_get, slice_index}
+use Rattle.std.specs.List.{filter_map, range_with_len, list_all, list_any}
 use Rattle.std.specs.FinMap.{from_entries}
 use Rattle.kc_table.specs.Counts.{KeyCounts, IsStored}
-use Rattle.kc_table.specs.Reprobing.{place, IsPlaceOf}
+use Rattle.kc_table.specs.Reprobing.{place}
+use Rattle.kc_table.specs.Sizes.{place_count, spread_log, most_log}
 
 -- What the slots of a table hold, in order: nothing, or a key and its count.
 abbrev pub SlotList : Type 0
@@ -35,29 +38,83 @@ Holds slots index key count = slice_get slots index ≡ Some (Some (key, count))
 abbrev pub HoldsKey : SlotList → ℕ → ℕ → Type 0
 HoldsKey slots index key = (count : ℕ) × Holds slots index key count
 
--- A key is crowded where there are 63 different stored keys, none of them the key itself, the i-th of which
--- has the key's place i among its own places.
-pub record IsCrowded (counts : KeyCounts) (log key : ℕ) : Type 0 where
-  pub keys : ℕ → ℕ
-  pub stored : (i : ℕ) → i < 63 → IsStored counts (keys i)
-  pub others : (i : ℕ) → i < 63 → keys i ≢ key
-  pub different : (i j : ℕ) → i < 63 → j < 63 → keys i ≡ keys j → i ≡ j
-  pub meeting : (i : ℕ) → i < 63 → IsPlaceOf log (keys i) (place key i log)
+-- each of the key's first n places holds another key
+abbrev pub AreTaken : Table → ℕ → ℕ → Type 0
+AreTaken table key n =
+    (i : ℕ) → i < n → (other : ℕ) × (other ≢ key) × HoldsKey table.slots (place key i table.log) other
+
+-- all places of the key hold other keys
+abbrev pub IsShutOut : Table → ℕ → Type 0
+IsShutOut table key = AreTaken table key place_count
+
+-- So many slots are read up to this one, where the key stands: the places before it hold other keys.
+abbrev pub IsFoundAfter : Table → ℕ → ℕ → ℕ → Type 0
+IsFoundAfter table key reads slot =
+    (i : ℕ) × (i < place_count) × (slot ≡ place key i table.log) × AreTaken table key i × (reads ≡ i + 1)
+
+-- nothing stands in the slot at this index
+abbrev pub IsEmptyAt : SlotList → ℕ → Type 0
+IsEmptyAt slots index = slice_get slots index ≡ Some None
+
+-- So many slots are read for a key that is not stored: the places that hold other keys and the empty one behind them,
+-- or all places, which hold other keys.
+abbrev pub IsMissedAfter : Table → ℕ → ℕ → Type 0
+IsMissedAfter table key reads =
+    ((i : ℕ) × (i < place_count) × IsEmptyAt table.slots (place key i table.log) × AreTaken table key i
+    × (reads ≡ i + 1))
+    ⊎ (IsShutOut table key × (reads ≡ place_count))
+
+-- how many places of a key differ: as many as it has, and in a smaller table one for each slot
+abbrev pub different_places : ℕ → ℕ
+different_places log = min place_count (2 ^ log)
+
+-- whether slot is one of the key's places
+abbrev pub is_place_of : ℕ → ℕ → ℕ → Bool
+is_place_of log key slot = list_any (λ i. slot == place key i log) (range_with_len 0 place_count)
+
+-- whether no two of the numbers are one
+abbrev pub are_different : List ℕ → Bool
+are_different [] = true
+are_different (n ∷ ns) = list_all (λ m. not (n == m)) ns && are_different ns
+
+-- Other keys can take all places of a key in a table of 2 ^ log slots: none of them is the key itself, they differ, are
+-- as many as its places that differ, and the i-th of them has the key's place i among its own places.
+pub record IsCrowdOf (log key : ℕ) (others : List ℕ) : Type 0 where
+  pub not_the_key : list_all (λ other. not (other == key)) others ≡ true
+  pub different : are_different others ≡ true
+  pub as_many : length others ≡ different_places log
+  pub meeting :
+      list_all (λ i. is_place_of log (slice_index others i) (place key i log)) (range_with_len 0 (length others)) ≡ true
+
+-- in a table of 256 slots, 63 keys of the home 5 are a crowd of a further one
+crowd_row : IsCrowdOf 8 (256 * 63 + 5) (map (λ j. 256 * j + 5) (range_with_len 0 63))
+crowd_row = record { not_the_key = refl; different = refl; as_many = refl; meeting = refl }
+
+-- and in a table of 4 slots, all whose keys are a crowd of any other
+small_crowd_row : IsCrowdOf 2 7 (3 ∷ 0 ∷ 2 ∷ 1 ∷ [])
+small_crowd_row = record { not_the_key = refl; different = refl; as_many = refl; meeting = refl }
+
+-- a key is crowded where a crowd of it is stored
+abbrev pub IsCrowded : KeyCounts → ℕ → ℕ → Type 0
+IsCrowded counts log key = (others : List ℕ) × IsCrowdOf log key others × All (IsStored counts) others
 
 -- A stored key is crowded in a table of 2 ^ log slots.
 abbrev pub HasStoredCrowd : ℕ → KeyCounts → Type 0
 HasStoredCrowd log counts = (key : ℕ) × IsStored counts key × IsCrowded counts log key
 
--- A table may be full only where it may not grow to a slot for each possible key, and the asked key or a stored one is
--- crowded at the size to which it may grow.
+-- A table of 2 ^ log slots may be too small for the stored keys and this one: there is not a slot for each possible key
+-- of so many bits, and this key or a stored one is crowded.
+abbrev pub MayBeTooSmall : ℕ → ℕ → KeyCounts → ℕ → Type 0
+MayBeTooSmall bits log counts key = (log < bits) × (IsCrowded counts log key ⊎ HasStoredCrowd log counts)
+
+-- A table may be full only where it may not grow to a size that is surely large enough.
 abbrev pub MayBeFull : Table → KeyCounts → ℕ → Type 0
-MayBeFull table counts key =
-    (table.max_log < table.bits) × (IsCrowded counts table.max_log key ⊎ HasStoredCrowd table.max_log counts)
+MayBeFull table counts key = MayBeTooSmall table.bits table.max_log counts key
 
 -- A table of 2 ^ log slots may grow to 2 ^ max_log, and no wider than a slot for each possible key. Where it may not
--- grow so far, it may grow to at least 64 slots, so that a key's places differ.
+-- grow so far, it may grow to so many slots that a key's places differ.
 pub record IsWithinLimits (bits log max_log : ℕ) : Type 0 where
   pub larger : log ≤ max_log
-  pub few_slots : max_log ≤ 40
+  pub few_slots : max_log ≤ most_log
   pub no_wider : max_log ≤ bits
-  pub enough_places : max_log < bits → 6 ≤ max_log
+  pub enough_places : max_log < bits → spread_log ≤ max_log

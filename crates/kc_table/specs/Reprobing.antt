@@ -3,13 +3,14 @@
 use Rattle.std.specs.Prelude.{◌≡◌, ◌≢◌, refl, ℕ, ◌+◌, ◌-◌, ◌*◌, ◌/◌, ◌%◌, ◌^◌, ◌<◌}
 use Rattle.kc_table.specs.declared.reprobing.Reprobing.{Reprobing}
 use Rattle.kc_table.specs.declared.reprobing.Reprobing.TheVariants.{Found, Free, Crowded}
+use Rattle.kc_table.specs.Sizes.{place_count, tag_step}
 
 -- the sum of the numbers up to i
 abbrev pub triangle : ℕ → ℕ
 triangle i = i * (i + 1) / 2
 
--- A key's home is its low bits. Its place i, for i from 0 to 62, is as far behind its home as the numbers up to i
--- add up to, and round the end of the table.
+-- A key's home is its low bits. Its place i is as far behind its home as the numbers up to i add up to, and round the
+-- end of the table.
 abbrev pub place : ℕ → ℕ → ℕ → ℕ
 place key i log = (key % 2 ^ log + triangle i) % 2 ^ log
 
@@ -19,16 +20,15 @@ place_rows = (refl, refl, refl, refl)
 
 -- slot is one of the key's places
 abbrev pub IsPlaceOf : ℕ → ℕ → ℕ → Type 0
-IsPlaceOf log key slot = (i : ℕ) × (i < 63) × (slot ≡ place key i log)
+IsPlaceOf log key slot = (i : ℕ) × (i < place_count) × (slot ≡ place key i log)
 
--- A slot's tag is 0 where it is empty, and else its key's remainder times 64 and one more than the number of reprobes.
--- Here is the tag of a key at its place i.
+-- the tag of a key at its place i; the tag of an empty slot is 0
 abbrev pub tag_of : ℕ → ℕ → ℕ → ℕ
-tag_of log key i = key / 2 ^ log * 64 + (i + 1)
+tag_of log key i = key / 2 ^ log * tag_step + (i + 1)
 
--- which of its places the key stands at
+-- which of its places the key with this tag stands at
 abbrev pub reprobe_of : ℕ → ℕ
-reprobe_of tag = tag % 64 - 1
+reprobe_of tag = tag % tag_step - 1
 
 -- the key's place j holds another key
 pub record IsTaken (log : ℕ) (tag : ℕ → ℕ) (key j : ℕ) : Type 0 where
@@ -38,25 +38,30 @@ pub record IsTaken (log : ℕ) (tag : ℕ → ℕ) (key j : ℕ) : Type 0 where
 -- the key stands in this slot
 pub record IsFound (log : ℕ) (tag : ℕ → ℕ) (key slot : ℕ) : Type 0 where
   pub reprobe : ℕ
-  pub small : reprobe < 63
+  pub small : reprobe < place_count
   pub here : slot ≡ place key reprobe log
   pub is : tag slot ≡ tag_of log key reprobe
 
 -- the key's first place that is not taken is this empty slot, and `new` is the key's tag there
 pub record IsFree (log : ℕ) (tag : ℕ → ℕ) (key slot new : ℕ) : Type 0 where
   pub reprobe : ℕ
-  pub small : reprobe < 63
+  pub small : reprobe < place_count
   pub here : slot ≡ place key reprobe log
   pub is : new ≡ tag_of log key reprobe
   pub empty : tag slot ≡ 0
   pub before : (j : ℕ) → j < reprobe → IsTaken log tag key j
 
+-- the key's first n places are taken
+abbrev pub AreTakenBefore : ℕ → (ℕ → ℕ) → ℕ → ℕ → Type 0
+AreTakenBefore log tag key n = (j : ℕ) → j < n → IsTaken log tag key j
+
 -- all places of the key are taken
 abbrev pub IsOut : ℕ → (ℕ → ℕ) → ℕ → Type 0
-IsOut log tag key = (j : ℕ) → j < 63 → IsTaken log tag key j
+IsOut log tag key = AreTakenBefore log tag key place_count
 
--- what was found at the key's places
-abbrev pub IsReprobing : ℕ → (ℕ → ℕ) → ℕ → Reprobing → Type 0
-IsReprobing log tag key (Found place) = IsFound log tag key place
-IsReprobing log tag key (Free place new) = IsFree log tag key place new
-IsReprobing log tag key Crowded = IsOut log tag key
+-- what was found at the key's places after so many of them were read
+abbrev pub IsReprobing : ℕ → (ℕ → ℕ) → ℕ → ℕ → Reprobing → Type 0
+IsReprobing log tag key reads (Found place) =
+    (found : IsFound log tag key place) × AreTakenBefore log tag key found.reprobe × (reads ≡ found.reprobe + 1)
+IsReprobing log tag key reads (Free place new) = (free : IsFree log tag key place new) × (reads ≡ free.reprobe + 1)
+IsReprobing log tag key reads Crowded = IsOut log tag key × (reads ≡ place_count)

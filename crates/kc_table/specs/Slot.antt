@@ -1,17 +1,20 @@
 -- What the slots of a table hold, and what their tags keep.
-use Rattle.std.specs.Prelude.{◌≡◌, ◌≢◌, refl, ℕ, ◌+◌, ◌-◌, ◌*◌, ◌/◌, ◌%◌, ◌^◌, ◌<◌, ◌≤◌, ◌==◌, if◌then◌else◌, List, [], ◌∷◌, Option, Some, None, slice_index_or}
+use Rattle.std.specs.Prelude.{◌≡◌, ◌≢◌, refl, ℕ, ◌+◌, ◌-◌, ◌*◌, ◌/◌, ◌%◌, ◌^◌, ◌<◌, ◌≤◌, ◌==◌}
+use Rattle.std.specs.Prelude.{if◌then◌else◌, List, [], ◌∷◌, Option, Some, None, slice_index_or}
 use Rattle.kc_table.specs.declared.slots.Slot.{Slot}
 use Rattle.kc_table.specs.Counts.{KeyCounts}
 use Rattle.kc_table.specs.QuotientTable.{SlotList, counts_in}
 use Rattle.kc_table.specs.Reprobing.{triangle, place, reprobe_of, tag_of}
+use Rattle.kc_table.specs.Sizes.{tag_step, most_bits, most_log, remainder_bits}
 
 -- The key in a slot: its remainder, and the home that has this slot for that place. So the low bits of a key are not
 -- stored (Marçais and Kingsford 2011).
 abbrev pub key_in : ℕ → ℕ → ℕ → ℕ
-key_in log index tag = tag / 64 * 2 ^ log + (index + (2 ^ log - 1) * triangle (reprobe_of tag)) % 2 ^ log
+key_in log index tag = tag / tag_step * 2 ^ log + (index + (2 ^ log - 1) * triangle (reprobe_of tag)) % 2 ^ log
 
 -- the key 773 in a table of 256 slots, at its place 3: the tag in its slot, and the key found from both
-slot_rows : (tag_of 8 773 3 ≡ 196) × (reprobe_of 196 ≡ 3) × (key_in 8 11 196 ≡ 773) × (key_in 8 2 (tag_of 8 255 2) ≡ 255)
+slot_rows :
+    (tag_of 8 773 3 ≡ 196) × (reprobe_of 196 ≡ 3) × (key_in 8 11 196 ≡ 773) × (key_in 8 2 (tag_of 8 255 2) ≡ 255)
 slot_rows = (refl, refl, refl, refl)
 
 abbrev pub empty_slot : Slot
@@ -41,16 +44,17 @@ abbrev pub counts_of : ℕ → List Slot → KeyCounts
 counts_of log slots = counts_in (contents_of log slots)
 
 -- The tags of a table of 2 ^ log slots for keys of so many bits. A tag that is not 0 has a reprobe number and a
--- remainder that fits; a key stands behind places that are all taken; no two slots give one key; and where there is a
--- slot for each possible key, each stands at its home.
+-- remainder that fits; a key stands behind places that are all taken, and that are not its slot; no two slots give one
+-- key; and where there is a slot for each possible key, each stands at its home.
 pub record IsSound (bits log : ℕ) (tag : ℕ → ℕ) : Type 0 where
-  pub few_bits : bits ≤ 62
-  pub few_slots : log ≤ 40
+  pub few_bits : bits ≤ most_bits
+  pub few_slots : log ≤ most_log
   pub no_wider : log ≤ bits
-  pub remainder_fits : bits ≤ log + 58
+  pub remainder_fits : bits ≤ log + remainder_bits
   pub inside : (s : ℕ) → tag s ≢ 0 → s < 2 ^ log
-  pub probed : (s : ℕ) → tag s ≢ 0 → 1 ≤ tag s % 64
-  pub short : (s : ℕ) → tag s ≢ 0 → tag s / 64 < 2 ^ (bits - log)
+  pub probed : (s : ℕ) → tag s ≢ 0 → 1 ≤ tag s % tag_step
+  pub short : (s : ℕ) → tag s ≢ 0 → tag s / tag_step < 2 ^ (bits - log)
   pub reached : (s j : ℕ) → tag s ≢ 0 → j < reprobe_of (tag s) → tag (place (key_in log s (tag s)) j log) ≢ 0
+  pub first : (s j : ℕ) → tag s ≢ 0 → j < reprobe_of (tag s) → place (key_in log s (tag s)) j log ≢ s
   pub apart : (s t : ℕ) → tag s ≢ 0 → tag t ≢ 0 → key_in log s (tag s) ≡ key_in log t (tag t) → s ≡ t
   pub at_home : log ≡ bits → (s : ℕ) → tag s ≢ 0 → reprobe_of (tag s) ≡ 0

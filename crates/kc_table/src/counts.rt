@@ -1,5 +1,6 @@
 //! The trait of the tables.
-ghost use Rattle.std.specs.Prelude.{◌≡◌, ℕ, ◌+◌, ◌<◌, ◌≤◌, ◌^◌, ◌↔◌, OnOk, OnErr, IfOk, All};
+ghost use Rattle.std.specs.Prelude.{◌≡◌, ℕ, ◌+◌, ◌<◌, ◌≤◌, ◌^◌, ◌↔◌, OnOk, OnErr, IsOk, IfOk, All};
+ghost use Rattle.kc_table.specs.Sizes.{most_bits, count_bits};
 ghost use Rattle.kc_table.specs.Counts.{KeyCounts, IsStored, IsWithin, count_at, readied, added, AreRowsOf};
 
 use crate::fault::TableFault;
@@ -18,13 +19,14 @@ pub trait Counts {
     /// The number of bits of the keys.
     fn key_bits(&self) -> u32
         ensures bits { result ≡ bits self.now }
-        ensures few { result ≤ 62 }
+        ensures few { result ≤ most_bits }
         ensures within { IsWithin result (counts self.now) };
 
-    /// Stores the key, with the count 0 where it was not stored. `Full` comes only where the
-    /// type's `may_be_full` allows it, and `Memory` where a growth was refused.
+    /// Stores the key, with the count 0 where it was not stored; a stored key is never refused. `Full` comes only
+    /// where the type's `may_be_full` allows it, and `Memory` where a growth was refused.
     fn ready(&mut self, key: u64) -> Result<(), TableFault>
         requires { key < 2 ^ bits self.old }
+        ensures known { IsStored (counts self.old) key → IsOk result }
         ensures stored { OnOk result (counts self.new ≡ readied (counts self.old) key) }
         ensures refused { OnErr result (counts self.new ≡ counts self.old) }
         ensures full_only_there { result ≡ Err TableFault.Full → may_be_full self.old (counts self.old) key }
@@ -35,7 +37,7 @@ pub trait Counts {
     fn add(&mut self, key: u64)
         requires in_range { key < 2 ^ bits self.old }
         requires stored { IsStored (counts self.old) key }
-        requires room { count_at (counts self.old) key < 2 ^ 62 }
+        requires room { count_at (counts self.old) key < 2 ^ count_bits }
         ensures counted { counts self.new ≡ added (counts self.old) key }
         ensures same_bits { bits self.new ≡ bits self.old }
         ensures same_limits { (m : KeyCounts) (q : ℕ) → may_be_full self.new m q ↔ may_be_full self.old m q };
@@ -44,7 +46,7 @@ pub trait Counts {
     fn increment(&mut self, key: u64) -> u64
         requires in_range { key < 2 ^ bits self.old }
         requires stored { IsStored (counts self.old) key }
-        requires room { count_at (counts self.old) key < 2 ^ 62 }
+        requires room { count_at (counts self.old) key < 2 ^ count_bits }
         ensures told { result ≡ count_at (counts self.old) key + 1 }
         ensures counted { counts self.new ≡ added (counts self.old) key }
         ensures same_bits { bits self.new ≡ bits self.old }

@@ -4,7 +4,7 @@ use thiserror::Error;
 /// Why `ready` was refused. Both leave the map as it was.
 #[derive(Clone, Copy, Debug, Drop, Eq, Error, PartialEq)]
 pub enum TableFault {
-    /// The table has no place for the key, and may not grow.
+    /// All places of a key are taken, and the table may not grow.
     #[error("the table is full")]
     Full,
     /// A growth was refused.

@@ -1,7 +1,9 @@
 //! A map that takes so many keys and no more, for tests.
-ghost use Rattle.std.specs.Prelude.{◌≡◌, ◌≤◌};
+ghost use Rattle.std.specs.Prelude.{◌≡◌, ℕ, ◌<◌, ◌≤◌, ◌^◌, ◌↔◌, IsOk, OnOk, OnErr};
 ghost use Rattle.std.specs.FinMap as map;
-ghost use Rattle.kc_table.specs.LimitedCounts.{Limited, IsAtLimit};
+ghost use Rattle.kc_table.specs.Counts.{KeyCounts, IsStored, readied};
+ghost use Rattle.kc_table.specs.LimitedCounts.{Limited, HasReachedLimit, IsAtLimit};
+ghost use Rattle.kc_table.specs.Sizes.{most_bits};
 
 use crate::counts::Counts;
 use crate::fault::TableFault;
@@ -35,7 +37,7 @@ impl Model for LimitedCounts {
 impl LimitedCounts {
     /// An empty map whose keys have this number of bits, for so many keys.
     pub fn new(alloc: Global, bits: u32, limit: u64, refusal: TableFault) -> Self
-        requires { bits ≤ 62 }
+        requires { bits ≤ most_bits }
         ensures { result ≡ record { bits = bits; counts = map.empty; limit = limit; refusal = refusal } }
     {
         LimitedCounts {
@@ -58,7 +60,19 @@ impl Counts for LimitedCounts {
         self.plain.key_bits()
     }
 
-    fn ready(&mut self, key: u64) -> Result<(), TableFault> {
+    /// Stores the key, as the trait says. Where the map has as many keys as it takes, a new key is refused.
+    fn ready(&mut self, key: u64) -> Result<(), TableFault>
+        requires { key < 2 ^ self.old.bits }
+        ensures known { IsStored self.old.counts key → IsOk result }
+        ensures stored { OnOk result (self.new.counts ≡ readied self.old.counts key) }
+        ensures refused { OnErr result (self.new.counts ≡ self.old.counts) }
+        ensures full { result ≡ Err TableFault.Full ↔ IsAtLimit self.old self.old.counts key }
+        ensures reached { HasReachedLimit self.old self.old.counts key → result ≡ Err self.old.refusal }
+        ensures same_bits { self.new.bits ≡ self.old.bits }
+        ensures same_limit { self.new.limit ≡ self.old.limit }
+        ensures same_refusal { self.new.refusal ≡ self.old.refusal }
+        ensures same_limits { (m : KeyCounts) (q : ℕ) → IsAtLimit self.new m q ↔ IsAtLimit self.old m q }
+    {
         if self.plain.is_stored(key) {
             return Ok(());
         }

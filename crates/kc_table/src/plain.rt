@@ -4,6 +4,7 @@ ghost use Rattle.std.specs.Ordering.{nat_cmp};
 ghost use Rattle.std.specs.BTreeMap.{IsOrdered};
 ghost use Rattle.std.specs.FinMap as map;
 ghost use Rattle.kc_table.specs.PlainCounts.{Plain};
+ghost use Rattle.kc_table.specs.Sizes.{most_bits};
 
 use crate::counts::Counts;
 use crate::fault::TableFault;
@@ -22,6 +23,7 @@ impl Model for PlainCounts {
     ghost use Rattle.std.specs.Prelude.{◌<◌, ◌^◌, ◌≤◌, ℕ};
     ghost use Rattle.kc_table.specs.Counts.{IsWithin};
     ghost use Rattle.kc_table.specs.PlainCounts.{Plain, plain_code};
+    ghost use Rattle.kc_table.specs.Sizes.{most_bits};
     ghost use Rattle.std.specs.FinMap.{from_entries};
 
     ghost Value = { Plain };
@@ -30,13 +32,13 @@ impl Model for PlainCounts {
 
     ghost view = { λ p. record { bits = p.bits; counts = from_entries p.map.entries } };
 
-    ghost invariant = { λ p. (p.bits ≤ 62) × IsWithin p.bits (from_entries p.map.entries) };
+    ghost invariant = { λ p. (p.bits ≤ most_bits) × IsWithin p.bits (from_entries p.map.entries) };
 }
 
 impl PlainCounts {
     /// An empty map whose keys have this number of bits.
     pub fn new(alloc: Global, bits: u32) -> Self
-        requires { bits ≤ 62 }
+        requires { bits ≤ most_bits }
         ensures { result ≡ record { bits = bits; counts = map.empty } }
     {
         PlainCounts {

@@ -1,20 +1,23 @@
 //! The hash table of remainders, which grows by doubling.
-ghost use Rattle.std.specs.Prelude.{◌≡◌, ℕ, ◌+◌, ◌<◌, ◌≤◌, ◌^◌, ◌↔◌, min, IfOk, IfSome, IsSome};
+ghost use Rattle.std.specs.Prelude.{◌≡◌, ℕ, ◌+◌, ◌-◌, ◌<◌, ◌≤◌, ◌^◌, ◌↔◌, min, true};
+ghost use Rattle.std.specs.Prelude.{IfOk, IfSome, IfNone, IsSome, IsOk, OnOk, OnErr};
 ghost use Rattle.std.specs.FinMap.{empty};
-ghost use Rattle.kc_table.specs.Counts.{IsStored};
-ghost use Rattle.kc_table.specs.QuotientTable.{Table, counts_in, MayBeFull, HoldsKey};
+ghost use Rattle.kc_table.specs.Counts.{KeyCounts, IsStored, readied};
+ghost use Rattle.kc_table.specs.QuotientTable.{Table, counts_in, HoldsKey, IsShutOut, IsFoundAfter, IsMissedAfter};
+ghost use Rattle.kc_table.specs.QuotientTable.{IsCrowded, MayBeTooSmall, MayBeFull};
 ghost use Rattle.kc_table.specs.Reprobing.{IsPlaceOf};
+ghost use Rattle.kc_table.specs.Sizes.{place_count, spread_log, most_bits, least_log, most_log};
 
 use crate::counts::Counts;
 use crate::fault::TableFault;
 use crate::reprobing::Reprobing;
 use crate::slots::Slots;
-use crate::steps::Steps;
+use kc_base::Counter;
 use std::alloc::{AllocError, Global};
 use std::marker::Model;
 
-/// The map as a table of 2^log slots, which grows up to 2^max_log. A slot holds a key's remainder and
-/// reprobe number in one word, and its count in another; the slot's place gives the rest of the key.
+/// The map as a table of 2^log slots, which grows up to 2^max_log. A slot holds a tag, which is a key's remainder and
+/// its number of reprobes, and the key's count; the slot's index gives the rest of the key.
 #[derive(Drop)]
 pub struct QuotientTable {
     alloc: Global,
@@ -46,11 +49,11 @@ impl QuotientTable {
         log: u32,
         max_log: u32,
     ) -> Result<QuotientTable, AllocError>
-        requires few_bits { bits ≤ 62 }
-        requires enough_slots { min 4 bits ≤ log }
+        requires few_bits { bits ≤ most_bits }
+        requires enough_slots { min least_log bits ≤ log }
         requires may_grow { log ≤ max_log }
-        requires enough_places { min 6 bits ≤ max_log }
-        requires few_slots { max_log ≤ min 40 bits }
+        requires enough_places { min spread_log bits ≤ max_log }
+        requires few_slots { max_log ≤ min most_log bits }
         ensures bits { IfOk result (λ t. t.bits ≡ bits) }
         ensures log { IfOk result (λ t. t.log ≡ log) }
         ensures max_log { IfOk result (λ t. t.max_log ≡ max_log) }
@@ -71,15 +74,18 @@ impl QuotientTable {
         self.slots.log
     }
 
-    /// The slot that holds the key, after at most 63 slot reads. It takes no memory.
+    /// The slot that holds the key. The key's places are read in their order, up to the one that holds it or is
+    /// empty, so at most 63 slots. It takes no memory.
     #[inline]
-    pub fn find(&self, key: u64, steps: &mut Steps) -> Option<u64>
+    pub fn find(&self, key: u64, steps: &mut Counter) -> Option<u64>
         requires { key < 2 ^ self.now.bits }
         ensures stored { IsSome result ↔ IsStored (counts_in self.now.slots) key }
         ensures slot { IfSome result (λ s. HoldsKey self.now.slots s key) }
         ensures place { IfSome result (λ s. IsPlaceOf self.now.log key s) }
         ensures home { self.now.log ≡ self.now.bits → IfSome result (λ s. s ≡ key) }
-        ensures reads { steps.new.count ≤ steps.old.count + 63 }
+        ensures found_after { IfSome result (IsFoundAfter self.now key (steps.new.count - steps.old.count)) }
+        ensures missed_after { IfNone result (IsMissedAfter self.now key (steps.new.count - steps.old.count)) }
+        ensures reads { steps.new.count ≤ steps.old.count + place_count }
     {
         match self.slots.reprobe(key, steps) {
             Reprobing::Found { place } => Some(place as u64),
@@ -100,9 +106,30 @@ impl Counts for QuotientTable {
         self.slots.bits
     }
 
+    /// Stores the key, as the trait says. The table grows only where other keys stand at all places of this one, and
+    /// then to the smallest size at which neither this key nor a stored one finds all its places taken.
     #[inline]
-    fn ready(&mut self, key: u64) -> Result<(), TableFault> {
-        match self.slots.reprobe(key, &mut Steps::new()) {
+    fn ready(&mut self, key: u64) -> Result<(), TableFault>
+        requires { key < 2 ^ self.old.bits }
+        ensures known { IsStored (counts_in self.old.slots) key → IsOk result }
+        ensures stored { OnOk result (counts_in self.new.slots ≡ readied (counts_in self.old.slots) key) }
+        ensures refused { OnErr result (counts_in self.new.slots ≡ counts_in self.old.slots) }
+        ensures full_only_there { result ≡ Err TableFault.Full → MayBeFull self.old (counts_in self.old.slots) key }
+        ensures same_bits { self.new.bits ≡ self.old.bits }
+        ensures same_limits { (m : KeyCounts) (q : ℕ) → MayBeFull self.new m q ↔ MayBeFull self.old m q }
+        ensures unchanged { OnErr result (self.new ≡ self.old) }
+        ensures untouched { IsStored (counts_in self.old.slots) key → self.new ≡ self.old }
+        ensures same_max_log { self.new.max_log ≡ self.old.max_log }
+        ensures within_max_log { self.new.log ≤ self.new.max_log }
+        ensures placed { ¬ IsShutOut self.old key → result ≡ Ok tt }
+        ensures stays { ¬ IsShutOut self.old key → self.new.log ≡ self.old.log }
+        ensures uncrowded { ¬ IsCrowded (counts_in self.old.slots) self.old.log key → self.new.log ≡ self.old.log }
+        ensures grown { OnOk result (IsShutOut self.old key → self.old.log < self.new.log) }
+        ensures never_smaller { self.old.log ≤ self.new.log }
+        ensures smallest { (log : ℕ) → self.old.log ≤ log → log < self.new.log
+            → MayBeTooSmall self.old.bits log (counts_in self.old.slots) key }
+    {
+        match self.slots.reprobe(key, &mut Counter::zero()) {
             Reprobing::Found { .. } => Ok(()),
             Reprobing::Free { place, tag } => {
                 self.slots.put(key, place, tag, 0);
@@ -122,7 +149,7 @@ impl Counts for QuotientTable {
 
     #[inline]
     fn increment(&mut self, key: u64) -> u64 {
-        match self.find(key, &mut Steps::new()) {
+        match self.find(key, &mut Counter::zero()) {
             Some(place) => self.slots.count(key, place as usize),
             None => unreachable!(),
         }
@@ -130,7 +157,7 @@ impl Counts for QuotientTable {
 
     #[inline]
     fn get(&self, key: u64) -> u64 {
-        match self.find(key, &mut Steps::new()) {
+        match self.find(key, &mut Counter::zero()) {
             Some(place) => self.slots.slots[place as usize].count,
             None => 0,
         }

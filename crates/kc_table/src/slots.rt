@@ -1,18 +1,20 @@
-//! A table of fixed size, whose slots hold a key's remainder, its reprobe number and its count.
-ghost use Rattle.std.specs.Prelude.{◌≡◌, ◌≢◌, ℕ, ◌+◌, ◌<◌, ◌≤◌, ◌^◌, length, true, false, None};
+//! A table of fixed size, whose slots hold a key's remainder, its number of reprobes and its count.
+ghost use Rattle.std.specs.Prelude.{◌≡◌, ◌≢◌, ℕ, ◌+◌, ◌-◌, ◌<◌, ◌≤◌, ◌^◌, length, true, false, None};
 ghost use Rattle.std.specs.Prelude.{IfOk, IfSome, IfNone, filter, nat_lt};
 ghost use Rattle.std.specs.FinMap.{empty, insert, get};
-ghost use Rattle.kc_table.specs.QuotientTable.{entries_in};
+ghost use Rattle.kc_table.specs.QuotientTable.{entries_in, HasStoredCrowd, MayBeTooSmall};
 ghost use Rattle.kc_table.specs.Reprobing.{IsFound, IsFree, IsOut, IsReprobing};
+ghost use Rattle.kc_table.specs.Sizes.{most_bits, most_log, remainder_bits, count_bits};
 ghost use Rattle.kc_table.specs.Slot.{key_in, IsSound, tag_at, contents_of};
 
 use crate::fault::TableFault;
 use crate::reprobing::Reprobing;
-use crate::steps::Steps;
+use crate::sizes::{PLACES, TAG_STEP};
+use kc_base::Counter;
 use std::alloc::{AllocError, Global};
 
-/// A slot. The tag is 0 where the slot is empty; else it is the key's remainder times 64 and one more
-/// than its reprobe number.
+/// A slot. The tag is 0 where the slot is empty; else it is the key's remainder times `TAG_STEP` and one more than
+/// its number of reprobes.
 #[derive(Clone, Copy)]
 pub(crate) struct Slot {
     pub tag: u64,
@@ -34,44 +36,44 @@ impl Slot {
 }
 
 impl Slots {
-    ghost use Rattle.kc_table.specs.Slots.{held, tags_of, slot_counts, IsTooSmall, IsTight};
+    ghost use Rattle.kc_table.specs.Slots.{key_counts, slot_tags, slot_counts};
 
     /// A table whose slots are empty.
     pub fn empty(alloc: Global, bits: u32, log: u32) -> Result<Slots, AllocError>
-        requires few_bits { bits ≤ 62 }
-        requires few_slots { log ≤ 40 }
+        requires few_bits { bits ≤ most_bits }
+        requires few_slots { log ≤ most_log }
         requires no_wider { log ≤ bits }
-        requires remainder_fits { bits ≤ log + 58 }
+        requires remainder_fits { bits ≤ log + remainder_bits }
         ensures bits { IfOk result (λ t. t.bits ≡ bits) }
         ensures log { IfOk result (λ t. t.log ≡ log) }
-        ensures empty { IfOk result (λ t. held t ≡ empty) }
+        ensures empty { IfOk result (λ t. key_counts t ≡ empty) }
     {
         let slots = vec![in alloc; Slot::EMPTY; 1 << log]?;
         Ok(Slots { bits, log, slots })
     }
 
+    /// The tag in a slot; the one way in which reprobing reads slots.
     #[inline(always)]
-    fn read(&self, place: usize, steps: &mut Steps) -> u64
-        requires { place < 2 ^ self.now.log }
-        ensures tag { result ≡ tags_of self.now place }
+    fn read(&self, index: usize, steps: &mut Counter) -> u64
+        requires { index < 2 ^ self.now.log }
+        ensures tag { result ≡ slot_tags self.now index }
         ensures counted { steps.new.count ≡ steps.old.count + 1 }
     {
         steps.tick();
-        self.slots[place].tag
+        self.slots[index].tag
     }
 
     /// Walks over the key's places up to the key itself or a free one. A slot is never emptied, so
     /// the key stands behind no free place.
     #[inline(always)]
-    pub fn reprobe(&self, key: u64, steps: &mut Steps) -> Reprobing
+    pub fn reprobe(&self, key: u64, steps: &mut Counter) -> Reprobing
         requires { key < 2 ^ self.now.bits }
-        ensures probed { IsReprobing self.now.log (tags_of self.now) key result }
-        ensures steps { steps.new.count ≤ steps.old.count + 63 }
+        ensures { IsReprobing self.now.log (slot_tags self.now) key (steps.new.count - steps.old.count) result }
     {
         let mask = self.slots.len() - 1;
-        let remainder = (key >> self.log) * 64;
+        let remainder = (key >> self.log) * TAG_STEP;
         let mut place = key as usize & mask;
-        for i in 0..63 {
+        for i in 0..PLACES {
             place = (place + i) & mask;
             let wanted = remainder + (i as u64 + 1);
             let tag = self.read(place, steps);
@@ -89,10 +91,10 @@ impl Slots {
     #[inline(always)]
     pub fn put(&mut self, key: u64, place: usize, tag: u64, count: u64)
         requires in_range { key < 2 ^ self.old.bits }
-        requires free { IsFree self.old.log (tags_of self.old) key place tag }
+        requires free { IsFree self.old.log (slot_tags self.old) key place tag }
         ensures bits { self.new.bits ≡ self.old.bits }
         ensures log { self.new.log ≡ self.old.log }
-        ensures put { held self.new ≡ insert (held self.old) key count }
+        ensures put { key_counts self.new ≡ insert (key_counts self.old) key count }
     {
         self.slots[place] = Slot { tag, count };
     }
@@ -100,12 +102,12 @@ impl Slots {
     /// Adds one to the count of the key in this slot, and tells the new count.
     #[inline(always)]
     pub fn count(&mut self, key: u64, place: usize) -> u64
-        requires found { IsFound self.old.log (tags_of self.old) key place }
-        requires room { slot_counts self.old place < 2 ^ 62 }
+        requires found { IsFound self.old.log (slot_tags self.old) key place }
+        requires room { slot_counts self.old place < 2 ^ count_bits }
         ensures bits { self.new.bits ≡ self.old.bits }
         ensures log { self.new.log ≡ self.old.log }
         ensures told { result ≡ slot_counts self.old place + 1 }
-        ensures counted { held self.new ≡ insert (held self.old) key (slot_counts self.old place + 1) }
+        ensures counted { key_counts self.new ≡ insert (key_counts self.old) key (slot_counts self.old place + 1) }
     {
         let slot = self.slots[place];
         let count = slot.count + 1;
@@ -116,33 +118,33 @@ impl Slots {
         count
     }
 
-    /// The key in a slot, by its remainder and the home that has this slot for its reprobe number.
+    /// The key in a slot, by its remainder and the home that has this slot for its number of reprobes.
     #[inline(always)]
     pub fn key_at(&self, index: usize, tag: u64) -> u64
-        requires tag { tag ≡ tags_of self.now index }
+        requires tag { tag ≡ slot_tags self.now index }
         requires some { tag ≢ 0 }
         ensures key { result ≡ key_in self.now.log index tag }
         ensures in_range { result < 2 ^ self.now.bits }
     {
         let mask = self.slots.len() - 1;
-        let reprobe = tag as usize % 64 - 1;
+        let reprobe = (tag % TAG_STEP) as usize - 1;
         let turn = reprobe * (reprobe + 1) / 2;
         // To step back by `turn` round the table is to go forward by `mask` times as much.
         let home = (index + mask * turn) & mask;
-        (tag / 64 << self.log) + home as u64
+        (tag / TAG_STEP << self.log) + home as u64
     }
 
     /// Stores a key that is not stored yet, unless its places are taken.
     #[inline(always)]
     pub fn take(&mut self, key: u64, count: u64) -> bool
         requires in_range { key < 2 ^ self.old.bits }
-        requires new { get (held self.old) key ≡ None }
+        requires new { get (key_counts self.old) key ≡ None }
         ensures bits { self.new.bits ≡ self.old.bits }
         ensures log { self.new.log ≡ self.old.log }
-        ensures taken { result ≡ true → held self.new ≡ insert (held self.old) key count }
-        ensures out { result ≡ false → IsOut self.old.log (tags_of self.old) key }
+        ensures taken { result ≡ true → key_counts self.new ≡ insert (key_counts self.old) key count }
+        ensures out { result ≡ false → IsOut self.old.log (slot_tags self.old) key }
     {
-        match self.reprobe(key, &mut Steps::new()) {
+        match self.reprobe(key, &mut Counter::zero()) {
             Reprobing::Free { place, tag } => {
                 self.put(key, place, tag, count);
                 true
@@ -154,13 +156,14 @@ impl Slots {
 
     /// The same map in a table of 2^log slots, or None where a key's places are all taken there.
     pub fn resized(&self, alloc: Global, log: u32) -> Result<Option<Slots>, AllocError>
-        requires few_slots { log ≤ 40 }
+        requires few_slots { log ≤ most_log }
         requires no_wider { log ≤ self.now.bits }
-        requires remainder_fits { self.now.bits ≤ log + 58 }
+        requires remainder_fits { self.now.bits ≤ log + remainder_bits }
         ensures bits { IfOk result (λ r. IfSome r (λ t. t.bits ≡ self.now.bits)) }
         ensures log { IfOk result (λ r. IfSome r (λ t. t.log ≡ log)) }
-        ensures same { IfOk result (λ r. IfSome r (λ t. held t ≡ held self.now)) }
-        ensures crowded { IfOk result (λ r. IfNone r (IsTooSmall self.now.bits log (held self.now))) }
+        ensures same { IfOk result (λ r. IfSome r (λ t. key_counts t ≡ key_counts self.now)) }
+        ensures narrow { IfOk result (λ r. IfNone r (log < self.now.bits)) }
+        ensures crowded { IfOk result (λ r. IfNone r (HasStoredCrowd log (key_counts self.now))) }
     {
         let mut table = Slots::empty(alloc, self.bits, log)?;
         for index in 0..self.slots.len() {
@@ -180,15 +183,18 @@ impl Slots {
     /// new key, whose count is 0.
     pub fn grown(&self, alloc: Global, key: u64, max_log: u32) -> Result<Slots, TableFault>
         requires in_range { key < 2 ^ self.now.bits }
-        requires new { get (held self.now) key ≡ None }
-        requires tight { IsTight self.now.bits self.now.log (held self.now) key }
-        requires larger { self.now.log ≤ max_log }
-        requires few_slots { max_log ≤ 40 }
+        requires new { get (key_counts self.now) key ≡ None }
+        requires tight { MayBeTooSmall self.now.bits self.now.log (key_counts self.now) key }
+        requires may_grow { self.now.log ≤ max_log }
+        requires few_slots { max_log ≤ most_log }
         requires no_wider { max_log ≤ self.now.bits }
         ensures bits { IfOk result (λ t. t.bits ≡ self.now.bits) }
+        ensures larger { IfOk result (λ t. self.now.log < t.log) }
         ensures log { IfOk result (λ t. t.log ≤ max_log) }
-        ensures taken { IfOk result (λ t. held t ≡ insert (held self.now) key 0) }
-        ensures full { result ≡ Err TableFault.Full → IsTight self.now.bits max_log (held self.now) key }
+        ensures smallest { IfOk result (λ t. (log : ℕ) → self.now.log ≤ log → log < t.log
+            → MayBeTooSmall self.now.bits log (key_counts self.now) key) }
+        ensures taken { IfOk result (λ t. key_counts t ≡ insert (key_counts self.now) key 0) }
+        ensures full { result ≡ Err TableFault.Full → MayBeTooSmall self.now.bits max_log (key_counts self.now) key }
     {
         for log in self.log + 1..max_log + 1 {
             let Ok(resized) = self.resized(alloc, log) else {
@@ -206,7 +212,8 @@ impl Slots {
 
     /// Each key whose count is at least 1, with its count.
     pub fn entries(&self, alloc: Global) -> Result<Vec<(u64, u64)>, AllocError>
-        ensures { IfOk result (λ v. v.items ≡ filter (λ e. nat_lt 0 e.1) (entries_in (contents_of self.now.log self.now.slots.items))) }
+        ensures { IfOk result (λ v. v.items
+            ≡ filter (λ e. nat_lt 0 e.1) (entries_in (contents_of self.now.log self.now.slots.items))) }
     {
         let mut entries = Vec::new(alloc);
         for index in 0..self.slots.len() {

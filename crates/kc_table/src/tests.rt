@@ -2,27 +2,14 @@
 ghost use Rattle.std.specs.Prelude.{◌≡◌, ◌<◌, ◌≤◌, ◌^◌, All, IfOk};
 
 use super::*;
+use rand_core::SeedableRng;
+use rand_core::utils::NextWord;
+use rand_xoshiro::SplitMix64;
 use std::alloc::{AllocError, Global};
 use std::process::Abort;
 use std::test::Fail;
 
-// SplitMix64.
-#[derive(Drop)]
-struct Words {
-    state: u64,
-}
-
-impl Words {
-    fn next(&mut self) -> u64 {
-        self.state = self.state.wrapping_add(0x9e37_79b9_7f4a_7c15);
-        let z = self.state;
-        let z = (z ^ (z >> 30)).wrapping_mul(0xbf58_476d_1ce4_e5b9);
-        let z = (z ^ (z >> 27)).wrapping_mul(0x94d0_49bb_1331_11eb);
-        z ^ (z >> 31)
-    }
-}
-
-// Stores the key and adds one to its number.
+// Stores the key and adds one to its count.
 fn count<C: Counts>(rt: &impl Abort, table: &mut C, key: u64) -> Result<(), TableFault>
     requires { key < 2 ^ C.bits table.old }
     ensures { C.bits table.new ≡ C.bits table.old }
@@ -116,7 +103,7 @@ fn a_home_is_shared_by_63_keys(rt: HostRuntime) -> Result<(), Fail> {
     count_each(&rt, &mut table, &keys)?;
     let mut place = 5u64;
     let mut step = 0u64;
-    let mut steps = Steps::new();
+    let mut steps = Steps::zero();
     for key in &keys {
         assert_eq!(rt; table.find(*key, &mut steps), Some(place));
         step = step.wrapping_add(1);
@@ -166,7 +153,7 @@ fn with_a_slot_for_each_key_each_stands_at_its_home(rt: HostRuntime) -> Result<(
     let mut table = QuotientTable::new(rt.alloc(), 2, 2, 2)?;
     count_each(&rt, &mut table, &[3, 0, 2, 1])?;
     for key in 0..4 {
-        assert_eq!(rt; table.find(key, &mut Steps::new()), Some(key));
+        assert_eq!(rt; table.find(key, &mut Steps::zero()), Some(key));
     }
     Ok(())
 }
@@ -204,7 +191,7 @@ fn a_limited_map_answers_as_chosen(rt: HostRuntime) -> Result<(), Fail> {
     Ok(())
 }
 
-// Where a growth is refused the numbers stay, and the next call finds memory again.
+// Where a growth is refused the counts stay, and the next call finds memory again.
 #[test]
 fn a_refused_growth_leaves_the_table(rt: HostRuntime) -> Result<(), Fail> {
     let alloc = rt.alloc();
@@ -232,13 +219,13 @@ fn a_refused_growth_leaves_the_table(rt: HostRuntime) -> Result<(), Fail> {
 #[test]
 fn both_representations_agree(rt: HostRuntime) -> Result<(), Fail> {
     let alloc = rt.alloc();
-    let mut words = Words { state: 7 };
+    let mut random = SplitMix64::seed_from_u64(7);
     let mut plain = PlainCounts::new(alloc, 16);
     let mut table = QuotientTable::new(alloc, 16, 4, 16)?;
     for _ in 0..100_000u32 {
-        let word = words.next();
-        let key = word % 5000;
-        match word >> 62 {
+        let drawn = random.next_word();
+        let key = drawn % 5000;
+        match drawn >> 62 {
             0 => assert_eq!(rt; table.ready(key), plain.ready(key)),
             1 => assert_eq!(rt; table.get(key), plain.get(key)),
             _ => {

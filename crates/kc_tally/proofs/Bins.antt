@@ -368,7 +368,9 @@ bins_of-fit counts few = All-from_get_or (λ size. size < 2 ^ 64) (bins_of count
     let most = bin_size-most counts (i + 1) in
     omega (arith, is, most, few))
 
--- as `add` asks
-pub joined_bins-fit : (counts others : List ℕ) → length counts + length others < 2 ^ 64 → All (λ size. size < 2 ^ 64) (joined_bins (bins_of counts) (bins_of others))
-joined_bins-fit counts others few =
-    subst (All (λ size. size < 2 ^ 64)) (sym (bins_of-append counts others)) (bins_of-fit (counts ++ others) (let long = length-append counts others in omega (arith, long, few)))
+-- the joined bins fit, as `add` asks
+pub joined_bins-fit : (counts more bins others : List ℕ) → bins ≡ bins_of counts → others ≡ bins_of more → length counts + length more < 2 ^ 64
+    → All (λ size. size < 2 ^ 64) (joined_bins bins others)
+joined_bins-fit counts more bins others is also few =
+    let joined : joined_bins bins others ≡ bins_of (counts ++ more) = ap (λ b. joined_bins b others) is ∙ ap (joined_bins (bins_of counts)) also ∙ bins_of-append counts more in
+    subst (All (λ size. size < 2 ^ 64)) (sym joined) (bins_of-fit (counts ++ more) (let long = length-append counts more in omega (arith, long, few)))

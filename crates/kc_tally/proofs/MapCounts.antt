@@ -1,5 +1,5 @@
 -- The counts of a finite map: what a new count at a key does to their sums and bins.
-use Rattle.std.proofs.Common.{◌≡◌, ℕ, suc, ◌+◌, ◌≤◌, Bool, true, false, ◌&&◌, cond, List, [], ◌∷◌, map, length, Option, Some, None, sum_by, refl, ap, sym, ◌∙◌, subst, arith}
+use Rattle.std.proofs.Common.{◌≡◌, ℕ, suc, ◌+◌, Bool, true, false, ◌&&◌, cond, List, [], ◌∷◌, map, length, Option, Some, None, sum_by, refl, ap, arith}
 use Rattle.std.specs.Prelude.{unwrap_or, is_some}
 use lib.Dec.{T}
 use Rattle.std.specs.Option.{option_map_or}

@@ -10,12 +10,8 @@ use Rattle.kc_word.specs.Word.{text}
 use Rattle.kc_word.specs.Rule.{CountingRule}
 use Rattle.kc_word.specs.Occurrences.{occurrences}
 use Rattle.kc_tally.specs.declared.row.Row.{Row}
-use Rattle.kc_tally.specs.Tally.{count_of, AreOrderedRows, IsTally}
+use Rattle.kc_tally.specs.Tally.{row_of, count_of, AreOrderedRows, IsTally}
 use Rattle.kc_word.proofs.Letters.{pow-four}
-
--- a row of a word and its count
-abbrev pub row_of : ℕ → ℕ → Row
-row_of word count = record { word = word; count = count }
 
 -- the rows of the numbers below n
 pub record IsTalliedTo (rule : CountingRule) (reads : List Read) (n : ℕ) (rows : List Row) : Type 0 where

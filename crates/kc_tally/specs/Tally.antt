@@ -8,6 +8,10 @@ use Rattle.kc_word.specs.Rule.{CountingRule}
 use Rattle.kc_word.specs.Occurrences.{occurrences}
 use Rattle.kc_tally.specs.declared.row.Row.{Row}
 
+-- a row of a word and its count
+abbrev pub row_of : ℕ → ℕ → Row
+row_of word count = record { word = word; count = count }
+
 -- the count beside the word n, 0 where no row has it
 abbrev pub count_of : List Row → ℕ → ℕ
 count_of [] n = 0

@@ -52,7 +52,7 @@ impl Histogram {
         requires within { bin ≤ last_bin }
         ensures { result ≡ bin_at self.now bin }
     {
-        self.bins[bin as usize - 1]
+        self.bins[(bin - 1) as usize]
     }
 
     /// One word's count went from `count` to `count + 1`: the word leaves its bin, where it was in one, and comes into

@@ -1,4 +1,8 @@
 //! Laws of tallies. Each is the contract of a function that does nothing.
+ghost use Rattle.std.specs.Prelude.{◌≡◌, [], ◌∷◌, None, true, codes};
+ghost use Rattle.kc_fastx.specs.Reads.{read_of};
+ghost use Rattle.kc_tally.specs.Tally.{row_of, count_of, total_of, IsTally};
+ghost use Rattle.kc_tally.specs.Histogram.{bin_of, bin_count};
 ghost use Rattle.kc_tally.specs.Laws.{OneTally, OneValue, JoinedTally, TallyTotal, BoundedTally, RowsOfTally};
 
 /// The tally of given reads is one finite map, and one value.
@@ -25,4 +29,18 @@ pub fn bounded_tally()
 /// The rows of a tally of at most 2^62 bases are the rows of a `Tally`.
 pub fn rows_of_tally()
     ensures { RowsOfTally }
+{}
+
+/// Worked rows of the definitions.
+pub fn worked_rows()
+    ensures tally { IsTally (record { k = 1; both = true; floor = 33 })
+        (read_of (codes "AACGT") None ∷ read_of (codes "N") None ∷ []) (row_of 0 3 ∷ row_of 1 2 ∷ []) }
+    ensures count { count_of (row_of 0 3 ∷ row_of 1 2 ∷ []) 1 ≡ 2 }
+    ensures no_count { count_of (row_of 0 3 ∷ row_of 1 2 ∷ []) 2 ≡ 0 }
+    ensures total { total_of (row_of 0 3 ∷ row_of 1 2 ∷ []) ≡ 5 }
+    ensures first_bin { bin_of 1 ≡ 1 }
+    ensures own_bin { bin_of 10_000 ≡ 10_000 }
+    ensures last_bin { bin_of 70_000 ≡ 10_001 }
+    ensures bin { bin_count (row_of 0 5 ∷ row_of 1 1 ∷ row_of 2 10_001 ∷ row_of 3 5 ∷ []) 5 ≡ 2 }
+    ensures shared { bin_count (row_of 0 10_001 ∷ row_of 1 10_000 ∷ row_of 2 70_000 ∷ []) 10_001 ≡ 2 }
 {}

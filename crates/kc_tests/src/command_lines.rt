@@ -1,4 +1,4 @@
-// Whole command lines, over input, output and errors in memory.
+//! Whole command lines, over input, output and errors in memory.
 use kc_tool::program;
 use std::test::Fail;
 
@@ -10,12 +10,12 @@ struct Ran {
     errors: Vec<u8>,
 }
 
-// Runs `kcount` with these words, separated by blanks, on this input.
-fn run(rt: &HostRuntime, words: &str, input: &[u8]) -> Result<Ran, Fail> {
+// Runs `kcount` with these arguments, separated by blanks, on this input.
+fn run(rt: &HostRuntime, arguments: &str, input: &[u8]) -> Result<Ran, Fail> {
     let alloc = rt.alloc();
     let mut line = vec![in alloc; String::from_str(alloc, "kcount")?]?;
-    for word in words.split(' ') {
-        line.push(String::from_str(alloc, word)?)?;
+    for argument in arguments.split(' ') {
+        line.push(String::from_str(alloc, argument)?)?;
     }
     let mut output = Vec::new(alloc);
     let mut errors = Vec::new(alloc);
@@ -27,7 +27,7 @@ fn run(rt: &HostRuntime, words: &str, input: &[u8]) -> Result<Ran, Fail> {
     })
 }
 
-// The words are counted and their dump is written.
+// The k-mers are counted and their dump is written.
 #[test]
 fn dumps(rt: HostRuntime) -> Result<(), Fail> {
     let column = "--print dump --column";
@@ -80,12 +80,12 @@ fn dumps(rt: HostRuntime) -> Result<(), Fail> {
             b"ACG 2\nGTA 1\n",
         ),
     ];
-    for (words, input, output) in rows {
-        let line = format!(in rt.alloc(); "count {words} {column}")?;
+    for (arguments, input, output) in rows {
+        let line = format!(in rt.alloc(); "count {arguments} {column}")?;
         let got = run(&rt, line.as_str(), input)?;
-        assert_eq!(rt; got.output.as_slice(), output, "{words}");
-        assert_eq!(rt; got.errors.len(), 0, "{words}");
-        assert_eq!(rt; got.status, 0, "{words}");
+        assert_eq!(rt; got.output.as_slice(), output, "{arguments}");
+        assert_eq!(rt; got.errors.len(), 0, "{arguments}");
+        assert_eq!(rt; got.status, 0, "{arguments}");
     }
     Ok(())
 }
@@ -310,12 +310,12 @@ fn refusals(rt: HostRuntime) -> Result<(), Fail> {
             1,
         ),
     ];
-    for (words, more, input, errors, status) in rows {
-        let line = format!(in rt.alloc(); "count {words} {more}")?;
+    for (arguments, more, input, errors, status) in rows {
+        let line = format!(in rt.alloc(); "count {arguments} {more}")?;
         let got = run(&rt, line.as_str(), input)?;
-        assert_eq!(rt; got.errors.as_slice(), errors.as_bytes(), "{words}");
-        assert_eq!(rt; got.output.len(), 0, "{words}");
-        assert_eq!(rt; got.status, status, "{words}");
+        assert_eq!(rt; got.errors.as_slice(), errors.as_bytes(), "{arguments}");
+        assert_eq!(rt; got.output.len(), 0, "{arguments}");
+        assert_eq!(rt; got.status, status, "{arguments}");
     }
     Ok(())
 }
@@ -332,23 +332,23 @@ fn a_blank_floor_is_refused(rt: HostRuntime) -> Result<(), Fail> {
 // What `clap` refuses ends with status 2 and says so on standard error alone; help goes to the output.
 #[test]
 fn command_lines_that_clap_refuses(rt: HostRuntime) -> Result<(), Fail> {
-    for words in [
+    for arguments in [
         "frob",
         "count -m 3 --print dump --frob",
         "count -m",
         "count -m 3 -m 4",
         "count file.fa",
     ] {
-        let got = run(&rt, words, b"")?;
-        assert_eq!(rt; got.status, 2, "{words}");
-        assert_eq!(rt; got.output.len(), 0, "{words}");
-        assert!(rt; !got.errors.is_empty(), "{words}");
+        let got = run(&rt, arguments, b"")?;
+        assert_eq!(rt; got.status, 2, "{arguments}");
+        assert_eq!(rt; got.output.len(), 0, "{arguments}");
+        assert!(rt; !got.errors.is_empty(), "{arguments}");
     }
-    for words in ["--help", "count --help", "--version"] {
-        let got = run(&rt, words, b"")?;
-        assert_eq!(rt; got.status, 0, "{words}");
-        assert!(rt; !got.output.is_empty(), "{words}");
-        assert_eq!(rt; got.errors.len(), 0, "{words}");
+    for arguments in ["--help", "count --help", "--version"] {
+        let got = run(&rt, arguments, b"")?;
+        assert_eq!(rt; got.status, 0, "{arguments}");
+        assert!(rt; !got.output.is_empty(), "{arguments}");
+        assert_eq!(rt; got.errors.len(), 0, "{arguments}");
     }
     Ok(())
 }

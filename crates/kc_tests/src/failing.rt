@@ -1,7 +1,6 @@
-// Lists of sources, and sources and writers that give or take little, or fail.
+//! Lists of sources, and sources and writers that give or take little, or fail.
 use kc_fastx::{FastxFault, FromBytes, FromRead};
-use kc_tool::{Dump, OptionName, Options, ToVec, ToWrite, ToolFault, count_reads, write_fault};
-use kc_word::K;
+use kc_tool::{Dump, K, OptionName, Options, ToVec, ToWrite, ToolFault, count_reads, write_fault};
 use std::io;
 use std::io::{Read, Write};
 use std::test::Fail;
@@ -71,53 +70,63 @@ fn columns(k: u32) -> Option<Options> {
     Some(Options::new(K::new(k)?, Dump::in_columns()))
 }
 
+// What a count of these inputs answers, and what it wrote.
+fn count(
+    rt: &HostRuntime,
+    inputs: &[&[u8]],
+    options: &Options,
+) -> Result<(Result<(), ToolFault>, Vec<u8>), Fail> {
+    let alloc = rt.alloc();
+    let mut sources = Vec::new(alloc);
+    for input in inputs {
+        sources.push(FromBytes::new(*input))?;
+    }
+    let mut writer = ToVec::new(Vec::new(alloc));
+    let answer = count_reads(rt, alloc, sources, options, &mut writer);
+    Ok((answer, writer.into_inner()))
+}
+
 #[test]
 fn sources_are_read_in_order(rt: HostRuntime) -> Result<(), Fail> {
-    let alloc = rt.alloc();
     let options = columns(2).ok_or("a length")?;
-    let rows: [([&[u8]; 3], Result<&[u8], ToolFault>); 6] = [
-        ([b">a\nAC\n", b">b\nCG\n", b""], Ok(b"AC 1\nCG 1\n")),
-        ([b">a\nAC\n", b"@q\nCG\n+\nII\n", b""], Ok(b"AC 1\nCG 1\n")),
-        ([b"", b">a\nAC", b">b\nAC\n"], Ok(b"AC 2\n")),
+    let rows: [([&[u8]; 3], &[u8]); 3] = [
+        ([b">a\nAC\n", b">b\nCG\n", b""], b"AC 1\nCG 1\n"),
+        ([b">a\nAC\n", b"@q\nCG\n+\nII\n", b""], b"AC 1\nCG 1\n"),
+        ([b"", b">a\nAC", b">b\nAC\n"], b"AC 2\n"),
+    ];
+    for (inputs, text) in rows {
+        let (answer, written) = count(&rt, inputs.as_slice(), &options)?;
+        assert_eq!(rt; answer, Ok(()));
+        assert_eq!(rt; written.as_slice(), text);
+    }
+    Ok(())
+}
+
+// The first source with a fault decides, whatever the later ones have.
+#[test]
+fn the_first_faulty_source_is_told(rt: HostRuntime) -> Result<(), Fail> {
+    let options = columns(2).ok_or("a length")?;
+    let rows: [([&[u8]; 3], u64, FastxFault); 3] = [
         (
             [b">a\nAC\n", b"ACGT\n", b"@\n"],
-            Err(ToolFault::Fastx {
-                source: 2,
-                fault: FastxFault::BadStart(1),
-            }),
+            2,
+            FastxFault::BadStart(1),
         ),
         (
             [b">a\nA C\n", b"ACGT\n", b""],
-            Err(ToolFault::Fastx {
-                source: 1,
-                fault: FastxFault::BadBase(2),
-            }),
+            1,
+            FastxFault::BadBase(2),
         ),
         (
             [b">a\nAC\n", b">b\nAC\n", b"\n@q\nA"],
-            Err(ToolFault::Fastx {
-                source: 3,
-                fault: FastxFault::Truncated(3),
-            }),
+            3,
+            FastxFault::Truncated(3),
         ),
     ];
-    for (inputs, wanted) in rows {
-        let mut sources = Vec::new(alloc);
-        for input in inputs {
-            sources.push(FromBytes::new(input))?;
-        }
-        let mut writer = ToVec::new(Vec::new(alloc));
-        let answer = count_reads(&rt, alloc, sources, &options, &mut writer);
-        match wanted {
-            Ok(text) => {
-                assert_eq!(rt; answer, Ok(()));
-                assert_eq!(rt; writer.bytes.as_slice(), text);
-            }
-            Err(fault) => {
-                assert_eq!(rt; answer, Err(fault));
-                assert_eq!(rt; writer.bytes.len(), 0);
-            }
-        }
+    for (inputs, source, fault) in rows {
+        let (answer, written) = count(&rt, inputs.as_slice(), &options)?;
+        assert_eq!(rt; answer, Err(ToolFault::Fastx { source, fault }));
+        assert_eq!(rt; written.len(), 0);
     }
     Ok(())
 }
@@ -127,6 +136,10 @@ fn sources_are_read_in_order(rt: HostRuntime) -> Result<(), Fail> {
 fn slow_and_failing_sources(rt: HostRuntime) -> Result<(), Fail> {
     let alloc = rt.alloc();
     let options = columns(3).ok_or("a length")?;
+    let failed = ToolFault::Fastx {
+        source: 1,
+        fault: FastxFault::Read,
+    };
     for n in 0..13 {
         let slow = Slow {
             left: b">r1\nACGTA\n",
@@ -136,50 +149,52 @@ fn slow_and_failing_sources(rt: HostRuntime) -> Result<(), Fail> {
         sources.push(FromRead::new(slow))?;
         let mut writer = ToVec::new(Vec::new(alloc));
         let answer = count_reads(&rt, alloc, sources, &options, &mut writer);
-        if n <= 10 {
-            assert_eq!(rt;
-                answer,
-                Err(ToolFault::Fastx {
-                    source: 1,
-                    fault: FastxFault::Read
-                })
-            );
-            assert_eq!(rt; writer.bytes.len(), 0);
+        let (wanted, text) = if n <= 10 {
+            (Err(failed), b"".as_slice())
         } else {
-            assert_eq!(rt; answer, Ok(()));
-            assert_eq!(rt;
-                writer.bytes.as_slice(),
-                b"ACG 1\nCGT 1\nGTA 1\n".as_slice()
-            );
-        }
+            (Ok(()), b"ACG 1\nCGT 1\nGTA 1\n".as_slice())
+        };
+        assert_eq!(rt; answer, wanted, "{n}");
+        assert_eq!(rt; writer.as_slice(), text, "{n}");
     }
     Ok(())
+}
+
+// What a count answers over such a writer, and what the writer took.
+fn count_into(
+    rt: &HostRuntime,
+    room: usize,
+    is_silent: bool,
+    is_stuck: bool,
+) -> Result<(Result<(), ToolFault>, Vec<u8>), Fail> {
+    let alloc = rt.alloc();
+    let options = columns(3).ok_or("a length")?;
+    let mut sources = Vec::new(alloc);
+    sources.push(FromBytes::new(b">r1\nACGTA\n"))?;
+    let mut writer = ToWrite::new(Narrow {
+        taken: Vec::new(alloc),
+        room,
+        is_silent,
+        is_stuck,
+    });
+    let answer = count_reads(rt, alloc, sources, &options, &mut writer);
+    Ok((answer, writer.into_inner().taken))
 }
 
 // A writer that fails after n bytes, or takes no more, has exactly the first n bytes of the dump.
 #[test]
 fn narrow_writers(rt: HostRuntime) -> Result<(), Fail> {
-    let alloc = rt.alloc();
-    let options = columns(3).ok_or("a length")?;
     let text = b"ACG 1\nCGT 1\nGTA 1\n".as_slice();
     for is_silent in [false, true] {
         for room in 0..text.len() + 1 {
-            let mut sources = Vec::new(alloc);
-            sources.push(FromBytes::new(b">r1\nACGTA\n"))?;
-            let mut writer = ToWrite::new(Narrow {
-                taken: Vec::new(alloc),
-                room,
-                is_silent,
-                is_stuck: false,
-            });
-            let answer = count_reads(&rt, alloc, sources, &options, &mut writer);
+            let (answer, taken) = count_into(&rt, room, is_silent, false)?;
             let wanted = if room < text.len() {
                 Err(ToolFault::Write)
             } else {
                 Ok(())
             };
             assert_eq!(rt; answer, wanted, "{room}");
-            assert_eq!(rt; writer.writer.taken.as_slice(), &text[..room], "{room}");
+            assert_eq!(rt; taken.as_slice(), &text[..room], "{room}");
         }
     }
     Ok(())
@@ -188,29 +203,15 @@ fn narrow_writers(rt: HostRuntime) -> Result<(), Fail> {
 // A writer that took all and can't hand it on is a failing one.
 #[test]
 fn a_writer_that_cannot_flush(rt: HostRuntime) -> Result<(), Fail> {
-    let alloc = rt.alloc();
-    let options = columns(3).ok_or("a length")?;
-    let mut sources = Vec::new(alloc);
-    sources.push(FromBytes::new(b">r1\nACGTA\n"))?;
-    let mut writer = ToWrite::new(Narrow {
-        taken: Vec::new(alloc),
-        room: 100,
-        is_silent: false,
-        is_stuck: true,
-    });
-    let answer = count_reads(&rt, alloc, sources, &options, &mut writer);
+    let (answer, taken) = count_into(&rt, 100, false, true)?;
     assert_eq!(rt; answer, Err(ToolFault::Write));
-    assert_eq!(rt;
-        writer.writer.taken.as_slice(),
-        b"ACG 1\nCGT 1\nGTA 1\n".as_slice()
-    );
+    assert_eq!(rt; taken.as_slice(), b"ACG 1\nCGT 1\nGTA 1\n".as_slice());
     Ok(())
 }
 
 // Bounds of a dump both count; a tab stands in columns alone.
 #[test]
 fn bounds_and_tabs(rt: HostRuntime) -> Result<(), Fail> {
-    let alloc = rt.alloc();
     let k = K::new(3).ok_or("a length")?;
     let mut tabs = Dump::in_columns();
     tabs.tab = true;
@@ -223,77 +224,75 @@ fn bounds_and_tabs(rt: HostRuntime) -> Result<(), Fail> {
         (Dump::in_columns().between(2, 1), b""),
     ];
     for (dump, text) in rows {
-        let mut sources = Vec::new(alloc);
-        sources.push(FromBytes::new(b">r1\nACGTA\n"))?;
-        let mut writer = ToVec::new(Vec::new(alloc));
         let options = Options::new(k, dump).with_both(true);
-        assert_eq!(rt;
-            count_reads(&rt, alloc, sources, &options, &mut writer),
-            Ok(())
-        );
-        assert_eq!(rt; writer.bytes.as_slice(), text);
+        let (answer, written) = count(&rt, &[b">r1\nACGTA\n".as_slice()], &options)?;
+        assert_eq!(rt; answer, Ok(()));
+        assert_eq!(rt; written.as_slice(), text);
     }
     Ok(())
 }
 
-// Each fault has its line.
+// The line that a fault writes.
+fn line_of(rt: &HostRuntime, fault: ToolFault) -> Result<Vec<u8>, Fail> {
+    let mut writer = ToVec::new(Vec::new(rt.alloc()));
+    write_fault(&mut writer, &fault)?;
+    Ok(writer.into_inner())
+}
+
+// Each fault of a source has its line.
 #[test]
-fn lines_of_faults(rt: HostRuntime) -> Result<(), Fail> {
-    let rows: [(FastxFault, &[u8]); 8] = [
-        (
-            FastxFault::BadStart(1),
-            b"kcount: 1: bad start, source 7, line 1\n",
-        ),
-        (
-            FastxFault::BadBase(22),
-            b"kcount: 2: bad base, source 7, line 22\n",
-        ),
+fn lines_of_source_faults(rt: HostRuntime) -> Result<(), Fail> {
+    let rows: [(FastxFault, &str); 8] = [
+        (FastxFault::BadStart(1), "1: bad start, source 7, line 1"),
+        (FastxFault::BadBase(22), "2: bad base, source 7, line 22"),
         (
             FastxFault::BadQuality(333),
-            b"kcount: 3: bad quality, source 7, line 333\n",
+            "3: bad quality, source 7, line 333",
         ),
         (
             FastxFault::LongQuality(4),
-            b"kcount: 4: long quality, source 7, line 4\n",
+            "4: long quality, source 7, line 4",
         ),
-        (
-            FastxFault::Truncated(5),
-            b"kcount: 5: truncated, source 7, line 5\n",
-        ),
-        (FastxFault::TooLong, b"kcount: 6: too long, source 7\n"),
-        (FastxFault::Read, b"kcount: 7: read failed, source 7\n"),
-        (FastxFault::Memory, b"kcount: 8: no memory\n"),
+        (FastxFault::Truncated(5), "5: truncated, source 7, line 5"),
+        (FastxFault::TooLong, "6: too long, source 7"),
+        (FastxFault::Read, "7: read failed, source 7"),
+        (FastxFault::Memory, "8: no memory"),
     ];
-    for (fault, line) in rows {
-        let mut writer = ToVec::new(Vec::new(rt.alloc()));
-        let answer = write_fault(&mut writer, &ToolFault::Fastx { source: 7, fault });
-        assert_eq!(rt; answer, Ok(()));
-        assert_eq!(rt; writer.bytes.as_slice(), line);
+    for (fault, text) in rows {
+        let line = line_of(&rt, ToolFault::Fastx { source: 7, fault })?;
+        let wanted = format!(in rt.alloc(); "kcount: {text}\n")?;
+        assert_eq!(rt; line.as_slice(), wanted.as_bytes());
     }
-    let others: [(ToolFault, &[u8]); 6] = [
-        (ToolFault::Memory, b"kcount: 46: no memory\n"),
+    Ok(())
+}
+
+// So has each other fault.
+#[test]
+fn lines_of_other_faults(rt: HostRuntime) -> Result<(), Fail> {
+    let rows: [(ToolFault, &str); 6] = [
+        (ToolFault::Memory, "46: no memory"),
         (
             ToolFault::BadOption(OptionName::MerLen),
-            b"kcount: 51: bad option --mer-len\n",
+            "51: bad option --mer-len",
         ),
         (
             ToolFault::BadOption(OptionName::MinQualChar),
-            b"kcount: 51: bad option --min-qual-char\n",
+            "51: bad option --min-qual-char",
         ),
         (
             ToolFault::BadOption(OptionName::Batch),
-            b"kcount: 51: bad option --batch\n",
+            "51: bad option --batch",
         ),
         (
             ToolFault::BadOption(OptionName::Print),
-            b"kcount: 51: bad option --print\n",
+            "51: bad option --print",
         ),
-        (ToolFault::Write, b"kcount: 53: write failed\n"),
+        (ToolFault::Write, "53: write failed"),
     ];
-    for (fault, line) in others {
-        let mut writer = ToVec::new(Vec::new(rt.alloc()));
-        assert_eq!(rt; write_fault(&mut writer, &fault), Ok(()));
-        assert_eq!(rt; writer.bytes.as_slice(), line);
+    for (fault, text) in rows {
+        let line = line_of(&rt, fault)?;
+        let wanted = format!(in rt.alloc(); "kcount: {text}\n")?;
+        assert_eq!(rt; line.as_slice(), wanted.as_bytes());
     }
     Ok(())
 }

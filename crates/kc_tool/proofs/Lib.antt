@@ -1,5 +1,5 @@
-pub mod Digits
-pub mod Dumps
-pub mod Maps
-pub mod Sources
-pub mod Writing
+pub mod CommandLemmas
+pub mod CountingLemmas
+pub mod NumbersLemmas
+pub mod ReadingLemmas
+pub mod RunningLemmas

@@ -16,30 +16,30 @@ option_text Print = codes "--print"
 
 -- a refusal of a source
 abbrev pub in_source : List ℕ → ℕ → List ℕ
-in_source words source = words ++ codes ", source " ++ decimal source
+in_source what source = what ++ codes ", source " ++ decimal source
 
 -- a refusal of a line of a source
 abbrev pub at_line : List ℕ → ℕ → ℕ → List ℕ
-at_line words source line = in_source words source ++ codes ", line " ++ decimal line
+at_line what source line = in_source what source ++ codes ", line " ++ decimal line
 
 -- what a refusal of the readers says, behind `kcount: `
-abbrev pub reader_words : ℕ → FastxFault → List ℕ
-reader_words source (fastx.BadStart line) = at_line (codes "1: bad start") source line
-reader_words source (fastx.BadBase line) = at_line (codes "2: bad base") source line
-reader_words source (fastx.BadQuality line) = at_line (codes "3: bad quality") source line
-reader_words source (fastx.LongQuality line) = at_line (codes "4: long quality") source line
-reader_words source (fastx.Truncated line) = at_line (codes "5: truncated") source line
-reader_words source fastx.TooLong = in_source (codes "6: too long") source
-reader_words source fastx.Read = in_source (codes "7: read failed") source
-reader_words source fastx.Memory = codes "8: no memory"
+abbrev pub reader_text : ℕ → FastxFault → List ℕ
+reader_text source (fastx.BadStart line) = at_line (codes "1: bad start") source line
+reader_text source (fastx.BadBase line) = at_line (codes "2: bad base") source line
+reader_text source (fastx.BadQuality line) = at_line (codes "3: bad quality") source line
+reader_text source (fastx.LongQuality line) = at_line (codes "4: long quality") source line
+reader_text source (fastx.Truncated line) = at_line (codes "5: truncated") source line
+reader_text source fastx.TooLong = in_source (codes "6: too long") source
+reader_text source fastx.Read = in_source (codes "7: read failed") source
+reader_text source fastx.Memory = codes "8: no memory"
 
 -- what a refusal says, behind `kcount: `
-abbrev pub fault_words : ToolFault → List ℕ
-fault_words (Fastx source fault) = reader_words source fault
-fault_words Memory = codes "46: no memory"
-fault_words (BadOption name) = codes "51: bad option " ++ option_text name
-fault_words Write = codes "53: write failed"
+abbrev pub fault_text : ToolFault → List ℕ
+fault_text (Fastx source fault) = reader_text source fault
+fault_text Memory = codes "46: no memory"
+fault_text (BadOption name) = codes "51: bad option " ++ option_text name
+fault_text Write = codes "53: write failed"
 
 -- the line of a refusal
 abbrev pub fault_line : ToolFault → List ℕ
-fault_line fault = codes "kcount: " ++ fault_words fault ++ 10 ∷ []
+fault_line fault = codes "kcount: " ++ fault_text fault ++ 10 ∷ []

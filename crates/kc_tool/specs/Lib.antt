@@ -1,10 +1,10 @@
-pub mod AllReads
-pub mod Asked
+pub mod Arguments
+pub mod Command
 pub mod Counting
-pub mod Counts
-pub mod DumpText
 pub mod FaultLines
+pub mod Laws
 pub mod Numbers
+pub mod Reading
+pub mod Reporting
+pub mod Running
 pub mod Settings
-pub mod Sinks
-pub mod Tallies

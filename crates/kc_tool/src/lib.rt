@@ -1,25 +1,38 @@
-//! The reports and the program of `kcount`.
+//! The program `kcount`: how often each k-mer (word of length k) occurs in sequence reads.
+//!
+//! `count_reads` goes from sources of bytes to a written report, as `Options` say. `program` reads a whole command
+//! line, counts and answers the exit status; `run` does the same over streams that the caller keeps. A refusal is a
+//! `ToolFault`, and `write_fault` writes its line.
+//!
+//! ```text
+//! let k = K::new(3).ok_or("a length")?;
+//! let options = Options::new(k, Dump::in_columns());
+//! let sources = vec![in alloc; FromBytes::new(b">r1\nACGTA\n")]?;
+//! let mut writer = ToVec::new(Vec::new(alloc));
+//! count_reads(&rt, alloc, sources, &options, &mut writer)?;
+//! assert_eq!(rt; writer.as_slice(), b"ACG 1\nCGT 1\nGTA 1\n".as_slice());
+//! ```
 #![tactic(auto)]
 
 mod arguments;
-mod block;
 mod command;
 mod counting;
-mod counts;
-mod dumping;
+mod fault_lines;
 mod faults;
+pub mod laws;
+mod numbers;
 mod reading;
+mod reporting;
 mod running;
 mod settings;
-mod sinks;
-mod tallies;
 
 pub use arguments::options;
-pub use counts::count_reads;
-pub use dumping::write_dump;
-pub use faults::{OptionName, ToolFault, write_fault};
+pub use fault_lines::write_fault;
+pub use faults::{OptionName, ToolFault};
+pub use kc_io::{Sink, ToVec, ToWrite};
+pub use kc_report::{Dump, write_dump};
+pub use kc_tally::{Row, Tally};
 pub use kc_word::K;
-pub use running::program;
-pub use settings::{Dump, Options};
-pub use sinks::{Sink, ToVec, ToWrite};
-pub use tallies::Tally;
+pub use reporting::count_reads;
+pub use running::{program, run};
+pub use settings::Options;

@@ -1,7 +1,7 @@
 //! Reading the sources of a count.
 ghost use Rattle.std.specs.Prelude.{◌≤◌, ◌^◌, IfOk, IfErr};
-ghost use Rattle.kc_fastx.specs.ReadsOf.{base_count};
-ghost use Rattle.kc_tool.specs.AllReads.{ReadsSources, RefusesSources};
+ghost use Rattle.kc_fastx.specs.Reads.{base_count};
+ghost use Rattle.kc_tool.specs.Reading.{ReadsSources, RefusesSources};
 
 use crate::faults::ToolFault;
 use kc_fastx::{SeqRead, Source, read_all};

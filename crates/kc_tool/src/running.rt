@@ -1,13 +1,32 @@
 //! The whole program, over given standard streams.
+ghost use Rattle.std.specs.Prelude.{◌≡◌, ◌≤◌, ◌⊎◌, IfErr, IfOk, map, string_bytes};
+ghost use Rattle.clap.specs.Faults.{fault_of};
+ghost use Rattle.clap.specs.Kinds.{HasKind};
+ghost use Rattle.clap.specs.Words.{found_of, rows_of};
+ghost use Rattle.kc_tool.specs.Command.{kcount_app};
+ghost use Rattle.kc_tool.specs.Running.{
+  AreTaken,
+  CarriesOut,
+  CountsSo,
+  EndsInFault,
+  EndsRefused,
+  EndsWell,
+  ShowsSo,
+  status_of,
+};
+ghost use Rattle.kc_tool.specs.declared.faults.ToolFault.TheVariants.{Memory, Write};
+ghost use Rattle.kc_tool.specs.declared.running.Ending.TheVariants.{Fault};
+
 use crate::arguments::options;
 use crate::command::{COUNT, command};
-use crate::counts::count_reads;
-use crate::faults::{ToolFault, write_fault};
-use crate::sinks::{Sink, ToWrite, write_out};
+use crate::fault_lines::write_fault;
+use crate::faults::ToolFault;
+use crate::reporting::count_reads;
+use clap::ArgMatches;
 use clap::error::ErrorKind;
-use kc_fastx::FromRead;
+use kc_io::{Failed, FromRead, Sink, Source, ToWrite, write_out};
 use std::alloc::{AllocError, AllocFailed, Global};
-use std::io::{Read, Write};
+use std::io;
 
 /// The exit status where all went well.
 const DONE: u8 = 0;
@@ -16,27 +35,56 @@ const FAULT: u8 = 1;
 /// The exit status of a command line that is refused.
 const REFUSED: u8 = 2;
 
-/// Carries out the command line `words`, which begins with the program's name, and answers the exit status: 0; 1 for
-/// a fault; 2 for a command line that is refused. The line of a fault goes to `errors`, and so does the text of a
+/// Carries out the command line `arguments`, which begins with the program's name, and answers the exit status: 0; 1
+/// for a fault; 2 for a command line that is refused. The line of a fault goes to `errors`, and so does the text of a
 /// refusal. Failing to write there changes no status.
-pub fn program<H, I: Read + Drop, O: Write + Drop, E: Write + Drop>(
+pub fn program<H, I: io::Read + Drop, O: io::Write + Drop, E: io::Write + Drop>(
     rt: &H,
     alloc: Global,
-    words: Vec<String>,
+    arguments: Vec<String>,
     input: I,
     output: O,
     errors: E,
-) -> u8 {
+) -> u8
+    ensures { result ≤ 2 }
+{
     let mut output = ToWrite::new(output);
     let mut errors = ToWrite::new(errors);
-    match carry_out(rt, alloc, &words, input, &mut output) {
+    let input = FromRead::new(input);
+    run(rt, alloc, &arguments, input, &mut output, &mut errors)
+}
+
+/// What `program` does, over streams that the caller keeps. Status 0: the output has the answer, which is the report
+/// that the arguments ask for, or help or the version. Status 1: the line of a fault went to the errors, and the output
+/// is as it was, or has a beginning of the answer where writing failed. Status 2: the output is as it was, and why the
+/// arguments are refused went to the errors.
+pub fn run<H, R: Source + Drop, W: Sink, E: Sink>(
+    rt: &H,
+    alloc: Global,
+    arguments: &[String],
+    input: R,
+    output: &mut W,
+    errors: &mut E,
+) -> u8
+    ensures done { result ≡ 0 → EndsWell R.seen input (map string_bytes arguments.now)
+        (W.seen output.old) (W.seen output.new) (E.seen errors.old) (E.seen errors.new) }
+    ensures fault { result ≡ 1 → EndsInFault R.seen input (map string_bytes arguments.now)
+        (W.seen output.old) (W.seen output.new) (E.seen errors.old) (E.seen errors.new) 1 }
+    ensures refused { result ≡ 2 →
+        EndsInFault R.seen input (map string_bytes arguments.now)
+        (W.seen output.old) (W.seen output.new) (E.seen errors.old) (E.seen errors.new) 2
+        ⊎ EndsRefused (map string_bytes arguments.now)
+        (W.seen output.old) (W.seen output.new) (E.seen errors.old) (E.seen errors.new) }
+    ensures status { result ≤ 2 }
+{
+    match carry_out(rt, alloc, arguments, input, output) {
         Ok(()) => DONE,
         Err(Ending::Fault(fault)) => {
-            let _ = write_fault(&mut errors, &fault);
+            let _ = write_fault(errors, &fault);
             status_of(&fault)
         }
         Err(Ending::Refused(text)) => {
-            let _ = write_out(&mut errors, text.as_bytes());
+            let _ = write_out(errors, text.as_bytes());
             REFUSED
         }
     }
@@ -52,57 +100,88 @@ enum Ending {
 }
 
 impl From<ToolFault> for Ending {
+    ghost from_gives = { λ fault ending. ending ≡ Fault fault };
+
     fn from(fault: ToolFault) -> Ending {
         Ending::Fault(fault)
     }
 }
 
+impl From<Failed> for Ending {
+    ghost from_gives = { λ _ ending. ending ≡ Fault Write };
+
+    fn from(_error: Failed) -> Ending {
+        Ending::Fault(ToolFault::Write)
+    }
+}
+
 impl From<AllocError> for Ending {
+    ghost from_gives = { λ _ ending. ending ≡ Fault Memory };
+
     fn from(_error: AllocError) -> Ending {
         Ending::Fault(ToolFault::Memory)
     }
 }
 
-impl<T: Drop> From<AllocFailed<T>> for Ending {
-    fn from(_error: AllocFailed<T>) -> Ending {
-        Ending::Fault(ToolFault::Memory)
-    }
-}
-
 // The exit status of a fault: a bad option refuses the command line.
-fn status_of(fault: &ToolFault) -> u8 {
+fn status_of(fault: &ToolFault) -> u8
+    ensures { result ≡ status_of fault.now }
+{
     match fault {
         ToolFault::BadOption(_) => REFUSED,
-        _ => FAULT,
+        ToolFault::Fastx { .. } | ToolFault::Memory | ToolFault::Write => FAULT,
     }
 }
 
 // Reads the command line and does what it asks for.
-fn carry_out<H, I: Read + Drop, W: Sink>(
+fn carry_out<H, R: Source + Drop, W: Sink>(
     rt: &H,
     alloc: Global,
-    words: &Vec<String>,
-    input: I,
+    arguments: &[String],
+    input: R,
     output: &mut W,
-) -> Result<(), Ending> {
-    let matches = match command(alloc)?.try_get_matches_from(words.as_slice()) {
+) -> Result<(), Ending>
+    ensures { CarriesOut R.seen input (map string_bytes arguments.now) (W.seen output.old) (W.seen output.new) result }
+{
+    let matches = match parsed(alloc, arguments) {
         Ok(matches) => matches,
         Err(error) => return show(alloc, &error, output),
     };
     match matches.subcommand() {
-        Some((COUNT, matches)) => {
-            let options = options(alloc, matches)?;
-            let mut sources = Vec::new(alloc);
-            sources.push(FromRead::new(input))?;
-            count_reads(rt, alloc, sources, &options, output)?;
-            Ok(())
-        }
-        _ => Ok(()),
+        Some((COUNT, matches)) => Ok(count(rt, alloc, matches, input, output)?),
+        // `clap` passes no command line without one of the commands
+        _ => unreachable!(),
     }
 }
 
+// What `clap` makes of the command line.
+fn parsed<'a>(alloc: Global, arguments: &'a [String]) -> Result<ArgMatches<'a>, clap::Error>
+    ensures taken { IfOk result (AreTaken (map string_bytes arguments.now)) }
+    ensures refused { IfErr result (HasKind (fault_of kcount_app (map string_bytes arguments.now))) }
+{
+    command(alloc)?.try_get_matches_from(arguments)
+}
+
+// Counts the words of the input by the options, and writes the report.
+fn count<H, R: Source + Drop, W: Sink>(
+    rt: &H,
+    alloc: Global,
+    matches: &ArgMatches<'_>,
+    input: R,
+    output: &mut W,
+) -> Result<(), ToolFault>
+    ensures { CountsSo R.seen input (rows_of (found_of matches.now)) (W.seen output.old) (W.seen output.new) result }
+{
+    let options = options(alloc, matches)?;
+    let mut sources = Vec::new(alloc);
+    sources.push(input)?;
+    count_reads(rt, alloc, sources, &options, output)
+}
+
 // Help and the version go to the output. Any other text refuses the command line.
-fn show<W: Sink>(alloc: Global, error: &clap::Error, output: &mut W) -> Result<(), Ending> {
+fn show<W: Sink>(alloc: Global, error: &clap::Error, output: &mut W) -> Result<(), Ending>
+    ensures { ShowsSo error.now (W.seen output.old) (W.seen output.new) result }
+{
     if error.kind() == ErrorKind::OutOfMemory {
         return Err(Ending::Fault(ToolFault::Memory));
     }

@@ -1,65 +1,15 @@
 //! What the options of a command ask for.
-ghost use Rattle.std.specs.Prelude.{◌≡◌, ◌≤◌, ◌^◌, true, false};
+ghost use Rattle.std.specs.Prelude.{◌≡◌, ◌≤◌, ◌^◌, false};
 
+use kc_report::Dump;
 use kc_word::{K, Rule};
 use std::marker::Model;
-
-/// The greatest count that a dump can bound, which no count passes.
-pub const GREATEST_COUNT: u64 = 1 << 62;
 
 /// The least quality byte, which every quality passes.
 pub const FLOOR: u8 = b'!';
 
 /// The positions of a batch where nothing else is asked for.
 pub const BATCH_SIZE: u64 = 65_536;
-
-/// How a dump is laid out, and which rows it shows.
-#[derive(Clone, Copy, Debug, PartialEq, Eq)]
-pub struct Dump {
-    /// A row is one line, `WORD COUNT`; else it is two, `>COUNT` and `WORD`.
-    pub column: bool,
-    /// In columns, a tab stands in place of the blank.
-    pub tab: bool,
-    /// The least count that is shown.
-    pub lower: u64,
-    /// The greatest count that is shown.
-    pub upper: u64,
-}
-
-impl Dump {
-    /// A dump of all rows, in two lines each.
-    pub fn in_lines() -> Dump
-        ensures { result ≡ record { column = false; tab = false; lower = 0; upper = 2 ^ 62 } }
-    {
-        Dump {
-            column: false,
-            tab: false,
-            lower: 0,
-            upper: GREATEST_COUNT,
-        }
-    }
-
-    /// A dump of all rows, in columns with a blank between them.
-    pub fn in_columns() -> Dump
-        ensures { result ≡ record { column = true; tab = false; lower = 0; upper = 2 ^ 62 } }
-    {
-        Dump {
-            column: true,
-            ..Dump::in_lines()
-        }
-    }
-
-    /// The same dump of the rows with a count from `lower` to `upper`, both of which count.
-    pub fn between(self, lower: u64, upper: u64) -> Dump
-        ensures { result ≡ record self { lower = lower; upper = upper } }
-    {
-        Dump {
-            lower,
-            upper,
-            ..self
-        }
-    }
-}
 
 /// How to count, and what to write.
 #[derive(Clone, Copy, Debug, PartialEq, Eq)]
@@ -72,23 +22,26 @@ pub struct Options {
 }
 
 impl Model for Options {
-    ghost use Rattle.kc_tool.specs.Asked.{Asked, IsWithinLimits};
+    ghost use Rattle.kc_tool.specs.Settings.{Settings, IsWithinLimits};
 
-    ghost Value = { Asked };
+    ghost Value = { Settings };
 
     ghost view = { λ o. record { k = o.k; both = o.both; floor = o.floor; batch = o.batch; dump = o.dump } };
 
-    ghost invariant = { λ o. IsWithinLimits (record { k = o.k; both = o.both; floor = o.floor; batch = o.batch; dump = o.dump }) };
+    ghost invariant = { λ o. IsWithinLimits
+        (record { k = o.k; both = o.both; floor = o.floor; batch = o.batch; dump = o.dump }) };
 
-    ghost inverse = { λ a. record { k = a.k; both = a.both; floor = a.floor; batch = a.batch; dump = a.dump } };
+    ghost inverse = { λ s. record { k = s.k; both = s.both; floor = s.floor; batch = s.batch; dump = s.dump } };
 }
 
 impl Options {
-    ghost use Rattle.kc_tool.specs.Asked.{rule_of};
+    ghost use Rattle.kc_tool.specs.Settings.{rule_of};
 
     /// To count the words of length `k` on one strand, of bases of every quality, and write this dump of them. A batch
-    /// has 65,536 positions.
+    /// has 65,536 positions. Condition: the dump's bounds are at most 2^62.
     pub fn new(k: K, dump: Dump) -> Options
+        requires lower { dump.lower ≤ 2 ^ 62 }
+        requires upper { dump.upper ≤ 2 ^ 62 }
         ensures { result ≡ record { k = k; both = false; floor = 33; batch = 65536; dump = dump } }
     {
         Options {
@@ -143,9 +96,11 @@ impl Options {
         self.batch
     }
 
-    /// The dump that is written.
+    /// The dump that is written. Its bounds are at most 2^62.
     pub fn dump(&self) -> Dump
-        ensures { result ≡ self.now.dump }
+        ensures dump { result ≡ self.now.dump }
+        ensures lower { self.now.dump.lower ≤ 2 ^ 62 }
+        ensures upper { self.now.dump.upper ≤ 2 ^ 62 }
     {
         self.dump
     }

@@ -1,5 +1,5 @@
 -- What a cutting holds: batch by batch the windows of the pieces, each once and in order.
-use Rattle.std.proofs.Common.{◌≡◌, ℕ, zero, suc, ◌+◌, ◌-◌, ◌*◌, ◌/◌, ◌<◌, ◌≤◌, min, ⊎_elim, ◌⊎◌, inl, inr, Bool, false, cond, List, [], ◌∷◌, ◌++◌, length, get_or, take, drop, None, filter_map, sum_by, count_by, refl, ap, sym, ◌∙◌, arith, div-add-mod', mod-lt}
+use Rattle.std.proofs.Common.{◌≡◌, ℕ, zero, suc, ◌+◌, ◌-◌, ◌*◌, ◌/◌, ◌<◌, ◌≤◌, min, ⊎_elim, ◌⊎◌, inl, inr, Bool, false, cond, List, [], ◌∷◌, ◌++◌, length, get_or, take, drop, None, filter_map, sum_by, count_by, refl, ap, sym, ◌∙◌, arith, le-div_iff_mul-le, div-add-mod', mod-lt}
 use Rattle.std.proofs.lemmas.Bool.{cases_lt, cond-true, cond-false, lt-ltb, le-ltb}
 use Rattle.std.proofs.lemmas.List.{length-append, length-take, length-drop, length-take-le, take-take, drop-drop, drop-take, take_all, take-append-drop, drop_all, same_lists, get_or-take, get_or-drop, append-nil, take_min, map-id}
 use Rattle.std.proofs.lemmas.List.FromFn.{length-map-range_with_len, get_or-map-range_with_len, map-range_with_len_more}
@@ -13,39 +13,12 @@ use Rattle.std.specs.Str.{bytes_eq}
 use Rattle.kc_fastx.specs.Reads.{read_of}
 use Rattle.kc_word.specs.Rule.{CountingRule}
 use Rattle.kc_word.specs.Occurrences.{position_count, counts_under, occurrences_in, occurrences, words_of}
-use Rattle.kc_word.specs.Cutting.{as_reads, NumberedPieces, stretch, stretches, position_total, batch_count, batch_of, cutting}
-use Rattle.kc_word.proofs.Tallies.{length-filter_map}
+use Rattle.kc_word.specs.Cutting.{as_reads, NumberedPieces, stretch, position_total, batch_count, batch_of, cutting}
+use Rattle.kc_word.proofs.Stretches.{stretches_from, stretches-are}
+use Rattle.kc_base.proofs.Lists.{take-append, drop-append, length-filter_map, flat_map-range_more}
 use Rattle.kc_word.proofs.Windows.{word_of, windows, words_in-windows, window_form, form_at-window_form}
 
 -- ---- joined lists, cut
-
-take-append : {X : Type 0} (n : ℕ) (xs ys : List X) → take n (xs ++ ys) ≡ take n xs ++ take (n - length xs) ys
-take-append zero xs ys = ap (λ m. take m ys) zeros
-  where
-    zeros : 0 ≡ 0 - length xs
-    zeros = omega arith
-take-append (suc n) [] ys = ap (λ m. take m ys) same
-  where
-    same : suc n ≡ suc n - 0
-    same = omega arith
-take-append (suc n) (x ∷ xs) ys = ap (λ zs. x ∷ zs) (take-append n xs ys) ∙ ap (λ m. x ∷ (take n xs ++ take m ys)) same
-  where
-    same : n - length xs ≡ suc n - suc (length xs)
-    same = omega arith
-
-drop-append : {X : Type 0} (n : ℕ) (xs ys : List X) → drop n (xs ++ ys) ≡ drop n xs ++ drop (n - length xs) ys
-drop-append zero xs ys = ap (λ m. xs ++ drop m ys) zeros
-  where
-    zeros : 0 ≡ 0 - length xs
-    zeros = omega arith
-drop-append (suc n) [] ys = ap (λ m. drop m ys) same
-  where
-    same : suc n ≡ suc n - 0
-    same = omega arith
-drop-append (suc n) (x ∷ xs) ys = drop-append n xs ys ∙ ap (λ m. drop n xs ++ drop m ys) same
-  where
-    same : n - length xs ≡ suc n - suc (length xs)
-    same = omega arith
 
 -- the part from low to before high
 pub cut : {X : Type 0} → ℕ → ℕ → List X → List X
@@ -124,8 +97,8 @@ stretch-windows k piece p q some most =
     (cases_lt p q)
 
 -- the windows of the stretches are those of the pieces, from one number to before another
-pub stretches-windows : (k low high first : ℕ) (pieces : List (List ℕ)) → 1 ≤ k → flat_map (λ part. windows k part) (stretches k low high first pieces) ≡ cut (low - first) (high - first) (flat_map (λ piece. windows k piece) pieces)
-unfolding stretches
+pub stretches-windows : (k low high first : ℕ) (pieces : List (List ℕ)) → 1 ≤ k → flat_map (λ part. windows k part) (stretches_from k low high first pieces) ≡ cut (low - first) (high - first) (flat_map (λ piece. windows k piece) pieces)
+unfolding stretches_from
 stretches-windows k low high first [] some = sym (nothing (low - first) (high - first))
   where
     unfolded : {X : Type 0} (a b : ℕ) → cut {X = X} a b [] ≡ drop a (take b [])
@@ -136,8 +109,8 @@ stretches-windows k low high first [] some = sym (nothing (low - first) (high - 
 stretches-windows k low high first (piece ∷ pieces) some =
     let count : ℕ = position_count k (length piece) in
     let long = length-windows k piece in
-    flat_map-append (λ part. windows k part) (stretch k piece (low - first) (min (position_count k (length piece)) (high - first))) (stretches k low high (first + position_count k (length piece)) pieces)
-    ∙ ap (λ xs. xs ++ flat_map (λ part. windows k part) (stretches k low high (first + position_count k (length piece)) pieces))
+    flat_map-append (λ part. windows k part) (stretch k piece (low - first) (min (position_count k (length piece)) (high - first))) (stretches_from k low high (first + position_count k (length piece)) pieces)
+    ∙ ap (λ xs. xs ++ flat_map (λ part. windows k part) (stretches_from k low high (first + position_count k (length piece)) pieces))
     (stretch-windows k piece (low - first) (min (position_count k (length piece)) (high - first)) some (omega arith) ∙ cut-min (low - first) (position_count k (length piece)) (high - first) (windows k piece) long)
     ∙ ap (λ xs. cut (low - first) (high - first) (windows k piece) ++ xs)
     (stretches-windows k low high (first + position_count k (length piece)) pieces some
@@ -156,16 +129,11 @@ length-cut low high xs = length-drop low (take high xs) ∙ ap (λ n. n - low) (
 
 batch-windows : (k size i : ℕ) (pieces : List (List ℕ)) → 1 ≤ k → flat_map (λ part. windows k part) (batch_of k size pieces i).pieces ≡ cut (i * size) ((i + 1) * size) (flat_map (λ piece. windows k piece) pieces)
 batch-windows k size i pieces some =
-    stretches-windows k (i * size) ((i + 1) * size) 0 pieces some ∙ ap (λ m. cut m ((i + 1) * size - 0) (flat_map (λ piece. windows k piece) pieces)) (omega arith) ∙ ap (λ m. cut (i * size) m (flat_map (λ piece. windows k piece) pieces)) (omega arith)
+    ap (flat_map (λ part. windows k part)) (stretches-are k (i * size) ((i + 1) * size) pieces) ∙ stretches-windows k (i * size) ((i + 1) * size) 0 pieces some ∙ ap (λ m. cut m ((i + 1) * size - 0) (flat_map (λ piece. windows k piece) pieces)) (omega arith) ∙ ap (λ m. cut (i * size) m (flat_map (λ piece. windows k piece) pieces)) (omega arith)
 
 take-cut : {X : Type 0} (low high : ℕ) (xs : List X) → low ≤ high → take low xs ++ cut low high xs ≡ take high xs
 unfolding cut
 take-cut low high xs h = ap (λ ys. ys ++ drop low (take high xs)) (sym (take-take low high xs h)) ∙ take-append-drop low (take high xs)
-
-flat_map-range-more : {X : Type 0} (f : ℕ → List X) (n : ℕ) → flat_map f (range_with_len 0 (n + 1)) ≡ flat_map f (range_with_len 0 n) ++ f n
-flat_map-range-more f n =
-    ap (flat_map f) (sym (map-id (range_with_len 0 (n + 1))) ∙ map-range_with_len_more (λ j. j) 0 n n (omega arith) ∙ ap (λ xs. xs ++ n ∷ []) (map-id (range_with_len 0 n)))
-    ∙ flat_map-append f (range_with_len 0 n) (n ∷ []) ∙ ap (λ xs. flat_map f (range_with_len 0 n) ++ xs) (append-nil (f n))
 
 batches-windows : (k size n : ℕ) (pieces : List (List ℕ)) → 1 ≤ k → flat_map (λ i. flat_map (λ part. windows k part) (batch_of k size pieces i).pieces) (range_with_len 0 n) ≡ take (n * size) (flat_map (λ piece. windows k piece) pieces)
 batches-windows k size zero pieces some = ap (λ m. take m (flat_map (λ piece. windows k piece) pieces)) none
@@ -174,7 +142,7 @@ batches-windows k size zero pieces some = ap (λ m. take m (flat_map (λ piece. 
     none = omega arith
 batches-windows k size (suc n) pieces some =
     ap (λ m. flat_map (λ i. flat_map (λ part. windows k part) (batch_of k size pieces i).pieces) (range_with_len 0 m)) next
-    ∙ flat_map-range-more (λ i. flat_map (λ part. windows k part) (batch_of k size pieces i).pieces) n
+    ∙ flat_map-range_more (λ i. flat_map (λ part. windows k part) (batch_of k size pieces i).pieces) n
     ∙ ap (λ xs. xs ++ flat_map (λ part. windows k part) (batch_of k size pieces n).pieces) (batches-windows k size n pieces some)
     ∙ ap (λ xs. take (n * size) (flat_map (λ piece. windows k piece) pieces) ++ xs) (batch-windows k size n pieces some)
     ∙ take-cut (n * size) ((n + 1) * size) (flat_map (λ piece. windows k piece) pieces) (omega arith)
@@ -289,6 +257,24 @@ batch-positions-le k size i pieces some =
     let own = length-all_windows k (batch_of k size pieces i).pieces in
     let part = ap length (batch-windows k size i pieces some) ∙ length-cut (i * size) ((i + 1) * size) (flat_map (λ piece. windows k piece) pieces) in
     omega (arith, own, part)
+
+-- a batch has `size` positions, and the last one those that are left
+pub batch-positions : (k size i : ℕ) (pieces : List (List ℕ)) → 1 ≤ k → position_total k (batch_of k size pieces i).pieces ≡ min size (position_total k pieces - i * size)
+batch-positions k size i pieces some =
+    let own = length-all_windows k (batch_of k size pieces i).pieces in
+    let all = length-all_windows k pieces in
+    let part = ap length (batch-windows k size i pieces some) ∙ length-cut (i * size) ((i + 1) * size) (flat_map (λ piece. windows k piece) pieces) in
+    let next : (i + 1) * size ≡ i * size + size = omega arith in
+    omega (arith, own, all, part, next)
+
+-- each batch of a cutting has a position
+pub batch-inhabited : (k size i : ℕ) (pieces : List (List ℕ)) → 1 ≤ k → 1 ≤ size → i < length (cutting k size pieces) → 1 ≤ position_total k (batch_of k size pieces i).pieces
+batch-inhabited k size i pieces some size_some within =
+    let long = length-cutting k size pieces in
+    let fits : (i + 1) * size ≤ position_total k pieces + size - 1 = (le-div_iff_mul-le {k = size} {x = i + 1} {y = position_total k pieces + size - 1} size_some).0 (omega (arith, within, long)) in
+    let next : (i + 1) * size ≡ i * size + size = omega arith in
+    let many = batch-positions k size i pieces some in
+    omega (arith, fits, next, many, size_some)
 
 batches-positions : (k : ℕ) (batches : List NumberedPieces) → sum_by (λ batch. position_total k batch.pieces) batches ≡ length (flat_map (λ batch. flat_map (λ part. windows k part) batch.pieces) batches)
 batches-positions k [] = refl

@@ -1,12 +1,12 @@
 -- Cleaned pieces, and how they are cut into numbered batches of as many positions each.
 -- Source: this project's own; a batch is what one worker counts at a time.
-use Rattle.std.specs.Prelude.{◌≡◌, ℕ, Bool, ◌+◌, ◌-◌, ◌*◌, ◌/◌, ◌==◌, ◌&&◌, ◌||◌, nat_lt, min, List, [], ◌∷◌, ◌++◌, length, map, slice_range, slice_index, None, if◌then◌else◌, sum_by}
+use Rattle.std.specs.Prelude.{◌≡◌, ℕ, Bool, ◌+◌, ◌-◌, ◌*◌, ◌/◌, ◌==◌, ◌&&◌, ◌||◌, nat_lt, min, List, [], ◌∷◌, ◌++◌, length, map, take, slice_range, slice_index, slice_index_or, None, if◌then◌else◌, sum_by}
 use Rattle.std.specs.List.{range_with_len, list_all, flat_map}
 use Rattle.std.specs.Cmp.Lexicographic.{pointwise}
 use Rattle.std.specs.Str.{bytes_eq}
 use Rattle.std.specs.Char.{to_ascii_uppercase}
 use Rattle.kc_fastx.specs.Reads.{Read, read_of}
-use Rattle.kc_word.specs.Base.{is_base}
+use Rattle.kc_word.specs.Letter.{is_base}
 use Rattle.kc_word.specs.Rule.{CountingRule}
 use Rattle.kc_word.specs.Occurrences.{is_usable, position_count, occurrences, words_of}
 
@@ -46,17 +46,23 @@ pub record NumberedPieces : Type 0 where
 unfoldable pub stretch : ℕ → List ℕ → ℕ → ℕ → List (List ℕ)
 stretch k piece p q = if nat_lt p q then slice_range piece p (q + k - 1) ∷ [] else []
 
--- The positions of all pieces are numbered in order. These are the stretches of the pieces whose positions are numbered from `low` to before `high`,
--- where `first` is the number of the first position of the first piece.
-unfoldable pub stretches : ℕ → ℕ → ℕ → ℕ → List (List ℕ) → List (List ℕ)
-stretches k low high first [] = []
-stretches k low high first (piece ∷ pieces) =
-    stretch k piece (low - first) (min (position_count k (length piece)) (high - first))
-    ++ stretches k low high (first + position_count k (length piece)) pieces
-
 -- how many positions the pieces have
 abbrev pub position_total : ℕ → List (List ℕ) → ℕ
 position_total k pieces = sum_by (λ piece. position_count k (length piece)) pieces
+
+-- The positions of all pieces are numbered in order: the number of the first position of piece j is how many positions the pieces before it have.
+abbrev pub first_position : ℕ → List (List ℕ) → ℕ → ℕ
+first_position k pieces j = position_total k (take j pieces)
+
+-- the stretch of a piece whose first position has the number `first`: its positions with numbers from `low` to before `high`
+abbrev pub stretch_of : ℕ → ℕ → ℕ → List ℕ → ℕ → List (List ℕ)
+stretch_of k low high piece first =
+    stretch k piece (low - first) (min (position_count k (length piece)) (high - first))
+
+-- the stretches of all pieces
+unfoldable pub stretches : ℕ → ℕ → ℕ → List (List ℕ) → List (List ℕ)
+stretches k low high pieces =
+    flat_map (λ j. stretch_of k low high (slice_index_or pieces j []) (first_position k pieces j)) (range_with_len 0 (length pieces))
 
 -- how many batches of `size` positions there are, of which the last may have fewer
 abbrev pub batch_count : ℕ → ℕ → List (List ℕ) → ℕ
@@ -64,7 +70,7 @@ batch_count k size pieces = (position_total k pieces + size - 1) / size
 
 -- batch i: the positions numbered from i * size to before (i + 1) * size
 abbrev pub batch_of : ℕ → ℕ → List (List ℕ) → ℕ → NumberedPieces
-batch_of k size pieces i = record { number = i; pieces = stretches k (i * size) ((i + 1) * size) 0 pieces }
+batch_of k size pieces i = record { number = i; pieces = stretches k (i * size) ((i + 1) * size) pieces }
 
 -- all batches of a cutting, in order
 unfoldable pub cutting : ℕ → ℕ → List (List ℕ) → List NumberedPieces

@@ -1,11 +1,18 @@
-//! `kcount`, a counter of the words of length k in sequence reads.
+//! `kcount`, a counter of the k-mers (words of length k) in sequence reads.
 #![tactic(auto)]
 
 use std::process::ExitCode;
 use std::{env, io};
 
 fn main(rt: HostRuntime) -> io::Result<ExitCode> {
-    let words: Vec<String> = env::args(&rt)?.collect(rt.alloc())?;
-    let status = kc_tool::program(&rt, rt.alloc(), words, rt.stdin(), rt.stdout(), rt.stderr());
+    let arguments: Vec<String> = env::args(&rt)?.collect(rt.alloc())?;
+    let status = kc_tool::program(
+        &rt,
+        rt.alloc(),
+        arguments,
+        rt.stdin(),
+        rt.stdout(),
+        rt.stderr(),
+    );
     Ok(ExitCode::from(status))
 }

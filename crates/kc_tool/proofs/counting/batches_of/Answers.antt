@@ -1,7 +1,7 @@
 use Rattle.std.proofs.Common.{List, [], ◌∷◌, ◌++◌, Global, refl, ◌≡◌, ◌≤◌, length, sym, ap, ◌∙◌}
 use Rattle.std.proofs.lemmas.Result.{IfOk-weaker}
 use Rattle.std.specs.List.{flat_map}
-use Rattle.kc_fastx.specs.ReadsOf.{base_count}
+use Rattle.kc_fastx.specs.Reads.{base_count}
 use Rattle.std.specs.declared.sync.Arc.{Arc}
 use Rattle.kc_word.specs.Rule.{CountingRule}
 use Rattle.kc_word.specs.Shared.{values}

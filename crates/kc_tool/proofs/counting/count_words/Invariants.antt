@@ -1,5 +1,5 @@
 use Rattle.std.proofs.Common.{take}
-use Rattle.kc_tool.proofs.Maps.{CountsMore}
+use Rattle.kc_tool.proofs.CountingLemmas.{CountsMore}
 use Rattle.kc_tool.proofs.counting.count_words.Given as goal
 
 abbrev pub invariant-loop-word : goal.invariant-loop-word

@@ -1,6 +1,6 @@
 use Rattle.std.proofs.Common.{◌≡◌, ◌+◌, length, arith}
 use Rattle.std.specs.Vec.Iter.{into_iter_items}
-use Rattle.kc_tool.proofs.Sources.{begun, length-front, one_more, refused_unless_memory}
+use Rattle.kc_tool.proofs.ReadingLemmas.{begun, length-front, one_more, refused}
 use Rattle.kc_tool.proofs.reading.read_sources.Goals as goal
 
 pub loop-source-init : goal.loop-source-init
@@ -13,7 +13,7 @@ loop-source-init g c =
 
 pub returns-in-Err-clause-fault : goal.returns-in-Err-clause-fault
 returns-in-Err-clause-fault g c =
-    refused_unless_memory g.R.Source.seen c.args.sources.items (into_iter_items c.next.new.self) c.in-Some.source c.read_all.new.reader c.loop-source.all.items c.loop-source.left c.loop-source.number c.in-Err.fault
+    refused g.R.Source.seen c.args.sources.items (into_iter_items c.next.new.self) c.in-Some.source c.read_all.new.reader c.loop-source.all.items c.loop-source.left c.loop-source.number c.in-Err.fault
     (rw c.in-Some.ensures.steps.0 at c.loop-source.invariant.so_far) c.in-Err.ensures.fault
 
 pub loop-source-preserved : goal.loop-source-preserved

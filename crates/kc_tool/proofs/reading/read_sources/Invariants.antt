@@ -1,6 +1,6 @@
 use Rattle.std.proofs.Common.{◌+◌, ◌<◌, ◌^◌, length}
 use Rattle.std.specs.Vec.Iter.{into_iter_items}
-use Rattle.kc_tool.proofs.Sources.{ReadSoFar}
+use Rattle.kc_tool.proofs.ReadingLemmas.{ReadSoFar}
 use Rattle.kc_tool.proofs.reading.read_sources.Given as goal
 
 abbrev pub invariant-loop-source : goal.invariant-loop-source

@@ -1,5 +1,5 @@
-use Rattle.std.proofs.Common.{rules}
-use Rattle.kc_table.proofs.KeyCounts.{readied_by_look, readied_by_write, within_by_write}
+use Rattle.std.proofs.Common.{rules, ◌∙◌, sym, ap, is_some}
+use Rattle.kc_table.proofs.KeyCounts.{counts_found, readied_by_look, readied_by_write, within_by_write}
 use Rattle.kc_table.proofs.plain.PlainCountsCounts.ready.Goals as goal
 
 pub returns-then-contains_key-clause-stored : goal.returns-then-contains_key-clause-stored
@@ -12,3 +12,7 @@ invariant_of-self-2 c =
 pub returns-clause-stored : goal.returns-clause-stored
 returns-clause-stored c =
     rw (← c.self.view_is) (readied_by_write c.self.inside.map.entries _ c.args.key (search rules) ((c.in-Ok.ensures.updates).0))
+
+pub returns-in_default-clause-known : goal.returns-in_default-clause-known
+returns-in_default-clause-known c = λ stored.
+    sym c.if-contains_key.false ∙ c.contains_key.ensures ∙ sym (ap is_some (counts_found _ _ c.args.key (ap (λ p. p.counts) c.self.view_is))) ∙ stored

@@ -1,0 +1,102 @@
+//! Bytes gathered in a fixed array, so that a sink gets blocks and not single fields.
+ghost use Rattle.std.specs.Prelude.{◌≡◌, ◌+◌, ◌≤◌, ◌++◌, [], length, decimal, OnOk, OnErr};
+ghost use Rattle.kc_io.specs.Sinks.{HasBegun, Drains};
+
+use itoa::Buffer;
+use kc_io::{Failed, Sink, write_all};
+use std::marker::Model;
+
+/// How many bytes a block holds.
+pub const BLOCK_SIZE: usize = 65_536;
+
+/// The most digits of a number of 64 bits.
+pub const NUMBER_SIZE: usize = 20;
+
+/// The bytes gathered so far, at most `BLOCK_SIZE` of them.
+#[derive(Drop)]
+pub struct Block {
+    bytes: [u8; BLOCK_SIZE],
+    len: usize,
+}
+
+impl Model for Block {
+    ghost use Rattle.std.specs.Prelude.{List, ℕ, ◌≤◌, take};
+
+    ghost Value = { List ℕ };
+
+    ghost view = { λ b. take b.len b.bytes };
+
+    ghost invariant = { λ b. b.len ≤ 65536 };
+}
+
+impl Block {
+    /// A block with no bytes.
+    pub fn new() -> Block
+        ensures { result ≡ [] }
+    {
+        Block {
+            bytes: [0; BLOCK_SIZE],
+            len: 0,
+        }
+    }
+
+    /// How many bytes there are.
+    pub fn len(&self) -> usize
+        ensures { result ≡ length self.now }
+    {
+        self.len
+    }
+
+    /// The bytes.
+    pub fn as_slice(&self) -> &[u8]
+        ensures { result.now ≡ self.now }
+    {
+        &self.bytes[..self.len]
+    }
+
+    /// Forgets the bytes.
+    pub fn clear(&mut self)
+        ensures { self.new ≡ [] }
+    {
+        self.len = 0;
+    }
+
+    /// Puts `bytes` behind those that are there.
+    pub fn push(&mut self, bytes: &[u8])
+        requires room { length self.old + length bytes.now ≤ BLOCK_SIZE }
+        ensures pushed { self.new ≡ self.old ++ bytes.now }
+    {
+        let end = self.len + bytes.len();
+        self.bytes[self.len..end].copy_from_slice(bytes);
+        self.len = end;
+    }
+}
+
+impl Block {
+    /// Puts a number behind the bytes that are there, in decimal.
+    pub fn push_number(&mut self, number: u64)
+        requires room { length self.old + NUMBER_SIZE ≤ BLOCK_SIZE }
+        ensures pushed { self.new ≡ self.old ++ decimal number }
+        ensures short { length self.new ≤ length self.old + NUMBER_SIZE }
+    {
+        let mut digits = Buffer::new();
+        self.push(digits.format(number).as_bytes());
+    }
+
+    /// Hands the bytes to the writer where there is no room for `count` more. Condition: a block has room for them.
+    ///
+    /// # Errors
+    /// `Failed` where the writer failed or took no byte. It took a beginning of the bytes.
+    pub fn make_room<W: Sink>(&mut self, writer: &mut W, count: usize) -> Result<(), Failed>
+        requires { count ≤ BLOCK_SIZE }
+        ensures ok { OnOk result (Drains (W.seen writer.old) (W.seen writer.new) self.old self.new) }
+        ensures room { OnOk result (length self.new + count ≤ BLOCK_SIZE) }
+        ensures err { OnErr result (HasBegun (W.seen writer.old) (W.seen writer.new) self.old) }
+    {
+        if self.len > BLOCK_SIZE - count {
+            write_all(writer, self.as_slice())?;
+            self.clear();
+        }
+        Ok(())
+    }
+}

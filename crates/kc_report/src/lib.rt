@@ -1,0 +1,20 @@
+//! Reports on a tally, each a text that is written to a `Sink`.
+//!
+//! `write_dump` writes the words with their counts, as a `Dump` asks. A report goes to the writer by blocks of 64 KB: `Block` gathers them.
+//!
+//! ```text
+//! write_dump(&mut ToWrite::new(output), &tally, &Dump::in_columns())?;
+//! ```
+#![tactic(auto)]
+
+mod block;
+mod dumping;
+mod faults;
+mod statistics;
+#[cfg(test)]
+mod tests;
+
+pub use block::{BLOCK_SIZE, Block, NUMBER_SIZE};
+pub use dumping::{Dump, GREATEST_COUNT, write_dump};
+pub use faults::ReportFault;
+pub use statistics::write_stats;

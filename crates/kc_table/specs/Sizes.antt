@@ -1,0 +1,36 @@
+-- The numbers that hang together.
+use Rattle.std.specs.Prelude.{ℕ}
+
+-- How many places a key has. With more of them a table grows later and a tag has fewer bits for the remainder.
+abbrev pub place_count : ℕ
+place_count = 63
+
+-- A tag is a key's remainder times this, and one more than its number of reprobes, so that 0 is no key's tag: it is
+-- `place_count` and 1, a power of 2.
+abbrev pub tag_step : ℕ
+tag_step = 64
+
+-- From 2 to this many slots on, which are `tag_step`, the places of a key differ.
+abbrev pub spread_log : ℕ
+spread_log = 6
+
+-- A remainder has at most so many bits: those of a tag, 64, without the 6 of `tag_step`.
+abbrev pub remainder_bits : ℕ
+remainder_bits = 58
+
+-- A key has at most so many bits: two for each base of a word of 31.
+abbrev pub most_bits : ℕ
+most_bits = 62
+
+-- A table has at least 2 to this many slots, if there are so many keys: the slot gives the bits of a key that its
+-- remainder has no room for, which are `most_bits` without `remainder_bits`.
+abbrev pub least_log : ℕ
+least_log = 4
+
+-- A table has at most 2 to this many slots: the sum of the numbers up to 62, times so many, is still below 2 ^ 64.
+abbrev pub most_log : ℕ
+most_log = 40
+
+-- A count is below 2 to this before one is added.
+abbrev pub count_bits : ℕ
+count_bits = 62

@@ -1,9 +1,0 @@
-use Rattle.std.proofs.Common.{◌++◌, drop}
-use Rattle.kc_tool.specs.DumpText.{dump_text}
-use Rattle.kc_tool.proofs.Writing.{Pending}
-use Rattle.kc_tool.proofs.dumping.write_dump.Given as goal
-
-abbrev pub invariant-loop-row : goal.invariant-loop-row
-invariant-loop-row g l =
-    Pending (g.W.Sink.seen l.fn.writer) (g.W.Sink.seen l.writer) (dump_text l.tally.k l.dump l.tally.rows)
-    (l.block ++ dump_text l.tally.k l.dump (drop l.row-index l.row-items))

@@ -1,0 +1,47 @@
+-- The reads of all sources of one count: source, our formats page.
+use Rattle.std.specs.Prelude.{◌≤◌, ◌-◌, ℕ, List, [], ◌∷◌, length, ⊤}
+use Rattle.std.specs.List.{concat}
+use Rattle.kc_io.specs.Sources.{Seen}
+use Rattle.kc_io.specs.Taking.{TakesAll}
+use Rattle.kc_fastx.specs.Parsing.{HaveReads, IsFirstFaulty, RefusesFor, most_bytes}
+use Rattle.kc_fastx.specs.Reads.{Read}
+use Rattle.kc_fastx.specs.declared.faults.FastxFault.{FastxFault}
+use Rattle.kc_tool.specs.declared.faults.ToolFault.{ToolFault}
+use Rattle.kc_tool.specs.declared.faults.ToolFault.TheVariants.{Fastx, Memory}
+
+-- each source gave its input, up to the end that it told, and all together no more bytes than the limit. What the
+-- sources are afterwards is not kept
+abbrev pub GaveInputs : {S : Type 0} → (S → Seen) → ℕ → List S → List (List ℕ) → Type 0
+GaveInputs seen limit [] [] = Unit {0}
+GaveInputs {S} seen limit (source ∷ sources) (input ∷ inputs) =
+    (later : S) × TakesAll (seen source) (seen later) limit input
+    × GaveInputs seen (limit - length input) sources inputs
+GaveInputs seen limit _ _ = ⊥
+
+-- the sources gave inputs that have these reads, joined in order
+pub record GaveReads {S : Type 0} (seen : S → Seen) (sources : List S) (inputs : List (List ℕ)) (reads : List Read)
+    : Type 0 where
+  pub gave : GaveInputs seen most_bytes sources inputs
+  pub within : length (concat inputs) ≤ most_bytes
+  pub has_reads : HaveReads inputs reads
+
+-- the sources have these reads
+abbrev pub ReadsSources : {S : Type 0} → (S → Seen) → List S → List Read → Type 0
+ReadsSources seen sources reads = (inputs : List (List ℕ)) × GaveReads seen sources inputs reads
+
+-- the source was refused with this fault, where the sources before it gave these inputs
+abbrev pub IsRefusedBehind : {S : Type 0} → (S → Seen) → List (List ℕ) → S → FastxFault → Type 0
+IsRefusedBehind {S} seen inputs source fault =
+    (later : S) × RefusesFor (seen source) (seen later) (most_bytes - length (concat inputs)) fault
+
+-- the number-th source, from 1, is the first that has no reads, for this fault
+abbrev pub FailsAt : {S : Type 0} → (S → Seen) → List S → ℕ → FastxFault → Type 0
+FailsAt seen sources number fault =
+    IsFirstFaulty (λ before inputs. (reads : List Read) × GaveReads seen before inputs reads) (IsRefusedBehind seen)
+    sources number fault
+
+-- why the sources have no reads; of want of memory outside the readers nothing is said
+abbrev pub RefusesSources : {S : Type 0} → (S → Seen) → List S → ToolFault → Type 0
+RefusesSources seen sources (Fastx number fault) = FailsAt seen sources number fault
+RefusesSources seen sources Memory = ⊤
+RefusesSources seen sources _ = ⊥
