@@ -73,6 +73,3 @@ invariant_of-self-2 g c =
               ∙ ap₂ (λ (m n : ℕ). m + n) (c.in_ok-ready_all.ensures.same_counts q) (ap (λ (ks : List ℕ). count_by (λ key. eqb key q) ks) keys);
         })) in
     rw journal (lawful, kept)
-
-pub returns-clause-lawful : goal.returns-clause-lawful
-returns-clause-lawful g c = (invariant_of-self-2 g c).0

@@ -12,7 +12,7 @@ invariant_of-result g c =
     let table = c.in_ok-new.ensures.table in
     let kept : IsKept c.args.setup.now c.args.number [] (g.C.Counts.bits c.in_ok-new.field-0.table) (λ n. list_any (nat_eq n) c.new-3.result.keys) = record {
       own = c.requires.number;
-      divided = c.key_bits-bits.ensures.words;
+      divided = c.divides_words.ensures;
       bits_are = ap g.C.Counts.bits table ∙ c.requires.key_bits;
       known_are = λ n. ap (list_any (nat_eq n)) c.new-3.ensures.empty;
     } in
