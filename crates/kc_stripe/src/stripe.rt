@@ -138,6 +138,9 @@ impl<C: Counts> Stripe<C> {
     pub fn rows(&self, alloc: Global) -> Result<Vec<Row>, AllocError>
         ensures { IfOk result (λ rows. AreStripeRows self.now.setup self.now.number self.now.journal rows.items) }
     {
+        // what is known of the words and their keys
+        self.setup.divides_words();
+        let _bits = self.setup.stripe_bits();
         let counted = self.counted.table().rows(alloc)?;
         let tables = self.setup.hash().back_tables();
         let mut rows = Vec::with_capacity(alloc, counted.len())?;

@@ -1,15 +1,14 @@
-use Rattle.std.proofs.Common.{◌≡◌, ◌∙◌, ◌+◌, ◌<◌, ◌^◌, ◌++◌, [], ◌∷◌, ℕ, List, Bool, true, cond, All, eqb, nat_eq, count_by, Err, inr, refl, ap, ap₂, sym, subst, arith}
+use Rattle.std.proofs.Common.{◌≡◌, ◌∙◌, ◌+◌, ◌++◌, [], ◌∷◌, ℕ, List, Bool, true, cond, eqb, nat_eq, count_by, Err, inr, refl, ap, ap₂, sym, subst}
 use Rattle.std.proofs.lemmas.List.{map_push}
 use Rattle.std.proofs.lemmas.Result.{err_from_is_err_and}
 use Rattle.std.specs.HashSet.{contains}
 use Rattle.kc_word.specs.Cutting.{NumberedPieces}
 use Rattle.kc_word.specs.Shared.{values}
-use Rattle.kc_table.specs.Counts.{IsStored}
 use Rattle.kc_stripe.specs.declared.fault.BookFault.TheVariants as book
 use Rattle.kc_stripe.specs.Faults.{booking_fault}
 use Rattle.kc_stripe.specs.Cut.{keys_of, cut_at}
-use Rattle.kc_stripe.specs.Counted.{SomeMayBeFull, all_readied}
-use Rattle.kc_stripe.specs.Stripe.{IsLawful, IsKept, IsBooked}
+use Rattle.kc_stripe.specs.Counted.{SomeMayBeFull}
+use Rattle.kc_stripe.specs.Stripe.{IsKept, IsBooked}
 use Rattle.kc_stripe.proofs.CountedTables.{IsStored-all_readied}
 use Rattle.kc_stripe.proofs.Lawful.{IsLawful-from, CountsWords-more, keys-fit, known-more, numbers_differ-more, own_keys, was_full}
 use Rattle.kc_stripe.proofs.stripe.Stripe.book.Goals as goal

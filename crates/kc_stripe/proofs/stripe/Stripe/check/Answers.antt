@@ -1,7 +1,7 @@
-use Rattle.std.proofs.Common.{◌≡◌, ◌∙◌, ℕ, List, Result, Ok, Err, ap, ap₂, sym, refl, nat_eq, true, false, not}
+use Rattle.std.proofs.Common.{◌≡◌, ◌∙◌, ℕ, List, ap, ap₂, sym, refl, nat_eq, true, false, not}
 use Rattle.std.specs.List.{list_any}
 use Rattle.kc_word.specs.Cutting.{NumberedPieces}
-use Rattle.kc_stripe.specs.Stripe.{numbers_of, IsBooked, IsOwnCut}
+use Rattle.kc_stripe.specs.Stripe.{numbers_of}
 use Rattle.kc_stripe.proofs.Codes.{is_same_setup-same}
 use Rattle.kc_stripe.proofs.Lawful.{IsBooked-found, IsBooked-missing}
 use Rattle.kc_stripe.proofs.stripe.Stripe.check.Goals as goal
