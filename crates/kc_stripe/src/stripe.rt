@@ -39,8 +39,14 @@ impl<C: Counts> Model for Stripe<C> {
 
     ghost Value = { StripeState C };
 
-    ghost view = { λ s. record { setup = s.setup; number = s.number; journal = values s.journal.items;
-        table = s.counted.table; bins = s.counted.bins; total = s.counted.total } };
+    ghost view = { λ s. record {
+      setup = s.setup;
+      number = s.number;
+      journal = values s.journal.items;
+      table = s.counted.table;
+      bins = s.counted.bins;
+      total = s.counted.total;
+    } };
 
     ghost invariant = { λ s. IsLawful s.setup s.number (values s.journal.items) (C.counts s.counted.table) s.counted.bins s.counted.total
         × IsKept s.setup s.number (values s.journal.items) (C.bits s.counted.table) (contains nat_eq s.booked) };
