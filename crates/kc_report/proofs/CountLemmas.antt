@@ -73,12 +73,23 @@ words_by_count-row high rows i d below some most =
     ∙ get_or-words_by_count high (take i rows) k l ∙ sym (same_else rows i (k + 1) d below (λ e. ne (omega (arith, e)))))
     (cases_eq (count - 1) k))
 
-pub counted_row : (high : ℕ) (words : List ℕ) (rows : List Row) (i : ℕ) (d : Row) → words ≡ words_by_count high (take i rows)
-    → i < length rows → 1 ≤ (get_or rows i d).count → (get_or rows i d).count ≤ high
-    → set words ((get_or rows i d).count - 1) (get_or words ((get_or rows i d).count - 1) 0 + 1) ≡ words_by_count high (take (i + 1) rows)
-counted_row high words rows i d e below some most =
-    let j = (get_or rows i d).count - 1 in
-    ap (λ v. set v j (get_or v j 0 + 1)) e ∙ words_by_count-row high rows i d below some most
+-- a step of a counting row by row: the rows before the index are counted, and the row there has a count up to high
+pub record CountStep (high : ℕ) (rows : List Row) : Type 0 where
+  pub words : List ℕ
+  pub index : ℕ
+  pub no_row : Row
+  pub counted : words ≡ words_by_count high (take index rows)
+  pub within : index < length rows
+  pub some : 1 ≤ (get_or rows index no_row).count
+  pub most : (get_or rows index no_row).count ≤ high
+
+-- the row is counted
+pub counted_row : (high : ℕ) (rows : List Row) (s : CountStep high rows)
+    → let count = (get_or rows s.index s.no_row).count in
+    set s.words (count - 1) (get_or s.words (count - 1) 0 + 1) ≡ words_by_count high (take (s.index + 1) rows)
+counted_row high rows s =
+    let count = (get_or rows s.index s.no_row).count in
+    ap (λ v. set v (count - 1) (get_or v (count - 1) 0 + 1)) s.counted ∙ words_by_count-row high rows s.index s.no_row s.within s.some s.most
 
 -- no place is fuller than as many rows were counted
 pub counted-most : (high : ℕ) (words : List ℕ) (rows : List Row) (i j : ℕ) → words ≡ words_by_count high (take i rows) → i ≤ length rows → j < high → get_or words j 0 ≤ i

@@ -1,9 +1,9 @@
 -- A histogram, line by line.
-use Rattle.std.proofs.Common.{◌≡◌, ℕ, suc, ◌+◌, ◌-◌, ◌<◌, List, ◌++◌, sym, ◌∙◌, ap, subst, append_assoc, arith}
+use Rattle.std.proofs.Common.{◌≡◌, ℕ, suc, ◌+◌, ◌-◌, ◌<◌, List, ◌++◌, sym, ◌∙◌, ap, append_assoc, arith}
 use Rattle.std.specs.Prelude.{flat_map}
 use Rattle.std.specs.List.{range_with_len}
 use Rattle.kc_io.specs.Sinks.{Written, Drains}
-use Rattle.kc_io.proofs.SinksLemmas.{Pending, drained}
+use Rattle.kc_io.proofs.SinksLemmas.{Pending, SinkCall, drained}
 use Rattle.kc_tally.specs.declared.row.Row.{Row}
 use Rattle.kc_report.specs.Histo.{words_with_count, words_above, count_line, histo_text}
 
@@ -39,4 +39,5 @@ next_line {s} {a} {b} {text} {after} block high rows i below p moved =
     let line = count_line (i + 1) (words_with_count rows (i + 1)) in
     let cut : block ++ text_above high rows i ≡ (block ++ line) ++ text_above high rows (i + 1) =
     ap (λ v. block ++ v) (text_above-next high rows i below) ∙ sym (append_assoc block line (text_above high rows (i + 1))) in
-    drained s a b text (block ++ line) after (text_above high rows (i + 1)) (subst (λ v. Pending s a text v) cut p) moved
+    let call : SinkCall = record { start = s; now = a; next = b; text = text; rest = block ++ text_above high rows i; pending = p } in
+    drained call (block ++ line) after (text_above high rows (i + 1)) cut moved

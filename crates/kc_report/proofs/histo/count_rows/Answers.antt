@@ -24,7 +24,15 @@ loop-row-preserved c =
     elim c.if-row-words.branch [
       | then-row-words w ↦
           let most : (get_or rows i no_row).count ≤ n = omega arith in
-          w.words-is ∙ counted_row n c.loop-row.words rows i no_row c.loop-row.invariant c.loop-row-test.true (c.requires.present i no_row c.loop-row-test.true) most
+          w.words-is ∙ counted_row n rows (record {
+            words = c.loop-row.words;
+            index = i;
+            no_row = no_row;
+            counted = c.loop-row.invariant;
+            within = c.loop-row-test.true;
+            some = c.requires.present i no_row c.loop-row-test.true;
+            most = most;
+          })
       | else-row-words w ↦
           let past : n < (get_or rows i no_row).count = omega arith in
           w.words-is ∙ c.loop-row.invariant ∙ words_by_count-past n rows i no_row c.loop-row-test.true past
