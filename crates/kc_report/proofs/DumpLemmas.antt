@@ -9,7 +9,8 @@ use Rattle.kc_io.proofs.SinksLemmas.{Pending, SinkCall, drained}
 use Rattle.kc_report.specs.declared.dumping.Dump.{Dump}
 
 -- The row at the front has its part.
-pub dump_text-cons : (k : ℕ) (dump : Dump) (row : Row) (rows : List Row) → dump_text k dump (row ∷ rows) ≡ shown_text k dump row ++ dump_text k dump rows
+pub dump_text-cons : (k : ℕ) (dump : Dump) (row : Row) (rows : List Row)
+    → dump_text k dump (row ∷ rows) ≡ shown_text k dump row ++ dump_text k dump rows
 dump_text-cons k dump row rows = pick (is_shown dump row) where
   pick : (b : Bool) → flat_map (row_text k dump) (if b then row ∷ filter (is_shown dump) rows else filter (is_shown dump) rows)
       ≡ (if b then row_text k dump row else []) ++ flat_map (row_text k dump) (filter (is_shown dump) rows)

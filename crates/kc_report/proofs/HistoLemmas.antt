@@ -10,17 +10,23 @@ use Rattle.kc_report.specs.Histo.{words_with_count, words_above, count_line, his
 -- the lines of the counts above i up to high, and then the last line
 pub text_above : ℕ → List Row → ℕ → List ℕ
 text_above high rows i =
-    flat_map (λ count. count_line count (words_with_count rows count)) (range_with_len (i + 1) (high - i)) ++ count_line (high + 1) (words_above rows high)
+    flat_map (λ count. count_line count (words_with_count rows count)) (range_with_len (i + 1) (high - i))
+    ++ count_line (high + 1) (words_above rows high)
 
 pub text_above-all : (high : ℕ) (rows : List Row) → text_above high rows 0 ≡ histo_text high rows
 unfolding text_above histo_text
-text_above-all high rows = ap (λ n. flat_map (λ count. count_line count (words_with_count rows count)) (range_with_len 1 n) ++ count_line (high + 1) (words_above rows high)) (omega arith)
+text_above-all high rows =
+    let line = λ (count : ℕ). count_line count (words_with_count rows count) in
+    let last = count_line (high + 1) (words_above rows high) in
+    ap (λ n. flat_map line (range_with_len 1 n) ++ last) (omega arith)
 
 pub text_above-none : (high : ℕ) (rows : List Row) → text_above high rows high ≡ count_line (high + 1) (words_above rows high)
 unfolding text_above
 text_above-none high rows =
+    let line = λ (count : ℕ). count_line count (words_with_count rows count) in
+    let last = count_line (high + 1) (words_above rows high) in
     let none : high - high ≡ 0 = omega arith in
-    ap (λ n. flat_map (λ count. count_line count (words_with_count rows count)) (range_with_len (high + 1) n) ++ count_line (high + 1) (words_above rows high)) none
+    ap (λ n. flat_map line (range_with_len (high + 1) n) ++ last) none
 
 text_above-next : (high : ℕ) (rows : List Row) (i : ℕ) → i < high
     → text_above high rows i ≡ count_line (i + 1) (words_with_count rows (i + 1)) ++ text_above high rows (i + 1)
@@ -29,7 +35,8 @@ text_above-next high rows i below =
     let line = λ (count : ℕ). count_line count (words_with_count rows count) in
     let last = count_line (high + 1) (words_above rows high) in
     let more : high - i ≡ suc (high - (i + 1)) = omega arith in
-    ap (λ n. flat_map line (range_with_len (i + 1) n) ++ last) more ∙ append_assoc (line (i + 1)) (flat_map line (range_with_len (i + 1 + 1) (high - (i + 1)))) last
+    ap (λ n. flat_map line (range_with_len (i + 1) n) ++ last) more
+    ∙ append_assoc (line (i + 1)) (flat_map line (range_with_len (i + 1 + 1) (high - (i + 1)))) last
 
 -- the line of the next count was put behind the block
 pub next_line : {s a b : Written} {text after : List ℕ} (block : List ℕ) (high : ℕ) (rows : List Row) (i : ℕ) → i < high

@@ -13,7 +13,8 @@ overflow_add-words c =
     let some : 1 ≤ count = c.requires.present c.loop-row.row-index no_row c.loop-row-test.true in
     let below : count - 1 < length c.args.words.now = omega arith in
     let within : c.loop-row.row-index ≤ length c.args.rows.now = omega arith in
-    let most = counted-most (length c.args.words.now) c.loop-row.words c.args.rows.now c.loop-row.row-index (count - 1) c.loop-row.invariant within below in
+    let most =
+    counted-most (length c.args.words.now) c.loop-row.words c.args.rows.now c.loop-row.row-index (count - 1) c.loop-row.invariant within below in
     record { fits = omega arith }
 
 pub loop-row-preserved : goal.loop-row-preserved

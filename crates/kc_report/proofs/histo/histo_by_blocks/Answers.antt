@@ -33,7 +33,9 @@ loop-i-preserved g c =
     let rows = c.args.tally.now.rows in
     let words = words_at c.args.words.now rows c.loop-i.i c.requires c.loop-i-test.true in
     record {
-      pending = next_line c.loop-i.block (length c.args.words.now) rows c.loop-i.i c.loop-i-test.true c.loop-i.invariant.pending (rw words at c.in_ok-put_line.ensures.ok);
+      pending =
+          next_line c.loop-i.block (length c.args.words.now) rows c.loop-i.i c.loop-i-test.true c.loop-i.invariant.pending
+          (rw words at c.in_ok-put_line.ensures.ok);
       counted = omega (arith, words, c.loop-i.invariant.counted, words_above-split rows c.loop-i.i);
     }
 
@@ -51,7 +53,8 @@ returns g c =
     let done : c.loop-i.i ≡ high = omega arith in
     let line = count_line (high + 1) c.loop-i.above in
     let above : c.loop-i.above ≡ words_above rows high = c.loop-i.invariant.counted ∙ ap (words_above rows) done in
-    let ended : text_above high rows c.loop-i.i ≡ line = ap (text_above high rows) done ∙ text_above-none high rows ∙ ap (count_line (high + 1)) (sym above) in
+    let ended : text_above high rows c.loop-i.i ≡ line =
+    ap (text_above high rows) done ∙ text_above-none high rows ∙ ap (count_line (high + 1)) (sym above) in
     let call : SinkCall = record {
       start = seen c.args.writer.now;
       now = seen c.loop-i.writer;
