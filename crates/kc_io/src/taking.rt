@@ -27,8 +27,8 @@ const BLOCK_SIZE: usize = 65_536;
 /// Takes all bytes of the source.
 ///
 /// # Errors
-/// `TooLong` where the source gave more than `limit` bytes, and `Read` where it failed, whichever the reading met first;
-/// `Memory` where a growth was refused. Each leaves what the source gave before as taken.
+/// `TooLong` where the source gave more than `limit` bytes, and `Read` where it failed, whichever the reading met
+/// first; `Memory` where a growth was refused. Each leaves what the source gave before as taken.
 pub fn take_all<S: Source>(alloc: Global, source: &mut S, limit: u64) -> Result<Vec<u8>, TakeFault>
     ensures taken { IfOk result (λ bytes. TakesAll (S.seen source.old) (S.seen source.new) limit bytes.items) }
     ensures fault { IfErr result (TakingFails (S.seen source.old) (S.seen source.new) limit) }

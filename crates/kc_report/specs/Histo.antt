@@ -1,5 +1,6 @@
 -- The histogram of a tally, a function of its rows: source, what `jellyfish histo` prints, Marçais and Kingsford 2011.
-use Rattle.std.specs.Prelude.{◌≡◌, ℕ, ◌+◌, ◌==◌, List, [], ◌∷◌, ◌++◌, Result, Ok, Err, decimal, map, flat_map, count_by, nat_lt, if◌then◌else◌}
+use Rattle.std.specs.Prelude.{◌≡◌, ℕ, ◌+◌, ◌==◌, List, [], ◌∷◌, ◌++◌, decimal, if◌then◌else◌}
+use Rattle.std.specs.Prelude.{Result, Ok, Err, map, flat_map, count_by, nat_lt}
 use Rattle.std.specs.List.{range_with_len}
 use Rattle.kc_io.specs.Sinks.{Written, HasWritten, HasBegun}
 use Rattle.kc_tally.specs.declared.row.Row.{Row}
@@ -22,7 +23,8 @@ count_line count words = if words == 0 then [] else decimal count ++ space ∷ d
 -- the lines of all counts from 1 to high, and then one for all greater counts
 unfoldable pub histo_text : ℕ → List Row → List ℕ
 histo_text high rows =
-    flat_map (λ count. count_line count (words_with_count rows count)) (range_with_len 1 high) ++ count_line (high + 1) (words_above rows high)
+    flat_map (λ count. count_line count (words_with_count rows count)) (range_with_len 1 high)
+    ++ count_line (high + 1) (words_above rows high)
 
 -- for each count from 1 to high how many words have it
 unfoldable pub words_by_count : ℕ → List Row → List ℕ

@@ -15,5 +15,7 @@ named_line name number = name ++ decimal number ++ line_feed ∷ []
 
 -- how many words occur once, how many occur, how often all of them together, and how often the one that occurs most
 unfoldable pub statistics_text : List Row → List ℕ
-statistics_text rows = named_line (codes "Unique:    ") (words_with_count rows 1) ++ named_line (codes "Distinct:  ") (length rows)
-    ++ named_line (codes "Total:     ") (total_of rows) ++ named_line (codes "Max_count: ") (greatest_count rows)
+statistics_text rows = named_line (codes "Unique:    ") (words_with_count rows 1)
+    ++ named_line (codes "Distinct:  ") (length rows)
+    ++ named_line (codes "Total:     ") (total_of rows)
+    ++ named_line (codes "Max_count: ") (greatest_count rows)

@@ -17,8 +17,8 @@ pub const GREATEST_HIGH: u64 = 10_000_000;
 /// counts. Condition: `high` is 1 to 10,000,000.
 ///
 /// # Errors
-/// `Write` where the writer failed or took no byte. It took a beginning of the text. `Memory` where a growth was refused;
-/// the writer was not touched.
+/// `Write` where the writer failed or took no byte. It took a beginning of the text. `Memory` where a growth was
+/// refused; the writer was not touched.
 pub fn write_histo<W: Sink>(
     alloc: Global,
     writer: &mut W,
@@ -109,7 +109,8 @@ fn put_line<W: Sink>(
     count: u64,
     words: u64,
 ) -> Result<(), Failed>
-    ensures ok { OnOk result (Drains (W.seen writer.old) (W.seen writer.new) (block.old ++ count_line count words) block.new) }
+    ensures ok { OnOk result (Drains (W.seen writer.old) (W.seen writer.new)
+        (block.old ++ count_line count words) block.new) }
     ensures err { OnErr result (HasBegun (W.seen writer.old) (W.seen writer.new) block.old) }
 {
     if words > 0 {

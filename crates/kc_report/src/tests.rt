@@ -16,7 +16,10 @@ fn worked_tally(alloc: Global, k: K) -> Result<Tally, AllocError>
     let rows = vec![in alloc;
         Row { word: 1, count: 2 },
         Row { word: 6, count: 1 },
-        Row { word: 11, count: 70_000 },
+        Row {
+            word: 11,
+            count: 70_000
+        },
     ]?;
     Tally::of_rows(alloc, k, false, rows)
 }

@@ -22,10 +22,10 @@ loop-row-preserved c =
     let i = c.loop-row.row-index in
     let n = length c.args.words.now in
     elim c.if-row-words.branch [
-      then-row-words w ↦
-        let most : (get_or rows i no_row).count ≤ n = omega arith in
-        w.words-is ∙ counted_row n c.loop-row.words rows i no_row c.loop-row.invariant c.loop-row-test.true (c.requires.present i no_row c.loop-row-test.true) most
-    | else-row-words w ↦
-        let past : n < (get_or rows i no_row).count = omega arith in
-        w.words-is ∙ c.loop-row.invariant ∙ words_by_count-past n rows i no_row c.loop-row-test.true past
+      | then-row-words w ↦
+          let most : (get_or rows i no_row).count ≤ n = omega arith in
+          w.words-is ∙ counted_row n c.loop-row.words rows i no_row c.loop-row.invariant c.loop-row-test.true (c.requires.present i no_row c.loop-row-test.true) most
+      | else-row-words w ↦
+          let past : n < (get_or rows i no_row).count = omega arith in
+          w.words-is ∙ c.loop-row.invariant ∙ words_by_count-past n rows i no_row c.loop-row-test.true past
     ]
