@@ -125,8 +125,8 @@ pub record TakingStep (k : ℕ) (pieces : List (List ℕ)) : Type 0 where
 taken-split : (k high : ℕ) (pieces : List (List ℕ)) (s : TakingStep k pieces) → position_number k pieces s.index s.position + s.room ≡ high
     → s.position ≤ position_count k (length (get_or pieces s.index []))
     → stretches_from k (position_number k pieces s.index s.position) high (position_total k (take s.index pieces)) (drop s.index pieces)
-    ≡ given k (get_or pieces s.index []) s.position s.taken
-    ++ stretches_from k (position_number k pieces s.index s.position) high (position_total k (take s.index pieces) + position_count k (length (get_or pieces s.index []))) (drop (s.index + 1) pieces)
+    ≡ given k (get_or pieces s.index []) s.position s.taken ++ stretches_from k (position_number k pieces s.index s.position) high
+    (position_total k (take s.index pieces) + position_count k (length (get_or pieces s.index []))) (drop (s.index + 1) pieces)
 unfolding given
 taken-split k high pieces s number inside =
     ap (stretches_from k low high first) (drop_more pieces s.index [] s.within)
@@ -157,56 +157,74 @@ taken-split k high pieces s number inside =
         let least : s.taken ≡ min s.room (count - s.position) = s.taken_is ∙ ap (λ n. min s.room (n - s.position)) s.count_is in
         omega (arith, number, inside, least)
 
-pub IsTaking-more : (k low high : ℕ) (pieces : List (List ℕ)) → 1 ≤ k → (s : TakingStep k pieces) → IsTaking k low high pieces s.index s.position s.room s.parts → IsTaking k low high pieces s.next_index s.next_position (s.room - s.taken) s.next_parts
+pub IsTaking-more : (k low high : ℕ) (pieces : List (List ℕ)) → 1 ≤ k → (s : TakingStep k pieces) → IsTaking k low high pieces s.index s.position s.room s.parts
+    → IsTaking k low high pieces s.next_index s.next_position (s.room - s.taken) s.next_parts
 IsTaking-more k low high pieces some s taking =
     ⊎_elim (λ m. used m) (λ m. full m) s.moved
   where
-    piece : List ℕ
-    piece = get_or pieces s.index []
+    from : ℕ
+    from = position_number k pieces s.index s.position
+
+    first : ℕ
+    first = position_total k (take s.index pieces)
+
+    size : ℕ
+    size = position_count k (length (get_or pieces s.index []))
+
+    later : List (List ℕ)
+    later = drop (s.index + 1) pieces
 
     inside : s.position ≤ s.count
     inside = let fits = taking.cursor.inside in omega (arith, fits, s.count_is)
 
-    split : s.next_parts ++ stretches_from k (position_number k pieces s.index s.position) high (position_total k (take s.index pieces) + position_count k (length (get_or pieces s.index []))) (drop (s.index + 1) pieces) ≡ stretches_from k low high 0 pieces
+    split : s.next_parts ++ stretches_from k from high (first + size) later ≡ stretches_from k low high 0 pieces
     split =
-        ap (λ xs. xs ++ stretches_from k (position_number k pieces s.index s.position) high (position_total k (take s.index pieces) + position_count k (length (get_or pieces s.index []))) (drop (s.index + 1) pieces)) s.parts_are
-        ∙ append_assoc s.parts (given k (get_or pieces s.index []) s.position s.taken) (stretches_from k (position_number k pieces s.index s.position) high (position_total k (take s.index pieces) + position_count k (length (get_or pieces s.index []))) (drop (s.index + 1) pieces))
+        ap (λ xs. xs ++ stretches_from k from high (first + size) later) s.parts_are
+        ∙ append_assoc s.parts (given k (get_or pieces s.index []) s.position s.taken) (stretches_from k from high (first + size) later)
         ∙ ap (λ xs. s.parts ++ xs) (sym (taken-split k high pieces s taking.number taking.cursor.inside))
         ∙ taking.taken
 
-    total : position_total k (take (s.index + 1) pieces) ≡ position_total k (take s.index pieces) + position_count k (length (get_or pieces s.index []))
+    total : position_total k (take (s.index + 1) pieces) ≡ first + size
     total = sum_by_more (λ p. position_count k (length p)) pieces s.index [] s.within
 
-    used : (s.position + s.taken ≡ s.count) × (s.next_index ≡ s.index + 1) × (s.next_position ≡ 0) → IsTaking k low high pieces s.next_index s.next_position (s.room - s.taken) s.next_parts
+    stands_at : (i p : ℕ) → s.next_index ≡ i → s.next_position ≡ p → IsTaking k low high pieces i p (s.room - s.taken) s.next_parts
+        → IsTaking k low high pieces s.next_index s.next_position (s.room - s.taken) s.next_parts
+    stands_at i p index_is position_is goes =
+        subst (λ j. IsTaking k low high pieces j s.next_position (s.room - s.taken) s.next_parts) (sym index_is)
+        (subst (λ q. IsTaking k low high pieces i q (s.room - s.taken) s.next_parts) (sym position_is) goes)
+
+    used : (s.position + s.taken ≡ s.count) × (s.next_index ≡ s.index + 1) × (s.next_position ≡ 0)
+        → IsTaking k low high pieces s.next_index s.next_position (s.room - s.taken) s.next_parts
     used m =
-        let next : position_number k pieces (s.index + 1) 0 ≡ position_number k pieces s.index s.position + s.taken = (let all = m.0 in omega (arith, total, all, s.count_is)) in
-        let goes : IsTaking k low high pieces (s.index + 1) 0 (s.room - s.taken) s.next_parts = record {
+        let all : s.position + s.taken ≡ s.count = m.0 in
+        let next : position_number k pieces (s.index + 1) 0 ≡ from + s.taken = omega (arith, total, all, s.count_is) in
+        let number = taking.number in
+        stands_at (s.index + 1) 0 m.1 m.2 (record {
           cursor = record { within = omega (arith, s.within); inside = omega arith };
-          number = (let number = taking.number in omega (arith, next, number, s.taken_is));
+          number = omega (arith, next, number, s.taken_is);
           taken =
-              ap (λ n. s.next_parts ++ stretches_from k (position_number k pieces (s.index + 1) 0) high n (drop (s.index + 1) pieces)) total
-              ∙ ap (λ xs. s.next_parts ++ xs) (stretches-early k (position_number k pieces (s.index + 1) 0) (position_number k pieces s.index s.position) high (position_total k (take s.index pieces) + position_count k (length (get_or pieces s.index []))) (drop (s.index + 1) pieces)
+              ap (λ n. s.next_parts ++ stretches_from k (position_number k pieces (s.index + 1) 0) high n later) total
+              ∙ ap (λ xs. s.next_parts ++ xs) (stretches-early k (position_number k pieces (s.index + 1) 0) from high (first + size) later
               (omega (arith, total)) (omega (arith, inside, s.count_is)))
               ∙ split;
-        } in
-        subst (λ i. IsTaking k low high pieces i s.next_position (s.room - s.taken) s.next_parts) (sym m.1) (subst (λ p. IsTaking k low high pieces (s.index + 1) p (s.room - s.taken) s.next_parts) (sym m.2) goes)
+        })
 
-    full : (s.position + s.taken ≡ s.count → ⊥) × (s.next_index ≡ s.index) × (s.next_position ≡ s.position + s.taken) → IsTaking k low high pieces s.next_index s.next_position (s.room - s.taken) s.next_parts
+    full : (s.position + s.taken ≡ s.count → ⊥) × (s.next_index ≡ s.index) × (s.next_position ≡ s.position + s.taken)
+        → IsTaking k low high pieces s.next_index s.next_position (s.room - s.taken) s.next_parts
     full m =
         let differ : s.position + s.taken ≡ s.count → ⊥ = m.0 in
         let spent : s.taken ≡ s.room = omega (arith, differ, s.taken_is, inside) in
         let number = taking.number in
         let next : position_number k pieces s.index (s.position + s.taken) ≡ high = omega (arith, number, spent) in
-        let goes : IsTaking k low high pieces s.index (s.position + s.taken) (s.room - s.taken) s.next_parts = record {
+        stands_at s.index (s.position + s.taken) m.1 m.2 (record {
           cursor = record { within = taking.cursor.within; inside = omega (arith, s.taken_is, inside, s.count_is) };
           number = omega (arith, next, spent);
           taken =
               ap (λ xs. s.next_parts ++ xs)
-              (stretches-none k (position_number k pieces s.index (s.position + s.taken)) high (position_total k (take s.index pieces)) (drop s.index pieces) (omega (arith, next))
-              ∙ sym (stretches-late k (position_number k pieces s.index s.position) high (position_total k (take s.index pieces) + position_count k (length (get_or pieces s.index []))) (drop (s.index + 1) pieces) (omega (arith, number, spent, differ, s.taken_is, inside, s.count_is))))
+              (stretches-none k (position_number k pieces s.index (s.position + s.taken)) high first (drop s.index pieces) (omega (arith, next))
+              ∙ sym (stretches-late k from high (first + size) later (omega (arith, number, spent, differ, s.taken_is, inside, s.count_is))))
               ∙ split;
-        } in
-        subst (λ i. IsTaking k low high pieces i s.next_position (s.room - s.taken) s.next_parts) (sym m.1) (subst (λ p. IsTaking k low high pieces s.index p (s.room - s.taken) s.next_parts) (sym m.2) goes)
+        })
 
 position_number-le : (k : ℕ) (pieces : List (List ℕ)) (index position : ℕ) → 1 ≤ k → IsCursor k pieces index position → position_number k pieces index position ≤ position_total k pieces
 position_number-le k pieces index position some cursor =
