@@ -83,12 +83,15 @@ count_told setup inverse number word key counts divided at (e ∷ entries) turne
     ∙ sym (ap (count_at counts) (sym under) ∙ ap (λ o. unwrap_or o 0) told.0)))
     (λ (apart : word_under setup inverse number e.0 ≢ word).
     let other : e.0 ≢ key = λ under. apart (divided.only number key (word_under setup inverse number e.0) word
-        (subst (λ k. StandsAt setup number k (word_under setup inverse number e.0)) under here) at) in
+    (subst (λ k. StandsAt setup number k (word_under setup inverse number e.0)) under here) at) in
     let skipped : count_of (map (row_of setup inverse number) (e ∷ entries)) word ≡ rest = ap (λ b. cond b e.1 rest) (ne_eqb (word_under setup inverse number e.0) word apart) in
     ⊎_elim
     (λ (found : rest ≡ count_at counts key). inl (skipped ∙ found))
-    (λ (missing : (rest ≡ 0) × ((n : ℕ) → ¬ Contains entries (key, n))). inr (skipped ∙ missing.0, λ n stands.
-    ⊎_elim (λ (first : e ≡ (key, n)). other (ap (λ p. p.0) first)) (λ (later : Contains entries (key, n)). missing.1 n later) (Contains-cons_cases entries (key, n) e stands)))
+    (λ (missing : (rest ≡ 0) × ((n : ℕ) → ¬ Contains entries (key, n))). inr (
+      skipped ∙ missing.0,
+      λ n stands.
+          ⊎_elim (λ (first : e ≡ (key, n)). other (ap (λ p. p.0) first)) (λ (later : Contains entries (key, n)). missing.1 n later) (Contains-cons_cases entries (key, n) e stands),
+    ))
     (count_told setup inverse number word key counts divided at entries (turned-tail setup inverse number counts e entries turned)))
     (cases_eq (word_under setup inverse number e.0) word)
   where

@@ -7,7 +7,8 @@ use kc_fastx::SeqRead;
 use kc_hash::{Hash, Matrix};
 use kc_table::{Counts, LimitedCounts, PlainCounts, QuotientTable, TableFault};
 use kc_tally::Row;
-use kc_word::{Batch, K, Rule, Word, clean, cut, slow::base_count};
+use kc_word::slow::base_count;
+use kc_word::{Batch, K, Rule, Word, clean, cut};
 use rand_core::SeedableRng;
 use rand_core::utils::NextWord;
 use rand_xoshiro::SplitMix64;
@@ -136,15 +137,29 @@ fn is_booked_in_order<C: Counts>(
     stripe.book(first)?;
     assert_eq!(rt; (stripe.total(), stripe.bin(1), stripe.bin(2)), (2, 0, 1));
     assert!(rt; stripe.book(first) == Err(BookFault::Twice));
-    assert_eq!(rt; (stripe.journal().len(), stripe.total(), stripe.bin(2)), (1, 2, 1));
+    assert_eq!(rt;
+        (stripe.journal().len(), stripe.total(), stripe.bin(2)),
+        (1, 2, 1)
+    );
     let others = batches_of(alloc, &setup, &reads_of(alloc, &[b"AAAA", b"AAA"])?, 2)?;
-    let stranger = cut_of(alloc, &setup_of(3, 2).ok_or("no setup")?, others.last().ok_or("no batch")?, 0)?;
+    let stranger = cut_of(
+        alloc,
+        &setup_of(3, 2).ok_or("no setup")?,
+        others.last().ok_or("no batch")?,
+        0,
+    )?;
     assert!(rt; stripe.book(&stranger) == Err(BookFault::Stranger));
-    assert_eq!(rt; (stripe.journal().len(), stripe.total(), stripe.bin(2)), (1, 2, 1));
+    assert_eq!(rt;
+        (stripe.journal().len(), stripe.total(), stripe.bin(2)),
+        (1, 2, 1)
+    );
     stripe.book(second)?;
     assert_eq!(rt; (stripe.total(), stripe.bin(2), stripe.bin(3)), (3, 0, 1));
     assert!(rt; stripe.book(&stranger) == Err(BookFault::Twice));
-    assert_eq!(rt; (stripe.journal().len(), stripe.total(), stripe.bin(3)), (2, 3, 1));
+    assert_eq!(rt;
+        (stripe.journal().len(), stripe.total(), stripe.bin(3)),
+        (2, 3, 1)
+    );
     let rows = stripe.rows(alloc)?;
     assert_eq!(rt; rows.as_slice(), [Row { word: 0, count: 3 }].as_slice());
     Ok(())
@@ -202,10 +217,16 @@ fn a_full_table_refuses(rt: HostRuntime) -> Result<(), Fail> {
         let table = LimitedCounts::new(alloc, setup.key_bits(), 2, refusal);
         let mut stripe = Stripe::new(alloc, &setup, 0, table)?;
         assert!(rt; stripe.book(three) == Err(fault));
-        assert_eq!(rt; (stripe.journal().len(), stripe.total(), stripe.bin(1)), (0, 0, 0));
+        assert_eq!(rt;
+            (stripe.journal().len(), stripe.total(), stripe.bin(1)),
+            (0, 0, 0)
+        );
         assert_eq!(rt; stripe.rows(alloc)?.len(), 0);
         stripe.book(one)?;
-        assert_eq!(rt; (stripe.journal().len(), stripe.total(), stripe.bin(1)), (1, 1, 1));
+        assert_eq!(rt;
+            (stripe.journal().len(), stripe.total(), stripe.bin(1)),
+            (1, 1, 1)
+        );
     }
     Ok(())
 }
@@ -224,7 +245,10 @@ fn the_last_bin(rt: HostRuntime) -> Result<(), Fail> {
         stripe.book(cut)?;
         bins.push((stripe.bin(5_000), stripe.bin(10_000), stripe.bin(10_001)))?;
     }
-    assert_eq!(rt; bins.as_slice(), [(1, 0, 0), (0, 1, 0), (0, 0, 1)].as_slice());
+    assert_eq!(rt;
+        bins.as_slice(),
+        [(1, 0, 0), (0, 1, 0), (0, 0, 1)].as_slice()
+    );
     assert_eq!(rt; stripe.total(), 10_003);
     Ok(())
 }
@@ -316,9 +340,9 @@ fn stripes_hold_the_tally(rt: HostRuntime) -> Result<(), Fail> {
         stripes.push(plain_stripe(alloc, &setup, number)?)?;
     }
     let mut batches = batches_of(alloc, &setup, &reads, 7)?;
-    while !batches.is_empty() {
-        let batch = batches.swap_remove(random.next_word() as usize % batches.len());
-        for (stripe, cut) in stripes.iter_mut().zip(cut_up(alloc, &setup, &batch)?) {
+    batches.sort_unstable_by_key(|batch| batch.number().wrapping_mul(0x9e37_79b9_7f4a_7c15));
+    for batch in &batches {
+        for (stripe, cut) in stripes.iter_mut().zip(cut_up(alloc, &setup, batch)?) {
             stripe.book(&cut)?;
         }
     }
@@ -337,7 +361,10 @@ fn stripes_hold_the_tally(rt: HostRuntime) -> Result<(), Fail> {
         for stripe in &stripes {
             words = words.saturating_add(stripe.bin(bin));
         }
-        assert_eq!(rt; words, want.iter().filter(|row| row.1 == bin).count() as u64);
+        assert_eq!(rt;
+            words,
+            want.iter().filter(|row| row.1 == bin).count() as u64
+        );
     }
     Ok(())
 }
