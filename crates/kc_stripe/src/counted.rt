@@ -33,7 +33,8 @@ impl<C: Counts + Drop> CountedTable<C> {
     pub fn new(alloc: Global, table: C) -> Result<CountedTable<C>, AllocError>
         requires { C.counts table ≡ empty }
         ensures table { IfOk result (λ counted. counted.table ≡ table) }
-        ensures counted { IfOk result (λ counted. IsCounted (C.bits counted.table) (C.counts counted.table) counted.bins counted.total) }
+        ensures counted { IfOk result (λ counted.
+            IsCounted (C.bits counted.table) (C.counts counted.table) counted.bins counted.total) }
     {
         // what is known of the table's keys
         let _bits = table.key_bits();
