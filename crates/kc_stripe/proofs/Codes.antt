@@ -82,22 +82,28 @@ no_setup-few rule hash stripes n w b seen more is =
     let low = seen.low in
     omega arith
 
-pub is_setup : (rule : CountingRule) (hash : List ℕ) (stripes n w b : ℕ) → IsLookedAt rule hash stripes n w b → n ≡ w → stripes ≡ 1 * 2 ^ b % 2 ^ 32 → b ≤ w → IsSetup rule hash stripes
-is_setup rule hash stripes n w b seen whole power few =
-    let same : stripes ≡ 2 ^ b = power ∙ log-shifted rule hash stripes n w b seen in
+-- what is found of them where there is a setup
+pub record IsFoundRight (stripes n w b : ℕ) : Type 0 where
+  pub whole : n ≡ w
+  pub power : stripes ≡ 1 * 2 ^ b % 2 ^ 32
+  pub few : b ≤ w
+
+pub is_setup : (rule : CountingRule) (hash : List ℕ) (stripes n w b : ℕ) → IsLookedAt rule hash stripes n w b → IsFoundRight stripes n w b → IsSetup rule hash stripes
+is_setup rule hash stripes n w b seen right =
+    let same : stripes ≡ 2 ^ b = right.power ∙ log-shifted rule hash stripes n w b seen in
     let words : 4 ^ rule.k ≡ 2 ^ w = pow-four rule.k ∙ ap (λ m. 2 ^ m) (sym seen.word_bits) in
-    let most : 2 ^ b ≤ 2 ^ w = pow_mono {i = b} {j = w} few in
-    record { word_bits = sym seen.hash_bits ∙ whole ∙ seen.word_bits; power = (b, same); at_most = seen.at_most; few = omega arith }
+    let most : 2 ^ b ≤ 2 ^ w = pow_mono {i = b} {j = w} right.few in
+    record { word_bits = sym seen.hash_bits ∙ right.whole ∙ seen.word_bits; power = (b, same); at_most = seen.at_most; few = omega arith }
 
 -- ---- the code of a stripe and a key
 
 pub code-shifted : (k s key : ℕ) → 2 * k ≤ 62 → s ≤ 2 * k → key < 2 ^ (2 * k - s) → key * 2 ^ s % 2 ^ 64 ≡ key * 2 ^ s
 code-shifted k s key fits few high = shl_whole key (2 * k - s) s 64 high (omega arith)
 
-pub code-joined : (k s n stripe key : ℕ) → n ≡ 2 * k → s ≤ 2 * k → stripe < 2 ^ s → key < 2 ^ (2 * k - s) → key * 2 ^ s + stripe < 2 ^ n
-code-joined k s n stripe key wide few low high =
+pub code-joined : (k s stripe key : ℕ) → s ≤ 2 * k → stripe < 2 ^ s → key < 2 ^ (2 * k - s) → key * 2 ^ s + stripe < 2 ^ (2 * k)
+code-joined k s stripe key few low high =
     let whole : 2 ^ (2 * k - s + s) ≡ 2 ^ (2 * k - s) * 2 ^ s = pow-add 2 (2 * k - s) s in
-    let same : 2 * k - s + s ≡ n = omega arith in
+    let same : 2 * k - s + s ≡ 2 * k = omega arith in
     let placed : key * 2 ^ s + stripe < 2 ^ s * 2 ^ (2 * k - s) = mul-add-lt key (2 ^ s) stripe (2 ^ (2 * k - s)) high low in
     subst (λ m. key * 2 ^ s + stripe < 2 ^ m) same (omega arith)
 
@@ -126,8 +132,8 @@ code_at-whole setup stripe key asked =
 pub code_at-fits : (setup : StripeSetup) (stripe key : ℕ) → IsAskedFor setup stripe key → code_at setup stripe key < 2 ^ length setup.hash
 code_at-fits setup stripe key asked =
     let bits = asked.bits in
-    rw (code_at-whole setup stripe key asked)
-    (code-joined setup.rule.k setup.stripe_bits (length setup.hash) stripe key bits.word_bits bits.stripe_bits_few asked.stripe_fits asked.key_fits)
+    rw (code_at-whole setup stripe key asked, bits.word_bits)
+    (code-joined setup.rule.k setup.stripe_bits stripe key bits.stripe_bits_few asked.stripe_fits asked.key_fits)
 
 pub code_at-fits_64 : (setup : StripeSetup) (stripe key : ℕ) → IsAskedFor setup stripe key → code_at setup stripe key < 2 ^ 64
 code_at-fits_64 setup stripe key asked =

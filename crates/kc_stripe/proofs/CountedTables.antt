@@ -77,15 +77,22 @@ IsCounted-same bits m n bins total same counted = record {
   total_at_most = counted.total_at_most;
 }
 
-pub IsCounted-added : (bits : ℕ) (m : KeyCounts) (bins : List ℕ) (total q count : ℕ) → IsCounted bits m bins total → q < 2 ^ bits → total < 2 ^ 62
-    → count ≡ count_at m q + 1 → IsCounted bits (added m q) (raised bins (count - 1)) (total + 1)
-IsCounted-added bits m bins total q count counted below room is =
-    let more = IsOneMore-added bits m q below in
+-- a key of the table, and its count when it is one more
+pub record IsCountedMore (bits : ℕ) (m : KeyCounts) (bins : List ℕ) (total q count : ℕ) : Type 0 where
+  pub counted : IsCounted bits m bins total
+  pub below : q < 2 ^ bits
+  pub count_is : count ≡ count_at m q + 1
+
+pub IsCounted-added : (bits : ℕ) (m : KeyCounts) (bins : List ℕ) (total q count : ℕ) → IsCountedMore bits m bins total q count → total < 2 ^ 62
+    → IsCounted bits (added m q) (raised bins (count - 1)) (total + 1)
+IsCounted-added bits m bins total q count key room =
+    let more = IsOneMore-added bits m q key.below in
+    let is = key.count_is in
     let same : count - 1 ≡ count_at m q = omega arith in
     record {
-      bits_at_most = counted.bits_at_most;
-      bins_are = ap (raised bins) same ∙ ap (λ b. raised b (count_at m q)) counted.bins_are ∙ bins_of-raised (counts_of bits m) (counts_of bits (added m q)) (count_at m q) more;
-      total_is = let weighs = more (λ c. c) in let before = counted.total_is in omega arith;
+      bits_at_most = key.counted.bits_at_most;
+      bins_are = ap (raised bins) same ∙ ap (λ b. raised b (count_at m q)) key.counted.bins_are ∙ bins_of-raised (counts_of bits m) (counts_of bits (added m q)) (count_at m q) more;
+      total_is = let weighs = more (λ c. c) in let before = key.counted.total_is in omega arith;
       total_at_most = omega arith;
     }
 
@@ -101,11 +108,11 @@ count_at-at_most bits m bins total q counted below =
 
 -- ---- what `raise` asks for
 
-pub raise-there : (bits : ℕ) (m : KeyCounts) (bins : List ℕ) (total q count : ℕ) → IsCounted bits m bins total → q < 2 ^ bits → count ≡ count_at m q + 1
-    → 1 ≤ count - 1 → 1 ≤ bin_at bins (bin_of (count - 1))
-raise-there bits m bins total q count counted below is some =
+pub raise-there : (bits : ℕ) (m : KeyCounts) (bins : List ℕ) (total q count : ℕ) → IsCountedMore bits m bins total q count → 1 ≤ count - 1 → 1 ≤ bin_at bins (bin_of (count - 1))
+raise-there bits m bins total q count key some =
+    let is = key.count_is in
     let same : count - 1 ≡ count_at m q = omega arith in
-    rw (counted.bins_are, same) (raise-some (counts_of bits m) (counts_of bits (added m q)) (count_at m q) (IsOneMore-added bits m q below) (omega arith))
+    rw (key.counted.bins_are, same) (raise-some (counts_of bits m) (counts_of bits (added m q)) (count_at m q) (IsOneMore-added bits m q key.below) (omega arith))
 
 pub raise-room : (bits : ℕ) (m : KeyCounts) (bins : List ℕ) (total count : ℕ) → IsCounted bits m bins total → bin_at bins (bin_of (count + 1)) + 1 < 2 ^ 64
 raise-room bits m bins total count counted =
@@ -158,12 +165,11 @@ pub record IsAddedTo {C : Type 0} (bits : C → ℕ) (counts : C → KeyCounts) 
   pub total : new.total ≡ old.total + i
   pub bins : IsCounted (bits new.table) (counts new.table) new.bins new.total
 
-pub counted-more : (m now new : KeyCounts) (keys : List ℕ) (i q : ℕ) → i < length keys → new ≡ added now (get_or keys i 0)
+pub counted-more : (m now : KeyCounts) (keys : List ℕ) (i q : ℕ) → i < length keys
     → ((k : ℕ) → count_at now k ≡ count_at m k + count_by (λ key. eqb key k) (take i keys))
-    → count_at new q ≡ count_at m q + count_by (λ key. eqb key q) (take (i + 1) keys)
-counted-more m now new keys i q within is so_far =
-    ap (λ (n : KeyCounts). count_at n q) is
-    ∙ ⊎_elim
+    → count_at (added now (get_or keys i 0)) q ≡ count_at m q + count_by (λ key. eqb key q) (take (i + 1) keys)
+counted-more m now keys i q within so_far =
+    ⊎_elim
     (λ (here : q ≡ get_or keys i 0).
     let more = count_by_more_yes (λ key. eqb key q) keys i 0 within (eq-eqb (get_or keys i 0) q (sym here)) in
     let one : count_at (added now (get_or keys i 0)) q ≡ count_at now q + 1 =
@@ -175,15 +181,24 @@ counted-more m now new keys i q within is so_far =
     let before = so_far q in omega arith)
     (cases_eq q (get_or keys i 0))
 
-pub IsAddedTo-more : {C : Type 0} (bits : C → ℕ) (counts : C → KeyCounts) (full : C → KeyCounts → ℕ → Type 0) (old now new : TableSeen C) (keys : List ℕ) (i : ℕ) → i < length keys
-    → counts new.table ≡ added (counts now.table) (get_or keys i 0) → KeepsLimits bits full now.table new.table → new.total ≡ now.total + 1
-    → IsCounted (bits new.table) (counts new.table) new.bins new.total → IsAddedTo bits counts full old now keys i → IsAddedTo bits counts full old new keys (i + 1)
-IsAddedTo-more bits counts full old now new keys i within is limits more bins so_far = record {
-  counted = λ q. counted-more (counts old.table) (counts now.table) (counts new.table) keys i q within is so_far.counted;
-  stored = λ q stored. subst (λ (m : KeyCounts). IsStored m q) (sym is) (IsStored-added (counts now.table) (get_or keys i 0) q (so_far.stored q stored));
-  limits = KeepsLimits-then bits full old.table now.table new.table so_far.limits limits;
-  total = more ∙ ap (λ n. n + 1) so_far.total ∙ omega arith;
-  bins = bins;
+-- one key more
+pub record AddStep {C : Type 0} (bits : C → ℕ) (counts : C → KeyCounts) (full : C → KeyCounts → ℕ → Type 0) (keys : List ℕ) (i : ℕ) : Type 0 where
+  pub now : TableSeen C
+  pub new : TableSeen C
+  pub within : i < length keys
+  pub counts_are : counts new.table ≡ added (counts now.table) (get_or keys i 0)
+  pub limits : KeepsLimits bits full now.table new.table
+  pub total : new.total ≡ now.total + 1
+  pub bins : IsCounted (bits new.table) (counts new.table) new.bins new.total
+
+pub IsAddedTo-more : {C : Type 0} (bits : C → ℕ) (counts : C → KeyCounts) (full : C → KeyCounts → ℕ → Type 0) (old : TableSeen C) (keys : List ℕ) (i : ℕ)
+    (step : AddStep bits counts full keys i) → IsAddedTo bits counts full old step.now keys i → IsAddedTo bits counts full old step.new keys (i + 1)
+IsAddedTo-more bits counts full old keys i step so_far = record {
+  counted = λ q. ap (λ (m : KeyCounts). count_at m q) step.counts_are ∙ counted-more (counts old.table) (counts step.now.table) keys i q step.within so_far.counted;
+  stored = λ q stored. subst (λ (m : KeyCounts). IsStored m q) (sym step.counts_are) (IsStored-added (counts step.now.table) (get_or keys i 0) q (so_far.stored q stored));
+  limits = KeepsLimits-then bits full old.table step.now.table step.new.table so_far.limits step.limits;
+  total = step.total ∙ ap (λ n. n + 1) so_far.total ∙ omega arith;
+  bins = step.bins;
 }
 
 -- whatever `ready` answers, the counts stay

@@ -33,20 +33,25 @@ use Rattle.kc_stripe.specs.Stripe.{numbers_of, reads_in, word_occurrences, strip
 
 -- ---- the words of a stripe and their keys
 
+-- the word that is found under a key is the only one
+record IsOnlyWord (setup : StripeSetup) (number key found : ℕ) : Type 0 where
+  pub divided : DividesWords setup
+  pub at : StandsAt setup number key found
+
 -- a word below 4 ^ k has the stripe and the key exactly where it is the one that has
-same_word : (setup : StripeSetup) (number key found word weight : ℕ) → DividesWords setup → StandsAt setup number key found → word < word_count setup
+same_word : (setup : StripeSetup) (number key found word weight : ℕ) → IsOnlyWord setup number key found → word < word_count setup
     → cond (eqb (stripe_of setup word) number) (cond (eqb (key_of setup word) key) weight 0) 0 ≡ cond (eqb found word) weight 0
-same_word setup number key found word weight divided at below =
+same_word setup number key found word weight one below =
     ⊎_elim
     (λ (here : found ≡ word).
-    ap (λ b. cond b (cond (eqb (key_of setup word) key) weight 0) 0) (eq-eqb (stripe_of setup word) number (ap (stripe_of setup) (sym here) ∙ at.has_stripe))
-    ∙ ap (λ b. cond b weight 0) (eq-eqb (key_of setup word) key (ap (key_of setup) (sym here) ∙ at.has_key))
+    ap (λ b. cond b (cond (eqb (key_of setup word) key) weight 0) 0) (eq-eqb (stripe_of setup word) number (ap (stripe_of setup) (sym here) ∙ one.at.has_stripe))
+    ∙ ap (λ b. cond b weight 0) (eq-eqb (key_of setup word) key (ap (key_of setup) (sym here) ∙ one.at.has_key))
     ∙ sym (ap (λ b. cond b weight 0) (eq-eqb found word here)))
     (λ (apart : found ≢ word).
     ⊎_elim
     (λ (in_stripe : stripe_of setup word ≡ number).
     ap (λ b. cond b (cond (eqb (key_of setup word) key) weight 0) 0) (eq-eqb (stripe_of setup word) number in_stripe)
-    ∙ ap (λ b. cond b weight 0) (ne_eqb (key_of setup word) key (λ under. apart (divided.only number key found word at (record { is_word = below; has_stripe = in_stripe; has_key = under }))))
+    ∙ ap (λ b. cond b weight 0) (ne_eqb (key_of setup word) key (λ under. apart (one.divided.only number key found word one.at (record { is_word = below; has_stripe = in_stripe; has_key = under }))))
     ∙ sym (ap (λ b. cond b weight 0) (ne_eqb found word apart)))
     (λ (other : stripe_of setup word ≢ number).
     ap (λ b. cond b (cond (eqb (key_of setup word) key) weight 0) 0) (ne_eqb (stripe_of setup word) number other)
@@ -65,7 +70,7 @@ one_word setup number key h divided own below =
     ∙ sum_by-filter (λ word. cond (eqb (key_of setup word) key) (h key) 0) (λ word. eqb (stripe_of setup word) number) (range_with_len 0 (word_count setup))
     ∙ sum_by-same (λ word. cond (eqb (stripe_of setup word) number) (cond (eqb (key_of setup word) key) (h key) 0) 0) (λ word. cond (eqb found word) (h key) 0) (range_with_len 0 (word_count setup))
     (All-range (λ word. cond (eqb (stripe_of setup word) number) (cond (eqb (key_of setup word) key) (h key) 0) 0 ≡ cond (eqb found word) (h key) 0) 0 (word_count setup)
-    (λ word _ small. same_word setup number key found word (h key) divided at (omega arith)))
+    (λ word _ small. same_word setup number key found word (h key) (record { divided = divided; at = at }) (omega arith)))
     ∙ sum_by-one_place (h key) found (word_count setup) at.is_word
   where
     weighs : (word : ℕ) → cond (eqb (key_of setup word) key) (h (key_of setup word)) 0 ≡ cond (eqb (key_of setup word) key) (h key) 0
@@ -148,27 +153,35 @@ key_times setup number word words divided below in_stripe small =
     ∙ sum_by-filter (λ w. cond (eqb (key_of setup w) (key_of setup word)) 1 0) (λ w. eqb (stripe_of setup w) number) words
     ∙ sum_by-same (λ w. cond (eqb (stripe_of setup w) number) (cond (eqb (key_of setup w) (key_of setup word)) 1 0) 0) (λ w. cond (eqb w word) 1 0) words
     (λ i d within.
-    same_word setup number (key_of setup word) word (get_or words i d) 1 divided (record { is_word = below; has_stripe = in_stripe; has_key = refl }) (small i d within)
+    same_word setup number (key_of setup word) word (get_or words i d) 1
+    (record { divided = divided; at = record { is_word = below; has_stripe = in_stripe; has_key = refl } }) (small i d within)
     ∙ ap (λ b. cond b 1 0) (flips word (get_or words i d)))
   where
     flips : (a b : ℕ) → eqb a b ≡ eqb b a
     flips a b =
         ⊎_elim (λ (e : a ≡ b). eq-eqb a b e ∙ sym (eq-eqb b a (sym e))) (λ (ne : a ≢ b). ne_eqb a b ne ∙ sym (ne_eqb b a (λ e. ne (sym e)))) (cases_eq a b)
 
+-- what is known of the words of batches
+pub record WordLaws : Type 0 where
+  pub counted : CountedWords
+  pub joined : JoinedOccurrences
+  pub below : WordsAreBelow
+
 -- what was known before of a stripe and a cut of it
 pub record IsBookedInto (setup : StripeSetup) (number : ℕ) (journal : List NumberedPieces) (old new : KeyCounts) (batch : NumberedPieces) : Type 0 where
+  pub divided : DividesWords setup
   pub before : CountsWords setup number journal old
   pub added : (q : ℕ) → count_at new q ≡ count_at old q + count_by (λ key. eqb key q) (keys_of (cut_at setup batch number))
 
-pub CountsWords-more : (setup : StripeSetup) (number : ℕ) (journal : List NumberedPieces) (old new : KeyCounts) (batch : NumberedPieces) → CountedWords → JoinedOccurrences → WordsAreBelow
-    → DividesWords setup → IsBookedInto setup number journal old new batch → CountsWords setup number (journal ++ batch ∷ []) new
-CountsWords-more setup number journal old new batch counted_words joined are_below divided booked word below in_stripe =
+pub CountsWords-more : (setup : StripeSetup) (number : ℕ) (journal : List NumberedPieces) (old new : KeyCounts) (batch : NumberedPieces) → WordLaws
+    → IsBookedInto setup number journal old new batch → CountsWords setup number (journal ++ batch ∷ []) new
+CountsWords-more setup number journal old new batch laws booked word below in_stripe =
     let more = as_reads batch.pieces in
     let sum = booked.added (key_of setup word) in
     let was = booked.before word below in_stripe in
-    let times = key_times setup number word (words_of setup.rule more) divided below in_stripe (are_below setup.rule more) in
-    let occurs = counted_words setup.rule more word below in
-    let both = joined setup.rule (reads_in journal) more (text setup.rule.k word) in
+    let times = key_times setup number word (words_of setup.rule more) booked.divided below in_stripe (laws.below setup.rule more) in
+    let occurs = laws.counted setup.rule more word below in
+    let both = laws.joined setup.rule (reads_in journal) more (text setup.rule.k word) in
     let whole = ap (λ reads. occurrences setup.rule reads (text setup.rule.k word)) (reads_in-push journal batch) in
     omega arith
 

@@ -63,20 +63,29 @@ IsCountedTo-none s codes zeros is = record {
         (λ (h : n ≤ i). get_or_past (replicate n 0) i 0 (omega (arith, length-replicate {A = ℕ} n 0)))
         (cases_lt i n)
 
-pub IsCountedTo-more : (s : ℕ) (codes sizes : List ℕ) (i j size : ℕ) → i < length codes → j ≡ get_or codes i 0 % 2 ^ s → j < 64
-    → IsCountedTo s codes sizes i → size ≡ get_or sizes j 0 + 1 → IsCountedTo s codes (set sizes j size) (i + 1)
-IsCountedTo-more s codes sizes i j size within is fits so_far more = record {
-  full = length-set sizes j size ∙ so_far.full;
+-- one code more, counted in its stripe
+pub record CountStep (s : ℕ) (codes sizes : List ℕ) (i : ℕ) : Type 0 where
+  pub stripe : ℕ
+  pub size : ℕ
+  pub within : i < length codes
+  pub stripe_is : stripe ≡ get_or codes i 0 % 2 ^ s
+  pub fits : stripe < 64
+  pub size_is : size ≡ get_or sizes stripe 0 + 1
+
+pub IsCountedTo-more : (s : ℕ) (codes sizes : List ℕ) (i : ℕ) (step : CountStep s codes sizes i) → IsCountedTo s codes sizes i
+    → IsCountedTo s codes (set sizes step.stripe step.size) (i + 1)
+IsCountedTo-more s codes sizes i step so_far = record {
+  full = length-set sizes step.stripe step.size ∙ so_far.full;
   counts = λ stripe.
       ⊎_elim
-      (λ (here : stripe ≡ j).
-      ap (λ k. get_or (set sizes j size) k 0) here ∙ get_or-set_same sizes j size 0 (rw so_far.full fits) ∙ more
+      (λ (here : stripe ≡ step.stripe).
+      ap (λ k. get_or (set sizes step.stripe step.size) k 0) here ∙ get_or-set_same sizes step.stripe step.size 0 (rw so_far.full step.fits) ∙ step.size_is
       ∙ ap (λ n. n + 1) (ap (λ k. get_or sizes k 0) (sym here) ∙ so_far.counts stripe)
-      ∙ sym (count_by_more_yes (falls_in s stripe) codes i 0 within (eq-eqb (get_or codes i 0 % 2 ^ s) stripe (sym is ∙ sym here))))
-      (λ (apart : stripe ≢ j).
-      get_or-set_other sizes j stripe size 0 apart ∙ so_far.counts stripe
-      ∙ sym (count_by_more_no (falls_in s stripe) codes i 0 within (ne_eqb (get_or codes i 0 % 2 ^ s) stripe (λ e. apart (sym e ∙ sym is)))))
-      (cases_eq stripe j);
+      ∙ sym (count_by_more_yes (falls_in s stripe) codes i 0 step.within (eq-eqb (get_or codes i 0 % 2 ^ s) stripe (sym step.stripe_is ∙ sym here))))
+      (λ (apart : stripe ≢ step.stripe).
+      get_or-set_other sizes step.stripe stripe step.size 0 apart ∙ so_far.counts stripe
+      ∙ sym (count_by_more_no (falls_in s stripe) codes i 0 step.within (ne_eqb (get_or codes i 0 % 2 ^ s) stripe (λ e. apart (sym e ∙ sym step.stripe_is)))))
+      (cases_eq stripe step.stripe);
 }
 
 -- so many stripes, as the program has them
@@ -130,32 +139,45 @@ IsDividedTo-none s codes parts empty =
           ∙ get_or-map-range_with_len (λ stripe. keys_in s stripe []) 0 (2 ^ s) stripe stripe [] within (omega arith);
     }
 
-pub IsDividedTo-more : (s : ℕ) (codes : List ℕ) (parts : List Part) (i j key : ℕ) (old part : Part) → i < length codes → j ≡ get_or codes i 0 % 2 ^ s → j < 2 ^ s
-    → key ≡ get_or codes i 0 / 2 ^ s → old ≡ get_or parts j old → part.items ≡ old.items ++ key ∷ [] → IsDividedTo s codes parts i → IsDividedTo s codes (set parts j part) (i + 1)
-IsDividedTo-more s codes parts i j key old part within is fits rest was pushed so_far = record {
-  long = length-set parts j part ∙ so_far.long;
+-- one code more, its key put at the end of its stripe's part
+pub record DivideStep (s : ℕ) (codes : List ℕ) (parts : List Part) (i : ℕ) : Type 0 where
+  pub stripe : ℕ
+  pub key : ℕ
+  pub old : Part
+  pub part : Part
+  pub within : i < length codes
+  pub stripe_is : stripe ≡ get_or codes i 0 % 2 ^ s
+  pub fits : stripe < 2 ^ s
+  pub key_is : key ≡ get_or codes i 0 / 2 ^ s
+  pub old_is : old ≡ get_or parts stripe old
+  pub part_is : part.items ≡ old.items ++ key ∷ []
+
+pub IsDividedTo-more : (s : ℕ) (codes : List ℕ) (parts : List Part) (i : ℕ) (step : DivideStep s codes parts i) → IsDividedTo s codes parts i
+    → IsDividedTo s codes (set parts step.stripe step.part) (i + 1)
+IsDividedTo-more s codes parts i step so_far = record {
+  long = length-set parts step.stripe step.part ∙ so_far.long;
   keys = λ stripe d below.
       ⊎_elim
-      (λ (here : stripe ≡ j).
-      ap (λ k. (get_or (set parts j part) k d).items) here
-      ∙ ap (λ (p : Part). p.items) (get_or-set_same parts j part d (rw so_far.long fits))
-      ∙ pushed ∙ ap (λ xs. xs ++ key ∷ []) (ap (λ (p : Part). p.items) was ∙ so_far.keys j old fits ∙ ap (λ k. keys_in s k (take i codes)) (sym here))
+      (λ (here : stripe ≡ step.stripe).
+      ap (λ k. (get_or (set parts step.stripe step.part) k d).items) here
+      ∙ ap (λ (p : Part). p.items) (get_or-set_same parts step.stripe step.part d (rw so_far.long step.fits))
+      ∙ step.part_is ∙ ap (λ xs. xs ++ step.key ∷ []) (ap (λ (p : Part). p.items) step.old_is ∙ so_far.keys step.stripe step.old step.fits ∙ ap (λ k. keys_in s k (take i codes)) (sym here))
       ∙ sym (ap (map (λ code. code / 2 ^ s)) (kept stripe (falls_in s stripe (get_or codes i 0)) refl)
-      ∙ turned stripe (falls_in s stripe (get_or codes i 0)) (eq-eqb (get_or codes i 0 % 2 ^ s) stripe (sym is ∙ sym here))))
-      (λ (apart : stripe ≢ j).
-      ap (λ (p : Part). p.items) (get_or-set_other parts j stripe part d apart) ∙ so_far.keys stripe d below
+      ∙ turned stripe (falls_in s stripe (get_or codes i 0)) (eq-eqb (get_or codes i 0 % 2 ^ s) stripe (sym step.stripe_is ∙ sym here))))
+      (λ (apart : stripe ≢ step.stripe).
+      ap (λ (p : Part). p.items) (get_or-set_other parts step.stripe stripe step.part d apart) ∙ so_far.keys stripe d below
       ∙ sym (ap (map (λ code. code / 2 ^ s)) (kept stripe (falls_in s stripe (get_or codes i 0)) refl)
-      ∙ same stripe (falls_in s stripe (get_or codes i 0)) (ne_eqb (get_or codes i 0 % 2 ^ s) stripe (λ e. apart (sym e ∙ sym is)))))
-      (cases_eq stripe j);
+      ∙ same stripe (falls_in s stripe (get_or codes i 0)) (ne_eqb (get_or codes i 0 % 2 ^ s) stripe (λ e. apart (sym e ∙ sym step.stripe_is)))))
+      (cases_eq stripe step.stripe);
 }
   where
     kept : (stripe : ℕ) (b : Bool) → falls_in s stripe (get_or codes i 0) ≡ b
         → filter (falls_in s stripe) (take (i + 1) codes) ≡ filter (falls_in s stripe) (take i codes) ++ cond (falls_in s stripe (get_or codes i 0)) (get_or codes i 0 ∷ []) []
-    kept stripe b _ = filter_more (falls_in s stripe) codes i 0 within
+    kept stripe b _ = filter_more (falls_in s stripe) codes i 0 step.within
 
     turned : (stripe : ℕ) (b : Bool) → b ≡ true
-        → map (λ code. code / 2 ^ s) (filter (falls_in s stripe) (take i codes) ++ cond b (get_or codes i 0 ∷ []) []) ≡ keys_in s stripe (take i codes) ++ key ∷ []
-    turned stripe true _ = map_push (λ code. code / 2 ^ s) (filter (falls_in s stripe) (take i codes)) (get_or codes i 0) ∙ ap (λ k. keys_in s stripe (take i codes) ++ k ∷ []) (sym rest)
+        → map (λ code. code / 2 ^ s) (filter (falls_in s stripe) (take i codes) ++ cond b (get_or codes i 0 ∷ []) []) ≡ keys_in s stripe (take i codes) ++ step.key ∷ []
+    turned stripe true _ = map_push (λ code. code / 2 ^ s) (filter (falls_in s stripe) (take i codes)) (get_or codes i 0) ∙ ap (λ k. keys_in s stripe (take i codes) ++ k ∷ []) (sym step.key_is)
     turned stripe false e = absurd (cc)
 
     same : (stripe : ℕ) (b : Bool) → b ≡ false
@@ -190,13 +212,21 @@ filter-map_after p f (x ∷ xs) =
     by true ys = refl
     by false ys = refl
 
+-- words that are to be hashed, with the rule and the tables that the program has
+pub record HashCall (setup : StripeSetup) : Type 0 where
+  pub rule : CountingRule
+  pub words : List ℕ
+  pub tables : List ℕ
+  pub rule_is : rule ≡ setup.rule
+  pub tables_are : tables ≡ setup.hash
+  pub bits : HasBits setup.rule.k setup.hash setup.stripe_bits
+  pub below : All (λ word. word < 4 ^ rule.k) words
+
 -- the words are numbers of as many bits as the hash has
-pub words-fit : (setup : StripeSetup) (rule : CountingRule) (words seen tables : List ℕ) → rule ≡ setup.rule → HasBits setup.rule.k setup.hash setup.stripe_bits
-    → All (λ word. word < 4 ^ rule.k) words → seen ≡ words → tables ≡ setup.hash → All (λ word. word < 2 ^ length tables) seen
-words-fit setup rule words seen tables same bits below is hash k d within =
-    let inside : k < length words = rw (← is) within in
-    let small : get_or words k d < 4 ^ setup.rule.k = rw (← same) (below k d inside) in
-    rw (hash, is) (word-fits setup.rule.k (length setup.hash) (get_or words k d) bits.word_bits small)
+pub words-fit : (setup : StripeSetup) (call : HashCall setup) → All (λ word. word < 2 ^ length call.tables) call.words
+words-fit setup call k d within =
+    let small : get_or call.words k d < 4 ^ setup.rule.k = rw (← call.rule_is) (call.below k d within) in
+    rw call.tables_are (word-fits setup.rule.k (length setup.hash) (get_or call.words k d) call.bits.word_bits small)
 
 map-map : {X Y Z : Type 0} (f : Y → Z) (g : X → Y) (xs : List X) → map f (map g xs) ≡ map (λ x. f (g x)) xs
 map-map f g [] = refl
@@ -234,10 +264,10 @@ part-keys setup batch parts i part divided (within, is) =
     ∙ ap (λ xs. get_or xs i []) (divided ∙ map-map keys_of (cut_at setup batch) (range_with_len 0 (stripe_count setup)))
     ∙ get_or-map-range_with_len (λ stripe. keys_of (cut_at setup batch stripe)) 0 (stripe_count setup) i i [] (omega arith) (omega arith)
 
-pub cuts-more : (setup : StripeSetup) (batch : NumberedPieces) (cuts new : List StripeCut) (cut : StripeCut) (i : ℕ) → new ≡ cuts ++ cut ∷ [] → cut ≡ cut_at setup batch i
-    → cuts ≡ map (cut_at setup batch) (range_with_len 0 i) → new ≡ map (cut_at setup batch) (range_with_len 0 (i + 1))
-cuts-more setup batch cuts new cut i is at so_far =
-    is ∙ ap₂ (λ xs x. xs ++ x ∷ []) so_far at ∙ sym (ap (map (cut_at setup batch)) (range_more i) ∙ map_push (cut_at setup batch) (range_with_len 0 i) i)
+pub cuts-more : (setup : StripeSetup) (batch : NumberedPieces) (cuts : List StripeCut) (i : ℕ) → cuts ≡ map (cut_at setup batch) (range_with_len 0 i)
+    → cuts ++ cut_at setup batch i ∷ [] ≡ map (cut_at setup batch) (range_with_len 0 (i + 1))
+cuts-more setup batch cuts i so_far =
+    ap (λ xs. xs ++ cut_at setup batch i ∷ []) so_far ∙ sym (ap (map (cut_at setup batch)) (range_more i) ∙ map_push (cut_at setup batch) (range_with_len 0 i) i)
 
 pub length-cuts : (setup : StripeSetup) (batch : NumberedPieces) (cuts : List StripeCut) (i : ℕ) → cuts ≡ map (cut_at setup batch) (range_with_len 0 i) → length cuts ≡ i
 length-cuts setup batch cuts i is = ap length is ∙ length-map-range_with_len (cut_at setup batch) 0 i

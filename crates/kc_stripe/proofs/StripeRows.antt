@@ -1,5 +1,5 @@
 -- The rows of a table turned into the rows of a stripe: words in place of keys.
-use Rattle.std.proofs.Common.{◌≡◌, ◌≢◌, ℕ, ◌+◌, ◌*◌, ◌<◌, ◌≤◌, ◌^◌, ◌⊎◌, inl, inr, true, false, cond, eqb, nat_eq, List, [], ◌∷◌, ◌++◌, length, get_or, take, map, count_by, All, Contains, Some, unwrap_or, refl, ap, ap₂, sym, ◌∙◌, subst, arith, ⊎_elim}
+use Rattle.std.proofs.Common.{◌≡◌, ◌≢◌, ℕ, ◌+◌, ◌*◌, ◌<◌, ◌≤◌, ◌^◌, ◌⊎◌, inl, inr, true, false, cond, eqb, nat_eq, List, [], ◌∷◌, ◌++◌, length, get_or, take, map, count_by, All, Contains, Some, unwrap_or, refl, ap, sym, ◌∙◌, subst, arith, ⊎_elim}
 use Rattle.std.specs.List.{AllByRecursion, IsDistinct}
 use Rattle.std.specs.FinMap.{get}
 use Rattle.std.proofs.lemmas.Bool.{eq-eqb, ne_eqb, cases_eq}
@@ -27,12 +27,10 @@ word_under setup inverse number key = product inverse (key * stripe_count setup 
 abbrev pub row_of : StripeSetup → List ℕ → ℕ → ℕ × ℕ → Row
 row_of setup inverse number entry = record { word = word_under setup inverse number entry.0; count = entry.1 }
 
-pub rows-more : (setup : StripeSetup) (inverse : List ℕ) (number : ℕ) (entries : List (ℕ × ℕ)) (rows new : List Row) (row : Row) (i : ℕ) (d : ℕ × ℕ) → i < length entries
-    → new ≡ rows ++ row ∷ [] → row ≡ row_of setup inverse number (get_or entries i d) → rows ≡ map (row_of setup inverse number) (take i entries)
-    → new ≡ map (row_of setup inverse number) (take (i + 1) entries)
-rows-more setup inverse number entries rows new row i d within pushed is so_far =
-    pushed ∙ ap₂ (λ xs x. xs ++ x ∷ []) so_far is
-    ∙ sym (ap (map (row_of setup inverse number)) (take_more entries i d within) ∙ map_push (row_of setup inverse number) (take i entries) (get_or entries i d))
+pub rows-more : (row : ℕ × ℕ → Row) (entries : List (ℕ × ℕ)) (rows : List Row) (i : ℕ) (d : ℕ × ℕ) → i < length entries → rows ≡ map row (take i entries)
+    → rows ++ row (get_or entries i d) ∷ [] ≡ map row (take (i + 1) entries)
+rows-more row entries rows i d within so_far =
+    ap (λ xs. xs ++ row (get_or entries i d) ∷ []) so_far ∙ sym (ap (map row) (take_more entries i d within) ∙ map_push row (take i entries) (get_or entries i d))
 
 -- words differ where their keys do
 words_differ : (key : ℕ → ℕ) (word : ℕ → ℕ) (entries : List (ℕ × ℕ)) → All (λ e. key (word e.0) ≡ e.0) entries → IsDistinct nat_eq (map (λ e. e.0) entries)
@@ -69,34 +67,41 @@ turned-tail setup inverse number counts e entries turned = record {
   told = All-tail (λ f. (get counts f.0 ≡ Some f.1) × (1 ≤ f.1)) e entries turned.told;
 }
 
+-- a word that is looked for among them, and its key
+record SoughtWord (setup : StripeSetup) (number : ℕ) : Type 0 where
+  pub word : ℕ
+  pub key : ℕ
+  pub divided : DividesWords setup
+  pub at : StandsAt setup number key word
+
 -- a word's row has the count under its key, or there is none and no entry has its key
-count_told : (setup : StripeSetup) (inverse : List ℕ) (number word key : ℕ) (counts : KeyCounts) → DividesWords setup → StandsAt setup number key word → (entries : List (ℕ × ℕ))
+count_told : (setup : StripeSetup) (inverse : List ℕ) (number : ℕ) (sought : SoughtWord setup number) (counts : KeyCounts) (entries : List (ℕ × ℕ))
     → AreTurned setup inverse number counts entries
-    → (count_of (map (row_of setup inverse number) entries) word ≡ count_at counts key)
-    ⊎ ((count_of (map (row_of setup inverse number) entries) word ≡ 0) × ((n : ℕ) → ¬ Contains entries (key, n)))
-count_told setup inverse number word key counts divided at [] turned = inr (refl, λ n stands. absurd (let some = stands.1 in omega arith))
-count_told setup inverse number word key counts divided at (e ∷ entries) turned =
+    → (count_of (map (row_of setup inverse number) entries) sought.word ≡ count_at counts sought.key)
+    ⊎ ((count_of (map (row_of setup inverse number) entries) sought.word ≡ 0) × ((n : ℕ) → ¬ Contains entries (sought.key, n)))
+count_told setup inverse number sought counts [] turned = inr (refl, λ n stands. absurd (let some = stands.1 in omega arith))
+count_told setup inverse number sought counts (e ∷ entries) turned =
     ⊎_elim
-    (λ (same : word_under setup inverse number e.0 ≡ word).
-    let under : e.0 ≡ key = sym here.has_key ∙ ap (key_of setup) same ∙ at.has_key in
-    inl (ap (λ b. cond b e.1 rest) (eq-eqb (word_under setup inverse number e.0) word same)
+    (λ (same : word_under setup inverse number e.0 ≡ sought.word).
+    let under : e.0 ≡ sought.key = sym here.has_key ∙ ap (key_of setup) same ∙ sought.at.has_key in
+    inl (ap (λ b. cond b e.1 rest) (eq-eqb (word_under setup inverse number e.0) sought.word same)
     ∙ sym (ap (count_at counts) (sym under) ∙ ap (λ o. unwrap_or o 0) told.0)))
-    (λ (apart : word_under setup inverse number e.0 ≢ word).
-    let other : e.0 ≢ key = λ under. apart (divided.only number key (word_under setup inverse number e.0) word
-    (subst (λ k. StandsAt setup number k (word_under setup inverse number e.0)) under here) at) in
-    let skipped : count_of (map (row_of setup inverse number) (e ∷ entries)) word ≡ rest = ap (λ b. cond b e.1 rest) (ne_eqb (word_under setup inverse number e.0) word apart) in
+    (λ (apart : word_under setup inverse number e.0 ≢ sought.word).
+    let other : e.0 ≢ sought.key = λ under. apart (sought.divided.only number sought.key (word_under setup inverse number e.0) sought.word
+    (subst (λ k. StandsAt setup number k (word_under setup inverse number e.0)) under here) sought.at) in
+    let skipped : count_of (map (row_of setup inverse number) (e ∷ entries)) sought.word ≡ rest = ap (λ b. cond b e.1 rest) (ne_eqb (word_under setup inverse number e.0) sought.word apart) in
     ⊎_elim
-    (λ (found : rest ≡ count_at counts key). inl (skipped ∙ found))
-    (λ (missing : (rest ≡ 0) × ((n : ℕ) → ¬ Contains entries (key, n))). inr (
+    (λ (found : rest ≡ count_at counts sought.key). inl (skipped ∙ found))
+    (λ (missing : (rest ≡ 0) × ((n : ℕ) → ¬ Contains entries (sought.key, n))). inr (
       skipped ∙ missing.0,
       λ n stands.
-          ⊎_elim (λ (first : e ≡ (key, n)). other (ap (λ p. p.0) first)) (λ (later : Contains entries (key, n)). missing.1 n later) (Contains-cons_cases entries (key, n) e stands),
+          ⊎_elim (λ (first : e ≡ (sought.key, n)). other (ap (λ p. p.0) first)) (λ (later : Contains entries (sought.key, n)). missing.1 n later) (Contains-cons_cases entries (sought.key, n) e stands),
     ))
-    (count_told setup inverse number word key counts divided at entries (turned-tail setup inverse number counts e entries turned)))
-    (cases_eq (word_under setup inverse number e.0) word)
+    (count_told setup inverse number sought counts entries (turned-tail setup inverse number counts e entries turned)))
+    (cases_eq (word_under setup inverse number e.0) sought.word)
   where
     rest : ℕ
-    rest = count_of (map (row_of setup inverse number) entries) word
+    rest = count_of (map (row_of setup inverse number) entries) sought.word
 
     here : StandsAt setup number e.0 (word_under setup inverse number e.0)
     here = All-head (λ f. StandsAt setup number f.0 (word_under setup inverse number f.0)) e entries turned.stands
@@ -128,7 +133,7 @@ AreStripeRows-turned setup inverse number journal counts entries inverts tells =
       present = All-map (λ (row : Row). 1 ≤ row.count) (row_of setup inverse number) entries (λ i d within. (tells.rows.told i d within).1);
       counts_are = λ w below in_stripe.
           let at : StandsAt setup number (key_of setup w) w = record { is_word = below; has_stripe = in_stripe; has_key = refl } in
-          by w (key_of setup w) (count_told setup inverse number w (key_of setup w) counts tells.divided at entries turned) ∙ tells.counted w below in_stripe;
+          by w (key_of setup w) (count_told setup inverse number (record { word = w; key = key_of setup w; divided = tells.divided; at = at }) counts entries turned) ∙ tells.counted w below in_stripe;
     }
   where
     words : (es : List (ℕ × ℕ)) → map (λ e. word_under setup inverse number e.0) es ≡ map (λ (row : Row). row.word) (map (row_of setup inverse number) es)

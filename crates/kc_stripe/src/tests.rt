@@ -123,6 +123,51 @@ fn cuts_of_a_batch(rt: HostRuntime) -> Result<(), Fail> {
     Ok(())
 }
 
+// What a stripe of words of three bases holds, by its calls: no bin above the third is filled.
+#[derive(Drop)]
+struct Held<'a> {
+    // the numbers of the batches in the journal
+    journal: &'a [u64],
+    total: u64,
+    // the bins 1 to 3
+    bins: [u64; 3],
+    // the words whose count is not 0, each with its count
+    counts: &'a [(u64, u64)],
+}
+
+fn assert_held<C: Counts>(
+    rt: &impl Abort,
+    stripe: &Stripe<C>,
+    held: &Held<'_>,
+) -> Result<(), Fail> {
+    if stripe.setup().rule().k().get() != 3 {
+        return Err(Fail::from("another setup"));
+    }
+    assert_eq!(rt; stripe.journal().len(), held.journal.len());
+    for (batch, number) in stripe.journal().iter().zip(held.journal) {
+        assert_eq!(rt; batch.number(), *number);
+    }
+    assert_eq!(rt; stripe.total(), held.total);
+    assert_eq!(rt; [stripe.bin(1), stripe.bin(2), stripe.bin(3)], held.bins);
+    for word in 0..64 {
+        let mut want = 0;
+        for (counted, count) in held.counts {
+            if *counted == word {
+                want = *count;
+            }
+        }
+        assert_eq!(rt; stripe.count_of(Word(word)), want);
+    }
+    Ok(())
+}
+
+const NOTHING: Held<'static> = Held {
+    journal: &[],
+    total: 0,
+    bins: [0, 0, 0],
+    counts: &[],
+};
+
 // What a stripe of one stripe's setup with k 3 does: batch 0 has AAA twice, batch 1 once.
 fn is_booked_in_order<C: Counts>(
     rt: &impl Abort,
@@ -130,51 +175,64 @@ fn is_booked_in_order<C: Counts>(
     stripe: &mut Stripe<C>,
 ) -> Result<(), Fail> {
     let setup = setup_of(3, 1).ok_or("no setup")?;
-    let cuts = cuts_of(alloc, &setup, &[b"AAAA", b"AAA"], 2)?;
+    let texts: [&[u8]; 2] = [b"AAAA", b"AAA"];
+    let cuts = cuts_of(alloc, &setup, &texts, 2)?;
     let [first, second] = cuts.as_slice() else {
         return Err(Fail::from("other batches"));
     };
+    let two = setup_of(3, 2).ok_or("no setup")?;
+    let others = cuts_of(alloc, &two, &texts, 2)?;
+    let stranger = others.last().ok_or("no batch")?;
+    let one = Held {
+        journal: &[0],
+        total: 2,
+        bins: [0, 1, 0],
+        counts: &[(0, 2)],
+    };
+    let both = Held {
+        journal: &[0, 1],
+        total: 3,
+        bins: [0, 0, 1],
+        counts: &[(0, 3)],
+    };
+    assert_held(rt, stripe, &NOTHING)?;
     stripe.book(first)?;
-    assert_eq!(rt; (stripe.total(), stripe.bin(1), stripe.bin(2)), (2, 0, 1));
+    assert_held(rt, stripe, &one)?;
     assert!(rt; stripe.book(first) == Err(BookFault::Twice));
-    assert_eq!(rt;
-        (stripe.journal().len(), stripe.total(), stripe.bin(2)),
-        (1, 2, 1)
-    );
-    let others = batches_of(alloc, &setup, &reads_of(alloc, &[b"AAAA", b"AAA"])?, 2)?;
-    let stranger = cut_of(
-        alloc,
-        &setup_of(3, 2).ok_or("no setup")?,
-        others.last().ok_or("no batch")?,
-        0,
-    )?;
-    assert!(rt; stripe.book(&stranger) == Err(BookFault::Stranger));
-    assert_eq!(rt;
-        (stripe.journal().len(), stripe.total(), stripe.bin(2)),
-        (1, 2, 1)
-    );
+    assert_held(rt, stripe, &one)?;
+    assert!(rt; stripe.book(stranger) == Err(BookFault::Stranger));
+    assert_held(rt, stripe, &one)?;
     stripe.book(second)?;
-    assert_eq!(rt; (stripe.total(), stripe.bin(2), stripe.bin(3)), (3, 0, 1));
-    assert!(rt; stripe.book(&stranger) == Err(BookFault::Twice));
-    assert_eq!(rt;
-        (stripe.journal().len(), stripe.total(), stripe.bin(3)),
-        (2, 3, 1)
-    );
+    assert_held(rt, stripe, &both)?;
+    assert!(rt; stripe.book(stranger) == Err(BookFault::Twice));
+    assert!(rt; stripe.book(first) == Err(BookFault::Twice));
+    assert_held(rt, stripe, &both)?;
     let rows = stripe.rows(alloc)?;
     assert_eq!(rt; rows.as_slice(), [Row { word: 0, count: 3 }].as_slice());
     Ok(())
 }
 
-#[test]
-fn batches_are_booked_in_order(rt: HostRuntime) -> Result<(), Fail> {
-    let alloc = rt.alloc();
+// An empty stripe over a quotient table with a slot for each key: all words of three bases in one stripe.
+fn quotient_stripe(alloc: Global) -> Result<Stripe<QuotientTable>, Fail> {
     let setup = setup_of(3, 1).ok_or("no setup")?;
-    is_booked_in_order(&rt, alloc, &mut plain_stripe(alloc, &setup, 0)?)?;
     if setup.key_bits() != 6 || setup.stripes() != 1 {
         return Err(Fail::from("another setup"));
     }
     let table = QuotientTable::new(alloc, 6, 6, 6)?;
-    is_booked_in_order(&rt, alloc, &mut Stripe::new(alloc, &setup, 0, table)?)
+    let stripe = Stripe::new(alloc, &setup, 0, table)?;
+    Ok(stripe)
+}
+
+// The same over a `BTreeMap`.
+fn map_stripe(alloc: Global) -> Result<Stripe<PlainCounts>, Fail> {
+    plain_stripe(alloc, &setup_of(3, 1).ok_or("no setup")?, 0)
+}
+
+#[test]
+fn batches_are_booked_in_order(rt: HostRuntime) -> Result<(), Fail> {
+    let alloc = rt.alloc();
+    is_booked_in_order(&rt, alloc, &mut map_stripe(alloc)?)?;
+    is_booked_in_order(&rt, alloc, &mut quotient_stripe(alloc)?)
 }
 
 #[test]
@@ -217,29 +275,31 @@ fn a_full_table_refuses(rt: HostRuntime) -> Result<(), Fail> {
         let table = LimitedCounts::new(alloc, setup.key_bits(), 2, refusal);
         let mut stripe = Stripe::new(alloc, &setup, 0, table)?;
         assert!(rt; stripe.book(three) == Err(fault));
-        assert_eq!(rt;
-            (stripe.journal().len(), stripe.total(), stripe.bin(1)),
-            (0, 0, 0)
-        );
+        assert_held(&rt, &stripe, &NOTHING)?;
         assert_eq!(rt; stripe.rows(alloc)?.len(), 0);
         stripe.book(one)?;
-        assert_eq!(rt;
-            (stripe.journal().len(), stripe.total(), stripe.bin(1)),
-            (1, 1, 1)
-        );
+        let held = Held {
+            journal: &[1],
+            total: 1,
+            bins: [1, 0, 0],
+            counts: &[(6, 1)],
+        };
+        assert_held(&rt, &stripe, &held)?;
     }
     Ok(())
 }
 
-#[test]
-fn the_last_bin(rt: HostRuntime) -> Result<(), Fail> {
-    let alloc = rt.alloc();
+// The same word 5,000 times, again 5,000 times, and 3 times.
+fn comes_to_the_last_bin<C: Counts>(
+    rt: &impl Abort,
+    alloc: Global,
+    stripe: &mut Stripe<C>,
+) -> Result<(), Fail> {
     let setup = setup_of(3, 1).ok_or("no setup")?;
     let mut bases = Vec::new(alloc);
     for _ in 0..10_005 {
         bases.push(b'A')?;
     }
-    let mut stripe = plain_stripe(alloc, &setup, 0)?;
     let mut bins = Vec::new(alloc);
     for cut in &cuts_of(alloc, &setup, &[&bases], 5_000)? {
         stripe.book(cut)?;
@@ -253,43 +313,73 @@ fn the_last_bin(rt: HostRuntime) -> Result<(), Fail> {
     Ok(())
 }
 
-// Run with each allocation refused in turn: `rt try --test --fail-alloc N`.
 #[test]
-fn a_refused_growth_leaves_the_stripe(rt: HostRuntime) {
+fn the_last_bin(rt: HostRuntime) -> Result<(), Fail> {
     let alloc = rt.alloc();
-    let booked = match booked_once(alloc) {
-        None => booked_once(alloc),
-        booked => booked,
-    };
-    assert_eq!(rt; booked, Some((1, 40)));
+    comes_to_the_last_bin(&rt, alloc, &mut map_stripe(alloc)?)?;
+    comes_to_the_last_bin(&rt, alloc, &mut quotient_stripe(alloc)?)
 }
 
-// Books a batch of 40 positions, again where the first time is refused: the journal's length and the total.
-fn booked_once(alloc: Global) -> Option<(usize, u64)> {
-    let setup = setup_of(4, 1)?;
-    let mut bases = Vec::new(alloc);
-    for place in 0..43usize {
-        bases.push(b"ACGTTGCA"[place * place / 5 % 8]).ok()?;
-    }
-    let mut pieces = Vec::new(alloc);
-    pieces
-        .push(clean(alloc, &SeqRead::new(bases, None)?, setup.rule()).ok()?)
-        .ok()?;
-    let batches = cut(alloc, pieces, setup.rule().k(), 40).ok()?;
-    let cuts = cut_up(alloc, &setup, batches.first()?).ok()?;
-    let cut = cuts.first()?;
-    if setup.stripes() != 1 {
-        return None;
-    }
-    let table = PlainCounts::new(alloc, setup.key_bits());
-    let mut stripe = Stripe::new(alloc, &setup, 0, table).ok()?;
+// Books the cut, again where memory is refused: the stripe is then as it was before.
+fn is_booked_again<C: Counts>(
+    rt: &impl Abort,
+    stripe: &mut Stripe<C>,
+    cut: &Cut,
+    before: &Held<'_>,
+) -> Result<(), Fail> {
     if let Err(fault) = stripe.book(cut) {
-        if fault != BookFault::Memory || stripe.journal().len() != 0 || stripe.total() != 0 {
-            return None;
-        }
-        stripe.book(cut).ok()?;
+        assert_eq!(rt; fault, BookFault::Memory);
+        assert_held(rt, stripe, before)?;
+        stripe.book(cut)?;
     }
-    Some((stripe.journal().len(), stripe.total()))
+    Ok(())
+}
+
+// AAA, and the words of the text of 40 words.
+const ONCE: [u64; 41] = [
+    0, 1, 2, 3, 4, 5, 6, 7, 8, 9, 10, 11, 12, 13, 14, 15, 16, 17, 18, 19, 20, 21, 22, 24, 25, 28,
+    32, 33, 34, 35, 36, 37, 40, 44, 49, 50, 51, 52, 53, 56, 61,
+];
+
+// Books AAA, and then a batch of 40 other words, again where memory is refused.
+fn is_booked_at_last<C: Counts>(
+    rt: &impl Abort,
+    alloc: Global,
+    stripe: &mut Stripe<C>,
+) -> Result<(), Fail> {
+    let setup = setup_of(3, 1).ok_or("no setup")?;
+    let texts: [&[u8]; 2] = [b"AACAAGAATACCACGACTAGCAGGAGTATCATGATTCCCGCC", b"AAA"];
+    let cuts = cuts_of(alloc, &setup, &texts, 40)?;
+    let [forty, one] = cuts.as_slice() else {
+        return Err(Fail::from("other batches"));
+    };
+    let before = Held {
+        journal: &[1],
+        total: 1,
+        bins: [1, 0, 0],
+        counts: &[(0, 1)],
+    };
+    is_booked_again(rt, stripe, one, &NOTHING)?;
+    is_booked_again(rt, stripe, forty, &before)?;
+    let mut counts = Vec::new(alloc);
+    for word in ONCE {
+        counts.push((word, 1))?;
+    }
+    let after = Held {
+        journal: &[1, 0],
+        total: 41,
+        bins: [41, 0, 0],
+        counts: &counts,
+    };
+    assert_held(rt, stripe, &after)
+}
+
+// Run with each allocation refused in turn: `rt try --test --fail-alloc N`.
+#[test]
+fn a_refused_growth_leaves_the_stripe(rt: HostRuntime) -> Result<(), Fail> {
+    let alloc = rt.alloc();
+    is_booked_at_last(&rt, alloc, &mut map_stripe(alloc)?)?;
+    is_booked_at_last(&rt, alloc, &mut quotient_stripe(alloc)?)
 }
 
 // Rows of all stripes, in the order of the words.

@@ -1,4 +1,4 @@
-use Rattle.std.proofs.Common.{◌≡◌, ◌∙◌, ◌≤◌, ℕ, ap, ap₂, length, map, sym, vec_len, rules}
+use Rattle.std.proofs.Common.{◌≡◌, ◌∙◌, ◌≤◌, [], ◌∷◌, ◌++◌, ℕ, ap, ap₂, length, map, sym, vec_len, rules}
 use Rattle.std.specs.List.{range_with_len}
 use Rattle.kc_word.specs.Cutting.{NumberedPieces}
 use Rattle.std.proofs.lemmas.Iterator.Adapters.{YieldsList-from_vec}
@@ -29,9 +29,9 @@ loop-keys-preserved c =
     let whole : vec_len c.loop-keys.cuts ≡ length c.loop-keys.cuts.items = search rules in
     let place : c.len-in-loop-keys.result ≡ length c.loop-keys.yielded = c.len-in-loop-keys.ensures ∙ whole ∙ length-cuts _ _ _ _ c.loop-keys.invariant in
     rw length_push
-    (cuts-more c.args.setup.now c.args.batch.now.value c.loop-keys.cuts.items c.push.new.self.items _ (length c.loop-keys.yielded) c.in_ok-push.ensures.items
-    (ap₂ (λ (batch : NumberedPieces) (i : ℕ). cut_at c.args.setup.now batch i) c.in_ok-clone.ensures.cases place)
-    c.loop-keys.invariant)
+    (c.in_ok-push.ensures.items
+    ∙ ap₂ (λ (batch : NumberedPieces) (i : ℕ). c.loop-keys.cuts.items ++ cut_at c.args.setup.now batch i ∷ []) c.in_ok-clone.ensures.cases place
+    ∙ cuts-more c.args.setup.now c.args.batch.now.value c.loop-keys.cuts.items (length c.loop-keys.yielded) c.loop-keys.invariant)
 
 pub returns : goal.returns
 returns c =

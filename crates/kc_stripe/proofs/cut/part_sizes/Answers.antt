@@ -14,4 +14,13 @@ bounds-sizes-code-in-loop-code c = low-below_64 _ c.args.stripe_bits c.requires
 
 pub loop-code-preserved : goal.loop-code-preserved
 loop-code-preserved c =
-    IsCountedTo-more _ _ _ _ _ _ c.loop-code-test.true (low-bits _ c.args.stripe_bits c.requires) (low-below_64 _ c.args.stripe_bits c.requires) c.loop-code.invariant refl
+    IsCountedTo-more _ _ _ _
+    (record {
+      stripe = _;
+      size = _;
+      within = c.loop-code-test.true;
+      stripe_is = low-bits _ c.args.stripe_bits c.requires;
+      fits = low-below_64 _ c.args.stripe_bits c.requires;
+      size_is = refl;
+    })
+    c.loop-code.invariant

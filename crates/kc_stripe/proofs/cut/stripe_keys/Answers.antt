@@ -12,7 +12,16 @@ use Rattle.kc_stripe.proofs.cut.stripe_keys.Goals as goal
 
 pub hash_all-requires : goal.hash_all-requires
 hash_all-requires c =
-    words-fit c.args.setup.now _ _ _ _ c.rule.ensures c.stripe_bits-stripe_bits.ensures.bits c.in_ok-codes.ensures.below c.deref_mut.ensures.value (c.forward_tables.ensures ∙ c.hash.ensures)
+    rw c.deref_mut.ensures.value
+    (words-fit c.args.setup.now (record {
+      rule = c.rule.result.now;
+      words = c.in_ok-codes.codes.items;
+      tables = c.forward_tables.result;
+      rule_is = c.rule.ensures;
+      tables_are = c.forward_tables.ensures ∙ c.hash.ensures;
+      bits = c.stripe_bits-stripe_bits.ensures.bits;
+      below = c.in_ok-codes.ensures.below;
+    }))
 
 pub returns-clause-keys : goal.returns-clause-keys
 returns-clause-keys c =

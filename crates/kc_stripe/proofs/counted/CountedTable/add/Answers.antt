@@ -11,7 +11,8 @@ increment-count-requires-clause-room g c =
 
 pub raise-requires-clause-some : goal.raise-requires-clause-some
 raise-requires-clause-some g c =
-    raise-there _ _ _ _ c.args.key c.increment-count.result c.self.invariant (rw (← c.self.view_is) at c.requires.in_range) c.increment-count.ensures.told
+    raise-there _ _ _ _ c.args.key c.increment-count.result
+    (record { counted = c.self.invariant; below = rw (← c.self.view_is) at c.requires.in_range; count_is = c.increment-count.ensures.told })
 
 pub raise-requires-clause-fits : goal.raise-requires-clause-fits
 raise-requires-clause-fits g c = raise-room _ _ _ _ _ c.self.invariant
@@ -19,11 +20,13 @@ raise-requires-clause-fits g c = raise-room _ _ _ _ _ c.self.invariant
 pub invariant_of-self : goal.invariant_of-self
 invariant_of-self g c =
     rw (c.increment-count.ensures.same_bits, c.increment-count.ensures.counted, c.raise.ensures)
-    (IsCounted-added _ _ _ _ c.args.key c.increment-count.result c.self.invariant (rw (← c.self.view_is) at c.requires.in_range)
-    (rw (← c.self.view_is) at c.requires.room) c.increment-count.ensures.told)
+    (IsCounted-added _ _ _ _ c.args.key c.increment-count.result
+    (record { counted = c.self.invariant; below = rw (← c.self.view_is) at c.requires.in_range; count_is = c.increment-count.ensures.told })
+    (rw (← c.self.view_is) at c.requires.room))
 
 pub returns-clause-counted : goal.returns-clause-counted
 returns-clause-counted g c =
     rw (c.increment-count.ensures.same_bits, c.increment-count.ensures.counted, c.raise.ensures)
-    (IsCounted-added _ _ _ _ c.args.key c.increment-count.result c.self.invariant (rw (← c.self.view_is) at c.requires.in_range)
-    (rw (← c.self.view_is) at c.requires.room) c.increment-count.ensures.told)
+    (IsCounted-added _ _ _ _ c.args.key c.increment-count.result
+    (record { counted = c.self.invariant; below = rw (← c.self.view_is) at c.requires.in_range; count_is = c.increment-count.ensures.told })
+    (rw (← c.self.view_is) at c.requires.room))

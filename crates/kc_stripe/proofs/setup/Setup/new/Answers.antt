@@ -37,6 +37,7 @@ returns-clause-some c =
       low = c.ilog2-stripe_bits.ensures.power_le;
       high = c.ilog2-stripe_bits.ensures.next_power_gt;
     } in (
-      λ _. is_setup _ _ _ _ _ _ seen c.if-bits-word_bits.false c.if-stripes-stripe_bits.false c.if-stripe_bits-word_bits.false,
+      λ _. is_setup _ _ _ _ _ _ seen
+          (record { whole = c.if-bits-word_bits.false; power = c.if-stripes-stripe_bits.false; few = c.if-stripe_bits-word_bits.false }),
       λ _. refl,
     )

@@ -65,8 +65,9 @@ invariant_of-self-2 g c =
     } in
     let lawful = IsLawful-from kept c.add_all.ensures.counted (numbers_differ-more old batch before.numbers_differ new)
     (CountsWords-more setup c.self.inside.number old (g.C.Counts.counts c.self.inside.counted.table) (g.C.Counts.counts c.add_all.new.self.table) batch
-    c.counted_words.ensures c.joined_occurrences.ensures c.words_of_reads.ensures.below held.divided
+    (record { counted = c.counted_words.ensures; joined = c.joined_occurrences.ensures; below = c.words_of_reads.ensures.below })
     (record {
+      divided = held.divided;
       before = before.counts_are;
       added = λ q. c.add_all.ensures.counts q
           ∙ ap₂ (λ (m n : ℕ). m + n) (c.in_ok-ready_all.ensures.same_counts q) (ap (λ (ks : List ℕ). count_by (λ key. eqb key q) ks) keys);

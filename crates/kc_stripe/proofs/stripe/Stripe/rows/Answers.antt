@@ -1,17 +1,19 @@
-use Rattle.std.proofs.Common.{◌≡◌, ◌∙◌, ◌<◌, ◌^◌, ℕ, List, All, get_or, map, ap, subst}
+use Rattle.std.proofs.Common.{◌≡◌, ◌∙◌, ◌<◌, ◌^◌, ◌++◌, [], ◌∷◌, ℕ, List, All, get_or, map, ap, subst}
 use Rattle.std.proofs.lemmas.List.{take_all}
 use Rattle.kc_hash.specs.Product.{product}
 use Rattle.kc_word.specs.Shared.{values}
 use Rattle.kc_table.specs.Counts.{AreRowsOf}
+use Rattle.kc_tally.specs.declared.row.Row.{Row}
 use Rattle.kc_stripe.proofs.StripeRows.{row_of, rows-more, TellsRows, AreStripeRows-turned}
 use Rattle.kc_stripe.proofs.stripe.Stripe.rows.Goals as goal
 
 pub loop-key-preserved : goal.loop-key-preserved
 loop-key-preserved g c =
-    rows-more c.self.inside.setup c.back_tables-tables.result c.self.inside.number c.deref-key-items.result.now c.loop-key.rows.items c.push.new.self.items _ c.loop-key.key-index (0, 0)
-    c.loop-key-test.true c.in_ok-push.ensures.items
+    c.in_ok-push.ensures.items
+    ∙ ap (λ (row : Row). c.loop-key.rows.items ++ row ∷ [])
     (λ i. record { word = (c.apply.ensures.product ∙ ap (product c.back_tables-tables.result) c.code_at-code.ensures.value) i; count = (get_or c.deref-key-items.result.now c.loop-key.key-index (0, 0)).1 })
-    c.loop-key.invariant
+    ∙ rows-more (row_of c.self.inside.setup c.back_tables-tables.result c.self.inside.number) c.deref-key-items.result.now c.loop-key.rows.items c.loop-key.key-index (0, 0)
+    c.loop-key-test.true c.loop-key.invariant
 
 pub returns : goal.returns
 returns g c =
