@@ -27,7 +27,7 @@ identity-row : identity 4 ≡ 1 ∷ 2 ∷ 4 ∷ 8 ∷ []
 unfolding identity
 identity-row = refl
 
--- the low bits of the numbers that another program of SplitMix64 gives
+-- the low bits of the words that another program of SplitMix64 gives
 seed_columns-row : seed_columns 4 1 ≡ 1 ∷ 7 ∷ 14 ∷ 11 ∷ []
 unfolding seed_columns first_words
 seed_columns-row = refl

@@ -1,11 +1,11 @@
--- The numbers that a generator draws, one by one.
+-- The words of a generator, one by one.
 use Rattle.std.proofs.Common.{◌≡◌, ℕ, zero, suc, ◌+◌, ◌%◌, ◌^◌, ◌<◌, length, get_or, add-one, refl, sym, ◌∙◌, ap, arith}
 use Rattle.std.proofs.lemmas.List.{length-map, get_or-map}
 use Rattle.rand_core.specs.Steps.{first_words}
 use Rattle.rand_xoshiro.specs.SplitMix64.{mix_u64}
 use Rattle.kc_hash.specs.Seeds.{seed_columns}
 
--- the state after so many numbers
+-- the state after so many words
 pub state_after : (ℕ → ℕ × ℕ) → ℕ → ℕ → ℕ
 state_after step zero s = s
 state_after step (suc k) s = (step (state_after step k s)).1
@@ -37,11 +37,11 @@ get_or-first_words step (suc k) (suc i) s h =
 
 pub length-seed_columns : (bits seed : ℕ) → length (seed_columns bits seed) ≡ bits
 unfolding seed_columns
-length-seed_columns bits seed = length-map (first_words mix_u64 bits seed) (λ drawn. drawn % 2 ^ bits) ∙ length-first_words mix_u64 bits seed
+length-seed_columns bits seed = length-map (first_words mix_u64 bits seed) (λ word. word % 2 ^ bits) ∙ length-first_words mix_u64 bits seed
 
 pub get_or-seed_columns : (bits seed i : ℕ) → i < bits
     → get_or (seed_columns bits seed) i 0 ≡ (mix_u64 (state_after mix_u64 i seed)).0 % 2 ^ bits
 unfolding seed_columns
 get_or-seed_columns bits seed i h =
-    get_or-map (λ drawn. drawn % 2 ^ bits) (first_words mix_u64 bits seed) i 0 0 (omega (arith, length-first_words mix_u64 bits seed))
-    ∙ ap (λ drawn. drawn % 2 ^ bits) (get_or-first_words mix_u64 bits i seed h)
+    get_or-map (λ word. word % 2 ^ bits) (first_words mix_u64 bits seed) i 0 0 (omega (arith, length-first_words mix_u64 bits seed))
+    ∙ ap (λ word. word % 2 ^ bits) (get_or-first_words mix_u64 bits i seed h)
