@@ -5,10 +5,13 @@
 mod counted;
 mod cut;
 mod fault;
+mod locked;
 mod setup;
 mod stripe;
+mod stripes;
 
 pub use cut::{Cut, cut_up};
 pub use fault::BookFault;
 pub use setup::Setup;
 pub use stripe::Stripe;
+pub use stripes::Stripes;

@@ -37,8 +37,14 @@ impl<C: Counts> Model for Stripe<C> {
 
     ghost Value = { StripeState C };
 
-    ghost view = { λ s. record { setup = s.setup; number = s.number; journal = values s.journal.items;
-        table = s.counted.table; bins = s.counted.bins; total = s.counted.total } };
+    ghost view = { λ s. record {
+      setup = s.setup;
+      number = s.number;
+      journal = values s.journal.items;
+      table = s.counted.table;
+      bins = s.counted.bins;
+      total = s.counted.total;
+    } };
 
     ghost invariant = { λ s. IsLawful s.setup s.number (values s.journal.items) (C.counts s.counted.table) s.counted.bins s.counted.total
         × IsKept s.setup s.number (values s.journal.items) (C.bits s.counted.table) (contains nat_eq s.booked) };
@@ -54,6 +60,7 @@ impl<C: Counts + Drop> Stripe<C> {
         ensures setup { IfOk result (λ stripe. stripe.setup ≡ setup.now) }
         ensures number { IfOk result (λ stripe. stripe.number ≡ number) }
         ensures journal { IfOk result (λ stripe. stripe.journal ≡ []) }
+        ensures total { IfOk result (λ stripe. stripe.total ≡ 0) }
         ensures table { IfOk result (λ stripe. stripe.table ≡ table) }
     {
         // what is known of the words and their keys
@@ -75,6 +82,8 @@ impl<C: Counts> Stripe<C> {
         ensures number { self.new.number ≡ self.old.number }
         ensures journal { OnOk result (self.new.journal ≡ self.old.journal ++ cut.now.batch ∷ []) }
         ensures total { OnOk result (self.new.total ≡ self.old.total + length (keys_of cut.now)) }
+        ensures own { OnOk result (IsOwnCut self.old cut.now) }
+        ensures room { OnOk result (self.new.total ≤ 2 ^ 62) }
         ensures lawful { IsLawful self.new.setup self.new.number self.new.journal (C.counts self.new.table) self.new.bins self.new.total }
         ensures unchanged { OnErr result (IsUnchanged C.counts self.old self.new) }
         ensures twice { result ≡ Err BookFault.Twice ↔ IsBooked self.old.journal cut.now.batch.number }
@@ -96,6 +105,13 @@ impl<C: Counts> Stripe<C> {
         };
         self.journal.push_reserved(batch);
         Ok(())
+    }
+
+    /// The batches that were booked, in order.
+    pub fn journal(&self) -> &[Arc<Batch>]
+        ensures { values result.now ≡ self.now.journal }
+    {
+        &self.journal
     }
 
     // Whether the cut is a new one of this stripe, and the total stays within its limit.

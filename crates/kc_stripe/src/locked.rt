@@ -1,0 +1,73 @@
+//! What lies behind a stripe's lock.
+ghost use Rattle.std.specs.Prelude.{◌≡◌, ◌++◌, ◌∷◌, [], OnOk, OnErr};
+ghost use Rattle.kc_share.specs.Share.{kept_stripe, with_booking};
+ghost use Rattle.kc_stripe.specs.Locked.{cut_entry, IsAllOf};
+
+use crate::cut::Cut;
+use crate::fault::BookFault;
+use crate::stripe::Stripe;
+use kc_share::{Books, Keeper, OpenSheet, Share};
+use kc_table::Counts;
+use std::marker::Model;
+
+/// A stripe, and its keeper on the sheet of the shares, whose journal is the stripe's.
+#[derive(Drop)]
+pub(crate) struct Locked<C: Counts, N: Books> {
+    stripe: Stripe<C>,
+    keeper: Keeper<N>,
+}
+
+impl<C: Counts, N: Books> Model for Locked<C, N> {
+    ghost use Rattle.kc_stripe.specs.Stripe.{StripeState};
+    ghost use Rattle.kc_stripe.specs.Locked.{IsOnSheet};
+
+    ghost Value = { StripeState C };
+
+    ghost view = { λ l. l.stripe };
+
+    ghost invariant = { λ l. IsOnSheet l.stripe l.keeper };
+}
+
+impl<C: Counts, N: Books> Locked<C, N> {
+    // A stripe in which nothing was booked.
+    pub(crate) fn new(stripe: Stripe<C>, keeper: Keeper<N>) -> Locked<C, N>
+        requires stripe { (stripe.journal ≡ []) × (stripe.total ≡ 0) }
+        requires keeper { keeper ≡ kept_stripe stripe.number [] }
+        ensures { result ≡ stripe }
+    {
+        Locked { stripe, keeper }
+    }
+
+    /// Books a batch into the stripe, and into a share.
+    pub(crate) fn book(
+        &mut self,
+        sheet: &OpenSheet<N>,
+        share: &mut Share<N>,
+        cut: &Cut,
+    ) -> Result<(), BookFault>
+        ensures share { OnOk result (share.new ≡ with_booking share.old cut.now.stripe (cut_entry cut.now)) }
+        ensures journal { OnOk result (self.new.journal ≡ self.old.journal ++ cut.now.batch ∷ []) }
+        ensures refused { OnErr result (share.new ≡ share.old) }
+    {
+        self.stripe.book(cut)?;
+        let _fits = self.stripe.journal().len();
+        sheet.note(
+            share,
+            &mut self.keeper,
+            cut.batch(),
+            cut.keys().len() as u64,
+        );
+        Ok(())
+    }
+
+    /// The stripe. Where the share has all parts, what was booked with it is all of the stripe.
+    pub(crate) fn into_stripe(mut self, sheet: &OpenSheet<N>, share: &mut Share<N>) -> Stripe<C>
+        ensures stripe { result ≡ self }
+        ensures share { share.new ≡ share.old }
+        ensures whole { share.old.parts ≡ share.old.plan.parts → IsAllOf share.old.booked self }
+    {
+        sheet.look(share, &mut self.keeper);
+        let Locked { stripe, keeper: _ } = self;
+        stripe
+    }
+}
