@@ -58,7 +58,7 @@ impl<C: Counts + Drop, N: Books> Stripes<C, N> {
         ensures share { IfOk result (λ made. made.1 ≡ share_of sheet.plan sheet.plan.parts []) }
     {
         let (sheet, mut opening) = sheet.open::<N>();
-        let mut locks = Vec::with_capacity(alloc, tables.len())?;
+        let mut locks = Vec::with_capacity(alloc, setup.stripes() as usize)?;
         for table in tables {
             let stripe = Stripe::new(alloc, setup, locks.len() as u32, table)?;
             let keeper = sheet.next_keeper(&mut opening);
