@@ -1,6 +1,6 @@
 //! The lines of a byte string, taken one after another.
 ghost use Rattle.std.specs.Prelude.{◌≡◌, ◌+◌, ◌<◌, ◌≤◌, false, true, [], ◌∷◌, length, vec_capacity};
-ghost use Rattle.std.specs.Prelude.{IfOk, IfSome, IfNone};
+ghost use Rattle.std.specs.Prelude.{IsOk, IfOk, IfSome, IfNone};
 ghost use Rattle.std.specs.Str.Lines.{strip_carriage_return};
 ghost use Rattle.kc_fastx.specs.Lines.{begins_with, ends_or_begins_with, next_begins_with};
 ghost use Rattle.kc_fastx.specs.Lines.{lines, line_count, skip_blanks};
@@ -62,6 +62,7 @@ impl<'a> LineCursor<'a> {
     pub(crate) fn room_before(&self, alloc: Global, byte: u8) -> Result<Vec<u8>, AllocError>
         ensures empty { IfOk result (λ room. room.items ≡ []) }
         ensures within { IfOk result (λ room. vec_capacity room ≤ self.now.byte_count) }
+        ensures succeeds { self.now.byte_count ≡ 0 → IsOk result }
     {
         self.room_for(alloc, memchr(byte, self.left).unwrap_or(self.left.len()))
     }
@@ -70,6 +71,7 @@ impl<'a> LineCursor<'a> {
     pub(crate) fn room_for(&self, alloc: Global, count: usize) -> Result<Vec<u8>, AllocError>
         ensures empty { IfOk result (λ room. room.items ≡ []) }
         ensures within { IfOk result (λ room. vec_capacity room ≤ self.now.byte_count) }
+        ensures succeeds { self.now.byte_count ≡ 0 → IsOk result }
     {
         Vec::with_capacity(alloc, count.min(self.left.len()))
     }

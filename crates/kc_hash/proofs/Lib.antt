@@ -1,6 +1,6 @@
 pub mod Bytes
+pub mod Columns
 pub mod Copies
+pub mod Generator
 pub mod Linear
 pub mod RowSteps
-pub mod Words
-pub mod Worked

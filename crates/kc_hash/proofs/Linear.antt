@@ -128,7 +128,7 @@ combine-pow f (suc n) k h =
     (rw same (ap (λ b. b * f n) (bit_at-pow_same n) ∙ one-mul (f n))))
     (cases_lt k n)
 
--- the columns with one bit each give the word back
+-- the columns with one bit each give the number back
 pub combine-identity : (n x : ℕ) → combine (λ i. 2 ^ i) n x ≡ x % 2 ^ n
 combine-identity zero x = omega arith
 combine-identity (suc n) x =
@@ -182,7 +182,7 @@ product-pow columns k h = product-combine columns (2 ^ k) ∙ combine-pow (λ i.
 pub product-pow_past : (columns : List ℕ) (k : ℕ) → length columns ≤ k → product columns (2 ^ k) ≡ 0
 product-pow_past columns k h = product-combine columns (2 ^ k) ∙ combine-pow_above (λ i. get_or columns i 0) (length columns) k h
 
--- where the first k columns have one bit each, in order, a word of k bits comes back
+-- where the first k columns have one bit each, in order, a number of k bits comes back
 pub product-units : (columns : List ℕ) (k x : ℕ) → k ≤ length columns → ((i : ℕ) → i < k → get_or columns i 0 ≡ 2 ^ i)
     → x < 2 ^ k → product columns x ≡ x
 product-units columns k x h units below =
@@ -227,9 +227,9 @@ combine-passed f n x h =
     ∙ xor_zero_r (combine f n x)
 
 -- the xor that a loop over the bits of an array's matrix ends with
-pub product-array : (bits : ℕ) (columns seen : List ℕ) (x place : ℕ) → IsMatrix bits columns → take bits columns ≡ seen → place ≡ bits
-    → combine (λ i. get_or columns i 0) place x ≡ product seen x
-product-array bits columns seen x place m e end =
+pub product-array : (bits : ℕ) (columns seen : List ℕ) (x index : ℕ) → IsMatrix bits columns → take bits columns ≡ seen → index ≡ bits
+    → combine (λ i. get_or columns i 0) index x ≡ product seen x
+product-array bits columns seen x index m e end =
     let full : length columns ≡ 62 = m.full in
     let fits : bits ≤ 62 = m.width.at_most in
     ap (λ k. combine (λ i. get_or columns i 0) k x) end

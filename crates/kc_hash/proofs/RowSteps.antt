@@ -11,15 +11,15 @@ use Rattle.std.proofs.lemmas.List.Edits.{map_over_more}
 use Rattle.std.proofs.lemmas.Bool.{cases_lt}
 use Rattle.std.proofs.Math.Nat.{zero-mul, one-mul}
 use Rattle.kc_hash.specs.Product.{product, identity, Undoes, AreInverse, IsInKernel, IsNonsingular, IsOneToOne}
-use Rattle.kc_hash.specs.Undone.{IsHash}
+use Rattle.kc_hash.specs.Hash.{IsHash}
 use Rattle.kc_hash.specs.Matrix.{IsMatrix}
 use Rattle.kc_hash.specs.Elimination.{row_added, IsReduction, HasUnits}
 use Rattle.kc_hash.proofs.Linear.{IsLinear, xor_medial, two_bits, bit_below, product-zero, product-xor, product-below, product-map, product-pow, product-units, product-identity, length-identity}
 
 -- how far the elimination has come
-pub record Reduces (columns reduced inverse : List ℕ) (place : ℕ) : Type 0 where
+pub record Reduces (columns reduced inverse : List ℕ) (index : ℕ) : Type 0 where
   pub reduction : IsReduction columns reduced inverse
-  pub units : HasUnits reduced place
+  pub units : HasUnits reduced index
 
 row_added-linear : (row rows : ℕ) → IsLinear (row_added row rows)
 row_added-linear row rows = record {
@@ -113,32 +113,43 @@ inverse_found columns reduced inverse count r units end within =
           (undoes (product inverse y) (r.stays y inside));
     }
 
--- a column whose bits are all at places of unit columns, with its own bit, is mapped to 0
-pub kernel_found : (columns reduced inverse : List ℕ) (place column : ℕ) → IsReduction columns reduced inverse → HasUnits reduced place → place < length columns
-    → get_or reduced place 0 ≡ column → column < 2 ^ place
-    → ((i : ℕ) → i < length columns → get_or columns i 0 < 2 ^ length columns)
-    → IsInKernel columns (bit_xor column (2 ^ place))
-kernel_found columns reduced inverse place column r units inner is low within =
+-- the elimination stops at this column, whose bits are all below its own index
+pub record IsStuck (columns reduced inverse : List ℕ) (index column : ℕ) : Type 0 where
+  pub reduction : IsReduction columns reduced inverse
+  pub units : HasUnits reduced index
+  pub inner : index < length columns
+  pub is : get_or reduced index 0 ≡ column
+  pub low : column < 2 ^ index
+  pub within : (i : ℕ) → i < length columns → get_or columns i 0 < 2 ^ length columns
+
+-- a column whose bits are all at indexes of unit columns, with its own bit, is mapped to 0
+pub kernel_found : (columns reduced inverse : List ℕ) (index column : ℕ) → IsStuck columns reduced inverse index column
+    → IsInKernel columns (bit_xor column (2 ^ index))
+kernel_found columns reduced inverse index column stuck =
+    let r : IsReduction columns reduced inverse = stuck.reduction in
+    let inner : index < length columns = stuck.inner in
+    let low : column < 2 ^ index = stuck.low in
+    let within : (i : ℕ) → i < length columns → get_or columns i 0 < 2 ^ length columns = stuck.within in
     let wide : length reduced ≡ length columns = r.reduced_bits in
-    let x : ℕ = bit_xor column (2 ^ place) in
-    let whole : bit_xor column (2 ^ place) ≡ 2 ^ place + column =
-    xor_comm column (2 ^ place) ∙ ap (λ z. bit_xor z column) (sym (one-mul (2 ^ place))) ∙ xor_shifted 1 place column low
-    ∙ ap (λ z. z + column) (one-mul (2 ^ place)) in
-    let positive : 0 < 2 ^ place = pow_pos place in
-    let up : 2 ^ place < 2 ^ length columns = pow_below place (length columns) inner in
-    let below : bit_xor column (2 ^ place) < 2 ^ length columns =
-    xor_lt (length columns) column (2 ^ place) (omega arith) up in
-    let none : product reduced (bit_xor column (2 ^ place)) ≡ 0 =
-    product-xor reduced column (2 ^ place)
-    ∙ ap₂ bit_xor (product-units reduced place column (omega arith) units low)
-    (product-pow reduced place (omega arith) ∙ is)
+    let x : ℕ = bit_xor column (2 ^ index) in
+    let whole : bit_xor column (2 ^ index) ≡ 2 ^ index + column =
+    xor_comm column (2 ^ index) ∙ ap (λ z. bit_xor z column) (sym (one-mul (2 ^ index))) ∙ xor_shifted 1 index column low
+    ∙ ap (λ z. z + column) (one-mul (2 ^ index)) in
+    let positive : 0 < 2 ^ index = pow_pos index in
+    let up : 2 ^ index < 2 ^ length columns = pow_below index (length columns) inner in
+    let below : bit_xor column (2 ^ index) < 2 ^ length columns =
+    xor_lt (length columns) column (2 ^ index) (omega arith) up in
+    let none : product reduced (bit_xor column (2 ^ index)) ≡ 0 =
+    product-xor reduced column (2 ^ index)
+    ∙ ap₂ bit_xor (product-units reduced index column (omega arith) stuck.units low)
+    (product-pow reduced index (omega arith) ∙ stuck.is)
     ∙ xor_self column in
     record {
       positive = omega arith;
       within = below;
-      to_zero = r.lossless (product columns (bit_xor column (2 ^ place)))
-          (product-below columns (length columns) (bit_xor column (2 ^ place)) within)
-          (r.follows (bit_xor column (2 ^ place)) below ∙ none);
+      to_zero = r.lossless (product columns (bit_xor column (2 ^ index)))
+          (product-below columns (length columns) (bit_xor column (2 ^ index)) within)
+          (r.follows (bit_xor column (2 ^ index)) below ∙ none);
     }
 
 pub identity_inverse : (bits : ℕ) → AreInverse (identity bits) (identity bits)
@@ -149,7 +160,7 @@ identity_inverse bits =
     let undoes : Undoes (identity bits) (identity bits) = λ x h. ap (product (identity bits)) (same x h) ∙ same x h in
     record { same_bits = refl; stays = stays; stays_back = stays; undoes = undoes; undone = undoes }
 
--- the columns of the inverse are what it makes of the words with one bit
+-- the columns of the inverse are what it makes of the numbers with one bit
 pub hash_made : (matrix inverse : List ℕ) → AreInverse matrix inverse → IsHash matrix inverse
 hash_made matrix inverse both =
     let same : length inverse ≡ length matrix = both.same_bits in
@@ -187,46 +198,46 @@ units_kept reduced count row rows units above wide i h =
     ∙ ap (bit_xor (2 ^ i)) (zero-mul rows)
     ∙ xor_zero_r (2 ^ i)
 
--- the row of a set bit, added to the row of `place`, sets the bit there
-pub bit_made : (column place row : ℕ) → bit_at column row ≡ 1 → bit_at column place ≡ 0 → bit_at (row_added row (2 ^ place) column) place ≡ 1
-bit_made column place row set unset =
-    ap (λ b. bit_at (bit_xor column (b * 2 ^ place)) place) set
-    ∙ ap (λ z. bit_at (bit_xor column z) place) (one-mul (2 ^ place))
-    ∙ bit_at_xor column (2 ^ place) place
-    ∙ ap₂ (λ a b. (a + b) % 2) unset (bit_at-pow_same place)
+-- the row of a set bit, added to the row of `index`, sets the bit there
+pub bit_made : (column index row : ℕ) → bit_at column row ≡ 1 → bit_at column index ≡ 0 → bit_at (row_added row (2 ^ index) column) index ≡ 1
+bit_made column index row set unset =
+    ap (λ b. bit_at (bit_xor column (b * 2 ^ index)) index) set
+    ∙ ap (λ z. bit_at (bit_xor column z) index) (one-mul (2 ^ index))
+    ∙ bit_at_xor column (2 ^ index) index
+    ∙ ap₂ (λ a b. (a + b) % 2) unset (bit_at-pow_same index)
 
--- a column with the bit of its place becomes that bit alone
-pub column_cleared : (column place : ℕ) → bit_at column place ≡ 1 → row_added place (bit_xor column (2 ^ place)) column ≡ 2 ^ place
-column_cleared column place set =
-    ap (λ b. bit_xor column (b * bit_xor column (2 ^ place))) set
-    ∙ ap (bit_xor column) (one-mul (bit_xor column (2 ^ place)))
-    ∙ sym (xor_assoc column column (2 ^ place))
-    ∙ ap (λ z. bit_xor z (2 ^ place)) (xor_self column)
-    ∙ xor_zero_l (2 ^ place)
+-- a column with the bit of its index becomes that bit alone
+pub column_cleared : (column index : ℕ) → bit_at column index ≡ 1 → row_added index (bit_xor column (2 ^ index)) column ≡ 2 ^ index
+column_cleared column index set =
+    ap (λ b. bit_xor column (b * bit_xor column (2 ^ index))) set
+    ∙ ap (bit_xor column) (one-mul (bit_xor column (2 ^ index)))
+    ∙ sym (xor_assoc column column (2 ^ index))
+    ∙ ap (λ z. bit_xor z (2 ^ index)) (xor_self column)
+    ∙ xor_zero_l (2 ^ index)
 
-pub others_apart : (column place : ℕ) → bit_at column place ≡ 1 → bit_at (bit_xor column (2 ^ place)) place ≡ 0
-others_apart column place set = bit_at_xor column (2 ^ place) place ∙ ap₂ (λ a b. (a + b) % 2) set (bit_at-pow_same place)
+pub others_apart : (column index : ℕ) → bit_at column index ≡ 1 → bit_at (bit_xor column (2 ^ index)) index ≡ 0
+others_apart column index set = bit_at_xor column (2 ^ index) index ∙ ap₂ (λ a b. (a + b) % 2) set (bit_at-pow_same index)
 
--- the row of a set bit, added to the row of the place
-pub pivot_set : (reduced : List ℕ) (place row : ℕ) → place < length reduced
-    → bit_at (get_or reduced place 0) row ≡ 1 → bit_at (get_or reduced place 0) place ≡ 0
-    → bit_at (get_or (map (row_added row (2 ^ place)) reduced) place 0) place ≡ 1
-pivot_set reduced place row inner at_row at_place =
-    ap (λ n. bit_at n place) (get_or-map (row_added row (2 ^ place)) reduced place 0 0 inner)
-    ∙ bit_made (get_or reduced place 0) place row at_row at_place
+-- the row of a set bit, added to the row of the index
+pub pivot_set : (reduced : List ℕ) (index row : ℕ) → index < length reduced
+    → bit_at (get_or reduced index 0) row ≡ 1 → bit_at (get_or reduced index 0) index ≡ 0
+    → bit_at (get_or (map (row_added row (2 ^ index)) reduced) index 0) index ≡ 1
+pivot_set reduced index row inner at_row at_place =
+    ap (λ n. bit_at n index) (get_or-map (row_added row (2 ^ index)) reduced index 0 0 inner)
+    ∙ bit_made (get_or reduced index 0) index row at_row at_place
 
--- the row of the place, added to those of the column's other bits
-pub cleared_units : (reduced : List ℕ) (place column : ℕ) → HasUnits reduced place
-    → place < length reduced → column ≡ get_or reduced place 0 → bit_at column place ≡ 1
-    → HasUnits (map (row_added place (bit_xor column (2 ^ place))) reduced) (place + 1)
-cleared_units reduced place column units inner is set =
-    below_more _ place
-    (units_kept reduced place place (bit_xor column (2 ^ place)) units (omega arith) (omega arith))
-    (get_or-map (row_added place (bit_xor column (2 ^ place))) reduced place 0 0 inner
-    ∙ ap (row_added place (bit_xor column (2 ^ place))) (sym is)
-    ∙ column_cleared column place set)
+-- the row of the index, added to those of the column's other bits
+pub cleared_units : (reduced : List ℕ) (index column : ℕ) → HasUnits reduced index
+    → index < length reduced → column ≡ get_or reduced index 0 → bit_at column index ≡ 1
+    → HasUnits (map (row_added index (bit_xor column (2 ^ index))) reduced) (index + 1)
+cleared_units reduced index column units inner is set =
+    below_more _ index
+    (units_kept reduced index index (bit_xor column (2 ^ index)) units (omega arith) (omega arith))
+    (get_or-map (row_added index (bit_xor column (2 ^ index))) reduced index 0 0 inner
+    ∙ ap (row_added index (bit_xor column (2 ^ index))) (sym is)
+    ∙ column_cleared column index set)
 
--- ---- the row of the lowest set bit from a place on
+-- ---- the row of the lowest set bit from a index on
 
 -- a set bit is below the width
 pub row_inside : (column bits row : ℕ) → column < 2 ^ bits → bit_at column row ≡ 1 → row < bits
@@ -251,15 +262,20 @@ row_passed row rows column unset =
     let none : bit_at column row ≡ 0 = omega arith in
     sym (ap (λ b. bit_xor column (b * rows)) none ∙ ap (bit_xor column) (zero-mul rows) ∙ xor_zero_r column)
 
-pub added_more : (row rows : ℕ) (before now : List ℕ) (i entry : ℕ) → i < length before
-    → now ≡ map (row_added row rows) (take i before) ++ drop i before → entry ≡ row_added row rows (get_or now i 0)
+-- the row is added in the first i columns
+pub record IsAdded (row rows : ℕ) (before now : List ℕ) (i : ℕ) : Type 0 where
+  pub inside : i < length before
+  pub so_far : now ≡ map (row_added row rows) (take i before) ++ drop i before
+
+pub added_more : (row rows : ℕ) (before now : List ℕ) (i entry : ℕ) → IsAdded row rows before now i → entry ≡ row_added row rows (get_or now i 0)
     → set now i entry ≡ map (row_added row rows) (take (i + 1) before) ++ drop (i + 1) before
-added_more row rows before now i entry inside so_far is =
+added_more row rows before now i entry added is =
+    let inside : i < length before = added.inside in
     let wide : length now ≡ length before =
-    ap length so_far ∙ length-append (map (row_added row rows) (take i before)) (drop i before)
+    ap length added.so_far ∙ length-append (map (row_added row rows) (take i before)) (drop i before)
     ∙ omega (arith, length-map (take i before) (row_added row rows), length-take-le i before (omega arith), length-drop i before) in
     let here : get_or now i 0 ≡ get_or now i (get_or now i 0) = get_or_default now i 0 (get_or now i 0) (omega arith) in
-    ap (set now i) is ∙ map_over_more (row_added row rows) before now i (get_or now i 0) inside so_far here
+    ap (set now i) is ∙ map_over_more (row_added row rows) before now i (get_or now i 0) inside added.so_far here
 
 pub added_all : (row rows : ℕ) (before now : List ℕ) (i : ℕ) → length before ≤ i
     → now ≡ map (row_added row rows) (take i before) ++ drop i before → now ≡ map (row_added row rows) before

@@ -8,8 +8,8 @@ use Rattle.kc_hash.specs.Product.{product}
 abbrev pub row_added : ℕ → ℕ → ℕ → ℕ
 row_added row rows column = bit_xor column (bit_at column row * rows)
 
--- the same row operations have made `reduced` of the matrix and `inverse` of the identity: `inverse` leads each product with the
--- matrix to that with `reduced`, and nothing is lost by it
+-- The same row operations have made `reduced` of the matrix and `inverse` of the identity: `inverse` leads each product
+-- with the matrix to that with `reduced`, and nothing is lost by it.
 pub record IsReduction (columns reduced inverse : List ℕ) : Type 0 where
   pub reduced_bits : length reduced ≡ length columns
   pub inverse_bits : length inverse ≡ length columns

@@ -1,9 +1,9 @@
-pub mod Columns
 pub mod Elimination
+pub mod Hash
 pub mod HashFault
 pub mod Inverse
+pub mod Inversion
 pub mod Matrix
 pub mod Product
 pub mod Seeds
 pub mod Tables
-pub mod Undone

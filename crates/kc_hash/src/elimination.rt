@@ -33,9 +33,9 @@ impl Matrix {
             reduced: *self,
             inverse: Matrix::identity(bits),
         };
-        for place in 0..bits {
-            if !both.clear_column(place) {
-                return Inverse::Kernel(both.reduced.column(place) ^ (1 << place));
+        for index in 0..bits {
+            if !both.clear_column(index) {
+                return Inverse::Kernel(both.reduced.column(index) ^ (1 << index));
             }
         }
         Inverse::Found(both.inverse)
@@ -62,61 +62,60 @@ impl Elimination {
         self.inverse.add_row(row, rows);
     }
 
-    /// Sets the bit at `place` in the column at `place`, where it is not set by adding a later row to that of
-    /// the place. Columns before it that have only the bit of their own place stay. Where the column has no
-    /// bit at `place` or above, nothing is done and the answer is false.
-    fn set_pivot(&mut self, place: u32) -> bool
-        requires within { place < length self.old.reduced }
-        requires units { HasUnits self.old.reduced place }
-        ensures set { OnTrue result (bit_at (slice_index self.new.reduced place) place ≡ 1) }
-        ensures units { HasUnits self.new.reduced place }
+    /// Sets bit `index` of column `index`, where it is not set by adding a later row to row `index`. Columns before it
+    /// that have only the bit of their own index stay. Where the column has no bit from `index` on, nothing is done
+    /// and the answer is false.
+    fn set_pivot(&mut self, index: u32) -> bool
+        requires within { index < length self.old.reduced }
+        requires units { HasUnits self.old.reduced index }
+        ensures set { OnTrue result (bit_at (slice_index self.new.reduced index) index ≡ 1) }
+        ensures units { HasUnits self.new.reduced index }
         ensures bits { length self.new.reduced ≡ length self.old.reduced }
         ensures kept { (columns : List ℕ) → IsReduction columns self.old.reduced self.old.inverse
             → IsReduction columns self.new.reduced self.new.inverse }
-        ensures stuck { OnFalse result (slice_index self.new.reduced place < 2 ^ place) }
+        ensures stuck { OnFalse result (slice_index self.new.reduced index < 2 ^ index) }
     {
-        let Some(row) = pivot(self.reduced.column(place), place) else {
+        let Some(row) = pivot(self.reduced.column(index), index) else {
             return false;
         };
-        if row != place {
-            self.add_row(row, 1 << place);
+        if row != index {
+            self.add_row(row, 1 << index);
         }
         true
     }
 
-    /// Leaves in the column at `place` only the bit at `place`. Columns before it that have only the bit of
-    /// their own place stay. Where the column has no bit at `place` or above, nothing is done and the answer
-    /// is false.
-    fn clear_column(&mut self, place: u32) -> bool
-        requires within { place < length self.old.reduced }
-        requires units { HasUnits self.old.reduced place }
-        ensures cleared { OnTrue result (HasUnits self.new.reduced (place + 1)) }
+    /// Leaves of column `index` only bit `index`. Columns before it that have only the bit of their own index stay.
+    /// Where the column has no bit from `index` on, nothing is done and the answer is false.
+    fn clear_column(&mut self, index: u32) -> bool
+        requires within { index < length self.old.reduced }
+        requires units { HasUnits self.old.reduced index }
+        ensures cleared { OnTrue result (HasUnits self.new.reduced (index + 1)) }
         ensures bits { length self.new.reduced ≡ length self.old.reduced }
         ensures kept { (columns : List ℕ) → IsReduction columns self.old.reduced self.old.inverse
             → IsReduction columns self.new.reduced self.new.inverse }
-        ensures units { HasUnits self.new.reduced place }
-        ensures stuck { OnFalse result (slice_index self.new.reduced place < 2 ^ place) }
+        ensures units { HasUnits self.new.reduced index }
+        ensures stuck { OnFalse result (slice_index self.new.reduced index < 2 ^ index) }
     {
-        if !self.set_pivot(place) {
+        if !self.set_pivot(index) {
             return false;
         }
-        let others = self.reduced.column(place) ^ (1 << place);
-        self.add_row(place, others);
+        let others = self.reduced.column(index) ^ (1 << index);
+        self.add_row(index, others);
         true
     }
 }
 
-/// The lowest row from `place` on in which the column has a bit; none where it has no such bit.
-fn pivot(column: u64, place: u32) -> Option<u32>
-    requires { place < 64 }
-    ensures from { IfSome result (λ row. place ≤ row) }
+/// The lowest row from `index` on in which the column has a bit; none where it has no such bit.
+fn pivot(column: u64, index: u32) -> Option<u32>
+    requires { index < 64 }
+    ensures from { IfSome result (λ row. index ≤ row) }
     ensures set { IfSome result (λ row. bit_at column row ≡ 1) }
-    ensures lowest { IfSome result (λ row. (i : ℕ) → place ≤ i → i < row → bit_at column i ≡ 0) }
-    ensures none { IfNone result (column < 2 ^ place) }
+    ensures lowest { IfSome result (λ row. (i : ℕ) → index ≤ i → i < row → bit_at column i ≡ 0) }
+    ensures none { IfNone result (column < 2 ^ index) }
 {
-    let upper = column >> place;
+    let upper = column >> index;
     if upper == 0 {
         return None;
     }
-    Some(place + upper.trailing_zeros())
+    Some(index + upper.trailing_zeros())
 }

@@ -1,10 +1,12 @@
-//! The hash of words: an invertible matrix together with its inverse.
+//! The hash: an invertible matrix together with its inverse, and the laws of it.
 
 ghost use Rattle.std.specs.Prelude.{◌≡◌, ℕ, ◌<◌, ◌^◌, List, length, IfOk, IfErr, IsErr};
 ghost use Rattle.kc_hash.specs.Matrix.{IsWidth};
-ghost use Rattle.kc_hash.specs.Product.{product, identity, AreInverse, IsInKernel, IsNonsingular, IsOneToOne, IsOnto};
+ghost use Rattle.kc_hash.specs.Product.{product, identity, AreInverse, StaysBelow, IsInKernel};
+ghost use Rattle.kc_hash.specs.Product.{IsNonsingular, IsOneToOne, IsOnto};
 ghost use Rattle.kc_hash.specs.Seeds.{turn_columns, NoneIsNonsingular};
-ghost use Rattle.kc_hash.specs.Undone.{IsHash, inverse_of, inverse_is};
+ghost use Rattle.kc_hash.specs.Hash.{IsHash, inverse_of};
+ghost use Rattle.kc_hash.specs.Inversion.{inverse_is};
 
 use crate::elimination::Inverse;
 use crate::matrix::Matrix;
@@ -23,7 +25,7 @@ pub enum HashFault {
 /// How many seeds are tried for an invertible matrix.
 const SEEDS: u64 = 64;
 
-/// An invertible linear map of the words of 1 to 62 bits: a matrix, kept with its inverse.
+/// An invertible linear map of the numbers of 1 to 62 bits: a matrix, kept with its inverse.
 ///
 /// Contracts see a hash as the list of its matrix's columns, so two hashes are equal where their matrices
 /// are. It has about 1 KB: lend it where it is not kept.
@@ -49,8 +51,8 @@ impl Hash {
     ghost use Rattle.kc_hash.specs.HashFault.{mapped_to_zero};
 
     /// The hash of the first of 64 seeds, from `seed` on and wrapping, that gives an invertible matrix. A seed
-    /// gives the matrix whose columns are the first `bits` words of `SplitMix64::seed_from_u64`, low `bits`
-    /// bits kept. Where none of the 64 is invertible the hash leaves every word as it is.
+    /// gives the matrix whose columns are the first `bits` numbers of `SplitMix64::seed_from_u64`, low `bits`
+    /// bits kept. Where none of the 64 is invertible the hash leaves every number as it is.
     pub fn seeded(bits: u32, seed: u64) -> Hash
         requires { IsWidth bits }
         ensures first { (turn : ℕ) → turn < 64 → NoneIsNonsingular bits seed turn
@@ -82,18 +84,37 @@ impl Hash {
         }
     }
 
-    /// The number of bits of the words that are hashed.
+    /// The number of bits of the numbers that are hashed.
     pub fn bits(&self) -> u32
         ensures columns { result ≡ length self.now }
         ensures width { IsWidth result }
-        ensures stays { (x : ℕ) → x < 2 ^ result → product self.now x < 2 ^ result }
-        ensures one_to_one { IsOneToOne self.now }
-        ensures onto { IsOnto self.now }
     {
         self.matrix.bits()
     }
 
-    /// The hashed word: the matrix times `x`.
+    /// A law: a hashed number has no more bits than the number.
+    pub fn stays_below(&self)
+        ensures { StaysBelow self.now }
+    {
+        // What a hash keeps is known where it is read.
+        let _matrix = &self.matrix;
+    }
+
+    /// A law: no two numbers have one hashed number.
+    pub fn is_one_to_one(&self)
+        ensures { IsOneToOne self.now }
+    {
+        let _matrix = &self.matrix;
+    }
+
+    /// A law: each number is a hashed number.
+    pub fn is_onto(&self)
+        ensures { IsOnto self.now }
+    {
+        let _matrix = &self.matrix;
+    }
+
+    /// The hashed number: the matrix times `x`.
     pub fn forward(&self, x: u64) -> u64
         requires { x < 2 ^ length self.now }
         ensures product { result ≡ product self.now x }
@@ -102,7 +123,7 @@ impl Hash {
         self.matrix.apply(x)
     }
 
-    /// The one word whose hashed word is `y`.
+    /// The one number whose hashed number is `y`.
     pub fn back(&self, y: u64) -> u64
         requires { y < 2 ^ length self.now }
         ensures within { result < 2 ^ length self.now }
@@ -119,7 +140,7 @@ impl Hash {
         self.matrix.tables()
     }
 
-    /// The inverse in tables, which give words back as `back` does.
+    /// The inverse in tables, which give numbers back as `back` does.
     pub fn back_tables(&self) -> MatrixTables
         ensures { AreInverse self.now result }
     {

@@ -1,18 +1,19 @@
 //! Square matrices of bits.
 
-ghost use Rattle.std.specs.Prelude.{◌≡◌, ℕ, ◌+◌, ◌-◌, ◌<◌, ◌≤◌, ◌^◌, ◌↔◌, ◌++◌, List, length, take, replicate, slice_index, map, bit_xor, IsSome, IfSome};
+ghost use Rattle.std.specs.Prelude.{◌≡◌, ℕ, ◌+◌, ◌-◌, ◌<◌, ◌≤◌, ◌^◌, ◌↔◌, ◌++◌, List, length, take, replicate};
+ghost use Rattle.std.specs.Prelude.{slice_index, map, bit_xor, IsSome, IfSome};
 ghost use Rattle.kc_hash.specs.Matrix.{IsWidth, IsMatrix, AreBelow};
 ghost use Rattle.kc_hash.specs.Product.{product, identity};
 ghost use Rattle.kc_hash.specs.Elimination.{row_added};
 ghost use Rattle.kc_hash.specs.Seeds.{seed_columns};
-ghost use Rattle.kc_hash.specs.Columns.{columns-length, padded-take};
+ghost use Rattle.kc_hash.specs.Inversion.{columns-length, padded-take};
 
 use rand_core::SeedableRng;
 use rand_core::utils::NextWord;
 use rand_xoshiro::SplitMix64;
 use std::marker::Model;
 
-/// A square matrix of bits, with as many columns as the words have bits that it multiplies: 1 to 62.
+/// A square matrix of bits, with as many columns as the numbers have bits that it multiplies: 1 to 62.
 ///
 /// A column is a number; bit `i` of it is the column's entry in row `i`. Contracts see a matrix as the list
 /// of its columns, so two matrices are equal where their columns are.
@@ -48,12 +49,12 @@ impl Matrix {
             return None;
         }
         let mut kept = [0; 62];
-        for place in 0..bits as usize {
-            let column = columns[place];
+        for index in 0..bits as usize {
+            let column = columns[index];
             if column >> bits != 0 {
                 return None;
             }
-            kept[place] = column;
+            kept[index] = column;
         }
         Some(Matrix {
             bits,
@@ -61,19 +62,19 @@ impl Matrix {
         })
     }
 
-    /// The matrix that leaves every word of so many bits as it is.
+    /// The matrix that leaves every number of so many bits as it is.
     pub fn identity(bits: u32) -> Matrix
         requires { IsWidth bits }
         ensures { result ≡ identity bits }
     {
         let mut columns = [0; 62];
-        for place in 0..bits as usize {
-            columns[place] = 1 << place;
+        for index in 0..bits as usize {
+            columns[index] = 1 << index;
         }
         Matrix { bits, columns }
     }
 
-    /// The matrix that the seed gives: its columns are the first words of `SplitMix64` from this seed, low
+    /// The matrix that the seed gives: its columns are the first numbers that `SplitMix64` draws from this seed, low
     /// `bits` bits kept.
     pub(crate) fn of_seed(bits: u32, seed: u64) -> Matrix
         requires { IsWidth bits }
@@ -82,13 +83,13 @@ impl Matrix {
         let mut generator = SplitMix64::seed_from_u64(seed);
         let low = (1 << bits) - 1;
         let mut columns = [0; 62];
-        for place in 0..bits as usize {
-            columns[place] = generator.next_word() & low;
+        for index in 0..bits as usize {
+            columns[index] = generator.next_word() & low;
         }
         Matrix { bits, columns }
     }
 
-    /// The number of bits of the words that the matrix multiplies.
+    /// The number of bits of the numbers that the matrix multiplies.
     pub fn bits(&self) -> u32
         ensures columns { result ≡ length self.now }
         ensures width { IsWidth result }
@@ -104,7 +105,7 @@ impl Matrix {
         &self.columns[..self.bits as usize]
     }
 
-    /// The matrix times the word `x`: the xor of the columns at the set bits of `x`.
+    /// The matrix times the number `x`: the xor of the columns at the set bits of `x`.
     pub fn apply(&self, x: u64) -> u64
         requires { x < 2 ^ length self.now }
         ensures product { result ≡ product self.now x }
@@ -113,22 +114,22 @@ impl Matrix {
         ensures linear { (y : ℕ) → product self.now (bit_xor x y) ≡ bit_xor result (product self.now y) }
     {
         let mut sum = 0;
-        for place in 0..self.bits {
-            if (x >> place) & 1 == 1 {
-                sum ^= self.columns[place as usize];
+        for index in 0..self.bits {
+            if (x >> index) & 1 == 1 {
+                sum ^= self.columns[index as usize];
             }
         }
         sum
     }
 
-    /// The column at `place`.
-    pub(crate) fn column(&self, place: u32) -> u64
-        requires { place < length self.now }
-        ensures column { result ≡ slice_index self.now place }
+    /// The column at `index`.
+    pub(crate) fn column(&self, index: u32) -> u64
+        requires { index < length self.now }
+        ensures column { result ≡ slice_index self.now index }
         ensures below { result < 2 ^ length self.now }
         ensures width { IsWidth (length self.now) }
     {
-        self.columns[place as usize]
+        self.columns[index as usize]
     }
 
     /// Adds the row `row` to each of the rows that are the set bits of `rows`.

@@ -1,17 +1,17 @@
-//! A matrix in tables, for loops over many words.
+//! A matrix in tables, for loops over many numbers.
 
 ghost use Rattle.std.specs.Prelude.{◌≡◌, ℕ, ◌+◌, ◌*◌, ◌^◌, ◌<◌, ◌≤◌, List, length, slice_index, bit_xor};
+ghost use Rattle.kc_hash.specs.Matrix.{AreBelow};
 ghost use Rattle.kc_hash.specs.Product.{product};
 ghost use Rattle.kc_hash.specs.Tables.{IsByteTable, AreTables};
 
 use crate::matrix::Matrix;
 use std::marker::Model;
 
-/// A matrix with its products with each byte at each of the eight places of a word, so that a word is
+/// A matrix with its products with each byte at each of the eight byte positions of a number, so that a number is
 /// multiplied by eight look-ups.
 ///
-/// It has 17 KB: build it once for many words, and lend it. Contracts see it as the list of the matrix's
-/// columns.
+/// It has 17 KB: build it once for many numbers, and lend it. Contracts see it as the list of the matrix's columns.
 #[derive(Drop)]
 pub struct MatrixTables {
     matrix: Matrix,
@@ -23,7 +23,7 @@ impl Model for MatrixTables {
 
     ghost view = { λ t. t.matrix };
 
-    ghost invariant = { λ t. AreTables t.matrix t.tables };
+    ghost invariant = { λ t. AreTables t.matrix t.tables × AreBelow (length t.matrix) t.matrix };
 }
 
 impl Matrix {
@@ -31,9 +31,11 @@ impl Matrix {
     pub fn tables(&self) -> MatrixTables
         ensures { result ≡ self.now }
     {
+        // That the columns have so many bits is known where the number of bits is asked.
+        let _bits = self.bits();
         let mut tables = [[0; 256]; 8];
-        for place in 0..8 {
-            self.fill_table(place, &mut tables[place]);
+        for position in 0..8 {
+            self.fill_table(position, &mut tables[position]);
         }
         MatrixTables {
             matrix: *self,
@@ -41,15 +43,15 @@ impl Matrix {
         }
     }
 
-    /// Fills the table with the products with each byte at `place`, counted from the lowest.
-    fn fill_table(&self, place: usize, table: &mut [u64; 256])
-        requires { place < 8 }
-        ensures { IsByteTable self.now place table.new }
+    /// Fills the table with the products with each byte at this byte position, counted from the lowest.
+    fn fill_table(&self, position: usize, table: &mut [u64; 256])
+        requires { position < 8 }
+        ensures { IsByteTable self.now position table.new }
     {
         let columns = self.columns();
         table[0] = 0;
         for bit in 0..8 {
-            let column = columns.get(8 * place + bit).copied().unwrap_or(0);
+            let column = columns.get(8 * position + bit).copied().unwrap_or(0);
             add_column(table, 1 << bit, column);
         }
     }
@@ -75,14 +77,15 @@ impl MatrixTables {
         self.matrix
     }
 
-    /// The matrix times the word `x`, as `Matrix::apply`.
+    /// The matrix times the number `x`, as `Matrix::apply`.
     pub fn apply(&self, x: u64) -> u64
         requires { x < 2 ^ length self.now }
-        ensures { result ≡ product self.now x }
+        ensures product { result ≡ product self.now x }
+        ensures within { result < 2 ^ length self.now }
     {
         let mut sum = 0;
-        for place in 0..8 {
-            sum ^= self.tables[place][(x >> (8 * place)) as usize & 255];
+        for position in 0..8 {
+            sum ^= self.tables[position][(x >> (8 * position)) as usize & 255];
         }
         sum
     }

@@ -1,3 +1,4 @@
+//! Small matrices by hand, seeds against another program, and every number got back.
 use crate::{Hash, HashFault, Inverse, Matrix};
 use rand_core::SeedableRng;
 use rand_core::utils::NextWord;
@@ -83,6 +84,8 @@ fn hashes_are_equal_where_their_matrices_are(rt: HostRuntime) -> Result<(), Fail
     assert_eq!(rt; Hash::of_matrix(matrix), Ok(hash));
     assert_ne!(rt; Hash::of_matrix(Matrix::identity(2)), Ok(hash));
     assert_eq!(rt; hash.forward_tables().matrix(), matrix);
+    hash.stays_below();
+    hash.is_one_to_one();
     Ok(())
 }
 
@@ -116,7 +119,7 @@ fn a_seed_gives_the_first_invertible_matrix(rt: HostRuntime) {
 }
 
 #[test]
-fn a_seeded_hash_gives_each_word_back(rt: HostRuntime) {
+fn a_seeded_hash_gives_each_number_back(rt: HostRuntime) {
     let mut numbers = SplitMix64::seed_from_u64(7);
     for bits in 1..63 {
         let hash = Hash::seeded(bits, 1);

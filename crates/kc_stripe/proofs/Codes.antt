@@ -1,6 +1,8 @@
 -- Codes of words: their low bits are the stripe, the rest is the key.
-use Rattle.std.proofs.Common.{◌≡◌, ◌≢◌, ℕ, ◌+◌, ◌-◌, ◌*◌, ◌/◌, ◌%◌, ◌^◌, ◌<◌, ◌≤◌, List, length, ap, ap₂, sym, ◌∙◌, subst, arith, ⊎_elim, bit_and}
-use Rattle.std.proofs.lemmas.Bool.{cases_lt}
+use Rattle.std.proofs.Common.{◌≡◌, ◌≢◌, ℕ, ◌+◌, ◌-◌, ◌*◌, ◌/◌, ◌%◌, ◌^◌, ◌<◌, ◌≤◌, List, length, ap, ap₂, sym, ◌∙◌, subst, arith, ⊎_elim, bit_and, true, false, Bool, ◌&&◌, nat_eq, refl}
+use mathlib.Core.Bool.{beq}
+use Rattle.std.specs.Cmp.Lexicographic.{pointwise, nat_list_eq_equiv}
+use Rattle.std.proofs.lemmas.Bool.{cases_lt, and_from, eq-eqb}
 use Rattle.std.proofs.lemmas.Nat.{pow-add, pow_below, one_shl, shl_whole, and_mask, shr_below, shr_split, mul-add-lt, div-mul-add, mod-mul-add}
 use Rattle.std.proofs.Math.Pow.{pow_mono}
 use Rattle.kc_hash.specs.Product.{product, IsOneToOne, IsOnto}
@@ -172,3 +174,22 @@ divides setup bits stays one onto = record {
       ∙ ap₂ (λ high low. high * 2 ^ setup.stripe_bits + low) (at.has_key ∙ sym also.has_key) (at.has_stripe ∙ sym also.has_stripe)
       ∙ shr_split (product setup.hash other) setup.stripe_bits);
 }
+
+-- ---- equal setups
+
+-- the test of two setups, field by field
+abbrev pub is_same_setup : StripeSetup → StripeSetup → Bool
+is_same_setup setup other =
+    (nat_eq setup.rule.k other.rule.k && (beq setup.rule.both other.rule.both && nat_eq setup.rule.floor other.rule.floor))
+    && (pointwise nat_eq setup.hash other.hash && nat_eq setup.stripe_bits other.stripe_bits)
+
+pub is_same_setup-same : (setup other : StripeSetup) → setup ≡ other → is_same_setup setup other ≡ true
+is_same_setup-same setup other same =
+    ap (is_same_setup setup) (sym same)
+    ∙ and_from _ _
+    (and_from _ _ (eq-eqb setup.rule.k setup.rule.k refl) (and_from _ _ (both setup.rule.both) (eq-eqb setup.rule.floor setup.rule.floor refl)))
+    (and_from _ _ (nat_list_eq_equiv.refl setup.hash) (eq-eqb setup.stripe_bits setup.stripe_bits refl))
+  where
+    both : (b : Bool) → beq b b ≡ true
+    both true = refl
+    both false = refl

@@ -93,9 +93,17 @@ impl Setup {
     pub fn key_bits(&self) -> u32
         ensures value { result ≡ key_bits self.now }
         ensures at_most { result ≤ 62 }
-        ensures words { DividesWords self.now }
     {
         self.hash.bits() - self.stripe_bits
+    }
+
+    /// A law: each word has a stripe and a key, and each stripe and key has one word.
+    pub fn divides_words(&self)
+        ensures { DividesWords self.now }
+    {
+        self.hash.stays_below();
+        self.hash.is_one_to_one();
+        self.hash.is_onto();
     }
 
     /// The stripe of a word. Condition: the word is below 4^k.

@@ -1,18 +1,20 @@
 //! A stripe, which always holds exactly the counts of the batches that its journal names.
-ghost use Rattle.std.specs.Prelude.{◌≡◌, ℕ, ◌+◌, ◌<◌, ◌≤◌, ◌^◌, ◌↔◌, ◌⊎◌, [], ◌∷◌, ◌++◌, length, IfOk, OnOk, OnErr};
+ghost use Rattle.std.specs.Prelude.{◌≡◌, ℕ, ◌+◌, ◌<◌, ◌≤◌, ◌^◌, ◌≢◌, ◌==◌, ◌↔◌, ◌⊎◌, [], ◌∷◌, ◌++◌, length, sum_by, count_by, IfOk, OnOk, OnErr};
 ghost use Rattle.std.specs.FinMap.{empty};
 ghost use Rattle.kc_word.specs.Shared.{values};
-ghost use Rattle.kc_stripe.specs.Setup.{stripe_count, key_bits};
+ghost use Rattle.kc_tally.specs.Histogram.{last_bin, bin_of, bin_at};
+ghost use Rattle.kc_stripe.specs.Setup.{word_count, stripe_count, key_bits, stripe_of, stripe_words};
 ghost use Rattle.kc_stripe.specs.Cut.{keys_of};
 ghost use Rattle.kc_stripe.specs.Counted.{KeepsLimits, SomeMayBeFull};
-ghost use Rattle.kc_stripe.specs.Stripe.{StripeState, IsLawful, IsBooked, IsOwnCut, IsUnchanged};
+ghost use Rattle.kc_stripe.specs.Stripe.{StripeState, IsLawful, IsBooked, IsOwnCut, IsUnchanged, AreStripeRows, word_occurrences};
 
 use crate::counted::CountedTable;
 use crate::cut::Cut;
 use crate::fault::BookFault;
 use crate::setup::Setup;
 use kc_table::Counts;
-use kc_word::Batch;
+use kc_tally::Row;
+use kc_word::{Batch, Word, laws};
 use std::alloc::{AllocError, Global};
 use std::collections::HashSet;
 use std::marker::Model;
@@ -37,14 +39,8 @@ impl<C: Counts> Model for Stripe<C> {
 
     ghost Value = { StripeState C };
 
-    ghost view = { λ s. record {
-      setup = s.setup;
-      number = s.number;
-      journal = values s.journal.items;
-      table = s.counted.table;
-      bins = s.counted.bins;
-      total = s.counted.total;
-    } };
+    ghost view = { λ s. record { setup = s.setup; number = s.number; journal = values s.journal.items;
+        table = s.counted.table; bins = s.counted.bins; total = s.counted.total } };
 
     ghost invariant = { λ s. IsLawful s.setup s.number (values s.journal.items) (C.counts s.counted.table) s.counted.bins s.counted.total
         × IsKept s.setup s.number (values s.journal.items) (C.bits s.counted.table) (contains nat_eq s.booked) };
@@ -59,12 +55,12 @@ impl<C: Counts + Drop> Stripe<C> {
         requires key_bits { C.bits table ≡ key_bits setup.now }
         ensures setup { IfOk result (λ stripe. stripe.setup ≡ setup.now) }
         ensures number { IfOk result (λ stripe. stripe.number ≡ number) }
-        ensures journal { IfOk result (λ stripe. stripe.journal ≡ []) }
         ensures total { IfOk result (λ stripe. stripe.total ≡ 0) }
+        ensures journal { IfOk result (λ stripe. stripe.journal ≡ []) }
         ensures table { IfOk result (λ stripe. stripe.table ≡ table) }
     {
         // what is known of the words and their keys
-        let _bits = setup.key_bits();
+        setup.divides_words();
         Ok(Stripe {
             setup: *setup,
             number,
@@ -76,6 +72,86 @@ impl<C: Counts + Drop> Stripe<C> {
 }
 
 impl<C: Counts> Stripe<C> {
+    /// A law: the stripe is lawful.
+    pub fn is_lawful(&self)
+        ensures { IsLawful self.now.setup self.now.number self.now.journal (C.counts self.now.table) self.now.bins self.now.total }
+    {
+        // What a stripe keeps is known where it is read.
+        let _number = self.number;
+    }
+
+    /// How the words are divided.
+    pub fn setup(&self) -> &Setup
+        ensures { result.now ≡ self.now.setup }
+    {
+        &self.setup
+    }
+
+    /// The number of the stripe.
+    pub fn number(&self) -> u32
+        ensures value { result ≡ self.now.number }
+        ensures own { result < stripe_count self.now.setup }
+    {
+        self.number
+    }
+
+    /// The batches that were booked, in order.
+    pub fn journal(&self) -> &[Arc<Batch>]
+        ensures { values result.now ≡ self.now.journal }
+    {
+        &self.journal
+    }
+
+    /// How often the words of the stripe occur in the journal's batches, all together.
+    pub fn total(&self) -> u64
+        ensures value { result ≡ self.now.total }
+        ensures words { result ≡ sum_by (word_occurrences self.now.setup self.now.journal) (stripe_words self.now.setup self.now.number) }
+        ensures at_most { result ≤ 2 ^ 62 }
+    {
+        self.counted.total()
+    }
+
+    /// How many words of the stripe occur so often in the journal's batches; those that occur more often than 10,000 times
+    /// are in bin 10,001. Condition: the bin is 1 to 10,001.
+    pub fn bin(&self, bin: u64) -> u64
+        requires some { 1 ≤ bin }
+        requires within { bin ≤ last_bin }
+        ensures value { result ≡ bin_at self.now.bins bin }
+        ensures words { result ≡ count_by (λ word. bin_of (word_occurrences self.now.setup self.now.journal word) == bin) (stripe_words self.now.setup self.now.number) }
+    {
+        self.counted.bin(bin)
+    }
+
+    /// How often a word of the stripe occurs in the journal's batches, and 0 for a word of another stripe.
+    /// Condition: the word is below 4^k.
+    pub fn count_of(&self, word: Word) -> u64
+        requires { word.0 < word_count self.now.setup }
+        ensures own { stripe_of self.now.setup word.0 ≡ self.now.number → result ≡ word_occurrences self.now.setup self.now.journal word.0 }
+        ensures other { stripe_of self.now.setup word.0 ≢ self.now.number → result ≡ 0 }
+    {
+        if self.setup.stripe_of(word) != self.number {
+            return 0;
+        }
+        self.counted.table().get(self.setup.key_of(word))
+    }
+
+    /// The words of the stripe that occur in the journal's batches, each once, with its occurrences, in any order.
+    pub fn rows(&self, alloc: Global) -> Result<Vec<Row>, AllocError>
+        ensures { IfOk result (λ rows. AreStripeRows self.now.setup self.now.number self.now.journal rows.items) }
+    {
+        let counted = self.counted.table().rows(alloc)?;
+        let tables = self.setup.hash().back_tables();
+        let mut rows = Vec::with_capacity(alloc, counted.len())?;
+        for (key, count) in &counted {
+            let code = self.setup.code_at(self.number, *key);
+            rows.push(Row {
+                word: tables.apply(code),
+                count: *count,
+            })?;
+        }
+        Ok(rows)
+    }
+
     /// Books a batch: its words that fall in this stripe are counted, and the journal names it.
     pub fn book(&mut self, cut: &Cut) -> Result<(), BookFault>
         ensures setup { self.new.setup ≡ self.old.setup }
@@ -83,8 +159,6 @@ impl<C: Counts> Stripe<C> {
         ensures journal { OnOk result (self.new.journal ≡ self.old.journal ++ cut.now.batch ∷ []) }
         ensures total { OnOk result (self.new.total ≡ self.old.total + length (keys_of cut.now)) }
         ensures own { OnOk result (IsOwnCut self.old cut.now) }
-        ensures room { OnOk result (self.new.total ≤ 2 ^ 62) }
-        ensures lawful { IsLawful self.new.setup self.new.number self.new.journal (C.counts self.new.table) self.new.bins self.new.total }
         ensures unchanged { OnErr result (IsUnchanged C.counts self.old self.new) }
         ensures twice { result ≡ Err BookFault.Twice ↔ IsBooked self.old.journal cut.now.batch.number }
         ensures stranger { result ≡ Err BookFault.Stranger
@@ -94,6 +168,10 @@ impl<C: Counts> Stripe<C> {
         ensures limits { KeepsLimits C.bits C.may_be_full self.old.table self.new.table }
     {
         self.check(cut)?;
+        // what is known of the words of batches
+        laws::words_of_reads();
+        laws::counted_words();
+        laws::joined_occurrences();
         // what can fail comes first, and changes no count and no name in the journal
         let batch = cut.batch().clone()?;
         self.journal.reserve(1)?;
@@ -105,13 +183,6 @@ impl<C: Counts> Stripe<C> {
         };
         self.journal.push_reserved(batch);
         Ok(())
-    }
-
-    /// The batches that were booked, in order.
-    pub fn journal(&self) -> &[Arc<Batch>]
-        ensures { values result.now ≡ self.now.journal }
-    {
-        &self.journal
     }
 
     // Whether the cut is a new one of this stripe, and the total stays within its limit.

@@ -19,7 +19,7 @@ use Rattle.std.proofs.lemmas.Map.Keys.{IsStrictlyIncreasing-from_sorted}
 use Rattle.std.proofs.lemmas.Map.Entries.{btree_map_get_place}
 use Rattle.std.proofs.lemmas.Cmp.{nat_cmp_total}
 use Rattle.std.proofs.lemmas.Option.{slice_get-get_or}
-use Rattle.kc_tally.specs.Tally.{count_of, IsTally, AreOrderedRows}
+use Rattle.kc_tally.specs.Tally.{count_of, IsTally}
 use Rattle.kc_tool.specs.Counting.{counted, entry_row, HasNoZeros}
 
 -- each number was counted once more for each time that it stands in the list

@@ -6,22 +6,22 @@ use Rattle.std.proofs.lemmas.List.FromFn.{map-range_with_len_more}
 use Rattle.std.specs.List.{range_with_len, flat_map}
 use Rattle.kc_word.specs.Occurrences.{occurrences, words_of}
 use Rattle.kc_word.specs.Cutting.{as_reads, NumberedPieces, stretches, position_total, batch_of, cutting, KeepsOccurrences, KeepsWords}
-use Rattle.kc_word.specs.Place.{number_at, IsPlace}
+use Rattle.kc_word.specs.Cursor.{position_number, IsCursor}
 use Rattle.kc_word.proofs.Windows.{windows}
 use Rattle.kc_word.proofs.Stretches.{stretches_from, stretches-are}
 use Rattle.kc_word.proofs.Taking.{stretches-skip, stretches-nil}
 use Rattle.kc_word.proofs.Cuttings.{length-cut, stretches-windows, length-all_windows, cutting-words, cutting-occurrences}
 
--- the batches made so far are the first ones of the cutting, and the place stands behind them
+-- the batches made so far are the first ones of the cutting, and the cursor stands behind them
 pub record IsCutTo (k size : ℕ) (pieces : List (List ℕ)) (index position : ℕ) (batches : List NumberedPieces) : Type 0 where
-  pub place : IsPlace k pieces index position
+  pub cursor : IsCursor k pieces index position
   pub made : batches ≡ map (λ i. batch_of k size pieces i) (range_with_len 0 (length batches))
-  pub number : number_at k pieces index position ≡ min (length batches * size) (position_total k pieces)
+  pub number : position_number k pieces index position ≡ min (length batches * size) (position_total k pieces)
   pub inhabited : length batches * size < position_total k pieces + size
 
 pub IsCutTo-none : (k size : ℕ) (pieces : List (List ℕ)) → 1 ≤ size → IsCutTo k size pieces 0 0 []
 IsCutTo-none k size pieces some = record {
-  place = record { within = omega arith; inside = omega arith };
+  cursor = record { within = omega arith; inside = omega arith };
   made = refl;
   number = omega arith;
   inhabited = omega (arith, some);
@@ -44,28 +44,28 @@ positions-past k low size pieces some size_some none =
     let total = length-all_windows k pieces in
     omega (arith, gone, long, total, size_some)
 
-pub IsCutTo-left : (k size index position : ℕ) (pieces : List (List ℕ)) (batches : List NumberedPieces) (parts : List (List ℕ)) → (length parts ≡ 0 → ⊥) → parts ≡ stretches k (number_at k pieces index position) (number_at k pieces index position + size) pieces → IsCutTo k size pieces index position batches
-    → number_at k pieces index position < position_total k pieces
+pub IsCutTo-left : (k size index position : ℕ) (pieces : List (List ℕ)) (batches : List NumberedPieces) (parts : List (List ℕ)) → (length parts ≡ 0 → ⊥) → parts ≡ stretches k (position_number k pieces index position) (position_number k pieces index position + size) pieces → IsCutTo k size pieces index position batches
+    → position_number k pieces index position < position_total k pieces
 IsCutTo-left k size index position pieces batches parts some is done =
-    ⊎_elim (λ h. h) (λ h. absurd (some (ap length (is ∙ stretches-past k (number_at k pieces index position) (number_at k pieces index position + size) pieces h)))) (cases_lt (number_at k pieces index position) (position_total k pieces))
+    ⊎_elim (λ h. h) (λ h. absurd (some (ap length (is ∙ stretches-past k (position_number k pieces index position) (position_number k pieces index position + size) pieces h)))) (cases_lt (position_number k pieces index position) (position_total k pieces))
 
 -- one batch more
 pub IsCutTo-more : (k size index position index' position' : ℕ) (pieces : List (List ℕ)) (batches after : List NumberedPieces) (parts : List (List ℕ)) (n : ℕ) → (length parts ≡ 0 → ⊥)
-    → parts ≡ stretches k (number_at k pieces index position) (number_at k pieces index position + size) pieces
-    → IsPlace k pieces index' position' → number_at k pieces index' position' ≡ min (number_at k pieces index position + size) (position_total k pieces)
+    → parts ≡ stretches k (position_number k pieces index position) (position_number k pieces index position + size) pieces
+    → IsCursor k pieces index' position' → position_number k pieces index' position' ≡ min (position_number k pieces index position + size) (position_total k pieces)
     → n ≡ length batches → after ≡ batches ++ record { number = n; pieces = parts } ∷ []
     → IsCutTo k size pieces index position batches → IsCutTo k size pieces index' position' after
-IsCutTo-more k size index position index' position' pieces batches after parts n some is place moved is_n is_after done =
+IsCutTo-more k size index position index' position' pieces batches after parts n some is cursor moved is_n is_after done =
     let left = IsCutTo-left k size index position pieces batches parts some is done in
     let number = done.number in
-    let low : number_at k pieces index position ≡ length batches * size = omega (arith, number, left) in
-    let high : number_at k pieces index position + size ≡ (length batches + 1) * size = omega (arith, low) in
+    let low : position_number k pieces index position ≡ length batches * size = omega (arith, number, left) in
+    let high : position_number k pieces index position + size ≡ (length batches + 1) * size = omega (arith, low) in
     let long : length after ≡ length batches + 1 = ap length is_after ∙ length_push batches (record { number = n; pieces = parts }) in
     let same : parts ≡ stretches k (length batches * size) ((length batches + 1) * size) pieces =
-    is ∙ ap (λ l. stretches k l (number_at k pieces index position + size) pieces) low ∙ ap (λ h. stretches k (length batches * size) h pieces) high in
+    is ∙ ap (λ l. stretches k l (position_number k pieces index position + size) pieces) low ∙ ap (λ h. stretches k (length batches * size) h pieces) high in
     let more : length after * size ≡ length batches * size + size = ap (λ m. m * size) long ∙ omega arith in
     record {
-      place = place;
+      cursor = cursor;
       made =
           is_after ∙ ap (λ xs. xs ++ record { number = n; pieces = parts } ∷ []) done.made
           ∙ (λ i. map (λ j. batch_of k size pieces j) (range_with_len 0 (length batches)) ++ record { number = is_n i; pieces = same i } ∷ [])
@@ -84,10 +84,10 @@ batch_count-is total size n some few enough =
 
 -- when no position is left, the batches are the cutting
 pub IsCutTo-all : (k size index position : ℕ) (pieces : List (List ℕ)) (batches : List NumberedPieces) (parts : List (List ℕ)) → 1 ≤ k → 1 ≤ size → length parts ≡ 0
-    → parts ≡ stretches k (number_at k pieces index position) (number_at k pieces index position + size) pieces → IsCutTo k size pieces index position batches → batches ≡ cutting k size pieces
+    → parts ≡ stretches k (position_number k pieces index position) (position_number k pieces index position + size) pieces → IsCutTo k size pieces index position batches → batches ≡ cutting k size pieces
 unfolding cutting
 IsCutTo-all k size index position pieces batches parts some size_some none is done =
-    let past = positions-past k (number_at k pieces index position) size pieces some size_some (sym is ∙ nil_from_length parts none) in
+    let past = positions-past k (position_number k pieces index position) size pieces some size_some (sym is ∙ nil_from_length parts none) in
     let number = done.number in
     let few = done.inhabited in
     done.made ∙ ap (λ n. map (λ i. batch_of k size pieces i) (range_with_len 0 n))

@@ -9,7 +9,8 @@ use Rattle.std.proofs.lemmas.List.FromFn.{fill_by_all, length-map-range_with_len
 use Rattle.std.specs.List.{list_all, range_with_len, flat_map}
 use Rattle.std.specs.Char.{to_ascii_uppercase}
 use Rattle.kc_fastx.specs.Reads.{Read, read_of, IsRead, has_quality_each}
-use Rattle.kc_word.specs.Base.{is_base}
+use Rattle.kc_base.proofs.Lists.{list_all-drop, list_all-take}
+use Rattle.kc_word.specs.Letter.{is_base}
 use Rattle.kc_word.specs.Word.{number, form}
 use Rattle.kc_word.specs.Rule.{CountingRule}
 use Rattle.kc_word.specs.Occurrences.{is_usable, passes_floor, word_at, form_at, positions, position_count, counts_under, occurrences_in, occurrences, words_in, words_of}
@@ -189,18 +190,6 @@ words_of-cleaned rule (read ∷ reads) =
     ∙ ap (λ xs. words_in rule read ++ xs) (words_of-cleaned rule reads)
 
 -- ---- a part of a piece
-
-list_all-drop : {X : Type 0} (p : X → Bool) (n : ℕ) (xs : List X) → list_all p xs ≡ true → list_all p (drop n xs) ≡ true
-list_all-drop p zero xs h = h
-list_all-drop p (suc n) [] h = refl
-list_all-drop p (suc n) (x ∷ xs) h = list_all-drop p n xs (and_parts (p x) (list_all p xs) h).1
-
-list_all-take : {X : Type 0} (p : X → Bool) (n : ℕ) (xs : List X) → list_all p xs ≡ true → list_all p (take n xs) ≡ true
-list_all-take p zero xs h = refl
-list_all-take p (suc n) [] h = refl
-list_all-take p (suc n) (x ∷ xs) h =
-    let parts = and_parts (p x) (list_all p xs) h in
-    and_from (p x) _ parts.0 (list_all-take p n xs parts.1)
 
 pub are_piece_bytes-part : (bytes : List ℕ) (from to : ℕ) → are_piece_bytes bytes ≡ true → are_piece_bytes (take (to - from) (drop from bytes)) ≡ true
 are_piece_bytes-part bytes from to h = list_all-take _ (to - from) (drop from bytes) (list_all-drop _ from bytes h)

@@ -7,7 +7,7 @@ use Rattle.std.proofs.Math.Nat.{pow-le-pow_right}
 use Rattle.kc_word.proofs.Letters.{pow-four}
 use Rattle.std.specs.Char.{to_ascii_uppercase}
 use Rattle.kc_fastx.specs.Reads.{read_of}
-use Rattle.kc_word.specs.Base.{is_base, code}
+use Rattle.kc_word.specs.Letter.{is_base, code}
 use Rattle.kc_word.specs.Rule.{CountingRule}
 use Rattle.std.specs.List.{range_with_len, flat_map}
 use Rattle.kc_word.specs.Word.{number}

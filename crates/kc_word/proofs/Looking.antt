@@ -11,12 +11,12 @@ use Rattle.std.specs.Option.{option_map_or}
 use Rattle.std.specs.Str.{bytes_eq}
 use Rattle.std.specs.Char.{to_ascii_uppercase}
 use Rattle.kc_fastx.specs.Reads.{Read}
-use Rattle.kc_word.specs.Base.{is_base, are_bases, code}
+use Rattle.kc_word.specs.Letter.{is_base, are_bases, code}
 use Rattle.kc_word.specs.Word.{text, form, canonical}
 use Rattle.kc_word.specs.Rule.{CountingRule}
 use Rattle.kc_word.specs.Occurrences.{is_usable, passes_floor, word_at, form_at, position_count, counts_under, occurrences_in, occurrences}
 use Rattle.kc_word.proofs.WordLemmas.{code-lt, same_from_text}
-use Rattle.kc_word.proofs.Tallies.{bases-usable}
+use Rattle.kc_word.proofs.WordCounts.{bases-usable}
 
 -- ---- one base
 
@@ -51,24 +51,24 @@ usable-some rule read bases quals j c same some e =
 
 -- ---- one position
 
-pub usable-more : (rule : CountingRule) (read : Read) (p place : ℕ) → p ≤ place → list_all (λ j. is_usable rule read j) (range_with_len p (place - p)) ≡ true → is_usable rule read place ≡ true
-    → list_all (λ j. is_usable rule read j) (range_with_len p (place + 1 - p)) ≡ true
-usable-more rule read p place h all this =
+pub usable-more : (rule : CountingRule) (read : Read) (p index : ℕ) → p ≤ index → list_all (λ j. is_usable rule read j) (range_with_len p (index - p)) ≡ true → is_usable rule read index ≡ true
+    → list_all (λ j. is_usable rule read j) (range_with_len p (index + 1 - p)) ≡ true
+usable-more rule read p index h all this =
     ap (λ n. list_all (λ j. is_usable rule read j) (range_with_len p n)) more
-    ∙ ap (list_all (λ j. is_usable rule read j)) (sym (map-id (range_with_len p (place - p + 1))) ∙ map-range_with_len_more (λ j. j) p (place - p) place (omega (arith, h)) ∙ ap (λ xs. xs ++ place ∷ []) (map-id (range_with_len p (place - p))))
-    ∙ list_all-append (λ j. is_usable rule read j) (range_with_len p (place - p)) (place ∷ []) ∙ and_from _ _ all (and_from _ _ this refl)
+    ∙ ap (list_all (λ j. is_usable rule read j)) (sym (map-id (range_with_len p (index - p + 1))) ∙ map-range_with_len_more (λ j. j) p (index - p) index (omega (arith, h)) ∙ ap (λ xs. xs ++ index ∷ []) (map-id (range_with_len p (index - p))))
+    ∙ list_all-append (λ j. is_usable rule read j) (range_with_len p (index - p)) (index ∷ []) ∙ and_from _ _ all (and_from _ _ this refl)
   where
-    more : place + 1 - p ≡ place - p + 1
+    more : index + 1 - p ≡ index - p + 1
     more = omega (arith, h)
 
 -- where a base is not usable, or the read ends before, there is no word
-pub form_at-broken : (rule : CountingRule) (read : Read) (p place : ℕ) → p ≤ place → place < p + rule.k → is_usable rule read place ≡ false → form_at rule read p ≡ None
+pub form_at-broken : (rule : CountingRule) (read : Read) (p index : ℕ) → p ≤ index → index < p + rule.k → is_usable rule read index ≡ false → form_at rule read p ≡ None
 unfolding form_at word_at
-form_at-broken rule read p place h l broken =
+form_at-broken rule read p index h l broken =
     let long = length-range_with_len p rule.k in
-    let here : is_usable rule read (get_or (range_with_len p rule.k) (place - p) 0) ≡ false = ap (is_usable rule read) (get_or-range_with_len p rule.k (place - p) 0 (omega (arith, h, l)) ∙ omega (arith, h)) ∙ broken in
+    let here : is_usable rule read (get_or (range_with_len p rule.k) (index - p) 0) ≡ false = ap (is_usable rule read) (get_or-range_with_len p rule.k (index - p) 0 (omega (arith, h, l)) ∙ omega (arith, h)) ∙ broken in
     ap (option_map (form rule.both)) (cond-false _ (Some (map to_ascii_uppercase (take rule.k (drop p read.bases)))) None
-    (and_right (leb (p + rule.k) (length read.bases)) _ (list_all_at (λ j. is_usable rule read j) (range_with_len p rule.k) (place - p) 0 (omega (arith, long, h, l)) here)))
+    (and_right (leb (p + rule.k) (length read.bases)) _ (list_all_at (λ j. is_usable rule read j) (range_with_len p rule.k) (index - p) 0 (omega (arith, long, h, l)) here)))
 
 pub form_at-past : (rule : CountingRule) (read : Read) (p : ℕ) → length read.bases < p + rule.k → form_at rule read p ≡ None
 unfolding form_at word_at

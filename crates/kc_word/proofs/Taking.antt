@@ -5,7 +5,7 @@ use Rattle.std.proofs.lemmas.List.{drop_more, drop_all, take_all, append-nil, ge
 use Rattle.std.proofs.lemmas.List.Sums.{sum_by-cons, sum_by_more, sum_by_more_le}
 use Rattle.kc_word.specs.Occurrences.{position_count}
 use Rattle.kc_word.specs.Cutting.{stretch, stretches, position_total}
-use Rattle.kc_word.specs.Place.{number_at, IsPlace}
+use Rattle.kc_word.specs.Cursor.{position_number, IsCursor}
 use Rattle.kc_word.proofs.Stretches.{stretches_from, stretches-are}
 
 stretch-empty : (k : ℕ) (piece : List ℕ) (p q : ℕ) → q ≤ p → stretch k piece p q ≡ []
@@ -55,18 +55,18 @@ pub stretches-nil : (k low high first : ℕ) → stretches_from k low high first
 unfolding stretches_from
 stretches-nil k low high first = refl
 
--- the taking of the positions from low to before high, come to a place, with room for more
+-- the taking of the positions from low to before high, come to a cursor, with room for more
 pub record IsTaking (k low high : ℕ) (pieces : List (List ℕ)) (index position room : ℕ) (parts : List (List ℕ)) : Type 0 where
-  pub place : IsPlace k pieces index position
-  pub number : number_at k pieces index position + room ≡ high
-  pub taken : parts ++ stretches_from k (number_at k pieces index position) high (position_total k (take index pieces)) (drop index pieces) ≡ stretches_from k low high 0 pieces
+  pub cursor : IsCursor k pieces index position
+  pub number : position_number k pieces index position + room ≡ high
+  pub taken : parts ++ stretches_from k (position_number k pieces index position) high (position_total k (take index pieces)) (drop index pieces) ≡ stretches_from k low high 0 pieces
 
-pub IsTaking-none : (k size index position : ℕ) (pieces : List (List ℕ)) → IsPlace k pieces index position → IsTaking k (number_at k pieces index position) (number_at k pieces index position + size) pieces index position size []
-IsTaking-none k size index position pieces place = record {
-  place = place;
+pub IsTaking-none : (k size index position : ℕ) (pieces : List (List ℕ)) → IsCursor k pieces index position → IsTaking k (position_number k pieces index position) (position_number k pieces index position + size) pieces index position size []
+IsTaking-none k size index position pieces cursor = record {
+  cursor = cursor;
   number = refl;
-  taken = sym (stretches-skip k (number_at k pieces index position) (number_at k pieces index position + size) 0 index pieces (omega arith)
-      ∙ ap (λ n. stretches_from k (number_at k pieces index position) (number_at k pieces index position + size) n (drop index pieces)) (omega arith));
+  taken = sym (stretches-skip k (position_number k pieces index position) (position_number k pieces index position + size) 0 index pieces (omega arith)
+      ∙ ap (λ n. stretches_from k (position_number k pieces index position) (position_number k pieces index position + size) n (drop index pieces)) (omega arith));
 }
 
 -- what one piece gives: the stretch from the position on, as far as there is room
@@ -81,22 +81,22 @@ pub given-none : (k : ℕ) (piece : List ℕ) (position taken : ℕ) → taken �
 unfolding given
 given-none k piece position taken h = stretch-empty k piece position (position + taken) (omega (arith, h))
 
--- the piece that the place stands in, with what it gives, and the rest
-taken-split : (k high : ℕ) (pieces : List (List ℕ)) (index position room taken : ℕ) → index < length pieces → number_at k pieces index position + room ≡ high → position ≤ position_count k (length (get_or pieces index [])) → taken ≡ min room (position_count k (length (get_or pieces index [])) - position)
-    → stretches_from k (number_at k pieces index position) high (position_total k (take index pieces)) (drop index pieces)
-    ≡ given k (get_or pieces index []) position taken ++ stretches_from k (number_at k pieces index position) high (position_total k (take index pieces) + position_count k (length (get_or pieces index []))) (drop (index + 1) pieces)
+-- the piece that the cursor stands in, with what it gives, and the rest
+taken-split : (k high : ℕ) (pieces : List (List ℕ)) (index position room taken : ℕ) → index < length pieces → position_number k pieces index position + room ≡ high → position ≤ position_count k (length (get_or pieces index [])) → taken ≡ min room (position_count k (length (get_or pieces index [])) - position)
+    → stretches_from k (position_number k pieces index position) high (position_total k (take index pieces)) (drop index pieces)
+    ≡ given k (get_or pieces index []) position taken ++ stretches_from k (position_number k pieces index position) high (position_total k (take index pieces) + position_count k (length (get_or pieces index []))) (drop (index + 1) pieces)
 unfolding given
 taken-split k high pieces index position room taken h number inside e =
-    let low : ℕ = number_at k pieces index position in
+    let low : ℕ = position_number k pieces index position in
     let first : ℕ = position_total k (take index pieces) in
     let piece : List ℕ = get_or pieces index [] in
-    ap (stretches_from k (number_at k pieces index position) high (position_total k (take index pieces))) (drop_more pieces index [] h)
-    ∙ stretches-cons k (number_at k pieces index position) high (position_total k (take index pieces)) (get_or pieces index []) (drop (index + 1) pieces)
+    ap (stretches_from k (position_number k pieces index position) high (position_total k (take index pieces))) (drop_more pieces index [] h)
+    ∙ stretches-cons k (position_number k pieces index position) high (position_total k (take index pieces)) (get_or pieces index []) (drop (index + 1) pieces)
     ∙ ap (λ n. stretch k (get_or pieces index []) n (min (position_count k (length (get_or pieces index []))) (high - position_total k (take index pieces)))
-    ++ stretches_from k (number_at k pieces index position) high (position_total k (take index pieces) + position_count k (length (get_or pieces index []))) (drop (index + 1) pieces)) from
-    ∙ ap (λ n. stretch k (get_or pieces index []) position n ++ stretches_from k (number_at k pieces index position) high (position_total k (take index pieces) + position_count k (length (get_or pieces index []))) (drop (index + 1) pieces)) to
+    ++ stretches_from k (position_number k pieces index position) high (position_total k (take index pieces) + position_count k (length (get_or pieces index []))) (drop (index + 1) pieces)) from
+    ∙ ap (λ n. stretch k (get_or pieces index []) position n ++ stretches_from k (position_number k pieces index position) high (position_total k (take index pieces) + position_count k (length (get_or pieces index []))) (drop (index + 1) pieces)) to
   where
-    from : number_at k pieces index position - position_total k (take index pieces) ≡ position
+    from : position_number k pieces index position - position_total k (take index pieces) ≡ position
     from = omega arith
 
     to : min (position_count k (length (get_or pieces index []))) (high - position_total k (take index pieces)) ≡ position + taken
@@ -114,16 +114,16 @@ IsTaking-more k low high pieces index position room count taken index' position'
     piece = get_or pieces index []
 
     inside : position ≤ count
-    inside = let fits = taking.place.inside in omega (arith, fits, is_count)
+    inside = let fits = taking.cursor.inside in omega (arith, fits, is_count)
 
     least : taken ≡ min room (position_count k (length (get_or pieces index [])) - position)
     least = is_taken ∙ ap (λ n. min room (n - position)) is_count
 
-    split : parts' ++ stretches_from k (number_at k pieces index position) high (position_total k (take index pieces) + position_count k (length (get_or pieces index []))) (drop (index + 1) pieces) ≡ stretches_from k low high 0 pieces
+    split : parts' ++ stretches_from k (position_number k pieces index position) high (position_total k (take index pieces) + position_count k (length (get_or pieces index []))) (drop (index + 1) pieces) ≡ stretches_from k low high 0 pieces
     split =
-        ap (λ xs. xs ++ stretches_from k (number_at k pieces index position) high (position_total k (take index pieces) + position_count k (length (get_or pieces index []))) (drop (index + 1) pieces)) is_parts
-        ∙ append_assoc parts (given k (get_or pieces index []) position taken) (stretches_from k (number_at k pieces index position) high (position_total k (take index pieces) + position_count k (length (get_or pieces index []))) (drop (index + 1) pieces))
-        ∙ ap (λ xs. parts ++ xs) (sym (taken-split k high pieces index position room taken h taking.number taking.place.inside least))
+        ap (λ xs. xs ++ stretches_from k (position_number k pieces index position) high (position_total k (take index pieces) + position_count k (length (get_or pieces index []))) (drop (index + 1) pieces)) is_parts
+        ∙ append_assoc parts (given k (get_or pieces index []) position taken) (stretches_from k (position_number k pieces index position) high (position_total k (take index pieces) + position_count k (length (get_or pieces index []))) (drop (index + 1) pieces))
+        ∙ ap (λ xs. parts ++ xs) (sym (taken-split k high pieces index position room taken h taking.number taking.cursor.inside least))
         ∙ taking.taken
 
     total : position_total k (take (index + 1) pieces) ≡ position_total k (take index pieces) + position_count k (length (get_or pieces index []))
@@ -131,13 +131,13 @@ IsTaking-more k low high pieces index position room count taken index' position'
 
     used : (position + taken ≡ count) × (index' ≡ index + 1) × (position' ≡ 0) → IsTaking k low high pieces index' position' (room - taken) parts'
     used m =
-        let next : number_at k pieces (index + 1) 0 ≡ number_at k pieces index position + taken = (let all = m.0 in omega (arith, total, all, is_count)) in
+        let next : position_number k pieces (index + 1) 0 ≡ position_number k pieces index position + taken = (let all = m.0 in omega (arith, total, all, is_count)) in
         let goes : IsTaking k low high pieces (index + 1) 0 (room - taken) parts' = record {
-          place = record { within = omega (arith, h); inside = omega arith };
+          cursor = record { within = omega (arith, h); inside = omega arith };
           number = (let number = taking.number in omega (arith, next, number, is_taken));
           taken =
-              ap (λ n. parts' ++ stretches_from k (number_at k pieces (index + 1) 0) high n (drop (index + 1) pieces)) total
-              ∙ ap (λ xs. parts' ++ xs) (stretches-early k (number_at k pieces (index + 1) 0) (number_at k pieces index position) high (position_total k (take index pieces) + position_count k (length (get_or pieces index []))) (drop (index + 1) pieces)
+              ap (λ n. parts' ++ stretches_from k (position_number k pieces (index + 1) 0) high n (drop (index + 1) pieces)) total
+              ∙ ap (λ xs. parts' ++ xs) (stretches-early k (position_number k pieces (index + 1) 0) (position_number k pieces index position) high (position_total k (take index pieces) + position_count k (length (get_or pieces index []))) (drop (index + 1) pieces)
               (omega (arith, total)) (omega (arith, inside, is_count)))
               ∙ split;
         } in
@@ -148,21 +148,21 @@ IsTaking-more k low high pieces index position room count taken index' position'
         let differ : position + taken ≡ count → ⊥ = m.0 in
         let spent : taken ≡ room = omega (arith, differ, is_taken, inside) in
         let number = taking.number in
-        let next : number_at k pieces index (position + taken) ≡ high = omega (arith, number, spent) in
+        let next : position_number k pieces index (position + taken) ≡ high = omega (arith, number, spent) in
         let goes : IsTaking k low high pieces index (position + taken) (room - taken) parts' = record {
-          place = record { within = taking.place.within; inside = omega (arith, is_taken, inside, is_count) };
+          cursor = record { within = taking.cursor.within; inside = omega (arith, is_taken, inside, is_count) };
           number = omega (arith, next, spent);
           taken =
               ap (λ xs. parts' ++ xs)
-              (stretches-none k (number_at k pieces index (position + taken)) high (position_total k (take index pieces)) (drop index pieces) (omega (arith, next))
-              ∙ sym (stretches-late k (number_at k pieces index position) high (position_total k (take index pieces) + position_count k (length (get_or pieces index []))) (drop (index + 1) pieces) (omega (arith, number, spent, differ, is_taken, inside, is_count))))
+              (stretches-none k (position_number k pieces index (position + taken)) high (position_total k (take index pieces)) (drop index pieces) (omega (arith, next))
+              ∙ sym (stretches-late k (position_number k pieces index position) high (position_total k (take index pieces) + position_count k (length (get_or pieces index []))) (drop (index + 1) pieces) (omega (arith, number, spent, differ, is_taken, inside, is_count))))
               ∙ split;
         } in
         subst (λ i. IsTaking k low high pieces i position' (room - taken) parts') (sym m.1) (subst (λ p. IsTaking k low high pieces index p (room - taken) parts') (sym m.2) goes)
 
-number_at-le : (k : ℕ) (pieces : List (List ℕ)) (index position : ℕ) → 1 ≤ k → IsPlace k pieces index position → number_at k pieces index position ≤ position_total k pieces
-number_at-le k pieces index position some place =
-    let inside = place.inside in
+position_number-le : (k : ℕ) (pieces : List (List ℕ)) (index position : ℕ) → 1 ≤ k → IsCursor k pieces index position → position_number k pieces index position ≤ position_total k pieces
+position_number-le k pieces index position some cursor =
+    let inside = cursor.inside in
     ⊎_elim
     (λ h. let most = sum_by_more_le (λ p. position_count k (length p)) pieces index [] h in omega (arith, most, inside))
     (λ h. let none = ap (λ p. position_count k (length p)) (get_or_past pieces index [] h) in let whole = ap (position_total k) (take_all index pieces h) in omega (arith, inside, none, whole, some))
@@ -171,25 +171,25 @@ number_at-le k pieces index position some place =
 -- when there is no more room, or no more piece
 pub record IsTaken (k low high : ℕ) (pieces : List (List ℕ)) (index position : ℕ) (parts : List (List ℕ)) : Type 0 where
   pub parts_are : parts ≡ stretches k low high pieces
-  pub moved : number_at k pieces index position ≡ min high (position_total k pieces)
+  pub moved : position_number k pieces index position ≡ min high (position_total k pieces)
 
 pub IsTaking-all : (k low high : ℕ) (pieces : List (List ℕ)) (index position room : ℕ) (parts : List (List ℕ)) → 1 ≤ k → (room ≤ 0) ⊎ (length pieces ≤ index) → IsTaking k low high pieces index position room parts → IsTaken k low high pieces index position parts
 IsTaking-all k low high pieces index position room parts some ends taking =
     let number = taking.number in
-    let most = number_at-le k pieces index position some taking.place in
+    let most = position_number-le k pieces index position some taking.cursor in
     record {
       parts_are =
           sym (append-nil parts)
           ∙ ⊎_elim
-          (λ h. ap (λ xs. parts ++ xs) (sym (stretches-none k (number_at k pieces index position) high (position_total k (take index pieces)) (drop index pieces) (omega (arith, number, h)))))
-          (λ h. ap (λ xs. parts ++ xs) (sym (ap (stretches_from k (number_at k pieces index position) high (position_total k (take index pieces))) (drop_all index pieces h) ∙ stretches-nil k (number_at k pieces index position) high (position_total k (take index pieces)))))
+          (λ h. ap (λ xs. parts ++ xs) (sym (stretches-none k (position_number k pieces index position) high (position_total k (take index pieces)) (drop index pieces) (omega (arith, number, h)))))
+          (λ h. ap (λ xs. parts ++ xs) (sym (ap (stretches_from k (position_number k pieces index position) high (position_total k (take index pieces))) (drop_all index pieces h) ∙ stretches-nil k (position_number k pieces index position) high (position_total k (take index pieces)))))
           ends
           ∙ taking.taken ∙ sym (stretches-are k low high pieces);
       moved =
           ⊎_elim (λ h. omega (arith, number, h, most)) (λ h. let whole = ap (position_total k) (take_all index pieces h) in omega (arith, number, most, whole)) ends;
     }
 
--- the part that the code takes, where g is k and the piece is the one at the place
+-- the part that the code takes, where g is k and the piece is the one at the cursor
 pub part-taken : (g k : ℕ) (piece other : List ℕ) (position taken : ℕ) → g ≡ k → piece ≡ other → slice_range piece position (position + taken + g - 1) ≡ slice_range other position (position + taken + k - 1)
 part-taken g k piece other position taken same here =
     ap (λ n. slice_range piece position (position + taken + n - 1)) same ∙ ap (λ xs. slice_range xs position (position + taken + k - 1)) here

@@ -6,7 +6,7 @@ use Rattle.std.specs.Option.{option_map, option_map_or}
 use Rattle.std.specs.Char.{to_ascii_uppercase}
 use Rattle.std.specs.Str.{bytes_eq}
 use Rattle.kc_fastx.specs.Reads.{Read}
-use Rattle.kc_word.specs.Base.{is_base}
+use Rattle.kc_word.specs.Letter.{is_base}
 use Rattle.kc_word.specs.Word.{number, form}
 use Rattle.kc_word.specs.Rule.{CountingRule}
 

@@ -27,7 +27,7 @@ returns c =
     let rule = c.args.rule.now in
     let reads = c.args.reads.now in
     let tally =
-        tally_of_parts (batch_words rule) c.deref-batch-items.result.now rule reads c.loop-batch.batch-index c.loop-batch.counts c.loop-batch-test.false
-        (rw c.deref-batch-items.ensures.value c.in_ok-batches.ensures.words) c.rows_of.ensures.rising c.loop-batch.invariant
-        (c.words_of_reads.ensures.below rule reads) (c.counted_words.ensures rule reads) in
+    tally_of_parts (batch_words rule) c.deref-batch-items.result.now rule reads c.loop-batch.batch-index c.loop-batch.counts c.loop-batch-test.false
+    (rw c.deref-batch-items.ensures.value c.in_ok-batches.ensures.words) c.rows_of.ensures.rising c.loop-batch.invariant
+    (c.words_of_reads.ensures.below rule reads) (c.counted_words.ensures rule reads) in
     IfOk-weaker c.rows_of.result _ _ (λ rows same. rw same tally) c.rows_of.ensures.rows

@@ -1,16 +1,16 @@
 use Rattle.std.proofs.Common.{◌+◌, [], ◌∷◌, ◌++◌, length, get_or, refl, ap, sym, ◌∙◌, subst, arith, inl, inr}
 use Rattle.std.proofs.lemmas.List.{get_or_read, append-nil}
 use Rattle.kc_word.specs.Occurrences.{position_count}
-use Rattle.kc_word.specs.Place.{number_at}
+use Rattle.kc_word.specs.Cursor.{position_number}
 use Rattle.kc_word.proofs.Taking.{IsTaking, IsTaking-none, IsTaking-more, IsTaking-all, given-some, given-none, part-taken}
 use Rattle.kc_word.proofs.batch.take_positions.Goals as goal
 use Rattle.kc_word.proofs.batch.take_positions.Goals.{then-taken-gt0+in_ok-part+in_ok-push, else-taken-gt0, then-loop-room-test+else-next-pieces, else-loop-room-test}
 
 pub loop-room-init : goal.loop-room-init
 loop-room-init c =
-    subst (IsTaking c.args.k (number_at c.args.k c.args.pieces.now c.args.next.now.piece c.args.next.now.position) (number_at c.args.k c.args.pieces.now c.args.next.now.piece c.args.next.now.position + c.args.size) c.args.pieces.now c.args.next.now.piece c.args.next.now.position c.args.size)
+    subst (IsTaking c.args.k (position_number c.args.k c.args.pieces.now c.args.next.now.piece c.args.next.now.position) (position_number c.args.k c.args.pieces.now c.args.next.now.piece c.args.next.now.position + c.args.size) c.args.pieces.now c.args.next.now.piece c.args.next.now.position c.args.size)
     (sym c.new-parts.ensures.items)
-    (IsTaking-none c.args.k c.args.size c.args.next.now.piece c.args.next.now.position c.args.pieces.now c.requires.place)
+    (IsTaking-none c.args.k c.args.size c.args.next.now.piece c.args.next.now.position c.args.pieces.now c.requires.cursor)
 
 pub overflow_add-end-then-taken-gt0 : goal.overflow_add-end-then-taken-gt0
 overflow_add-end-then-taken-gt0 c = omega arith

@@ -5,11 +5,11 @@ use Rattle.kc_word.specs.Occurrences.{words_in, words_of}
 use Rattle.kc_word.specs.Cutting.{as_reads}
 use Rattle.kc_word.proofs.Counting.{words_of-none, words_of-more}
 use Rattle.kc_word.proofs.Cuttings.{length-words_of-pieces}
-use Rattle.kc_word.proofs.Tallies.{All-words_of}
+use Rattle.kc_word.proofs.WordCounts.{All-words_of}
 use Rattle.kc_word.proofs.roll.words.Goals as goal
 
 pub loop-part-init : goal.loop-part-init
-loop-part-init c = c.in_ok-words.ensures.items ∙ sym (words_of-none c.args.rule.now)
+loop-part-init c = c.in_ok-words.ensures.empty ∙ sym (words_of-none c.args.rule.now)
 
 pub loop-part-preserved : goal.loop-part-preserved
 loop-part-preserved c =

@@ -1,6 +1,6 @@
 use Rattle.std.proofs.Common.{ℕ, ◌≡◌, ◌∙◌, ◌<◌, length, map, take, get_or, ap, sym, arith}
 use Rattle.std.proofs.lemmas.List.{take-map}
-use Rattle.kc_hash.specs.Columns.{columns-length}
+use Rattle.kc_hash.specs.Inversion.{columns-length}
 use Rattle.kc_hash.specs.Elimination.{row_added}
 use Rattle.kc_hash.proofs.RowSteps.{row_taken, row_passed, added_more, added_all, matrix_added}
 use Rattle.kc_hash.proofs.matrix.Matrix.add_row.Goals as goal
@@ -12,9 +12,9 @@ loop-column-preserved c =
     let column : ℕ = get_or c.loop-column.column-items c.loop-column.column-index 0 in
     elim c.if-column-row-eq1.branch [
       | then-column-row-eq1 w ↦ w.column-items-is ∙ added_more c.args.row c.args.rows c.self.inside.columns c.loop-column.column-items c.loop-column.column-index _
-          inside c.loop-column.invariant (row_taken c.args.row c.args.rows column w.if-column-row-eq1.true)
+          (record { inside = inside; so_far = c.loop-column.invariant }) (row_taken c.args.row c.args.rows column w.if-column-row-eq1.true)
       | else-column-row-eq1 w ↦ w.column-items-is ∙ added_more c.args.row c.args.rows c.self.inside.columns c.loop-column.column-items c.loop-column.column-index _
-          inside c.loop-column.invariant (row_passed c.args.row c.args.rows column w.if-column-row-eq1.false)
+          (record { inside = inside; so_far = c.loop-column.invariant }) (row_passed c.args.row c.args.rows column w.if-column-row-eq1.false)
     ]
 
 pub invariant_of-self : goal.invariant_of-self

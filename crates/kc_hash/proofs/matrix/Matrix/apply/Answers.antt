@@ -1,25 +1,25 @@
 use Rattle.std.proofs.Common.{◌∙◌, ℕ, length, get_or, sym, ap, arith}
 use Rattle.std.specs.Prelude.{bit_xor}
 use Rattle.kc_hash.specs.Product.{product}
-use Rattle.kc_hash.specs.Columns.{columns_below}
+use Rattle.kc_hash.proofs.Columns.{columns_below}
 use Rattle.kc_hash.proofs.Linear.{combine-taken, combine-passed, product-array, product-zero, product-xor, product-below}
 use Rattle.kc_hash.proofs.matrix.Matrix.apply.Goals as goal
-use Rattle.kc_hash.proofs.matrix.Matrix.apply.Goals.{then-x-place-eq1, else-x-place-eq1}
+use Rattle.kc_hash.proofs.matrix.Matrix.apply.Goals.{then-x-index-eq1, else-x-index-eq1}
 
-pub loop-place-preserved : goal.loop-place-preserved
-loop-place-preserved c =
+pub loop-index-preserved : goal.loop-index-preserved
+loop-index-preserved c =
     let f : ℕ → ℕ = λ i. get_or c.self.inside.columns i 0 in
-    elim c.if-x-place-eq1.branch [
-      | then-x-place-eq1 w ↦ w.sum-is ∙ ap (λ s. bit_xor s (f c.loop-place.place)) c.loop-place.invariant
-          ∙ sym (combine-taken f c.loop-place.place c.args.x w.if-x-place-eq1.true)
-      | else-x-place-eq1 w ↦ w.sum-is ∙ c.loop-place.invariant
-          ∙ sym (combine-passed f c.loop-place.place c.args.x w.if-x-place-eq1.false)
+    elim c.if-x-index-eq1.branch [
+      | then-x-index-eq1 w ↦ w.sum-is ∙ ap (λ s. bit_xor s (f c.loop-index.index)) c.loop-index.invariant
+          ∙ sym (combine-taken f c.loop-index.index c.args.x w.if-x-index-eq1.true)
+      | else-x-index-eq1 w ↦ w.sum-is ∙ c.loop-index.invariant
+          ∙ sym (combine-passed f c.loop-index.index c.args.x w.if-x-index-eq1.false)
     ]
 
 pub returns-clause-product : goal.returns-clause-product
 returns-clause-product c =
-    c.loop-place.invariant
-    ∙ product-array c.self.inside.bits c.self.inside.columns c.args.self.now c.args.x c.loop-place.place c.self.invariant c.self.view_is (omega arith)
+    c.loop-index.invariant
+    ∙ product-array c.self.inside.bits c.self.inside.columns c.args.self.now c.args.x c.loop-index.index c.self.invariant c.self.view_is (omega arith)
 
 pub returns-clause-within : goal.returns-clause-within
 returns-clause-within c =

@@ -2,5 +2,5 @@ use Rattle.std.proofs.Common.{◌≡◌, get_or}
 use Rattle.kc_hash.proofs.Linear.{combine}
 use Rattle.kc_hash.proofs.matrix.Matrix.apply.Given as goal
 
-abbrev pub invariant-loop-place : goal.invariant-loop-place
-invariant-loop-place l = l.sum ≡ combine (λ i. get_or l.self-inside.columns i 0) l.place l.x
+abbrev pub invariant-loop-index : goal.invariant-loop-index
+invariant-loop-index l = l.sum ≡ combine (λ i. get_or l.self-inside.columns i 0) l.index l.x
