@@ -50,7 +50,9 @@ impl<C: Counts, N: Books> Locked<C, N> {
         ensures refused { OnErr result (share.new ≡ share.old) }
     {
         self.stripe.book(cut)?;
-        let _fits = self.stripe.journal().len();
+        // What is known of the sums, which stay small.
+        let _total = self.stripe.total();
+        let _length = self.stripe.journal().len();
         sheet.note(
             share,
             &mut self.keeper,
