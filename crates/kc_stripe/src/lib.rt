@@ -15,3 +15,6 @@ pub use fault::BookFault;
 pub use setup::Setup;
 pub use stripe::Stripe;
 pub use stripes::Stripes;
+
+#[cfg(test)]
+mod tests;
