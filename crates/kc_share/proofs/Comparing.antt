@@ -5,7 +5,7 @@ use Rattle.kc_base.proofs.Sums.{sum_by-ones, term-le-sum_by}
 use Rattle.kc_base.proofs.Permutations.{IsPermutation-from_weights}
 use Rattle.kc_base.proofs.Distinct.{Contains-from_times, equal_same}
 use Rattle.kc_word.specs.Cutting.{is_same_batch}
-use Rattle.kc_word.specs.Sameness.{is_same_batch-Decides}
+use Rattle.kc_word.proofs.Sameness.{is_same_batch-Decides}
 use Rattle.kc_share.specs.declared.entry.Entry.{Entry}
 use Rattle.kc_share.specs.Entries.{AreAmong}
 use Rattle.kc_share.specs.Laws.{AddsUp, SameInSomeOrder, AmongIsThere}

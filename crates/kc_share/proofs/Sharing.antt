@@ -86,47 +86,47 @@ unfolding noted_one
 entries_more stripe v it entry =
     omega (arith, booked_more stripe (λ _. 1) v it entry, sum_by-ones (entries_in stripe (v.booked ++ booking_of it.stripe entry ∷ [])), sum_by-ones (entries_in stripe v.booked))
 
--- numbers in which one place has more
-tells_more : (old new : ℕ → ℕ) (numbers : List ℕ) (place more : ℕ) → length numbers ≡ 64 → place < 64 → AreNumbersOf old numbers
-    → ((stripe : ℕ) → new stripe ≡ old stripe + cond (eqb place stripe) more 0)
-    → AreNumbersOf new (set numbers place (get_or numbers place 0 + more))
-tells_more old new numbers place more long small tell step stripe less = ⊎_elim
-    (λ (here : (eqb place stripe ≡ true) × (place ≡ stripe)).
-    let added : cond (eqb place stripe) more 0 ≡ more = ap {B = ℕ} (λ (b : Bool). cond b more 0) here.0 in
-    let told : get_or numbers place 0 ≡ old stripe = tell place small ∙ ap old here.1 in
-    ap (λ k. get_or (set numbers place (get_or numbers place 0 + more)) k 0) (sym here.1) ∙ get_or-set_same numbers place (get_or numbers place 0 + more) 0 (omega arith) ∙ omega (arith, told, added, step stripe))
-    (λ (else : (eqb place stripe ≡ false) × (place ≢ stripe)).
-    let added : cond (eqb place stripe) more 0 ≡ 0 = ap {B = ℕ} (λ (b : Bool). cond b more 0) else.0 in
-    get_or-set_other numbers place stripe (get_or numbers place 0 + more) 0 (λ same. else.1 (sym same)) ∙ omega (arith, tell stripe less, added, step stripe))
-    (eqb_tells place stripe)
+-- numbers in which one index has more
+tells_more : (old new : ℕ → ℕ) (numbers : List ℕ) (index more : ℕ) → length numbers ≡ 64 → index < 64 → AreNumbersOf old numbers
+    → ((stripe : ℕ) → new stripe ≡ old stripe + cond (eqb index stripe) more 0)
+    → AreNumbersOf new (set numbers index (get_or numbers index 0 + more))
+tells_more old new numbers index more long small tell step stripe less = ⊎_elim
+    (λ (here : (eqb index stripe ≡ true) × (index ≡ stripe)).
+    let added : cond (eqb index stripe) more 0 ≡ more = ap {B = ℕ} (λ (b : Bool). cond b more 0) here.0 in
+    let told : get_or numbers index 0 ≡ old stripe = tell index small ∙ ap old here.1 in
+    ap (λ k. get_or (set numbers index (get_or numbers index 0 + more)) k 0) (sym here.1) ∙ get_or-set_same numbers index (get_or numbers index 0 + more) 0 (omega arith) ∙ omega (arith, told, added, step stripe))
+    (λ (else : (eqb index stripe ≡ false) × (index ≢ stripe)).
+    let added : cond (eqb index stripe) more 0 ≡ 0 = ap {B = ℕ} (λ (b : Bool). cond b more 0) else.0 in
+    get_or-set_other numbers index stripe (get_or numbers index 0 + more) 0 (λ same. else.1 (sym same)) ∙ omega (arith, tell stripe less, added, step stripe))
+    (eqb_tells index stripe)
 
-module _ (v : View) (it : KeptStripe) (entry : Entry) (numbers : List ℕ) (place : ℕ) (long : length numbers ≡ 64) (here : place ≡ it.stripe) (small : place < 64) where
+module _ (v : View) (it : KeptStripe) (entry : Entry) (numbers : List ℕ) (index : ℕ) (long : length numbers ≡ 64) (here : index ≡ it.stripe) (small : index < 64) where
   pub words_told : (more : ℕ) → more ≡ entry.words → AreNumbersOf (λ stripe. word_total_in stripe v.booked) numbers
-      → AreNumbersOf (λ stripe. word_total_in stripe (v.booked ++ booking_of it.stripe entry ∷ [])) (set numbers place (get_or numbers place 0 + more))
+      → AreNumbersOf (λ stripe. word_total_in stripe (v.booked ++ booking_of it.stripe entry ∷ [])) (set numbers index (get_or numbers index 0 + more))
   words_told more is tell =
-      tells_more (λ stripe. word_total_in stripe v.booked) (λ stripe. word_total_in stripe (v.booked ++ booking_of it.stripe entry ∷ [])) numbers place more long small tell (λ stripe.
-      words_more stripe v it entry ∙ ap (λ (k : ℕ). word_total_in stripe v.booked + cond (eqb k stripe) entry.words 0) (sym here) ∙ ap (λ (n : ℕ). word_total_in stripe v.booked + cond (eqb place stripe) n 0) (sym is))
+      tells_more (λ stripe. word_total_in stripe v.booked) (λ stripe. word_total_in stripe (v.booked ++ booking_of it.stripe entry ∷ [])) numbers index more long small tell (λ stripe.
+      words_more stripe v it entry ∙ ap (λ (k : ℕ). word_total_in stripe v.booked + cond (eqb k stripe) entry.words 0) (sym here) ∙ ap (λ (n : ℕ). word_total_in stripe v.booked + cond (eqb index stripe) n 0) (sym is))
 
   pub entries_told : AreNumbersOf (λ stripe. entry_total_in stripe v.booked) numbers
-      → AreNumbersOf (λ stripe. entry_total_in stripe (v.booked ++ booking_of it.stripe entry ∷ [])) (set numbers place (get_or numbers place 0 + 1))
+      → AreNumbersOf (λ stripe. entry_total_in stripe (v.booked ++ booking_of it.stripe entry ∷ [])) (set numbers index (get_or numbers index 0 + 1))
   entries_told tell =
-      tells_more (λ stripe. entry_total_in stripe v.booked) (λ stripe. entry_total_in stripe (v.booked ++ booking_of it.stripe entry ∷ [])) numbers place 1 long small tell (λ stripe.
+      tells_more (λ stripe. entry_total_in stripe v.booked) (λ stripe. entry_total_in stripe (v.booked ++ booking_of it.stripe entry ∷ [])) numbers index 1 long small tell (λ stripe.
       entries_more stripe v it entry ∙ ap (λ (k : ℕ). entry_total_in stripe v.booked + cond (eqb k stripe) 1 0) (sym here))
 
   -- the sums after a booking fit
-  pub words_room : (more : ℕ) → more ≡ entry.words → Knowledge (noted_one v it entry) → AreNumbersOf (λ stripe. word_total_in stripe v.booked) numbers → get_or numbers place 0 + more < 2 ^ 64
+  pub words_room : (more : ℕ) → more ≡ entry.words → Knowledge (noted_one v it entry) → AreNumbersOf (λ stripe. word_total_in stripe v.booked) numbers → get_or numbers index 0 + more < 2 ^ 64
   unfolding noted_one
   words_room more is known tell =
-      let told = words_told more is tell place small in
-      let now : get_or (set numbers place (get_or numbers place 0 + more)) place 0 ≡ get_or numbers place 0 + more = get_or-set_same numbers place (get_or numbers place 0 + more) 0 (omega arith) in
-      omega (arith, known.words_fit place, told, now)
+      let told = words_told more is tell index small in
+      let now : get_or (set numbers index (get_or numbers index 0 + more)) index 0 ≡ get_or numbers index 0 + more = get_or-set_same numbers index (get_or numbers index 0 + more) 0 (omega arith) in
+      omega (arith, known.words_fit index, told, now)
 
-  pub entries_room : Knowledge (noted_one v it entry) → AreNumbersOf (λ stripe. entry_total_in stripe v.booked) numbers → get_or numbers place 0 + 1 < 2 ^ 64
+  pub entries_room : Knowledge (noted_one v it entry) → AreNumbersOf (λ stripe. entry_total_in stripe v.booked) numbers → get_or numbers index 0 + 1 < 2 ^ 64
   unfolding noted_one
   entries_room known tell =
-      let told = entries_told tell place small in
-      let now : get_or (set numbers place (get_or numbers place 0 + 1)) place 0 ≡ get_or numbers place 0 + 1 = get_or-set_same numbers place (get_or numbers place 0 + 1) 0 (omega arith) in
-      omega (arith, known.entries_fit place, told, now)
+      let told = entries_told tell index small in
+      let now : get_or (set numbers index (get_or numbers index 0 + 1)) index 0 ≡ get_or numbers index 0 + 1 = get_or-set_same numbers index (get_or numbers index 0 + 1) 0 (omega arith) in
+      omega (arith, known.entries_fit index, told, now)
 
 -- two shares' numbers together
 pub words_together : (stripe : ℕ) (xs ys : List Booking) → word_total_in stripe (xs ++ ys) ≡ word_total_in stripe xs + word_total_in stripe ys

@@ -14,7 +14,7 @@ use std::thread::{Threads, join};
 
 // What lies behind a lock: a keeper, and the sums of its journal.
 #[derive(Drop)]
-struct Place<N: Books> {
+struct Locked<N: Books> {
     keeper: Keeper<N>,
     words: u64,
     entries: u64,
@@ -22,12 +22,12 @@ struct Place<N: Books> {
     ghost entries_are: { entries ≡ length keeper.journal },
 }
 
-impl<N: Books> Place<N> {
-    fn new(keeper: Keeper<N>) -> Place<N>
+impl<N: Books> Locked<N> {
+    fn new(keeper: Keeper<N>) -> Locked<N>
         requires { keeper.journal ≡ [] }
         ensures { result.keeper ≡ keeper }
     {
-        Place {
+        Locked {
             keeper,
             words: 0,
             entries: 0,
@@ -49,7 +49,7 @@ impl<N: Books> Place<N> {
         if self.words >= 1 << 62 || words >= 1 << 62 || self.entries >= 1 << 62 {
             return false;
         }
-        let Place {
+        let Locked {
             keeper,
             words: total,
             entries,
@@ -82,19 +82,19 @@ fn batches(alloc: Global) -> Result<Vec<Arc<Batch>>, Fail> {
     Ok(cut(alloc, pieces, k, 1)?)
 }
 
-// Books a batch at each place, with one word more than its number says.
+// Books a batch under each lock, with one word more than its number says.
 fn book_everywhere<N: Books, R: Wait>(
     rt: &R,
     sheet: &OpenSheet<N>,
-    places: &[Mutex<Place<N>>],
+    locks: &[Mutex<Locked<N>>],
     share: &mut Share<N>,
     batch: &Batch,
 )
     ensures { (share.new.parts ≡ share.old.parts) × (share.new.plan ≡ share.old.plan) }
 {
-    for place in places {
+    for lock in locks {
         let words = batch.number() % 64 + 1;
-        place.lock(rt).book(sheet, share, batch, words);
+        lock.lock(rt).book(sheet, share, batch, words);
     }
 }
 
@@ -102,37 +102,37 @@ fn book_everywhere<N: Books, R: Wait>(
 fn book_all<N: Books, R: Wait>(
     rt: &R,
     sheet: &OpenSheet<N>,
-    places: &[Mutex<Place<N>>],
+    locks: &[Mutex<Locked<N>>],
     mut share: Share<N>,
     batches: &[Arc<Batch>],
 ) -> Share<N>
     ensures { (result.parts ≡ share.parts) × (result.plan ≡ share.plan) }
 {
     for batch in batches {
-        book_everywhere(rt, sheet, places, &mut share, batch);
+        book_everywhere(rt, sheet, locks, &mut share, batch);
     }
     share
 }
 
-// A place for each stripe, and the first share.
-fn places_of<N: Books>(
+// A lock for each stripe, and the first share.
+fn locks_of<N: Books>(
     alloc: Global,
     sheet: Sheet,
-) -> Result<(OpenSheet<N>, Vec<Mutex<Place<N>>>, Share<N>), AllocError>
+) -> Result<(OpenSheet<N>, Vec<Mutex<Locked<N>>>, Share<N>), AllocError>
     requires { sheet.table ≡ N.table }
     ensures { IfOk result (λ made. made.2 ≡ share_of sheet.plan sheet.plan.parts []) }
 {
     let (sheet, mut opening) = sheet.open::<N>();
-    let mut places = Vec::new(alloc);
+    let mut locks = Vec::new(alloc);
     while opening.is_open() {
-        places.push(Mutex::new(Place::new(sheet.next_keeper(&mut opening))))?;
+        locks.push(Mutex::new(Locked::new(sheet.next_keeper(&mut opening))))?;
     }
     let share = sheet.first_share(opening);
-    Ok((sheet, places, share))
+    Ok((sheet, locks, share))
 }
 
 // Two threads, with a share of one part each, book half of the batches each, everywhere. Then the shares are joined,
-// and each place is settled: what its journal has, and what the whole share has.
+// and each stripe is settled: what its journal has, and what the whole share has.
 fn book_by_two<N: Books + Send + Sync, R: Threads + Wait + Sync>(
     rt: &R,
     alloc: Global,
@@ -143,22 +143,22 @@ fn book_by_two<N: Books + Send + Sync, R: Threads + Wait + Sync>(
     requires plan { (sheet.plan.stripes ≡ 2) × (sheet.plan.parts ≡ 2) }
     ensures { IfOk result (λ sums. All (λ sum. sum.0 ≡ sum.1) sums.items) }
 {
-    let (sheet, places, mut one) = places_of::<N>(alloc, sheet)?;
+    let (sheet, locks, mut one) = locks_of::<N>(alloc, sheet)?;
     let other = sheet.split(&mut one);
     let (first, second) = batches.split_at(batches.len() / 2);
     let (mut whole, other) = book_halves(
         rt,
         &sheet,
-        places.as_slice(),
+        locks.as_slice(),
         (one, other),
         (first, second),
     );
     sheet.join(&mut whole, other);
     let mut sums = Vec::new(alloc);
-    for place in places {
-        let mut place = place.into_inner();
-        let stripe = place.keeper.stripe();
-        let kept = place.settle(&sheet, &mut whole);
+    for lock in locks {
+        let mut lock = lock.into_inner();
+        let stripe = lock.keeper.stripe();
+        let kept = lock.settle(&sheet, &mut whole);
         if stripe < 2 {
             sums.push((kept, (whole.words(stripe), whole.entries(stripe))))?;
         }
@@ -170,7 +170,7 @@ fn book_by_two<N: Books + Send + Sync, R: Threads + Wait + Sync>(
 fn book_halves<N: Books + Send + Sync, R: Threads + Wait + Sync>(
     rt: &R,
     sheet: &OpenSheet<N>,
-    places: &[Mutex<Place<N>>],
+    locks: &[Mutex<Locked<N>>],
     shares: (Share<N>, Share<N>),
     halves: (&[Arc<Batch>], &[Arc<Batch>]),
 ) -> (Share<N>, Share<N>)
@@ -183,10 +183,10 @@ fn book_halves<N: Books + Send + Sync, R: Threads + Wait + Sync>(
         rt,
         move || -> Share<N>
             ensures { (result.parts ≡ one.parts) × (result.plan ≡ one.plan) }
-        { book_all(rt, sheet, places, one, first) },
+        { book_all(rt, sheet, locks, one, first) },
         move || -> Share<N>
             ensures { (result.parts ≡ other.parts) × (result.plan ≡ other.plan) }
-        { book_all(rt, sheet, places, other, second) },
+        { book_all(rt, sheet, locks, other, second) },
     )
 }
 

@@ -1,7 +1,7 @@
 use Rattle.std.proofs.Common.{sym, ◌∙◌}
 use Rattle.kc_base.proofs.Permutations.{length-from_weights}
 use Rattle.kc_share.specs.Entries.{entries_in}
-use Rattle.kc_share.proofs.tests.Place.settle.Goals as goal
+use Rattle.kc_share.proofs.tests.Locked.settle.Goals as goal
 
 pub returns-clause-entries : goal.returns-clause-entries
 returns-clause-entries g c =
