@@ -22,9 +22,9 @@ pub record IsCounted (bits : ℕ) (counts : KeyCounts) (bins : List ℕ) (total 
   pub total_at_most : total ≤ 2 ^ 62
 
 -- the keys have as many bits as before, and what may be refused as full is what might be before
-pub record KeepsLimits {C : Type 0} (bits : C → ℕ) (may_be_full : C → KeyCounts → ℕ → Type 0) (old new : C) : Type 0 where
+pub record KeepsLimits {C : Type 0} (bits : C → ℕ) (full : C → KeyCounts → ℕ → Type 0) (old new : C) : Type 0 where
   pub same_bits : bits new ≡ bits old
-  pub same_limits : (counts : KeyCounts) (key : ℕ) → may_be_full new counts key ↔ may_be_full old counts key
+  pub same_limits : (counts : KeyCounts) (key : ℕ) → full new counts key ↔ full old counts key
 
 -- the keys stored, one after another
 abbrev pub all_readied : KeyCounts → List ℕ → KeyCounts
@@ -32,4 +32,5 @@ all_readied counts keys = fold readied counts keys
 
 -- one of the keys may be refused, with the earlier ones stored
 abbrev pub SomeMayBeFull : (KeyCounts → ℕ → Type 0) → KeyCounts → List ℕ → Type 0
-SomeMayBeFull may_be_full counts keys = (i : ℕ) × (i < length keys) × may_be_full (all_readied counts (take i keys)) (slice_index keys i)
+SomeMayBeFull may_be_full counts keys =
+    (i : ℕ) × (i < length keys) × may_be_full (all_readied counts (take i keys)) (slice_index keys i)

@@ -29,4 +29,6 @@ cuts_of setup batch = map (cut_at setup batch) (range_with_len 0 (stripe_count s
 
 -- codes divided among 2 ^ s stripes by their low s bits: for each stripe the other bits of its codes, in order
 abbrev pub key_parts : ℕ → List ℕ → List (List ℕ)
-key_parts s codes = map (λ stripe. map (λ code. code / 2 ^ s) (filter (λ code. code % 2 ^ s == stripe) codes)) (range_with_len 0 (2 ^ s))
+key_parts s codes =
+    map (λ stripe. map (λ code. code / 2 ^ s) (filter (λ code. code % 2 ^ s == stripe) codes))
+    (range_with_len 0 (2 ^ s))

@@ -10,7 +10,8 @@ use Rattle.kc_table.specs.Counts.{KeyCounts, count_at}
 use Rattle.kc_tally.specs.declared.row.Row.{Row}
 use Rattle.kc_tally.specs.Tally.{count_of}
 use Rattle.kc_tally.specs.Histogram.{bins_of}
-use Rattle.kc_stripe.specs.Setup.{StripeSetup, word_count, stripe_count, key_bits, stripe_of, key_of, stripe_words, DividesWords}
+use Rattle.kc_stripe.specs.Setup.{StripeSetup, word_count, stripe_count, key_bits, stripe_of, key_of, stripe_words}
+use Rattle.kc_stripe.specs.Setup.{DividesWords}
 use Rattle.kc_stripe.specs.Cut.{StripeCut}
 
 -- a stripe as a value: how the words are divided, its number among the stripes, its journal of the batches that were
@@ -39,10 +40,11 @@ word_occurrences setup journal word = occurrences setup.rule (reads_in journal) 
 abbrev pub stripe_occurrences : StripeSetup → ℕ → List NumberedPieces → List ℕ
 stripe_occurrences setup number journal = map (word_occurrences setup journal) (stripe_words setup number)
 
--- A lawful stripe. No number stands twice in its journal. Under the key of each word of the stripe it counts how often the
--- word occurs in the journal's batches. Bin c is how many words of the stripe occur c times, the last bin how many occur
--- more often than 10,000 times. The total is the sum of the counts, and at most 2 ^ 62.
-pub record IsLawful (setup : StripeSetup) (number : ℕ) (journal : List NumberedPieces) (counts : KeyCounts) (bins : List ℕ) (total : ℕ) : Type 0 where
+-- A lawful stripe. No number stands twice in its journal. Under the key of each word of the stripe it counts how often
+-- the word occurs in the journal's batches. Bin c is how many words of the stripe occur c times, the last bin how many
+-- occur more often than 10,000 times. The total is the sum of the counts, and at most 2 ^ 62.
+pub record IsLawful (setup : StripeSetup) (number : ℕ) (journal : List NumberedPieces)
+    (counts : KeyCounts) (bins : List ℕ) (total : ℕ) : Type 0 where
   pub numbers_differ : IsDistinct nat_eq (numbers_of journal)
   pub counts_are : (word : ℕ) → word < word_count setup → stripe_of setup word ≡ number
       → count_at counts (key_of setup word) ≡ word_occurrences setup journal word
@@ -51,7 +53,8 @@ pub record IsLawful (setup : StripeSetup) (number : ℕ) (journal : List Numbere
   pub total_at_most : total ≤ 2 ^ 62
 
 -- the rows are the words of the stripe that occur in the journal's batches, each once, with its occurrences
-pub record AreStripeRows (setup : StripeSetup) (number : ℕ) (journal : List NumberedPieces) (rows : List Row) : Type 0 where
+pub record AreStripeRows (setup : StripeSetup) (number : ℕ) (journal : List NumberedPieces) (rows : List Row)
+    : Type 0 where
   pub once : IsDistinct nat_eq (map (λ row. row.word) rows)
   pub words : All (λ row. (row.word < word_count setup) × (stripe_of setup row.word ≡ number)) rows
   pub present : All (λ row. 1 ≤ row.count) rows
@@ -75,7 +78,8 @@ pub record IsUnchanged {C : Type 0} (counts : C → KeyCounts) (old new : Stripe
 
 -- what a stripe keeps: it is lawful, its number is that of a stripe, its keys are those of words, and it knows which
 -- numbers are in its journal
-pub record IsKept (setup : StripeSetup) (number : ℕ) (journal : List NumberedPieces) (bits : ℕ) (known : ℕ → Bool) : Type 0 where
+pub record IsKept (setup : StripeSetup) (number : ℕ) (journal : List NumberedPieces) (bits : ℕ) (known : ℕ → Bool)
+    : Type 0 where
   pub own : number < stripe_count setup
   pub divided : DividesWords setup
   pub bits_are : bits ≡ key_bits setup

@@ -34,7 +34,8 @@ impl<C: Counts + Drop> CountedTable<C> {
         requires { C.counts table ≡ empty }
         ensures table { IfOk result (λ counted. counted.table ≡ table) }
         ensures total { IfOk result (λ counted. counted.total ≡ 0) }
-        ensures counted { IfOk result (λ counted. IsCounted (C.bits counted.table) (C.counts counted.table) counted.bins counted.total) }
+        ensures counted { IfOk result (λ counted.
+            IsCounted (C.bits counted.table) (C.counts counted.table) counted.bins counted.total) }
     {
         // what is known of the table's keys
         let _bits = table.key_bits();

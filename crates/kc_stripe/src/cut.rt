@@ -1,5 +1,6 @@
 //! The words of a batch divided among the stripes.
-ghost use Rattle.std.specs.Prelude.{◌≡◌, ℕ, ◌%◌, ◌^◌, ◌<◌, ◌≤◌, ◌==◌, [], length, map, count_by, slice_index, All, IfOk};
+ghost use Rattle.std.specs.Prelude.{◌≡◌, ℕ, ◌%◌, ◌^◌, ◌<◌, ◌≤◌, ◌==◌, [], length, map, count_by, slice_index, All};
+ghost use Rattle.std.specs.Prelude.{IfOk};
 ghost use Rattle.kc_hash.specs.Product.{product};
 ghost use Rattle.kc_stripe.specs.Cut.{StripeCut, keys_of, cuts_of, key_parts};
 
@@ -27,7 +28,8 @@ impl Model for Cut {
 
     ghost view = { λ c. record { setup = c.setup; stripe = c.stripe; batch = c.batch.value } };
 
-    ghost invariant = { λ c. c.keys.items ≡ keys_of (record { setup = c.setup; stripe = c.stripe; batch = c.batch.value }) };
+    ghost invariant = { λ c.
+        c.keys.items ≡ keys_of (record { setup = c.setup; stripe = c.stripe; batch = c.batch.value }) };
 }
 
 impl Cut {
@@ -60,7 +62,8 @@ impl Cut {
     }
 }
 
-/// The words of a batch divided among the stripes: a cut for each stripe, in their order, also where no word falls in it.
+/// The words of a batch divided among the stripes: a cut for each stripe, in their order, also where no word falls in
+/// it.
 pub fn cut_up(alloc: Global, setup: &Setup, batch: &Arc<Batch>) -> Result<Vec<Cut>, AllocError>
     ensures { IfOk result (λ cuts. cuts.items ≡ cuts_of setup.now batch.now.value) }
 {
@@ -80,7 +83,8 @@ pub fn cut_up(alloc: Global, setup: &Setup, batch: &Arc<Batch>) -> Result<Vec<Cu
 
 // The keys of each stripe's cut.
 fn stripe_keys(alloc: Global, setup: &Setup, batch: &Batch) -> Result<Vec<Vec<u64>>, AllocError>
-    ensures keys { IfOk result (λ parts. map (λ part. part.items) parts.items ≡ map keys_of (cuts_of setup.now batch.now)) }
+    ensures keys { IfOk result (λ parts.
+        map (λ part. part.items) parts.items ≡ map keys_of (cuts_of setup.now batch.now)) }
     ensures few { IfOk result (λ parts. length parts.items ≤ 64) }
 {
     let stripe_bits = setup.stripe_bits();

@@ -1,7 +1,8 @@
 //! How the words of a count are divided among stripes.
 ghost use Rattle.std.specs.Prelude.{◌≡◌, ℕ, ◌+◌, ◌*◌, ◌^◌, ◌<◌, ◌≤◌, ◌↔◌, length, IsSome, IfSome};
 ghost use Rattle.kc_hash.specs.Product.{product};
-ghost use Rattle.kc_stripe.specs.Setup.{StripeSetup, IsSetup, HasBits, word_count, stripe_count, key_bits, stripe_of, key_of, StandsAt, DividesWords};
+ghost use Rattle.kc_stripe.specs.Setup.{StripeSetup, IsSetup, HasBits, word_count, stripe_count, key_bits};
+ghost use Rattle.kc_stripe.specs.Setup.{stripe_of, key_of, StandsAt, DividesWords};
 
 use kc_hash::Hash;
 use kc_word::{Rule, Word};
@@ -141,7 +142,8 @@ impl Setup {
         requires key { key < 2 ^ key_bits self.now }
         ensures value { result ≡ key * stripe_count self.now + stripe }
         ensures within { result < 2 ^ length self.now.hash }
-        ensures stands { (word : ℕ) → word < 2 ^ length self.now.hash → product self.now.hash word ≡ result → StandsAt self.now stripe key word }
+        ensures stands { (word : ℕ) → word < 2 ^ length self.now.hash → product self.now.hash word ≡ result
+            → StandsAt self.now stripe key word }
         ensures hashed { (word : ℕ) → StandsAt self.now stripe key word → product self.now.hash word ≡ result }
     {
         (key << self.stripe_bits) + stripe as u64

@@ -1,12 +1,14 @@
 //! A stripe, which always holds exactly the counts of the batches that its journal names.
-ghost use Rattle.std.specs.Prelude.{◌≡◌, ℕ, ◌+◌, ◌<◌, ◌≤◌, ◌^◌, ◌≢◌, ◌==◌, ◌↔◌, ◌⊎◌, [], ◌∷◌, ◌++◌, length, sum_by, count_by, IfOk, OnOk, OnErr};
+ghost use Rattle.std.specs.Prelude.{◌≡◌, ℕ, ◌+◌, ◌<◌, ◌≤◌, ◌^◌, ◌≢◌, ◌==◌, ◌↔◌, ◌⊎◌, [], ◌∷◌, ◌++◌, length, sum_by};
+ghost use Rattle.std.specs.Prelude.{count_by, IfOk, OnOk, OnErr};
 ghost use Rattle.std.specs.FinMap.{empty};
 ghost use Rattle.kc_word.specs.Shared.{values};
 ghost use Rattle.kc_tally.specs.Histogram.{last_bin, bin_of, bin_at};
 ghost use Rattle.kc_stripe.specs.Setup.{word_count, stripe_count, key_bits, stripe_of, stripe_words};
 ghost use Rattle.kc_stripe.specs.Cut.{keys_of};
 ghost use Rattle.kc_stripe.specs.Counted.{KeepsLimits, SomeMayBeFull};
-ghost use Rattle.kc_stripe.specs.Stripe.{StripeState, IsLawful, IsBooked, IsOwnCut, IsUnchanged, AreStripeRows, word_occurrences};
+ghost use Rattle.kc_stripe.specs.Stripe.{StripeState, IsLawful, IsBooked, IsOwnCut, IsUnchanged, AreStripeRows};
+ghost use Rattle.kc_stripe.specs.Stripe.{word_occurrences};
 
 use crate::counted::CountedTable;
 use crate::cut::Cut;
@@ -48,7 +50,9 @@ impl<C: Counts> Model for Stripe<C> {
       total = s.counted.total;
     } };
 
-    ghost invariant = { λ s. IsLawful s.setup s.number (values s.journal.items) (C.counts s.counted.table) s.counted.bins s.counted.total
+    ghost invariant = { λ s.
+        IsLawful s.setup s.number (values s.journal.items)
+        (C.counts s.counted.table) s.counted.bins s.counted.total
         × IsKept s.setup s.number (values s.journal.items) (C.bits s.counted.table) (contains nat_eq s.booked) };
 }
 
@@ -80,7 +84,8 @@ impl<C: Counts + Drop> Stripe<C> {
 impl<C: Counts> Stripe<C> {
     /// A law: the stripe is lawful.
     pub fn is_lawful(&self)
-        ensures { IsLawful self.now.setup self.now.number self.now.journal (C.counts self.now.table) self.now.bins self.now.total }
+        ensures { IsLawful self.now.setup self.now.number self.now.journal
+            (C.counts self.now.table) self.now.bins self.now.total }
     {
         // What a stripe keeps is known where it is read.
         let _number = self.number;
@@ -111,19 +116,22 @@ impl<C: Counts> Stripe<C> {
     /// How often the words of the stripe occur in the journal's batches, all together.
     pub fn total(&self) -> u64
         ensures value { result ≡ self.now.total }
-        ensures words { result ≡ sum_by (word_occurrences self.now.setup self.now.journal) (stripe_words self.now.setup self.now.number) }
+        ensures words { result ≡ sum_by (word_occurrences self.now.setup self.now.journal)
+            (stripe_words self.now.setup self.now.number) }
         ensures at_most { result ≤ 2 ^ 62 }
     {
         self.counted.total()
     }
 
-    /// How many words of the stripe occur so often in the journal's batches; those that occur more often than 10,000 times
-    /// are in bin 10,001. Condition: the bin is 1 to 10,001.
+    /// How many words of the stripe occur so often in the journal's batches; those that occur more often than 10,000
+    /// times are in bin 10,001. Condition: the bin is 1 to 10,001.
     pub fn bin(&self, bin: u64) -> u64
         requires some { 1 ≤ bin }
         requires within { bin ≤ last_bin }
         ensures value { result ≡ bin_at self.now.bins bin }
-        ensures words { result ≡ count_by (λ word. bin_of (word_occurrences self.now.setup self.now.journal word) == bin) (stripe_words self.now.setup self.now.number) }
+        ensures words { result ≡ count_by
+            (λ word. bin_of (word_occurrences self.now.setup self.now.journal word) == bin)
+            (stripe_words self.now.setup self.now.number) }
     {
         self.counted.bin(bin)
     }
@@ -132,7 +140,8 @@ impl<C: Counts> Stripe<C> {
     /// Condition: the word is below 4^k.
     pub fn count_of(&self, word: Word) -> u64
         requires { word.0 < word_count self.now.setup }
-        ensures own { stripe_of self.now.setup word.0 ≡ self.now.number → result ≡ word_occurrences self.now.setup self.now.journal word.0 }
+        ensures own { stripe_of self.now.setup word.0 ≡ self.now.number
+            → result ≡ word_occurrences self.now.setup self.now.journal word.0 }
         ensures other { stripe_of self.now.setup word.0 ≢ self.now.number → result ≡ 0 }
     {
         if self.setup.stripe_of(word) != self.number {

@@ -340,9 +340,9 @@ fn stripes_hold_the_tally(rt: HostRuntime) -> Result<(), Fail> {
         stripes.push(plain_stripe(alloc, &setup, number)?)?;
     }
     let mut batches = batches_of(alloc, &setup, &reads, 7)?;
-    while !batches.is_empty() {
-        let batch = batches.swap_remove(random.next_word() as usize % batches.len());
-        for (stripe, cut) in stripes.iter_mut().zip(cut_up(alloc, &setup, &batch)?) {
+    batches.sort_unstable_by_key(|batch| batch.number().wrapping_mul(0x9e37_79b9_7f4a_7c15));
+    for batch in &batches {
+        for (stripe, cut) in stripes.iter_mut().zip(cut_up(alloc, &setup, batch)?) {
             stripe.book(&cut)?;
         }
     }

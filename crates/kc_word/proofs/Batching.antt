@@ -44,46 +44,56 @@ positions-past k low size pieces some size_some none =
     let total = length-all_windows k pieces in
     omega (arith, gone, long, total, size_some)
 
-pub IsCutTo-left : (k size index position : ℕ) (pieces : List (List ℕ)) (batches : List NumberedPieces) (parts : List (List ℕ)) → (length parts ≡ 0 → ⊥) → parts ≡ stretches k (position_number k pieces index position) (position_number k pieces index position + size) pieces → IsCutTo k size pieces index position batches
-    → position_number k pieces index position < position_total k pieces
-IsCutTo-left k size index position pieces batches parts some is done =
-    ⊎_elim (λ h. h) (λ h. absurd (some (ap length (is ∙ stretches-past k (position_number k pieces index position) (position_number k pieces index position + size) pieces h)))) (cases_lt (position_number k pieces index position) (position_total k pieces))
+-- the stretches that have the next positions, as many as a batch, from a cursor on
+pub record NextParts (k size : ℕ) (pieces : List (List ℕ)) : Type 0 where
+  pub index : ℕ
+  pub position : ℕ
+  pub parts : List (List ℕ)
+  pub parts_are : parts ≡ stretches k (position_number k pieces index position) (position_number k pieces index position + size) pieces
+
+-- where there are any, a position is left
+pub positions-left : (k size : ℕ) (pieces : List (List ℕ)) (s : NextParts k size pieces) → (length s.parts ≡ 0 → ⊥) → position_number k pieces s.index s.position < position_total k pieces
+positions-left k size pieces s some =
+    ⊎_elim (λ h. h) (λ h. absurd (some (ap length (s.parts_are ∙ stretches-past k low (low + size) pieces h)))) (cases_lt low (position_total k pieces))
+  where
+    low : ℕ
+    low = position_number k pieces s.index s.position
 
 -- one batch more: what was taken from the cursor on, and where the cursor stands then
 pub record CutStep (k size : ℕ) (pieces : List (List ℕ)) : Type 0 where
-  pub index : ℕ
-  pub position : ℕ
+  pub taken : NextParts k size pieces
   pub next_index : ℕ
   pub next_position : ℕ
   pub batches : List NumberedPieces
-  pub after : List NumberedPieces
-  pub parts : List (List ℕ)
+  pub next_batches : List NumberedPieces
   pub count : ℕ
-  pub some : length parts ≡ 0 → ⊥
-  pub parts_are : parts ≡ stretches k (position_number k pieces index position) (position_number k pieces index position + size) pieces
+  pub some : length taken.parts ≡ 0 → ⊥
   pub stands : IsCursor k pieces next_index next_position
-  pub moved : position_number k pieces next_index next_position ≡ min (position_number k pieces index position + size) (position_total k pieces)
+  pub moved : position_number k pieces next_index next_position ≡ min (position_number k pieces taken.index taken.position + size) (position_total k pieces)
   pub count_is : count ≡ length batches
-  pub after_is : after ≡ batches ++ record { number = count; pieces = parts } ∷ []
+  pub batches_are : next_batches ≡ batches ++ record { number = count; pieces = taken.parts } ∷ []
 
-pub IsCutTo-more : (k size : ℕ) (pieces : List (List ℕ)) (s : CutStep k size pieces) → IsCutTo k size pieces s.index s.position s.batches → IsCutTo k size pieces s.next_index s.next_position s.after
+pub IsCutTo-more : (k size : ℕ) (pieces : List (List ℕ)) (s : CutStep k size pieces) → IsCutTo k size pieces s.taken.index s.taken.position s.batches
+    → IsCutTo k size pieces s.next_index s.next_position s.next_batches
 IsCutTo-more k size pieces s done =
-    let left = IsCutTo-left k size s.index s.position pieces s.batches s.parts s.some s.parts_are done in
+    let from : ℕ = position_number k pieces s.taken.index s.taken.position in
+    let made : ℕ = length s.batches in
+    let left = positions-left k size pieces s.taken s.some in
     let number = done.number in
-    let low : position_number k pieces s.index s.position ≡ length s.batches * size = omega (arith, number, left) in
-    let high : position_number k pieces s.index s.position + size ≡ (length s.batches + 1) * size = omega (arith, low) in
-    let long : length s.after ≡ length s.batches + 1 = ap length s.after_is ∙ length_push s.batches (record { number = s.count; pieces = s.parts }) in
-    let same : s.parts ≡ stretches k (length s.batches * size) ((length s.batches + 1) * size) pieces =
-    s.parts_are ∙ ap (λ l. stretches k l (position_number k pieces s.index s.position + size) pieces) low ∙ ap (λ h. stretches k (length s.batches * size) h pieces) high in
-    let more : length s.after * size ≡ length s.batches * size + size = ap (λ m. m * size) long ∙ omega arith in
-    let numbered : s.count ≡ length s.batches = s.count_is in
+    let low : from ≡ made * size = omega (arith, number, left) in
+    let high : from + size ≡ (made + 1) * size = omega (arith, low) in
+    let long : length s.next_batches ≡ made + 1 = ap length s.batches_are ∙ length_push s.batches (record { number = s.count; pieces = s.taken.parts }) in
+    let same : s.taken.parts ≡ stretches k (made * size) ((made + 1) * size) pieces =
+    s.taken.parts_are ∙ ap (λ l. stretches k l (from + size) pieces) low ∙ ap (λ h. stretches k (made * size) h pieces) high in
+    let more : length s.next_batches * size ≡ made * size + size = ap (λ m. m * size) long ∙ omega arith in
+    let numbered : s.count ≡ made = s.count_is in
     let moved = s.moved in
     record {
       cursor = s.stands;
       made =
-          s.after_is ∙ ap (λ xs. xs ++ record { number = s.count; pieces = s.parts } ∷ []) done.made
-          ∙ (λ i. map (λ j. batch_of k size pieces j) (range_with_len 0 (length s.batches)) ++ record { number = numbered i; pieces = same i } ∷ [])
-          ∙ sym (map-range_with_len_more (λ j. batch_of k size pieces j) 0 (length s.batches) (length s.batches) (omega arith))
+          s.batches_are ∙ ap (λ xs. xs ++ record { number = s.count; pieces = s.taken.parts } ∷ []) done.made
+          ∙ (λ i. map (λ j. batch_of k size pieces j) (range_with_len 0 made) ++ record { number = numbered i; pieces = same i } ∷ [])
+          ∙ sym (map-range_with_len_more (λ j. batch_of k size pieces j) 0 made made (omega arith))
           ∙ ap (λ m. map (λ j. batch_of k size pieces j) (range_with_len 0 m)) (sym long);
       number = omega (arith, moved, low, more);
       inhabited = omega (arith, low, left, more);
@@ -97,11 +107,11 @@ batch_count-is total size n some few enough =
     omega (arith, least, most)
 
 -- when no position is left, the batches are the cutting
-pub IsCutTo-all : (k size index position : ℕ) (pieces : List (List ℕ)) (batches : List NumberedPieces) (parts : List (List ℕ)) → 1 ≤ k → 1 ≤ size → length parts ≡ 0
-    → parts ≡ stretches k (position_number k pieces index position) (position_number k pieces index position + size) pieces → IsCutTo k size pieces index position batches → batches ≡ cutting k size pieces
+pub IsCutTo-all : {batches : List NumberedPieces} (k size : ℕ) (pieces : List (List ℕ)) (s : NextParts k size pieces) → 1 ≤ k → 1 ≤ size → length s.parts ≡ 0
+    → IsCutTo k size pieces s.index s.position batches → batches ≡ cutting k size pieces
 unfolding cutting
-IsCutTo-all k size index position pieces batches parts some size_some none is done =
-    let past = positions-past k (position_number k pieces index position) size pieces some size_some (sym is ∙ nil_from_length parts none) in
+IsCutTo-all {batches} k size pieces s some size_some none done =
+    let past = positions-past k (position_number k pieces s.index s.position) size pieces some size_some (sym s.parts_are ∙ nil_from_length s.parts none) in
     let number = done.number in
     let few = done.inhabited in
     done.made ∙ ap (λ n. map (λ i. batch_of k size pieces i) (range_with_len 0 n))

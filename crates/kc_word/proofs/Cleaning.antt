@@ -69,8 +69,9 @@ unfolding is_usable
 cleaned_base-low rule bases quals j floor e h =
     sym (cond-false _ (to_ascii_uppercase (get_or bases j 0)) unusable (and_right (is_base (to_ascii_uppercase (get_or bases j 0))) _ (lt-leb rule.floor (get_or quals j 0) (omega (arith, e, h)))))
 
-pub cleaned-more : (rule : CountingRule) (read : Read) (i letter : ℕ) (xs ys : List ℕ) → xs ≡ map (λ j. cleaned_base rule read j) (range_with_len 0 i) → ys ≡ xs ++ letter ∷ [] → letter ≡ cleaned_base rule read i → ys ≡ map (λ j. cleaned_base rule read j) (range_with_len 0 (i + 1))
-cleaned-more rule read i letter xs ys e push is =
+pub cleaned-more : {xs ys : List ℕ} (rule : CountingRule) (read : Read) (i letter : ℕ) → xs ≡ map (λ j. cleaned_base rule read j) (range_with_len 0 i) → ys ≡ xs ++ letter ∷ []
+    → letter ≡ cleaned_base rule read i → ys ≡ map (λ j. cleaned_base rule read j) (range_with_len 0 (i + 1))
+cleaned-more rule read i letter e push is =
     push ∙ ap (λ zs. zs ++ letter ∷ []) e ∙ ap (λ b. map (λ j. cleaned_base rule read j) (range_with_len 0 i) ++ b ∷ []) is
     ∙ sym (map-range_with_len_more (λ j. cleaned_base rule read j) 0 i i (omega arith))
 

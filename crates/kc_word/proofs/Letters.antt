@@ -1,5 +1,5 @@
 -- The letters of a number's text, index by index, and the text as it is written into an array.
-use Rattle.std.proofs.Common.{◌≡◌, ℕ, zero, suc, ◌+◌, ◌-◌, ◌*◌, ◌/◌, ◌%◌, ◌^◌, ◌<◌, ◌≤◌, List, [], ◌∷◌, ◌++◌, map, length, get_or, take, drop, set, refl, ap, sym, ◌∙◌, arith, pow-suc, mul_comm, bit_and}
+use Rattle.std.proofs.Common.{◌≡◌, ℕ, zero, suc, ◌+◌, ◌-◌, ◌*◌, ◌/◌, ◌%◌, ◌^◌, ◌<◌, List, [], ◌∷◌, ◌++◌, map, length, get_or, take, drop, set, refl, ap, sym, ◌∙◌, arith, pow-suc, mul_comm, bit_and}
 use Rattle.std.proofs.Math.Nat.{div-div-eq-div-mul}
 use Rattle.std.proofs.lemmas.Nat.{pow-add, and_mask}
 use Rattle.std.proofs.lemmas.List.{get_or_append_left, get_or_push, get_or-reverse, get_or-map, length-map, length-reverse, same_lists, take_more, drop_more, set_at, length-take-le, append_assoc, take_all}
@@ -65,8 +65,9 @@ text-reversed k m n same =
     get_or-text k m i (k - 1 - i) d e ∙ ap base (same i (k - 1 - i) e) ∙ sym (get_or-reversed_text k n i (k - 1 - i) d e))
 
 -- a text that is written letter by letter over the front of an array
-pub written-more : (word old letters : List ℕ) (i b : ℕ) → i < length word → i < length old → letters ≡ take i word ++ drop i old → b ≡ get_or word i 0 → set letters i b ≡ take (i + 1) word ++ drop (i + 1) old
-written-more word old letters i b hw ho e is =
+pub written-more : {letters : List ℕ} (word old : List ℕ) (i b : ℕ) → i < length word → i < length old → letters ≡ take i word ++ drop i old → b ≡ get_or word i 0
+    → set letters i b ≡ take (i + 1) word ++ drop (i + 1) old
+written-more word old i b hw ho e is =
     ap (λ xs. set xs i b) (e ∙ ap (λ xs. take i word ++ xs) (drop_more old i 0 ho))
     ∙ set_at (take i word) (get_or old i 0) (drop (i + 1) old) b i (length-take-le i word (omega (arith, hw)))
     ∙ ap (λ x. take i word ++ x ∷ drop (i + 1) old) is
@@ -81,8 +82,7 @@ letter-at k n i g h same =
     ∙ sym (get_or-text k n i (g - 1 - i) 0 (omega (arith, h, same)))
 
 -- when all letters are written
-pub written-all : (k n i g : ℕ) (old letters : List ℕ) → g ≡ k → i ≤ g → g ≤ i → letters ≡ take i (text k n) ++ drop i old → letters ≡ text k n ++ drop k old
-written-all k n i g old letters same most least e =
-    let index : i ≡ k = omega (arith, same, most, least) in
+pub written-all : (k n i : ℕ) (old letters : List ℕ) → i ≡ k → letters ≡ take i (text k n) ++ drop i old → letters ≡ text k n ++ drop k old
+written-all k n i old letters index e =
     let long = length-text k n in
     e ∙ ap (λ m. take m (text k n) ++ drop m old) index ∙ ap (λ xs. xs ++ drop k old) (take_all k (text k n) (omega (arith, long)))

@@ -1,8 +1,8 @@
 -- The slow count: a position looked at base by base, positions counted one by one, and rows made number by number.
-use Rattle.std.proofs.Common.{◌≡◌, ℕ, ◌+◌, ◌-◌, ◌^◌, ◌<◌, ◌≤◌, ⊎_elim, Bool, true, false, not, ◌&&◌, cond, eqb, leb, List, [], ◌∷◌, ◌++◌, map, length, get_or, take, drop, Some, None, option_map, sum_by, count_by, refl, ap, sym, ◌∙◌, arith, eq-eqb, ne_eqb, map-id}
+use Rattle.std.proofs.Common.{◌≡◌, ℕ, ◌+◌, ◌-◌, ◌^◌, ◌<◌, ◌≤◌, ⊎_elim, Bool, true, false, not, ◌&&◌, cond, eqb, leb, List, [], ◌∷◌, ◌++◌, map, length, get_or, take, drop, Some, None, option_map, sum_by, count_by, refl, ap, sym, ◌∙◌, subst, arith, eq-eqb, ne_eqb, map-id}
 use Rattle.std.proofs.lemmas.Bool.{cases_Bool, cond-true, cond-false, and_from, and_left, and_right, le-leb, lt-leb, false_from_ne_true, cases_eq}
-use Rattle.std.proofs.lemmas.List.{length-take-le, length-drop, take_all}
-use Rattle.std.proofs.lemmas.List.Sums.{sum_by_push, sum_by_more, sum_by_more_le}
+use Rattle.std.proofs.lemmas.List.{length-take-le, length-drop}
+use Rattle.std.proofs.lemmas.List.Sums.{sum_by_push, sum_by_more}
 use Rattle.std.proofs.lemmas.Slice.Eq.{bytes_eq-Decides}
 use Rattle.std.proofs.lemmas.List.Folds.{list_all-append, list_all_at}
 use Rattle.std.proofs.lemmas.List.FromFn.{map-range_with_len_more, length-range_with_len, get_or-range_with_len}
@@ -29,25 +29,49 @@ known-is byte c e =
     (λ h. ap not (eq-eqb c 4 (e ∙ cond-false _ _ _ h)) ∙ sym h)
     (cases_Bool (is_base (to_ascii_uppercase byte)))
 
+-- a base that is looked at: the bases of its read, its index, and the code that was found for it
+pub record BaseLook (read : Read) : Type 0 where
+  pub bases : List ℕ
+  pub index : ℕ
+  pub found : ℕ
+  pub bases_are : bases ≡ read.bases
+  pub found_is : found ≡ cond (is_base (to_ascii_uppercase (get_or bases index 0))) (code (to_ascii_uppercase (get_or bases index 0))) 4
+
+-- whether the code says that it is a base
+known-base : (read : Read) (s : BaseLook read) → not (eqb s.found 4) ≡ is_base (to_ascii_uppercase (get_or read.bases s.index 0))
+known-base read s = known-is (get_or s.bases s.index 0) s.found s.found_is ∙ ap (λ xs. is_base (to_ascii_uppercase (get_or xs s.index 0))) s.bases_are
+
 -- a base of a read without qualities
-pub usable-none : (rule : CountingRule) (read : Read) (bases : List ℕ) (j c : ℕ) → bases ≡ read.bases → None ≡ read.quals → c ≡ cond (is_base (to_ascii_uppercase (get_or bases j 0))) (code (to_ascii_uppercase (get_or bases j 0))) 4
-    → not (eqb c 4) ≡ is_usable rule read j
+pub usable-none : (rule : CountingRule) (read : Read) (s : BaseLook read) → None ≡ read.quals → not (eqb s.found 4) ≡ is_usable rule read s.index
 unfolding is_usable
-usable-none rule read bases j c same none e =
-    known-is (get_or bases j 0) c e ∙ ap (λ xs. is_base (to_ascii_uppercase (get_or xs j 0))) same ∙ sym (and-true (is_base (to_ascii_uppercase (get_or read.bases j 0))))
-    ∙ ap (λ o. is_base (to_ascii_uppercase (get_or read.bases j 0)) && passes_floor rule.floor o j) none
+usable-none rule read s none =
+    known-base read s ∙ sym (and-true (is_base (to_ascii_uppercase (get_or read.bases s.index 0))))
+    ∙ ap (λ o. is_base (to_ascii_uppercase (get_or read.bases s.index 0)) && passes_floor rule.floor o s.index) none
   where
     and-true : (b : Bool) → (b && true) ≡ b
     and-true true = refl
     and-true false = refl
 
 -- a base of a read with qualities
-pub usable-some : (rule : CountingRule) (read : Read) (bases quals : List ℕ) (j c : ℕ) → bases ≡ read.bases → Some quals ≡ read.quals → c ≡ cond (is_base (to_ascii_uppercase (get_or bases j 0))) (code (to_ascii_uppercase (get_or bases j 0))) 4
-    → (not (eqb c 4) && leb rule.floor (get_or quals j 0)) ≡ is_usable rule read j
+usable-some : (rule : CountingRule) (read : Read) (s : BaseLook read) (quals : List ℕ) → Some quals ≡ read.quals
+    → (not (eqb s.found 4) && leb rule.floor (get_or quals s.index 0)) ≡ is_usable rule read s.index
 unfolding is_usable
-usable-some rule read bases quals j c same some e =
-    ap (λ b. b && leb rule.floor (get_or quals j 0)) (known-is (get_or bases j 0) c e ∙ ap (λ xs. is_base (to_ascii_uppercase (get_or xs j 0))) same)
-    ∙ ap (λ o. is_base (to_ascii_uppercase (get_or read.bases j 0)) && passes_floor rule.floor o j) some
+usable-some rule read s quals some =
+    ap (λ b. b && leb rule.floor (get_or quals s.index 0)) (known-base read s)
+    ∙ ap (λ o. is_base (to_ascii_uppercase (get_or read.bases s.index 0)) && passes_floor rule.floor o s.index) some
+
+-- where its code is one of a base, the quality decides
+pub usable-known : (rule : CountingRule) (read : Read) (s : BaseLook read) (quals : List ℕ) (floor : ℕ) → Some quals ≡ read.quals → floor ≡ rule.floor → (s.found ≡ 4 → ⊥)
+    → leb floor (get_or quals s.index 0) ≡ is_usable rule read s.index
+usable-known rule read s quals floor some level known =
+    ap (λ n. leb n (get_or quals s.index 0)) level ∙ sym (ap (λ b. b && leb rule.floor (get_or quals s.index 0)) (ap not (ne_eqb s.found 4 known)))
+    ∙ usable-some rule read s quals some
+
+-- where it is not, the base is not usable
+pub usable-unknown : (rule : CountingRule) (read : Read) (s : BaseLook read) (quals : List ℕ) → Some quals ≡ read.quals → s.found ≡ 4 → not (eqb s.found 4) ≡ is_usable rule read s.index
+usable-unknown rule read s quals some unknown =
+    ap not (eq-eqb s.found 4 unknown) ∙ sym (ap (λ b. b && leb rule.floor (get_or quals s.index 0)) (ap not (eq-eqb s.found 4 unknown)))
+    ∙ usable-some rule read s quals some
 
 -- ---- one position
 
@@ -82,18 +106,31 @@ pub record HoldsWord (rule : CountingRule) (read : Read) (p : ℕ) (window : Lis
   pub bases : are_bases (map to_ascii_uppercase window) ≡ true
   pub counted : form_at rule read p ≡ Some (form rule.both (map to_ascii_uppercase window))
 
-pub form_at-whole : (rule : CountingRule) (read : Read) (bases : List ℕ) (p end : ℕ) → bases ≡ read.bases → end ≡ p + rule.k → end ≤ length read.bases → list_all (λ j. is_usable rule read j) (range_with_len p (end - p)) ≡ true
-    → HoldsWord rule read p (take (end - p) (drop p bases))
+-- the bases from a position to an end, as many as a word has and all usable
+pub record UsableWindow (rule : CountingRule) (read : Read) (p : ℕ) : Type 0 where
+  pub bases : List ℕ
+  pub end : ℕ
+  pub bases_are : bases ≡ read.bases
+  pub end_is : end ≡ p + rule.k
+  pub within : end ≤ length read.bases
+  pub usable : list_all (λ j. is_usable rule read j) (range_with_len p (end - p)) ≡ true
+
+pub form_at-whole : (rule : CountingRule) (read : Read) (p : ℕ) (s : UsableWindow rule read p) → HoldsWord rule read p (take (s.end - p) (drop p s.bases))
 unfolding form_at word_at
-form_at-whole rule read bases p end same e h all =
-    let count : end - p ≡ rule.k = omega (arith, e) in
-    let cut : take (end - p) (drop p bases) ≡ take rule.k (drop p read.bases) = ap (λ n. take n (drop p bases)) count ∙ ap (λ xs. take rule.k (drop p xs)) same in
-    let usable : list_all (λ j. is_usable rule read j) (range_with_len p rule.k) ≡ true = ap (λ n. list_all (λ j. is_usable rule read j) (range_with_len p n)) (sym count) ∙ all in
+form_at-whole rule read p s =
+    let count : s.end - p ≡ rule.k = omega (arith, s.end_is) in
+    let cut : take (s.end - p) (drop p s.bases) ≡ take rule.k (drop p read.bases) =
+    ap (λ n. take n (drop p s.bases)) count ∙ ap (λ xs. take rule.k (drop p xs)) s.bases_are in
+    let usable : list_all (λ j. is_usable rule read j) (range_with_len p rule.k) ≡ true =
+    ap (λ n. list_all (λ j. is_usable rule read j) (range_with_len p n)) (sym count) ∙ s.usable in
     let rest = length-drop p read.bases in
+    let fits : p + rule.k ≤ length read.bases = omega (arith, s.end_is, s.within) in
     record {
-      long = ap length cut ∙ length-take-le rule.k (drop p read.bases) (omega (arith, rest, e, h));
-      bases = ap (λ w. are_bases (map to_ascii_uppercase w)) cut ∙ bases-usable rule read rule.k p (omega (arith, e, h)) usable;
-      counted = ap (option_map (form rule.both)) (cond-true _ (Some (map to_ascii_uppercase (take rule.k (drop p read.bases)))) None (and_from _ _ (le-leb (p + rule.k) (length read.bases) (omega (arith, e, h))) usable))
+      long = ap length cut ∙ length-take-le rule.k (drop p read.bases) (omega (arith, rest, fits));
+      bases = ap (λ w. are_bases (map to_ascii_uppercase w)) cut ∙ bases-usable rule read rule.k p fits usable;
+      counted =
+          ap (option_map (form rule.both))
+          (cond-true _ (Some (map to_ascii_uppercase (take rule.k (drop p read.bases)))) None (and_from _ _ (le-leb (p + rule.k) (length read.bases) fits) usable))
           ∙ ap (λ w. Some (form rule.both (map to_ascii_uppercase w))) (sym cut);
     }
 
@@ -105,21 +142,10 @@ pub counted-one : (rule : CountingRule) (b : Bool) (word letters : List ℕ) →
 unfolding form
 counted-one rule b word letters same h e = e ∙ sym (cond-false rule.both (canonical letters) letters (sym same ∙ h))
 
--- the two arms of the look at one base
-pub usable-known : (rule : CountingRule) (read : Read) (bases quals : List ℕ) (j c floor : ℕ) → bases ≡ read.bases → Some quals ≡ read.quals → c ≡ cond (is_base (to_ascii_uppercase (get_or bases j 0))) (code (to_ascii_uppercase (get_or bases j 0))) 4
-    → floor ≡ rule.floor → (c ≡ 4 → ⊥) → leb floor (get_or quals j 0) ≡ is_usable rule read j
-usable-known rule read bases quals j c floor same some e level known =
-    ap (λ n. leb n (get_or quals j 0)) level ∙ sym (ap (λ b. b && leb rule.floor (get_or quals j 0)) (ap not (ne_eqb c 4 known))) ∙ usable-some rule read bases quals j c same some e
-
-pub usable-unknown : (rule : CountingRule) (read : Read) (bases quals : List ℕ) (j c : ℕ) → bases ≡ read.bases → Some quals ≡ read.quals → c ≡ cond (is_base (to_ascii_uppercase (get_or bases j 0))) (code (to_ascii_uppercase (get_or bases j 0))) 4
-    → c ≡ 4 → not (eqb c 4) ≡ is_usable rule read j
-usable-unknown rule read bases quals j c same some e unknown =
-    ap not (eq-eqb c 4 unknown) ∙ sym (ap (λ b. b && leb rule.floor (get_or quals j 0)) (ap not (eq-eqb c 4 unknown))) ∙ usable-some rule read bases quals j c same some e
-
 -- what `pack` gives of the window of a position that holds a word
-pub word-packed : (rule : CountingRule) (read : Read) (p k m : ℕ) (window : List ℕ) (b : Bool) → HoldsWord rule read p window → k ≡ rule.k → text k m ≡ map to_ascii_uppercase window → form_at rule read p ≡ Some (form rule.both (text rule.k m))
-word-packed rule read p k m window b held same e =
-    held.counted ∙ ap (λ w. Some (form rule.both w)) (sym e ∙ ap (λ j. text j m) same)
+pub word-packed : {window : List ℕ} (rule : CountingRule) (read : Read) (p k m : ℕ) → HoldsWord rule read p window → k ≡ rule.k → text k m ≡ map to_ascii_uppercase window
+    → form_at rule read p ≡ Some (form rule.both (text rule.k m))
+word-packed rule read p k m held same e = held.counted ∙ ap (λ w. Some (form rule.both w)) (sym e ∙ ap (λ j. text j m) same)
 
 -- ---- all positions of a read
 
@@ -178,22 +204,24 @@ pub IsSummedTo-none : (rule : CountingRule) (word : List ℕ) → IsSummedTo rul
 unfolding occurrences
 IsSummedTo-none rule word = record { value = refl; most = omega arith }
 
-pub IsSummedTo-more : (rule : CountingRule) (reads : List Read) (word : List ℕ) (i count here : ℕ) (d : Read) → i < length reads → here ≡ occurrences_in rule (get_or reads i d) word → here ≤ length (get_or reads i d).bases
-    → IsSummedTo rule (take i reads) word count → IsSummedTo rule (take (i + 1) reads) word (count + here)
+-- one read more, at an index, and how often the word stands in it
+pub record ReadStep (rule : CountingRule) (reads : List Read) (word : List ℕ) : Type 0 where
+  pub index : ℕ
+  pub read : Read
+  pub count : ℕ
+  pub within : index < length reads
+  pub read_is : read ≡ get_or reads index read
+  pub count_is : count ≡ occurrences_in rule read word
+  pub most : count ≤ length read.bases
+
+pub IsSummedTo-more : (rule : CountingRule) (reads : List Read) (word : List ℕ) (s : ReadStep rule reads word) (count : ℕ) → IsSummedTo rule (take s.index reads) word count
+    → IsSummedTo rule (take (s.index + 1) reads) word (count + s.count)
 unfolding occurrences
-IsSummedTo-more rule reads word i count here d h e most summed =
-    let value = sum_by_more (λ r. occurrences_in rule r word) reads i d h in
-    let bases = sum_by_more (λ (r : Read). length r.bases) reads i d h in
+IsSummedTo-more rule reads word s count summed =
+    let value = sum_by_more (λ r. occurrences_in rule r word) reads s.index s.read s.within in
+    let bases = sum_by_more (λ (r : Read). length r.bases) reads s.index s.read s.within in
+    let here : s.count ≡ occurrences_in rule (get_or reads s.index s.read) word = s.count_is ∙ ap (λ r. occurrences_in rule r word) s.read_is in
+    let most : s.count ≤ length (get_or reads s.index s.read).bases = subst (λ (r : Read). s.count ≤ length r.bases) s.read_is s.most in
     let before = summed.value in
     let least = summed.most in
-    record { value = omega (arith, value, before, e); most = omega (arith, bases, least, most) }
-
-pub IsSummedTo-fits : (rule : CountingRule) (reads : List Read) (word : List ℕ) (i count here : ℕ) (d : Read) → i < length reads → here ≤ length (get_or reads i d).bases
-    → IsSummedTo rule (take i reads) word count → count + here ≤ sum_by (λ read. length read.bases) reads
-IsSummedTo-fits rule reads word i count here d h most summed =
-    let whole = sum_by_more_le (λ (r : Read). length r.bases) reads i d h in
-    let least = summed.most in
-    omega (arith, whole, least, most)
-
-pub IsSummedTo-all : (rule : CountingRule) (reads : List Read) (word : List ℕ) (i count : ℕ) → length reads ≤ i → IsSummedTo rule (take i reads) word count → count ≡ occurrences rule reads word
-IsSummedTo-all rule reads word i count h summed = summed.value ∙ ap (λ xs. occurrences rule xs word) (take_all i reads h)
+    record { value = omega (arith, value, before, here); most = omega (arith, bases, least, most) }

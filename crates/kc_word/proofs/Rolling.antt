@@ -234,36 +234,56 @@ IsRolled-none k backward e = record {
   run_is = sym (run_of-none k);
 }
 
--- one byte more
-pub IsRolled-more : (k : ℕ) (seen : List ℕ) (byte c forward backward run more : ℕ) → 1 ≤ k → c ≡ cond (is_base (to_ascii_uppercase byte)) (code (to_ascii_uppercase byte)) 4 → (c < 4 → more ≡ run + 1) → (4 ≤ c → more ≡ 0)
-    → IsRolled k seen forward backward run → IsRolled k (seen ++ byte ∷ []) ((forward * 4 + bit_and c 3) % 4 ^ k) (backward / 4 + (3 - bit_and c 3) * 4 ^ (k - 1)) more
+-- one byte more: its code, and the two numbers and the run before it and behind it
+pub record RollStep (k : ℕ) : Type 0 where
+  pub byte : ℕ
+  pub found : ℕ
+  pub forward : ℕ
+  pub backward : ℕ
+  pub run : ℕ
+  pub next_forward : ℕ
+  pub next_backward : ℕ
+  pub next_run : ℕ
+  pub found_is : found ≡ cond (is_base (to_ascii_uppercase byte)) (code (to_ascii_uppercase byte)) 4
+  pub forward_is : next_forward ≡ (forward * 4 + bit_and found 3) % 4 ^ k
+  pub backward_is : next_backward ≡ backward / 4 + (3 - bit_and found 3) * 4 ^ (k - 1)
+  pub grows : found < 4 → next_run ≡ run + 1
+  pub breaks : 4 ≤ found → next_run ≡ 0
+
+pub IsRolled-more : (k : ℕ) (seen : List ℕ) (s : RollStep k) → 1 ≤ k → IsRolled k seen s.forward s.backward s.run
+    → IsRolled k (seen ++ s.byte ∷ []) s.next_forward s.next_backward s.next_run
 unfolding other_digit
-IsRolled-more k seen byte c forward backward run more some e longer stops rolled =
-    let window : List ℕ = last_window k seen in
+IsRolled-more k seen s some rolled =
+    let first : ℕ = get_or (last_window k seen) 0 0 in
     let long = length-last_window k seen in
-    let split : last_window k seen ≡ get_or (last_window k seen) 0 0 ∷ drop 1 (last_window k seen) = drop_more (last_window k seen) 0 0 (omega (arith, long, some)) in
+    let split : last_window k seen ≡ first ∷ drop 1 (last_window k seen) = drop_more (last_window k seen) 0 0 (omega (arith, long, some)) in
     let rest : length (drop 1 (last_window k seen)) ≡ k - 1 = length-drop 1 (last_window k seen) ∙ ap (λ n. n - 1) long in
-    let digit = digit_of-masked byte c e in
-    let next = last_window_push k seen byte some in
+    let digit = digit_of-masked s.byte s.found s.found_is in
+    let next = last_window_push k seen s.byte some in
     let whole : suc (k - 1) ≡ k = omega (arith, some) in
     record {
       forward_is =
-          ap (λ n. (n * 4 + bit_and c 3) % 4 ^ k) (rolled.forward_is ∙ ap (λ w. number_from_digits 4 (map digit_of w)) split)
-          ∙ ap (λ d. (number_from_digits 4 (map digit_of (get_or (last_window k seen) 0 0 ∷ drop 1 (last_window k seen))) * 4 + d) % 4 ^ k) digit
-          ∙ ap (λ m. (number_from_digits 4 (map digit_of (get_or (last_window k seen) 0 0 ∷ drop 1 (last_window k seen))) * 4 + digit_of byte) % 4 ^ m) (sym whole)
-          ∙ forward-moved (get_or (last_window k seen) 0 0) byte (k - 1) (drop 1 (last_window k seen)) rest
+          s.forward_is
+          ∙ ap (λ n. (n * 4 + bit_and s.found 3) % 4 ^ k) (rolled.forward_is ∙ ap (λ w. number_from_digits 4 (map digit_of w)) split)
+          ∙ ap (λ d. (number_from_digits 4 (map digit_of (first ∷ drop 1 (last_window k seen))) * 4 + d) % 4 ^ k) digit
+          ∙ ap (λ m. (number_from_digits 4 (map digit_of (first ∷ drop 1 (last_window k seen))) * 4 + digit_of s.byte) % 4 ^ m) (sym whole)
+          ∙ forward-moved first s.byte (k - 1) (drop 1 (last_window k seen)) rest
           ∙ ap (λ w. number_from_digits 4 (map digit_of w)) (sym next);
       backward_is =
-          ap (λ n. n / 4 + (3 - bit_and c 3) * 4 ^ (k - 1)) (rolled.backward_is ∙ ap (λ w. number_from_digits 4 (reverse (map other_digit w))) split)
-          ∙ ap (λ d. number_from_digits 4 (reverse (map other_digit (get_or (last_window k seen) 0 0 ∷ drop 1 (last_window k seen)))) / 4 + (3 - d) * 4 ^ (k - 1)) digit
-          ∙ backward-moved (get_or (last_window k seen) 0 0) byte (k - 1) (drop 1 (last_window k seen)) rest
+          s.backward_is
+          ∙ ap (λ n. n / 4 + (3 - bit_and s.found 3) * 4 ^ (k - 1)) (rolled.backward_is ∙ ap (λ w. number_from_digits 4 (reverse (map other_digit w))) split)
+          ∙ ap (λ d. number_from_digits 4 (reverse (map other_digit (first ∷ drop 1 (last_window k seen)))) / 4 + (3 - d) * 4 ^ (k - 1)) digit
+          ∙ backward-moved first s.byte (k - 1) (drop 1 (last_window k seen)) rest
           ∙ ap (λ w. number_from_digits 4 (reverse (map other_digit w))) (sym next);
       run_is =
           ⊎_elim
-          (λ h. longer (let small = code-lt (to_ascii_uppercase byte) in let value : c ≡ code (to_ascii_uppercase byte) = e ∙ cond-true _ _ _ h in omega (arith, small, value))
-          ∙ ap (λ n. n + 1) rolled.run_is ∙ add_comm (run_of k seen) 1 ∙ sym (run_of_push k seen byte ∙ cond-true (is_letter byte) (1 + run_of k seen) 0 h))
-          (λ h. stops (let value : c ≡ 4 = e ∙ cond-false _ _ _ h in omega (arith, value)) ∙ sym (run_of_push k seen byte ∙ cond-false (is_letter byte) (1 + run_of k seen) 0 h))
-          (cases_Bool (is_letter byte));
+          (λ h. s.grows (let small = code-lt (to_ascii_uppercase s.byte) in
+          let value : s.found ≡ code (to_ascii_uppercase s.byte) = s.found_is ∙ cond-true _ _ _ h in omega (arith, small, value))
+          ∙ ap (λ n. n + 1) rolled.run_is ∙ add_comm (run_of k seen) 1
+          ∙ sym (run_of_push k seen s.byte ∙ cond-true (is_letter s.byte) (1 + run_of k seen) 0 h))
+          (λ h. s.breaks (let value : s.found ≡ 4 = s.found_is ∙ cond-false _ _ _ h in omega (arith, value))
+          ∙ sym (run_of_push k seen s.byte ∙ cond-false (is_letter s.byte) (1 + run_of k seen) 0 h))
+          (cases_Bool (is_letter s.byte));
     }
 
 pub IsRolled-forward-lt : (k : ℕ) (seen : List ℕ) (forward backward run : ℕ) → IsRolled k seen forward backward run → forward < 4 ^ k

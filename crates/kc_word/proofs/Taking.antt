@@ -73,34 +73,36 @@ IsTaking-none k size index position pieces cursor = record {
 pub given : ℕ → List ℕ → ℕ → ℕ → List (List ℕ)
 given k piece position taken = stretch k piece position (position + taken)
 
-pub given-some : (k : ℕ) (piece : List ℕ) (position taken : ℕ) → 0 < taken → given k piece position taken ≡ slice_range piece position (position + taken + k - 1) ∷ []
+given-some : (k : ℕ) (piece : List ℕ) (position taken : ℕ) → 0 < taken → given k piece position taken ≡ slice_range piece position (position + taken + k - 1) ∷ []
 unfolding given stretch
 given-some k piece position taken h = cond-true _ (slice_range piece position (position + taken + k - 1) ∷ []) [] (lt-ltb position (position + taken) (omega (arith, h)))
 
-pub given-none : (k : ℕ) (piece : List ℕ) (position taken : ℕ) → taken ≤ 0 → given k piece position taken ≡ []
+given-none : (k : ℕ) (piece : List ℕ) (position taken : ℕ) → taken ≤ 0 → given k piece position taken ≡ []
 unfolding given
 given-none k piece position taken h = stretch-empty k piece position (position + taken) (omega (arith, h))
 
--- the piece that the cursor stands in, with what it gives, and the rest
-taken-split : (k high : ℕ) (pieces : List (List ℕ)) (index position room taken : ℕ) → index < length pieces → position_number k pieces index position + room ≡ high → position ≤ position_count k (length (get_or pieces index [])) → taken ≡ min room (position_count k (length (get_or pieces index [])) - position)
-    → stretches_from k (position_number k pieces index position) high (position_total k (take index pieces)) (drop index pieces)
-    ≡ given k (get_or pieces index []) position taken ++ stretches_from k (position_number k pieces index position) high (position_total k (take index pieces) + position_count k (length (get_or pieces index []))) (drop (index + 1) pieces)
-unfolding given
-taken-split k high pieces index position room taken h number inside e =
-    let low : ℕ = position_number k pieces index position in
-    let first : ℕ = position_total k (take index pieces) in
-    let piece : List ℕ = get_or pieces index [] in
-    ap (stretches_from k (position_number k pieces index position) high (position_total k (take index pieces))) (drop_more pieces index [] h)
-    ∙ stretches-cons k (position_number k pieces index position) high (position_total k (take index pieces)) (get_or pieces index []) (drop (index + 1) pieces)
-    ∙ ap (λ n. stretch k (get_or pieces index []) n (min (position_count k (length (get_or pieces index []))) (high - position_total k (take index pieces)))
-    ++ stretches_from k (position_number k pieces index position) high (position_total k (take index pieces) + position_count k (length (get_or pieces index []))) (drop (index + 1) pieces)) from
-    ∙ ap (λ n. stretch k (get_or pieces index []) position n ++ stretches_from k (position_number k pieces index position) high (position_total k (take index pieces) + position_count k (length (get_or pieces index []))) (drop (index + 1) pieces)) to
-  where
-    from : position_number k pieces index position - position_total k (take index pieces) ≡ position
-    from = omega arith
+-- the step of the code: where the piece gives positions, their part, which ends `bases` - 1 bytes behind the last of them, is pushed, and else nothing
+pub record PartStep (k : ℕ) (pieces : List (List ℕ)) : Type 0 where
+  pub index : ℕ
+  pub position : ℕ
+  pub taken : ℕ
+  pub bases : ℕ
+  pub piece : List ℕ
+  pub parts : List (List ℕ)
+  pub next_parts : List (List ℕ)
+  pub bases_are : bases ≡ k
+  pub piece_is : piece ≡ get_or pieces index []
+  pub pushed : ((0 < taken) × (next_parts ≡ parts ++ slice_range piece position (position + taken + bases - 1) ∷ [])) ⊎ ((taken ≤ 0) × (next_parts ≡ parts))
 
-    to : min (position_count k (length (get_or pieces index []))) (high - position_total k (take index pieces)) ≡ position + taken
-    to = omega (arith, number, inside, e)
+-- what stands behind the step are the parts before it and what the piece gives
+pub given-more : (k : ℕ) (pieces : List (List ℕ)) (s : PartStep k pieces) → s.next_parts ≡ s.parts ++ given k (get_or pieces s.index []) s.position s.taken
+given-more k pieces s =
+    ⊎_elim
+    (λ p. p.1 ∙ ap (λ n. s.parts ++ slice_range s.piece s.position (s.position + s.taken + n - 1) ∷ []) s.bases_are
+    ∙ ap (λ xs. s.parts ++ slice_range xs s.position (s.position + s.taken + k - 1) ∷ []) s.piece_is
+    ∙ ap (λ xs. s.parts ++ xs) (sym (given-some k (get_or pieces s.index []) s.position s.taken p.0)))
+    (λ p. p.1 ∙ sym (append-nil s.parts) ∙ ap (λ xs. s.parts ++ xs) (sym (given-none k (get_or pieces s.index []) s.position s.taken p.0)))
+    s.pushed
 
 -- one piece more: of its `count` positions, `taken` are taken from `position` on. It is used up, or there is no more room
 pub record TakingStep (k : ℕ) (pieces : List (List ℕ)) : Type 0 where
@@ -119,59 +121,110 @@ pub record TakingStep (k : ℕ) (pieces : List (List ℕ)) : Type 0 where
   pub parts_are : next_parts ≡ parts ++ given k (get_or pieces index []) position taken
   pub moved : ((position + taken ≡ count) × (next_index ≡ index + 1) × (next_position ≡ 0)) ⊎ ((position + taken ≡ count → ⊥) × (next_index ≡ index) × (next_position ≡ position + taken))
 
-pub IsTaking-more : (k low high : ℕ) (pieces : List (List ℕ)) → 1 ≤ k → (s : TakingStep k pieces) → IsTaking k low high pieces s.index s.position s.room s.parts → IsTaking k low high pieces s.next_index s.next_position (s.room - s.taken) s.next_parts
+-- the piece that the cursor stands in, with what it gives, and the rest
+taken-split : (k high : ℕ) (pieces : List (List ℕ)) (s : TakingStep k pieces) → position_number k pieces s.index s.position + s.room ≡ high
+    → s.position ≤ position_count k (length (get_or pieces s.index []))
+    → stretches_from k (position_number k pieces s.index s.position) high (position_total k (take s.index pieces)) (drop s.index pieces)
+    ≡ given k (get_or pieces s.index []) s.position s.taken ++ stretches_from k (position_number k pieces s.index s.position) high
+    (position_total k (take s.index pieces) + position_count k (length (get_or pieces s.index []))) (drop (s.index + 1) pieces)
+unfolding given
+taken-split k high pieces s number inside =
+    ap (stretches_from k low high first) (drop_more pieces s.index [] s.within)
+    ∙ stretches-cons k low high first piece later
+    ∙ ap (λ n. stretch k piece n (min count (high - first)) ++ stretches_from k low high (first + count) later) from
+    ∙ ap (λ n. stretch k piece s.position n ++ stretches_from k low high (first + count) later) to
+  where
+    low : ℕ
+    low = position_number k pieces s.index s.position
+
+    first : ℕ
+    first = position_total k (take s.index pieces)
+
+    piece : List ℕ
+    piece = get_or pieces s.index []
+
+    later : List (List ℕ)
+    later = drop (s.index + 1) pieces
+
+    count : ℕ
+    count = position_count k (length (get_or pieces s.index []))
+
+    from : low - first ≡ s.position
+    from = omega arith
+
+    to : min count (high - first) ≡ s.position + s.taken
+    to =
+        let least : s.taken ≡ min s.room (count - s.position) = s.taken_is ∙ ap (λ n. min s.room (n - s.position)) s.count_is in
+        omega (arith, number, inside, least)
+
+pub IsTaking-more : (k low high : ℕ) (pieces : List (List ℕ)) → 1 ≤ k → (s : TakingStep k pieces) → IsTaking k low high pieces s.index s.position s.room s.parts
+    → IsTaking k low high pieces s.next_index s.next_position (s.room - s.taken) s.next_parts
 IsTaking-more k low high pieces some s taking =
     ⊎_elim (λ m. used m) (λ m. full m) s.moved
   where
-    piece : List ℕ
-    piece = get_or pieces s.index []
+    from : ℕ
+    from = position_number k pieces s.index s.position
+
+    first : ℕ
+    first = position_total k (take s.index pieces)
+
+    size : ℕ
+    size = position_count k (length (get_or pieces s.index []))
+
+    later : List (List ℕ)
+    later = drop (s.index + 1) pieces
 
     inside : s.position ≤ s.count
     inside = let fits = taking.cursor.inside in omega (arith, fits, s.count_is)
 
-    least : s.taken ≡ min s.room (position_count k (length (get_or pieces s.index [])) - s.position)
-    least = s.taken_is ∙ ap (λ n. min s.room (n - s.position)) s.count_is
-
-    split : s.next_parts ++ stretches_from k (position_number k pieces s.index s.position) high (position_total k (take s.index pieces) + position_count k (length (get_or pieces s.index []))) (drop (s.index + 1) pieces) ≡ stretches_from k low high 0 pieces
+    split : s.next_parts ++ stretches_from k from high (first + size) later ≡ stretches_from k low high 0 pieces
     split =
-        ap (λ xs. xs ++ stretches_from k (position_number k pieces s.index s.position) high (position_total k (take s.index pieces) + position_count k (length (get_or pieces s.index []))) (drop (s.index + 1) pieces)) s.parts_are
-        ∙ append_assoc s.parts (given k (get_or pieces s.index []) s.position s.taken) (stretches_from k (position_number k pieces s.index s.position) high (position_total k (take s.index pieces) + position_count k (length (get_or pieces s.index []))) (drop (s.index + 1) pieces))
-        ∙ ap (λ xs. s.parts ++ xs) (sym (taken-split k high pieces s.index s.position s.room s.taken s.within taking.number taking.cursor.inside least))
+        ap (λ xs. xs ++ stretches_from k from high (first + size) later) s.parts_are
+        ∙ append_assoc s.parts (given k (get_or pieces s.index []) s.position s.taken) (stretches_from k from high (first + size) later)
+        ∙ ap (λ xs. s.parts ++ xs) (sym (taken-split k high pieces s taking.number taking.cursor.inside))
         ∙ taking.taken
 
-    total : position_total k (take (s.index + 1) pieces) ≡ position_total k (take s.index pieces) + position_count k (length (get_or pieces s.index []))
+    total : position_total k (take (s.index + 1) pieces) ≡ first + size
     total = sum_by_more (λ p. position_count k (length p)) pieces s.index [] s.within
 
-    used : (s.position + s.taken ≡ s.count) × (s.next_index ≡ s.index + 1) × (s.next_position ≡ 0) → IsTaking k low high pieces s.next_index s.next_position (s.room - s.taken) s.next_parts
+    stands_at : (i p : ℕ) → s.next_index ≡ i → s.next_position ≡ p → IsTaking k low high pieces i p (s.room - s.taken) s.next_parts
+        → IsTaking k low high pieces s.next_index s.next_position (s.room - s.taken) s.next_parts
+    stands_at i p index_is position_is goes =
+        subst (λ j. IsTaking k low high pieces j s.next_position (s.room - s.taken) s.next_parts) (sym index_is)
+        (subst (λ q. IsTaking k low high pieces i q (s.room - s.taken) s.next_parts) (sym position_is) goes)
+
+    used : (s.position + s.taken ≡ s.count) × (s.next_index ≡ s.index + 1) × (s.next_position ≡ 0)
+        → IsTaking k low high pieces s.next_index s.next_position (s.room - s.taken) s.next_parts
     used m =
-        let next : position_number k pieces (s.index + 1) 0 ≡ position_number k pieces s.index s.position + s.taken = (let all = m.0 in omega (arith, total, all, s.count_is)) in
-        let goes : IsTaking k low high pieces (s.index + 1) 0 (s.room - s.taken) s.next_parts = record {
+        let all : s.position + s.taken ≡ s.count = m.0 in
+        let next : position_number k pieces (s.index + 1) 0 ≡ from + s.taken = omega (arith, total, all, s.count_is) in
+        let number = taking.number in
+        stands_at (s.index + 1) 0 m.1 m.2 (record {
           cursor = record { within = omega (arith, s.within); inside = omega arith };
-          number = (let number = taking.number in omega (arith, next, number, s.taken_is));
+          number = omega (arith, next, number, s.taken_is);
           taken =
-              ap (λ n. s.next_parts ++ stretches_from k (position_number k pieces (s.index + 1) 0) high n (drop (s.index + 1) pieces)) total
-              ∙ ap (λ xs. s.next_parts ++ xs) (stretches-early k (position_number k pieces (s.index + 1) 0) (position_number k pieces s.index s.position) high (position_total k (take s.index pieces) + position_count k (length (get_or pieces s.index []))) (drop (s.index + 1) pieces)
+              ap (λ n. s.next_parts ++ stretches_from k (position_number k pieces (s.index + 1) 0) high n later) total
+              ∙ ap (λ xs. s.next_parts ++ xs) (stretches-early k (position_number k pieces (s.index + 1) 0) from high (first + size) later
               (omega (arith, total)) (omega (arith, inside, s.count_is)))
               ∙ split;
-        } in
-        subst (λ i. IsTaking k low high pieces i s.next_position (s.room - s.taken) s.next_parts) (sym m.1) (subst (λ p. IsTaking k low high pieces (s.index + 1) p (s.room - s.taken) s.next_parts) (sym m.2) goes)
+        })
 
-    full : (s.position + s.taken ≡ s.count → ⊥) × (s.next_index ≡ s.index) × (s.next_position ≡ s.position + s.taken) → IsTaking k low high pieces s.next_index s.next_position (s.room - s.taken) s.next_parts
+    full : (s.position + s.taken ≡ s.count → ⊥) × (s.next_index ≡ s.index) × (s.next_position ≡ s.position + s.taken)
+        → IsTaking k low high pieces s.next_index s.next_position (s.room - s.taken) s.next_parts
     full m =
         let differ : s.position + s.taken ≡ s.count → ⊥ = m.0 in
         let spent : s.taken ≡ s.room = omega (arith, differ, s.taken_is, inside) in
         let number = taking.number in
         let next : position_number k pieces s.index (s.position + s.taken) ≡ high = omega (arith, number, spent) in
-        let goes : IsTaking k low high pieces s.index (s.position + s.taken) (s.room - s.taken) s.next_parts = record {
+        stands_at s.index (s.position + s.taken) m.1 m.2 (record {
           cursor = record { within = taking.cursor.within; inside = omega (arith, s.taken_is, inside, s.count_is) };
           number = omega (arith, next, spent);
           taken =
               ap (λ xs. s.next_parts ++ xs)
-              (stretches-none k (position_number k pieces s.index (s.position + s.taken)) high (position_total k (take s.index pieces)) (drop s.index pieces) (omega (arith, next))
-              ∙ sym (stretches-late k (position_number k pieces s.index s.position) high (position_total k (take s.index pieces) + position_count k (length (get_or pieces s.index []))) (drop (s.index + 1) pieces) (omega (arith, number, spent, differ, s.taken_is, inside, s.count_is))))
+              (stretches-none k (position_number k pieces s.index (s.position + s.taken)) high first (drop s.index pieces) (omega (arith, next))
+              ∙ sym (stretches-late k from high (first + size) later (omega (arith, number, spent, differ, s.taken_is, inside, s.count_is))))
               ∙ split;
-        } in
-        subst (λ i. IsTaking k low high pieces i s.next_position (s.room - s.taken) s.next_parts) (sym m.1) (subst (λ p. IsTaking k low high pieces s.index p (s.room - s.taken) s.next_parts) (sym m.2) goes)
+        })
 
 position_number-le : (k : ℕ) (pieces : List (List ℕ)) (index position : ℕ) → 1 ≤ k → IsCursor k pieces index position → position_number k pieces index position ≤ position_total k pieces
 position_number-le k pieces index position some cursor =
@@ -186,8 +239,9 @@ pub record IsTaken (k low high : ℕ) (pieces : List (List ℕ)) (index position
   pub parts_are : parts ≡ stretches k low high pieces
   pub moved : position_number k pieces index position ≡ min high (position_total k pieces)
 
-pub IsTaking-all : (k low high : ℕ) (pieces : List (List ℕ)) (index position room : ℕ) (parts : List (List ℕ)) → 1 ≤ k → (room ≤ 0) ⊎ (length pieces ≤ index) → IsTaking k low high pieces index position room parts → IsTaken k low high pieces index position parts
-IsTaking-all k low high pieces index position room parts some ends taking =
+pub IsTaking-all : {index position room : ℕ} {parts : List (List ℕ)} (k low high : ℕ) (pieces : List (List ℕ)) → 1 ≤ k → (room ≤ 0) ⊎ (length pieces ≤ index)
+    → IsTaking k low high pieces index position room parts → IsTaken k low high pieces index position parts
+IsTaking-all {index} {position} {room} {parts} k low high pieces some ends taking =
     let number = taking.number in
     let most = position_number-le k pieces index position some taking.cursor in
     record {
@@ -201,8 +255,3 @@ IsTaking-all k low high pieces index position room parts some ends taking =
       moved =
           ⊎_elim (λ h. omega (arith, number, h, most)) (λ h. let whole = ap (position_total k) (take_all index pieces h) in omega (arith, number, most, whole)) ends;
     }
-
--- the part that the code takes, where g is k and the piece is the one at the cursor
-pub part-taken : (g k : ℕ) (piece other : List ℕ) (position taken : ℕ) → g ≡ k → piece ≡ other → slice_range piece position (position + taken + g - 1) ≡ slice_range other position (position + taken + k - 1)
-part-taken g k piece other position taken same here =
-    ap (λ n. slice_range piece position (position + taken + n - 1)) same ∙ ap (λ xs. slice_range xs position (position + taken + k - 1)) here

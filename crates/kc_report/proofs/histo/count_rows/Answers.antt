@@ -13,7 +13,8 @@ overflow_add-words c =
     let some : 1 ≤ count = c.requires.present c.loop-row.row-index no_row c.loop-row-test.true in
     let below : count - 1 < length c.args.words.now = omega arith in
     let within : c.loop-row.row-index ≤ length c.args.rows.now = omega arith in
-    let most = counted-most (length c.args.words.now) c.loop-row.words c.args.rows.now c.loop-row.row-index (count - 1) c.loop-row.invariant within below in
+    let most =
+    counted-most (length c.args.words.now) c.loop-row.words c.args.rows.now c.loop-row.row-index (count - 1) c.loop-row.invariant within below in
     record { fits = omega arith }
 
 pub loop-row-preserved : goal.loop-row-preserved
@@ -24,7 +25,15 @@ loop-row-preserved c =
     elim c.if-row-words.branch [
       | then-row-words w ↦
           let most : (get_or rows i no_row).count ≤ n = omega arith in
-          w.words-is ∙ counted_row n c.loop-row.words rows i no_row c.loop-row.invariant c.loop-row-test.true (c.requires.present i no_row c.loop-row-test.true) most
+          w.words-is ∙ counted_row n rows (record {
+            words = c.loop-row.words;
+            index = i;
+            no_row = no_row;
+            counted = c.loop-row.invariant;
+            within = c.loop-row-test.true;
+            some = c.requires.present i no_row c.loop-row-test.true;
+            most = most;
+          })
       | else-row-words w ↦
           let past : n < (get_or rows i no_row).count = omega arith in
           w.words-is ∙ c.loop-row.invariant ∙ words_by_count-past n rows i no_row c.loop-row-test.true past

@@ -1,6 +1,6 @@
 use Rattle.std.proofs.Common.{◌≡◌, ◌+◌, ◌++◌, [], length, ap, sym, subst, ◌∙◌, append-nil, arith}
 use Rattle.std.proofs.lemmas.Result.{err_from_is_err_and}
-use Rattle.kc_io.proofs.SinksLemmas.{Pending, begin, began_front, drained, last}
+use Rattle.kc_io.proofs.SinksLemmas.{Pending, SinkCall, begin, began_front, drained, last}
 use Rattle.kc_report.specs.Histo.{histo_text, count_line, words_above}
 use Rattle.kc_report.proofs.CountLemmas.{words_at, words_above-all, words_above-split}
 use Rattle.kc_report.proofs.HistoLemmas.{text_above, text_above-all, text_above-none, next_line}
@@ -33,7 +33,9 @@ loop-i-preserved g c =
     let rows = c.args.tally.now.rows in
     let words = words_at c.args.words.now rows c.loop-i.i c.requires c.loop-i-test.true in
     record {
-      pending = next_line c.loop-i.block (length c.args.words.now) rows c.loop-i.i c.loop-i-test.true c.loop-i.invariant.pending (rw words at c.in_ok-put_line.ensures.ok);
+      pending =
+          next_line c.loop-i.block (length c.args.words.now) rows c.loop-i.i c.loop-i-test.true c.loop-i.invariant.pending
+          (rw words at c.in_ok-put_line.ensures.ok);
       counted = omega (arith, words, c.loop-i.invariant.counted, words_above-split rows c.loop-i.i);
     }
 
@@ -51,10 +53,17 @@ returns g c =
     let done : c.loop-i.i ≡ high = omega arith in
     let line = count_line (high + 1) c.loop-i.above in
     let above : c.loop-i.above ≡ words_above rows high = c.loop-i.invariant.counted ∙ ap (words_above rows) done in
-    let ended : text_above high rows c.loop-i.i ≡ line = ap (text_above high rows) done ∙ text_above-none high rows ∙ ap (count_line (high + 1)) (sym above) in
-    let pending : Pending (seen c.args.writer.now) (seen c.loop-i.writer) text ((c.loop-i.block ++ line) ++ []) =
-    subst (λ v. Pending (seen c.args.writer.now) (seen c.loop-i.writer) text v) (ap (λ v. c.loop-i.block ++ v) ended ∙ sym (append-nil (c.loop-i.block ++ line)))
-    c.loop-i.invariant.pending in
+    let ended : text_above high rows c.loop-i.i ≡ line =
+    ap (text_above high rows) done ∙ text_above-none high rows ∙ ap (count_line (high + 1)) (sym above) in
+    let call : SinkCall = record {
+      start = seen c.args.writer.now;
+      now = seen c.loop-i.writer;
+      next = seen c.put_line-2.new.writer;
+      text = text;
+      rest = c.loop-i.block ++ text_above high rows c.loop-i.i;
+      pending = c.loop-i.invariant.pending;
+    } in
+    let whole : call.rest ≡ (c.loop-i.block ++ line) ++ [] = ap (λ v. c.loop-i.block ++ v) ended ∙ sym (append-nil (c.loop-i.block ++ line)) in
     last _ _ _ _ c.put_line-2.new.block c.write_out.result
-    (drained _ _ _ text (c.loop-i.block ++ line) c.put_line-2.new.block [] pending c.in_ok-put_line-2.ensures.ok)
+    (drained call (c.loop-i.block ++ line) c.put_line-2.new.block [] whole c.in_ok-put_line-2.ensures.ok)
     (rw c.as_slice.ensures at c.write_out.ensures)

@@ -7,7 +7,7 @@ use Rattle.kc_word.proofs.piece.clean_by_quality.Goals.{then-quals-i, else-quals
 
 pub loop-i-preserved : goal.loop-i-preserved
 loop-i-preserved c =
-    cleaned-more c.args.rule.now (read_of c.args.bases.now (Some c.args.quals.now)) c.loop-i.i c.if-quals-i.letter c.loop-i.cleaned.items c.push.new.self.items
+    cleaned-more c.args.rule.now (read_of c.args.bases.now (Some c.args.quals.now)) c.loop-i.i c.if-quals-i.letter
     c.loop-i.invariant c.in_ok-push.ensures.items
     (elim c.if-quals-i.branch [
       | then-quals-i w ↦ w.letter-is ∙ w.cleaned_letter-letter.ensures ∙ cleaned_base-high c.args.rule.now c.args.bases.now c.args.quals.now c.loop-i.i c.floor-floor.result c.floor-floor.ensures.value w.if-quals-i.true

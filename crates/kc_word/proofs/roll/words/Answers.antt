@@ -13,8 +13,15 @@ loop-part-init c = c.in_ok-words.ensures.empty ∙ sym (words_of-none c.args.rul
 
 pub loop-part-preserved : goal.loop-part-preserved
 loop-part-preserved c =
-    words_of-more c.args.rule.now c.pieces-part-items.result.now c.loop-part.part-index c.part-item.result c.loop-part.words.items c.push_words.new.words.items (omega arith) c.part-item.is c.loop-part.invariant
-    (c.in_ok-push_words.ensures.words ∙ ap (λ bytes. c.loop-part.words.items ++ words_in c.args.rule.now (read_of bytes None)) c.bytes.ensures)
+    words_of-more c.args.rule.now c.pieces-part-items.result.now (record {
+      index = c.loop-part.part-index;
+      piece = c.part-item.result;
+      words = c.loop-part.words.items;
+      next_words = c.push_words.new.words.items;
+      within = omega arith;
+      piece_is = c.part-item.is;
+      pushed = c.in_ok-push_words.ensures.words ∙ ap (λ bytes. c.loop-part.words.items ++ words_in c.args.rule.now (read_of bytes None)) c.bytes.ensures;
+    }) c.loop-part.invariant
 
 pub returns-clause-below : goal.returns-clause-below
 returns-clause-below c =

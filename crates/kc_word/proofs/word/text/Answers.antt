@@ -7,11 +7,13 @@ use Rattle.kc_word.proofs.word.text.Goals as goal
 pub loop-i-preserved : goal.loop-i-preserved
 loop-i-preserved c =
     let long = length-text c.args.k c.args.word.0 in
-    written-more (text c.args.k c.args.word.0) c.args.letters.now c.loop-i.letters c.loop-i.i c.base_of.result
+    written-more (text c.args.k c.args.word.0) c.args.letters.now c.loop-i.i c.base_of.result
     (omega arith) (omega (arith, c.told-letters)) c.loop-i.invariant
     (c.base_of.ensures ∙ letter-at c.args.k c.args.word.0 c.loop-i.i c.get-count.result (omega arith) c.get-count.ensures.value)
 
 pub returns : goal.returns
 returns c =
-    written-all c.args.k c.args.word.0 c.loop-i.i c.get-count.result c.args.letters.now c.loop-i.letters
-    c.get-count.ensures.value c.loop-i.auto.i-end c.loop-i-test.false c.loop-i.invariant
+    let count = c.get-count.ensures.value in
+    let end = c.loop-i.auto.i-end in
+    let done = c.loop-i-test.false in
+    written-all c.args.k c.args.word.0 c.loop-i.i c.args.letters.now c.loop-i.letters (omega (arith, count, end, done)) c.loop-i.invariant
