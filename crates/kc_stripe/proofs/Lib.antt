@@ -4,3 +4,4 @@ pub mod CountedTables
 pub mod Lawful
 pub mod StripeRows
 pub mod LockedLemmas
+pub mod Forms

@@ -1,22 +1,30 @@
 -- A stripe and its keeper on the sheet of the shares.
-use Rattle.std.proofs.Common.{◌≡◌, ℕ, ◌+◌, ◌^◌, ◌<◌, ◌≤◌, List, [], ◌∷◌, ◌++◌, length, map, refl, sym, ap, ◌∙◌, subst, arith, length-append}
+use Rattle.std.proofs.Common.{◌≡◌, ℕ, ◌+◌, ◌^◌, ◌<◌, ◌≤◌, List, [], ◌∷◌, ◌++◌, length, map, refl, sym, ap, ◌∙◌, subst, arith, Contains}
 use Rattle.std.proofs.lemmas.List.{map-append}
 use Rattle.std.proofs.lemmas.List.Sums.{sum_by_push}
+use Rattle.kc_base.proofs.Lists.{Contains-map}
 use Rattle.kc_base.proofs.Permutations.{length-from_weights}
 use Rattle.kc_word.specs.Cutting.{NumberedPieces}
 use Rattle.kc_share.specs.declared.entry.Entry.{Entry}
 use Rattle.kc_share.specs.declared.entry.Booking.{Booking}
 use Rattle.kc_share.specs.declared.entry.KeptStripe.{KeptStripe}
-use Rattle.kc_share.specs.Entries.{entry_of, entries_in, word_total, AreSame}
-use Rattle.kc_share.specs.Share.{kept_stripe, with_entry, word_total_in, entry_total_in}
+use Rattle.kc_share.specs.Entries.{entries_in, word_total, AreSame, AreAmong}
+use Rattle.kc_share.specs.Laws.{AmongIsThere}
+use Rattle.kc_share.specs.Share.{with_entry}
 use Rattle.kc_stripe.specs.Setup.{StripeSetup}
 use Rattle.kc_stripe.specs.Cut.{StripeCut, keys_of, cut_at}
 use Rattle.kc_stripe.specs.Stripe.{StripeState, IsOwnCut}
 use Rattle.kc_stripe.specs.Locked.{cut_entry, journal_entries, IsOnSheet, IsAllOf}
+use Rattle.kc_stripe.specs.Seen.{AreNamed}
 
 pub length-journal_entries : (setup : StripeSetup) (number : ℕ) (journal : List NumberedPieces) → length (journal_entries setup number journal) ≡ length journal
 length-journal_entries setup number [] = refl
 length-journal_entries setup number (batch ∷ journal) = omega (arith, length-journal_entries setup number journal)
+
+-- the batches of a journal's entries
+batches-journal_entries : (setup : StripeSetup) (number : ℕ) (journal : List NumberedPieces) → map (λ entry. entry.batch) (journal_entries setup number journal) ≡ journal
+batches-journal_entries setup number [] = refl
+batches-journal_entries setup number (batch ∷ journal) = ap (λ (more : List NumberedPieces). batch ∷ more) (batches-journal_entries setup number journal)
 
 module _ {C : Type 0} (old : StripeState C) (it : KeptStripe) (on_sheet : IsOnSheet old it) where
   -- nothing was booked
@@ -50,3 +58,11 @@ module _ {C : Type 0} (old : StripeState C) (it : KeptStripe) (on_sheet : IsOnSh
         entries = length-from_weights (entries_in old.number booked) (journal_entries old.setup old.number old.journal) same' ∙ length-journal_entries old.setup old.number old.journal;
         batches = same';
       }
+
+  -- what a share booked into the stripe stands in its journal
+  pub named-from_among : AmongIsThere → (booked : List Booking) → AreAmong (entries_in it.stripe booked) it.journal → AreNamed old.number booked old.journal
+  named-from_among law booked among entry booked_here =
+      let here : Contains (entries_in it.stripe booked) entry = subst (λ (n : ℕ). Contains (entries_in n booked) entry) (sym on_sheet.number) booked_here in
+      let kept : Contains (journal_entries old.setup old.number old.journal) entry = subst (λ (es : List Entry). Contains es entry) on_sheet.journal ((law _ _ among).0 entry here) in
+      subst (λ (bs : List NumberedPieces). Contains bs entry.batch) (batches-journal_entries old.setup old.number old.journal)
+      (Contains-map (λ (e : Entry). e.batch) (journal_entries old.setup old.number old.journal) entry kept)

@@ -5,3 +5,4 @@ pub mod Stripe
 pub mod Faults
 pub mod Locked
 pub mod Stripes
+pub mod Seen

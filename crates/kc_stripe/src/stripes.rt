@@ -2,17 +2,20 @@
 ghost use Rattle.std.specs.Prelude.{◌≡◌, ◌<◌, ◌≤◌, [], All, IfOk, OnOk, OnErr, vec_len};
 ghost use Rattle.std.specs.FinMap.{empty};
 ghost use Rattle.kc_share.specs.Share.{share_of, with_booking, with_one_part_less, new_share, joined_shares};
-ghost use Rattle.kc_stripe.specs.Setup.{stripe_count, key_bits};
+ghost use Rattle.kc_stripe.specs.Setup.{word_count, stripe_count, key_bits};
 ghost use Rattle.kc_stripe.specs.Stripe.{IsLawful};
 ghost use Rattle.kc_stripe.specs.Locked.{cut_entry, IsAllOf};
+ghost use Rattle.kc_stripe.specs.Seen.{form_stripe, AreNamed};
 
 use crate::cut::Cut;
 use crate::fault::BookFault;
 use crate::locked::Locked;
+use crate::seen::Seen;
 use crate::setup::Setup;
 use crate::stripe::Stripe;
 use kc_share::{Books, OpenSheet, Share, Sheet};
 use kc_table::Counts;
+use kc_word::Word;
 use std::alloc::{AllocError, Global};
 use std::marker::Model;
 use std::sync::{Mutex, Wait};
@@ -127,5 +130,29 @@ impl<C: Counts, N: Books> Stripes<C, N> {
         self.locks[cut.stripe() as usize]
             .lock(rt)
             .book(&self.sheet, share, cut)
+    }
+
+    /// How often a word occurs in the batches that were booked, and in which: all that stand in the stripe of the form
+    /// under which the word counts, under that stripe's lock.
+    ///
+    /// The word is below 4^k. Each batch that the share booked into that stripe is among them.
+    pub fn look<R: Wait>(
+        &self,
+        rt: &R,
+        alloc: Global,
+        share: &mut Share<N>,
+        word: Word,
+    ) -> Result<Seen, BookFault>
+        requires { word.0 < word_count self.now.setup }
+        ensures setup { IfOk result (λ seen. seen.setup ≡ self.now.setup) }
+        ensures word { IfOk result (λ seen. seen.word ≡ word.0) }
+        ensures named { IfOk result (λ seen.
+            AreNamed (form_stripe self.now.setup word.0) share.old.booked seen.batches) }
+        ensures share { share.new ≡ share.old }
+    {
+        let number = self.setup.stripe_of(self.setup.form_of(word));
+        self.locks[number as usize]
+            .lock(rt)
+            .look(alloc, &self.sheet, share, &self.setup, word)
     }
 }

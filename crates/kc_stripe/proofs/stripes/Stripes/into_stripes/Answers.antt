@@ -1,4 +1,4 @@
-use Rattle.std.proofs.Common.{◌≡◌, ◌∙◌, ap, All, [], ◌∷◌, length, length-append, rules, subst, sym, arith}
+use Rattle.std.proofs.Common.{◌≡◌, ◌∙◌, ap, [], ◌∷◌, length, length-append, rules, subst, sym, arith}
 use Rattle.std.proofs.lemmas.List.Elements.{All-push, All-same}
 use Rattle.kc_share.specs.Share.{ShareSeen}
 use Rattle.kc_stripe.specs.Locked.{IsAllOf}
