@@ -19,4 +19,6 @@ pub use stripe::Stripe;
 pub use stripes::Stripes;
 
 #[cfg(test)]
+mod sharing_tests;
+#[cfg(test)]
 mod tests;

@@ -102,6 +102,13 @@ impl<C: Counts + Drop, N: Books> Stripes<C, N> {
 }
 
 impl<C: Counts, N: Books> Stripes<C, N> {
+    /// How the words are divided.
+    pub fn setup(&self) -> &Setup
+        ensures { result.now ≡ self.now.setup }
+    {
+        &self.setup
+    }
+
     /// Splits one part off a share, which has two or more: a share that has booked nothing. Takes no memory.
     pub fn split(&self, share: &mut Share<N>) -> Share<N>
         requires { 2 ≤ share.old.parts }
