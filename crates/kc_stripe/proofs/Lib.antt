@@ -3,3 +3,5 @@ pub mod Parts
 pub mod CountedTables
 pub mod Lawful
 pub mod StripeRows
+pub mod LockedLemmas
+pub mod Forms

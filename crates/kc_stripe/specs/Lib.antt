@@ -3,3 +3,6 @@ pub mod Cut
 pub mod Counted
 pub mod Stripe
 pub mod Faults
+pub mod Locked
+pub mod Stripes
+pub mod Seen

@@ -33,6 +33,7 @@ impl<C: Counts + Drop> CountedTable<C> {
     pub fn new(alloc: Global, table: C) -> Result<CountedTable<C>, AllocError>
         requires { C.counts table ≡ empty }
         ensures table { IfOk result (λ counted. counted.table ≡ table) }
+        ensures total { IfOk result (λ counted. counted.total ≡ 0) }
         ensures counted { IfOk result (λ counted.
             IsCounted (C.bits counted.table) (C.counts counted.table) counted.bins counted.total) }
     {

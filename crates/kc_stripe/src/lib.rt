@@ -5,13 +5,20 @@
 mod counted;
 mod cut;
 mod fault;
+mod locked;
+mod seen;
 mod setup;
 mod stripe;
+mod stripes;
 
 pub use cut::{Cut, cut_up};
 pub use fault::BookFault;
+pub use seen::Seen;
 pub use setup::Setup;
 pub use stripe::Stripe;
+pub use stripes::Stripes;
 
+#[cfg(test)]
+mod sharing_tests;
 #[cfg(test)]
 mod tests;

@@ -3,9 +3,11 @@ ghost use Rattle.std.specs.Prelude.{◌≡◌, ℕ, ◌+◌, ◌*◌, ◌^◌, �
 ghost use Rattle.kc_hash.specs.Product.{product};
 ghost use Rattle.kc_stripe.specs.Setup.{StripeSetup, IsSetup, HasBits, word_count, stripe_count, key_bits};
 ghost use Rattle.kc_stripe.specs.Setup.{stripe_of, key_of, StandsAt, DividesWords};
+ghost use Rattle.kc_word.specs.Word.{text};
+ghost use Rattle.kc_stripe.specs.Seen.{form_of, form_text};
 
 use kc_hash::Hash;
-use kc_word::{Rule, Word};
+use kc_word::{Rule, Word, canonical, laws};
 use std::marker::Model;
 
 /// The rule of a count, the hash of its words, and the number of stripes among which they are divided.
@@ -105,6 +107,22 @@ impl Setup {
         self.hash.stays_below();
         self.hash.is_one_to_one();
         self.hash.is_onto();
+    }
+
+    /// The form under which a word counts: the canonical one where both strands count. Condition: the word is below 4^k.
+    pub fn form_of(&self, word: Word) -> Word
+        requires { word.0 < word_count self.now }
+        ensures value { result.0 ≡ form_of self.now word.0 }
+        ensures letters { text self.now.rule.k result.0 ≡ form_text self.now word.0 }
+        ensures below { result.0 < word_count self.now }
+    {
+        // what is known of the numbers of words
+        laws::number_of_text();
+        if self.rule.both() {
+            canonical(word, self.rule.k())
+        } else {
+            word
+        }
     }
 
     /// The stripe of a word. Condition: the word is below 4^k.

@@ -65,6 +65,7 @@ impl<C: Counts + Drop> Stripe<C> {
         requires key_bits { C.bits table ≡ key_bits setup.now }
         ensures setup { IfOk result (λ stripe. stripe.setup ≡ setup.now) }
         ensures number { IfOk result (λ stripe. stripe.number ≡ number) }
+        ensures total { IfOk result (λ stripe. stripe.total ≡ 0) }
         ensures journal { IfOk result (λ stripe. stripe.journal ≡ []) }
         ensures table { IfOk result (λ stripe. stripe.table ≡ table) }
     {
@@ -175,6 +176,7 @@ impl<C: Counts> Stripe<C> {
         ensures number { self.new.number ≡ self.old.number }
         ensures journal { OnOk result (self.new.journal ≡ self.old.journal ++ cut.now.batch ∷ []) }
         ensures total { OnOk result (self.new.total ≡ self.old.total + length (keys_of cut.now)) }
+        ensures own { OnOk result (IsOwnCut self.old cut.now) }
         ensures unchanged { OnErr result (IsUnchanged C.counts self.old self.new) }
         ensures twice { result ≡ Err BookFault.Twice ↔ IsBooked self.old.journal cut.now.batch.number }
         ensures stranger { result ≡ Err BookFault.Stranger

@@ -18,13 +18,13 @@ use std::sync::Arc;
 use std::test::Fail;
 
 // Words of k bases on one strand, in so many stripes, by a hash that leaves them as they are.
-fn setup_of(k: u32, stripes: u32) -> Option<Setup> {
+pub(crate) fn setup_of(k: u32, stripes: u32) -> Option<Setup> {
     let k = K::new(k)?;
     let hash = Hash::of_matrix(Matrix::identity(2 * k.get())).ok()?;
     Setup::new(Rule::new(k, false, b'!'), hash, stripes)
 }
 
-fn reads_of(alloc: Global, texts: &[&[u8]]) -> Result<Vec<SeqRead>, Fail> {
+pub(crate) fn reads_of(alloc: Global, texts: &[&[u8]]) -> Result<Vec<SeqRead>, Fail> {
     let mut reads = Vec::new(alloc);
     for bases in texts {
         let bases = Vec::from_slice(alloc, bases)?;
@@ -34,7 +34,7 @@ fn reads_of(alloc: Global, texts: &[&[u8]]) -> Result<Vec<SeqRead>, Fail> {
 }
 
 // The reads as batches of so many positions.
-fn batches_of(
+pub(crate) fn batches_of(
     alloc: Global,
     setup: &Setup,
     reads: &[SeqRead],
@@ -49,7 +49,12 @@ fn batches_of(
 }
 
 // The cut of a batch in a stripe.
-fn cut_of(alloc: Global, setup: &Setup, batch: &Arc<Batch>, stripe: usize) -> Result<Cut, Fail> {
+pub(crate) fn cut_of(
+    alloc: Global,
+    setup: &Setup,
+    batch: &Arc<Batch>,
+    stripe: usize,
+) -> Result<Cut, Fail> {
     let mut cuts = cut_up(alloc, setup, batch)?;
     if stripe >= cuts.len() {
         return Err(Fail::from("no such stripe"));
@@ -383,7 +388,7 @@ fn a_refused_growth_leaves_the_stripe(rt: HostRuntime) -> Result<(), Fail> {
 }
 
 // Rows of all stripes, in the order of the words.
-fn sorted_rows(
+pub(crate) fn sorted_rows(
     alloc: Global,
     stripes: &[Stripe<PlainCounts>],
 ) -> Result<Vec<(u64, u64)>, AllocError> {
@@ -398,7 +403,7 @@ fn sorted_rows(
 }
 
 // Reads of random bases and Ns.
-fn random_reads(alloc: Global, random: &mut SplitMix64) -> Result<Vec<SeqRead>, Fail> {
+pub(crate) fn random_reads(alloc: Global, random: &mut SplitMix64) -> Result<Vec<SeqRead>, Fail> {
     let mut reads = Vec::new(alloc);
     for _ in 0..40 {
         let mut bases = Vec::new(alloc);

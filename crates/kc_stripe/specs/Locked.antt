@@ -1,0 +1,33 @@
+-- A stripe behind its lock, and what its journal's entries are on the sheet of the shares. It is this project's own.
+use Rattle.std.specs.Prelude.{◌≡◌, ℕ, ◌≤◌, ◌^◌, List, length, map}
+use Rattle.kc_word.specs.Cutting.{NumberedPieces}
+use Rattle.kc_share.specs.declared.entry.Entry.{Entry}
+use Rattle.kc_share.specs.declared.entry.Booking.{Booking}
+use Rattle.kc_share.specs.declared.entry.KeptStripe.{KeptStripe}
+use Rattle.kc_share.specs.Entries.{entry_of, entries_in, word_total, AreSame}
+use Rattle.kc_share.specs.Share.{word_total_in, entry_total_in}
+use Rattle.kc_stripe.specs.Setup.{StripeSetup}
+use Rattle.kc_stripe.specs.Cut.{StripeCut, keys_of, cut_at}
+use Rattle.kc_stripe.specs.Stripe.{StripeState}
+
+-- the entry of a cut: its batch, and how many of the batch's words fall in its stripe
+abbrev pub cut_entry : StripeCut → Entry
+cut_entry cut = entry_of cut.batch (length (keys_of cut))
+
+-- the entries of a stripe's journal
+abbrev pub journal_entries : StripeSetup → ℕ → List NumberedPieces → List Entry
+journal_entries setup number journal = map (λ batch. cut_entry (cut_at setup batch number)) journal
+
+-- what is kept on the sheet is the stripe: its number and its journal; and the words of the journal are its total
+pub record IsOnSheet {C : Type 0} (stripe : StripeState C) (kept : KeptStripe) : Type 0 where
+  pub number : kept.stripe ≡ stripe.number
+  pub journal : kept.journal ≡ journal_entries stripe.setup stripe.number stripe.journal
+  pub total : word_total kept.journal ≡ stripe.total
+  pub total_at_most : stripe.total ≤ 2 ^ 62
+
+-- What was booked into a stripe is all of it: the words are its total, the entries its journal's length, and the batches
+-- those of its journal, each as often.
+pub record IsAllOf {C : Type 0} (booked : List Booking) (stripe : StripeState C) : Type 0 where
+  pub words : word_total_in stripe.number booked ≡ stripe.total
+  pub entries : entry_total_in stripe.number booked ≡ length stripe.journal
+  pub batches : AreSame (entries_in stripe.number booked) (journal_entries stripe.setup stripe.number stripe.journal)

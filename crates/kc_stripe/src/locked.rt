@@ -1,0 +1,110 @@
+//! What lies behind a stripe's lock.
+ghost use Rattle.std.specs.Prelude.{◌≡◌, ◌<◌, ◌++◌, ◌∷◌, [], IfOk, OnOk, OnErr};
+ghost use Rattle.kc_share.specs.Share.{kept_stripe, with_booking};
+ghost use Rattle.kc_stripe.specs.Setup.{word_count};
+ghost use Rattle.kc_stripe.specs.Locked.{cut_entry, IsAllOf};
+ghost use Rattle.kc_stripe.specs.Seen.{form_stripe, AreNamed};
+
+use crate::cut::Cut;
+use crate::fault::BookFault;
+use crate::seen::Seen;
+use crate::setup::Setup;
+use crate::stripe::Stripe;
+use kc_share::{Books, Keeper, OpenSheet, Share, laws};
+use kc_table::Counts;
+use kc_word::Word;
+use std::alloc::Global;
+use std::marker::Model;
+
+/// A stripe, and its keeper on the sheet of the shares, whose journal is the stripe's.
+#[derive(Drop)]
+pub(crate) struct Locked<C: Counts, N: Books> {
+    stripe: Stripe<C>,
+    keeper: Keeper<N>,
+}
+
+impl<C: Counts, N: Books> Model for Locked<C, N> {
+    ghost use Rattle.kc_stripe.specs.Stripe.{StripeState};
+    ghost use Rattle.kc_stripe.specs.Locked.{IsOnSheet};
+
+    ghost Value = { StripeState C };
+
+    ghost view = { λ l. l.stripe };
+
+    ghost invariant = { λ l. IsOnSheet l.stripe l.keeper };
+}
+
+impl<C: Counts, N: Books> Locked<C, N> {
+    // A stripe in which nothing was booked.
+    pub(crate) fn new(stripe: Stripe<C>, keeper: Keeper<N>) -> Locked<C, N>
+        requires stripe { (stripe.journal ≡ []) × (stripe.total ≡ 0) }
+        requires keeper { keeper ≡ kept_stripe stripe.number [] }
+        ensures { result ≡ stripe }
+    {
+        Locked { stripe, keeper }
+    }
+
+    /// Books a batch into the stripe, and into a share.
+    pub(crate) fn book(
+        &mut self,
+        sheet: &OpenSheet<N>,
+        share: &mut Share<N>,
+        cut: &Cut,
+    ) -> Result<(), BookFault>
+        ensures share { OnOk result (share.new ≡ with_booking share.old cut.now.stripe (cut_entry cut.now)) }
+        ensures journal { OnOk result (self.new.journal ≡ self.old.journal ++ cut.now.batch ∷ []) }
+        ensures refused { OnErr result (share.new ≡ share.old) }
+    {
+        self.stripe.book(cut)?;
+        // What is known of the sums, which stay small.
+        let _total = self.stripe.total();
+        let _length = self.stripe.journal().len();
+        sheet.note(
+            share,
+            &mut self.keeper,
+            cut.batch(),
+            cut.keys().len() as u64,
+        );
+        Ok(())
+    }
+
+    /// What the stripe tells of a word, where it is the one in which the word counts: with this setup, and of this number.
+    ///
+    /// The word is below 4^k.
+    pub(crate) fn look(
+        &mut self,
+        alloc: Global,
+        sheet: &OpenSheet<N>,
+        share: &mut Share<N>,
+        setup: &Setup,
+        word: Word,
+    ) -> Result<Seen, BookFault>
+        requires { word.0 < word_count setup.now }
+        ensures setup { IfOk result (λ seen. seen.setup ≡ setup.now) }
+        ensures word { IfOk result (λ seen. seen.word ≡ word.0) }
+        ensures named { IfOk result (λ seen.
+            AreNamed (form_stripe setup.now word.0) share.old.booked seen.batches) }
+        ensures share { share.new ≡ share.old }
+    {
+        let number = setup.stripe_of(setup.form_of(word));
+        if self.stripe.setup() != setup || self.stripe.number() != number {
+            return Err(BookFault::Stranger);
+        }
+        // What was booked with the share stands in the journal.
+        sheet.look(share, &mut self.keeper);
+        laws::among_is_there();
+        let seen = Seen::of(alloc, &self.stripe, word)?;
+        Ok(seen)
+    }
+
+    /// The stripe. Where the share has all parts, what was booked with it is all of the stripe.
+    pub(crate) fn into_stripe(mut self, sheet: &OpenSheet<N>, share: &mut Share<N>) -> Stripe<C>
+        ensures stripe { result ≡ self }
+        ensures share { share.new ≡ share.old }
+        ensures whole { share.old.parts ≡ share.old.plan.parts → IsAllOf share.old.booked self }
+    {
+        sheet.look(share, &mut self.keeper);
+        let Locked { stripe, keeper: _ } = self;
+        stripe
+    }
+}

@@ -1,0 +1,229 @@
+//! Stripes that threads share, and a caller who counts with them.
+ghost use Rattle.std.specs.Prelude.{◌≡◌, ◌<◌, All, IfOk, vec_len};
+ghost use Rattle.std.specs.FinMap.{empty};
+ghost use Rattle.kc_stripe.specs.Setup.{stripe_count, key_bits};
+ghost use Rattle.kc_stripe.specs.Locked.{IsAllOf};
+
+use crate::tests::{batches_of, cut_of, reads_of, setup_of};
+use crate::{BookFault, Cut, Setup, Stripe, Stripes, cut_up};
+use kc_share::{Books, Share, Sheet};
+use kc_table::PlainCounts;
+use kc_word::{Batch, Word};
+use std::alloc::{AllocError, Global};
+use std::marker::Brand;
+use std::sync::{Arc, Wait};
+use std::test::Fail;
+use std::thread::{Threads, join};
+
+// An empty table for each stripe.
+fn tables_of(alloc: Global, setup: &Setup) -> Result<Vec<PlainCounts>, AllocError>
+    ensures count { IfOk result (λ tables. vec_len tables ≡ stripe_count setup.now) }
+    ensures tables { IfOk result (λ tables.
+        All (λ table. (table.counts ≡ empty) × (table.bits ≡ key_bits setup.now)) tables.items) }
+{
+    let mut tables = Vec::new(alloc);
+    for _ in 0..setup.stripes() {
+        tables.push(PlainCounts::new(alloc, setup.key_bits()))?;
+    }
+    Ok(tables)
+}
+
+// Books a batch into the stripe of its cut.
+fn book_cut<N: Books, R: Wait>(
+    rt: &R,
+    stripes: &Stripes<PlainCounts, N>,
+    share: &mut Share<N>,
+    cut: &Cut,
+) -> Result<(), BookFault>
+    requires { cut.now.stripe < stripe_count stripes.now.setup }
+    ensures { (share.new.parts ≡ share.old.parts) × (share.new.plan ≡ share.old.plan) }
+{
+    match stripes.book(rt, share, cut) {
+        Ok(()) => Ok(()),
+        Err(fault) => Err(fault),
+    }
+}
+
+// Books a batch everywhere.
+fn book_batch<N: Books, R: Wait>(
+    rt: &R,
+    alloc: Global,
+    stripes: &Stripes<PlainCounts, N>,
+    share: &mut Share<N>,
+    batch: &Arc<Batch>,
+) -> Result<(), BookFault>
+    ensures { (share.new.parts ≡ share.old.parts) × (share.new.plan ≡ share.old.plan) }
+{
+    for cut in &cut_up(alloc, stripes.setup(), batch)? {
+        if cut.stripe() < stripes.setup().stripes() {
+            book_cut(rt, stripes, share, cut)?;
+        }
+    }
+    Ok(())
+}
+
+// Books batches everywhere, and gives the share back.
+fn book_all<N: Books, R: Wait>(
+    rt: &R,
+    alloc: Global,
+    stripes: &Stripes<PlainCounts, N>,
+    mut share: Share<N>,
+    batches: &[Arc<Batch>],
+) -> (Share<N>, Result<(), BookFault>)
+    ensures { (result.0.parts ≡ share.parts) × (result.0.plan ≡ share.plan) }
+{
+    for batch in batches {
+        if let Err(fault) = book_batch(rt, alloc, stripes, &mut share, batch) {
+            return (share, Err(fault));
+        }
+    }
+    (share, Ok(()))
+}
+
+// Two threads, with a share each, book half of the batches each. Then the shares are joined, and the sharing ends: what
+// was booked with the whole share is all that the stripes have.
+fn count_by_two<N: Books + Send + Sync, R: Threads + Wait + Sync>(
+    rt: &R,
+    alloc: Global,
+    setup: &Setup,
+    sheet: Sheet,
+    batches: &[Arc<Batch>],
+) -> Result<(Vec<Stripe<PlainCounts>>, Share<N>), BookFault>
+    requires name { sheet.table ≡ N.table }
+    requires stripes { sheet.plan.stripes ≡ stripe_count setup.now }
+    requires parts { sheet.plan.parts ≡ 2 }
+    ensures plan { IfOk result (λ counted. counted.1.plan ≡ sheet.plan) }
+    ensures count { IfOk result (λ counted. vec_len counted.0 ≡ stripe_count setup.now) }
+    ensures whole { IfOk result (λ counted. All (λ stripe. IsAllOf counted.1.booked stripe) counted.0.items) }
+{
+    let tables = tables_of(alloc, setup)?;
+    let (stripes, mut one) = Stripes::<PlainCounts, N>::new(alloc, setup, tables, sheet)?;
+    let other = stripes.split(&mut one);
+    let (first, second) = batches.split_at(batches.len() / 2);
+    let (mut whole, other) = book_halves(rt, alloc, &stripes, (one, other), (first, second))?;
+    stripes.join(&mut whole, other);
+    Ok(stripes.into_stripes(alloc, whole)?)
+}
+
+// Each share books its half of the batches in a thread of its own.
+fn book_halves<N: Books + Send + Sync, R: Threads + Wait + Sync>(
+    rt: &R,
+    alloc: Global,
+    stripes: &Stripes<PlainCounts, N>,
+    shares: (Share<N>, Share<N>),
+    halves: (&[Arc<Batch>], &[Arc<Batch>]),
+) -> Result<(Share<N>, Share<N>), BookFault>
+    ensures first { IfOk result (λ both. (both.0.parts ≡ shares.0.parts) × (both.0.plan ≡ shares.0.plan)) }
+    ensures second { IfOk result (λ both. (both.1.parts ≡ shares.1.parts) × (both.1.plan ≡ shares.1.plan)) }
+{
+    let (one, other) = shares;
+    let (first, second) = halves;
+    let ((one, first), (other, second)) = join(
+        rt,
+        move || -> (Share<N>, Result<(), BookFault>)
+            ensures { (result.0.parts ≡ one.parts) × (result.0.plan ≡ one.plan) }
+        { book_all(rt, alloc, stripes, one, first) },
+        move || -> (Share<N>, Result<(), BookFault>)
+            ensures { (result.0.parts ≡ other.parts) × (result.0.plan ≡ other.plan) }
+        { book_all(rt, alloc, stripes, other, second) },
+    );
+    first?;
+    second?;
+    Ok((one, other))
+}
+
+// What each stripe has, its total and the length of its journal, and what the whole share says of it.
+fn sums_by_two<N: Books + Send + Sync, R: Threads + Wait + Sync>(
+    rt: &R,
+    alloc: Global,
+    setup: &Setup,
+    sheet: Sheet,
+    batches: &[Arc<Batch>],
+) -> Result<Vec<((u64, u64), (u64, u64))>, Fail>
+    requires name { sheet.table ≡ N.table }
+    requires stripes { sheet.plan.stripes ≡ stripe_count setup.now }
+    requires parts { sheet.plan.parts ≡ 2 }
+{
+    let (stripes, whole) = count_by_two::<N, R>(rt, alloc, setup, sheet, batches)?;
+    let mut sums = Vec::new(alloc);
+    for stripe in &stripes {
+        let number = stripe.number();
+        if number < setup.stripes() {
+            let has = (stripe.total(), stripe.journal().len() as u64);
+            sums.push((has, (whole.words(number), whole.entries(number))))?;
+        }
+    }
+    Ok(sums)
+}
+
+#[test]
+fn what_two_threads_booked_is_what_the_stripes_have(rt: HostRuntime) -> Result<(), Fail> {
+    let alloc = rt.alloc();
+    let setup = setup_of(3, 1).ok_or("no setup")?;
+    let batches = batches_of(alloc, &setup, &reads_of(alloc, &[b"AAAAAAAAAA"])?, 4)?;
+    assert_eq!(rt; batches.len(), 2);
+    let sheet = Sheet::new(alloc, setup.stripes(), 2)?;
+    let sums = sums_by_two::<Brand, _>(&rt, alloc, &setup, sheet, batches.as_slice())?;
+    assert_eq!(rt; sums.as_slice(), [((8, 2), (8, 2))].as_slice());
+    Ok(())
+}
+
+// Books the first cut twice and then the second. Then AAA and CCC are looked up: how often each was counted, and in how
+// many batches; and what the share has.
+fn book_and_look<N: Books, R: Wait>(
+    rt: &R,
+    alloc: Global,
+    setup: &Setup,
+    sheet: Sheet,
+    cuts: (&Cut, &Cut),
+) -> Result<([Result<(), BookFault>; 3], [(u64, usize); 2], (u64, u64)), Fail>
+    requires name { sheet.table ≡ N.table }
+    requires plan { (sheet.plan.stripes ≡ 1) × (stripe_count setup.now ≡ 1) }
+{
+    let (cut, stranger) = cuts;
+    if setup.rule().k().get() != 3 || cut.stripe() != 0 || stranger.stripe() != 0 {
+        return Err(Fail::from("another setup"));
+    }
+    let tables = tables_of(alloc, setup)?;
+    let (stripes, mut share) = Stripes::<PlainCounts, N>::new(alloc, setup, tables, sheet)?;
+    let first = book_cut(rt, &stripes, &mut share, cut);
+    let again = book_cut(rt, &stripes, &mut share, cut);
+    let other = book_cut(rt, &stripes, &mut share, stranger);
+    let there = stripes.look(rt, alloc, &mut share, Word(0))?;
+    let missing = stripes.look(rt, alloc, &mut share, Word(21))?;
+    Ok((
+        [first, again, other],
+        [
+            (there.count(), there.batches().len()),
+            (missing.count(), missing.batches().len()),
+        ],
+        (share.words(0), share.entries(0)),
+    ))
+}
+
+#[test]
+fn a_word_is_looked_up_among_the_batches(rt: HostRuntime) -> Result<(), Fail> {
+    let alloc = rt.alloc();
+    let setup = setup_of(3, 1).ok_or("no setup")?;
+    let batches = batches_of(alloc, &setup, &reads_of(alloc, &[b"AAAA", b"AAA"])?, 2)?;
+    let [first, second] = batches.as_slice() else {
+        return Err(Fail::from("other batches"));
+    };
+    let cut = cut_of(alloc, &setup, first, 0)?;
+    let stranger = cut_of(alloc, &setup_of(3, 2).ok_or("no setup")?, second, 0)?;
+    if setup.stripes() != 1 {
+        return Err(Fail::from("another setup"));
+    }
+    let sheet = Sheet::new(alloc, 1, 1)?;
+    let (booked, seen, share) = book_and_look::<Brand, _>(
+        &rt,
+        alloc,
+        &setup,
+        sheet,
+        (&cut, &stranger),
+    )?;
+    assert!(rt; booked == [Ok(()), Err(BookFault::Twice), Err(BookFault::Stranger)]);
+    assert_eq!(rt; seen, [(2, 1), (0, 1)]);
+    assert_eq!(rt; share, (2, 1));
+    Ok(())
+}

@@ -1,0 +1,165 @@
+//! The stripes of a count, which threads share.
+ghost use Rattle.std.specs.Prelude.{◌≡◌, ◌<◌, ◌≤◌, [], All, IfOk, OnOk, OnErr, vec_len};
+ghost use Rattle.std.specs.FinMap.{empty};
+ghost use Rattle.kc_share.specs.Share.{share_of, with_booking, with_one_part_less, new_share, joined_shares};
+ghost use Rattle.kc_stripe.specs.Setup.{word_count, stripe_count, key_bits};
+ghost use Rattle.kc_stripe.specs.Stripe.{IsLawful};
+ghost use Rattle.kc_stripe.specs.Locked.{cut_entry, IsAllOf};
+ghost use Rattle.kc_stripe.specs.Seen.{form_stripe, AreNamed};
+
+use crate::cut::Cut;
+use crate::fault::BookFault;
+use crate::locked::Locked;
+use crate::seen::Seen;
+use crate::setup::Setup;
+use crate::stripe::Stripe;
+use kc_share::{Books, OpenSheet, Share, Sheet};
+use kc_table::Counts;
+use kc_word::Word;
+use std::alloc::{AllocError, Global};
+use std::marker::Model;
+use std::sync::{Mutex, Wait};
+
+/// The stripes of a count, each behind a lock of its own. Threads share them by reference, and book with a share each.
+/// Whoever gets a lock finds a lawful stripe, whatever others did, and what was booked with the shares, taken together,
+/// is what the stripes' journals have.
+#[derive(Drop)]
+pub struct Stripes<C: Counts, N: Books> {
+    setup: Setup,
+    sheet: OpenSheet<N>,
+    locks: Vec<Mutex<Locked<C, N>>>,
+}
+
+impl<C: Counts, N: Books> Model for Stripes<C, N> {
+    ghost use Rattle.std.specs.Prelude.{◌≡◌, vec_len};
+    ghost use Rattle.kc_stripe.specs.Setup.{stripe_count};
+    ghost use Rattle.kc_stripe.specs.Stripes.{StripesSeen};
+
+    ghost Value = { StripesSeen };
+
+    ghost view = { λ s. record { setup = s.setup } };
+
+    ghost invariant = { λ s. vec_len s.locks ≡ stripe_count s.setup };
+}
+
+impl<C: Counts + Drop, N: Books> Stripes<C, N> {
+    /// Stripes in which nothing was booked, and the first share, which has all parts of the sheet.
+    ///
+    /// The sheet's name is N, and it is for as many stripes as the setup has. There is a table for each stripe, with
+    /// nothing stored and keys of the setup's `key_bits`.
+    pub fn new(
+        alloc: Global,
+        setup: &Setup,
+        tables: Vec<C>,
+        sheet: Sheet,
+    ) -> Result<(Stripes<C, N>, Share<N>), AllocError>
+        requires name { sheet.table ≡ N.table }
+        requires stripes { sheet.plan.stripes ≡ stripe_count setup.now }
+        requires count { vec_len tables ≡ stripe_count setup.now }
+        requires tables { All (λ table. (C.counts table ≡ empty) × (C.bits table ≡ key_bits setup.now)) tables.items }
+        ensures setup { IfOk result (λ made. made.0.setup ≡ setup.now) }
+        ensures share { IfOk result (λ made. made.1 ≡ share_of sheet.plan sheet.plan.parts []) }
+    {
+        let (sheet, mut opening) = sheet.open::<N>();
+        let mut locks = Vec::with_capacity(alloc, setup.stripes() as usize)?;
+        for table in tables {
+            let stripe = Stripe::new(alloc, setup, locks.len() as u32, table)?;
+            let keeper = sheet.next_keeper(&mut opening);
+            locks.push(Mutex::new(Locked::new(stripe, keeper)))?;
+        }
+        let share = sheet.first_share(opening);
+        let stripes = Stripes {
+            setup: *setup,
+            sheet,
+            locks,
+        };
+        Ok((stripes, share))
+    }
+
+    /// Ends the sharing: the stripes, in the order of their locks. Where the share is the whole, what was booked with it
+    /// is all that the stripes have.
+    pub fn into_stripes(
+        self,
+        alloc: Global,
+        mut share: Share<N>,
+    ) -> Result<(Vec<Stripe<C>>, Share<N>), AllocError>
+        ensures count { IfOk result (λ ended. vec_len ended.0 ≡ stripe_count self.setup) }
+        ensures share { IfOk result (λ ended. ended.1 ≡ share) }
+        ensures whole { IfOk result (λ ended. share.parts ≡ share.plan.parts
+            → All (λ stripe. IsAllOf share.booked stripe) ended.0.items) }
+    {
+        let Stripes {
+            setup: _,
+            sheet,
+            locks,
+        } = self;
+        let mut stripes = Vec::with_capacity(alloc, locks.len())?;
+        for lock in locks {
+            stripes.push(lock.into_inner().into_stripe(&sheet, &mut share))?;
+        }
+        Ok((stripes, share))
+    }
+}
+
+impl<C: Counts, N: Books> Stripes<C, N> {
+    /// How the words are divided.
+    pub fn setup(&self) -> &Setup
+        ensures { result.now ≡ self.now.setup }
+    {
+        &self.setup
+    }
+
+    /// Splits one part off a share, which has two or more: a share that has booked nothing. Takes no memory.
+    pub fn split(&self, share: &mut Share<N>) -> Share<N>
+        requires { 2 ≤ share.old.parts }
+        ensures share { share.new ≡ with_one_part_less share.old }
+        ensures new { result ≡ new_share share.old }
+    {
+        self.sheet.split(share)
+    }
+
+    /// Joins two shares: their parts and numbers are added up, and what one booked stands behind what the other did.
+    /// Takes no memory.
+    pub fn join(&self, share: &mut Share<N>, other: Share<N>)
+        ensures { share.new ≡ joined_shares share.old other }
+    {
+        self.sheet.join(share, other);
+    }
+
+    /// Books a batch into the stripe of its cut, under that stripe's lock, and into a share.
+    ///
+    /// The cut's stripe is one of these. A refused booking leaves the share as it was.
+    pub fn book<R: Wait>(&self, rt: &R, share: &mut Share<N>, cut: &Cut) -> Result<(), BookFault>
+        requires { cut.now.stripe < stripe_count self.now.setup }
+        ensures booked { OnOk result (share.new ≡ with_booking share.old cut.now.stripe (cut_entry cut.now)) }
+        ensures refused { OnErr result (share.new ≡ share.old) }
+    {
+        self.locks[cut.stripe() as usize]
+            .lock(rt)
+            .book(&self.sheet, share, cut)
+    }
+
+    /// How often a word occurs in the batches that were booked, and in which: all that stand in the stripe of the form
+    /// under which the word counts, under that stripe's lock.
+    ///
+    /// The word is below 4^k. Each batch that the share booked into that stripe is among them.
+    pub fn look<R: Wait>(
+        &self,
+        rt: &R,
+        alloc: Global,
+        share: &mut Share<N>,
+        word: Word,
+    ) -> Result<Seen, BookFault>
+        requires { word.0 < word_count self.now.setup }
+        ensures setup { IfOk result (λ seen. seen.setup ≡ self.now.setup) }
+        ensures word { IfOk result (λ seen. seen.word ≡ word.0) }
+        ensures named { IfOk result (λ seen.
+            AreNamed (form_stripe self.now.setup word.0) share.old.booked seen.batches) }
+        ensures share { share.new ≡ share.old }
+    {
+        let number = self.setup.stripe_of(self.setup.form_of(word));
+        self.locks[number as usize]
+            .lock(rt)
+            .look(alloc, &self.sheet, share, &self.setup, word)
+    }
+}
