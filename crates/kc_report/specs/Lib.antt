@@ -1,3 +1,4 @@
 pub mod Bytes
 pub mod Dumping
+pub mod Histo
 pub mod Statistics

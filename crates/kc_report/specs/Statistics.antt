@@ -1,12 +1,9 @@
 -- The statistics of a tally, a function of its rows: source, what `jellyfish stats` prints, Marçais and Kingsford 2011.
-use Rattle.std.specs.Prelude.{ℕ, ◌==◌, List, [], ◌∷◌, ◌++◌, length, max, codes, decimal, count_by, fold}
+use Rattle.std.specs.Prelude.{ℕ, List, [], ◌∷◌, ◌++◌, length, max, codes, decimal, fold}
 use Rattle.kc_tally.specs.declared.row.Row.{Row}
 use Rattle.kc_tally.specs.Tally.{total_of}
 use Rattle.kc_report.specs.Bytes.{line_feed}
-
--- how many words occur this often
-abbrev pub words_with_count : List Row → ℕ → ℕ
-words_with_count rows count = count_by (λ row. row.count == count) rows
+use Rattle.kc_report.specs.Histo.{words_with_count}
 
 -- the greatest count, 0 where there is no row
 abbrev pub greatest_count : List Row → ℕ
@@ -18,5 +15,7 @@ named_line name number = name ++ decimal number ++ line_feed ∷ []
 
 -- how many words occur once, how many occur, how often all of them together, and how often the one that occurs most
 unfoldable pub statistics_text : List Row → List ℕ
-statistics_text rows = named_line (codes "Unique:    ") (words_with_count rows 1) ++ named_line (codes "Distinct:  ") (length rows)
-    ++ named_line (codes "Total:     ") (total_of rows) ++ named_line (codes "Max_count: ") (greatest_count rows)
+statistics_text rows = named_line (codes "Unique:    ") (words_with_count rows 1)
+    ++ named_line (codes "Distinct:  ") (length rows)
+    ++ named_line (codes "Total:     ") (total_of rows)
+    ++ named_line (codes "Max_count: ") (greatest_count rows)

@@ -1,6 +1,8 @@
 //! Reports on a tally, each a text that is written to a `Sink`.
 //!
-//! `write_dump` writes the words with their counts, as a `Dump` asks. A report goes to the writer by blocks of 64 KB: `Block` gathers them.
+//! `write_dump` writes the k-mers (words of length k) with their counts, laid out as a `Dump` says; `write_histo` how
+//! many words have which count; `write_stats` four numbers about all of them. Each is a function of the rows of the
+//! `Tally`. `Block` gathers the bytes of a text, so that the writer gets blocks of 64 KB.
 //!
 //! ```text
 //! write_dump(&mut ToWrite::new(output), &tally, &Dump::in_columns())?;
@@ -10,6 +12,7 @@
 mod block;
 mod dumping;
 mod faults;
+mod histo;
 mod statistics;
 #[cfg(test)]
 mod tests;
@@ -17,4 +20,5 @@ mod tests;
 pub use block::{BLOCK_SIZE, Block, NUMBER_SIZE};
 pub use dumping::{Dump, GREATEST_COUNT, write_dump};
 pub use faults::ReportFault;
+pub use histo::{GREATEST_HIGH, write_histo};
 pub use statistics::write_stats;

@@ -5,10 +5,10 @@ use Rattle.std.specs.Cmp.Lexicographic.{pointwise, nat_list_eq_equiv}
 use Rattle.std.proofs.lemmas.Bool.{cases_lt, and_from, eq-eqb}
 use Rattle.std.proofs.lemmas.Nat.{pow-add, pow_below, one_shl, shl_whole, and_mask, shr_below, shr_split, mul-add-lt, div-mul-add, mod-mul-add}
 use Rattle.std.proofs.Math.Pow.{pow_mono}
-use Rattle.kc_hash.specs.Product.{product, IsOneToOne, IsOnto}
+use Rattle.kc_hash.specs.Product.{product, AreInverse, IsOneToOne, IsOnto}
 use Rattle.kc_word.proofs.Letters.{pow-four}
 use Rattle.kc_word.specs.Rule.{CountingRule}
-use Rattle.kc_stripe.specs.Setup.{StripeSetup, IsSetup, HasBits, key_bits, StandsAt, DividesWords}
+use Rattle.kc_stripe.specs.Setup.{stripe_count, StripeSetup, IsSetup, HasBits, key_bits, StandsAt, DividesWords}
 
 -- ---- the bits of words
 
@@ -119,7 +119,7 @@ asked_for setup seen stripe key same bits stripe_fits key_fits = record {
 abbrev pub code_at : StripeSetup → ℕ → ℕ → ℕ
 code_at setup stripe key = key * 2 ^ setup.stripe_bits % 2 ^ 64 + stripe
 
-code_at-whole : (setup : StripeSetup) (stripe key : ℕ) → IsAskedFor setup stripe key → code_at setup stripe key ≡ key * 2 ^ setup.stripe_bits + stripe
+pub code_at-whole : (setup : StripeSetup) (stripe key : ℕ) → IsAskedFor setup stripe key → code_at setup stripe key ≡ key * 2 ^ setup.stripe_bits + stripe
 code_at-whole setup stripe key asked =
     ap (λ m. m + stripe) (code-shifted setup.rule.k setup.stripe_bits key asked.bits.at_most asked.bits.stripe_bits_few asked.key_fits)
 
@@ -193,3 +193,15 @@ is_same_setup-same setup other same =
     both : (b : Bool) → beq b b ≡ true
     both true = refl
     both false = refl
+
+-- what the inverse of the hash gives back for the code of a stripe and a key is the word that has them
+pub StandsAt-undone : (setup : StripeSetup) (inverse : List ℕ) (stripe key : ℕ) → HasBits setup.rule.k setup.hash setup.stripe_bits → AreInverse setup.hash inverse
+    → stripe < stripe_count setup → key < 2 ^ key_bits setup → StandsAt setup stripe key (product inverse (key * stripe_count setup + stripe))
+StandsAt-undone setup inverse stripe key bits inverts stripe_fits key_fits =
+    let asked : IsAskedFor setup stripe key = record { bits = bits; stripe_fits = stripe_fits; key_fits = key_fits } in
+    let whole = code_at-whole setup stripe key asked in
+    let fits = code_at-fits setup stripe key asked in
+    subst (λ code. StandsAt setup stripe key (product inverse code)) whole
+    (StandsAt-hashed setup stripe key (product inverse (code_at setup stripe key)) asked
+    (inverts.stays_back (code_at setup stripe key) fits)
+    (inverts.undone (code_at setup stripe key) (rw inverts.same_bits fits)))

@@ -1,9 +1,8 @@
 -- A table with its bins and total: nothing stored, keys stored, a count one more.
-use Rattle.std.proofs.Common.{◌≡◌, ◌≢◌, ℕ, zero, suc, ◌+◌, ◌-◌, ◌<◌, ◌≤◌, ◌^◌, ◌↔◌, Bool, true, false, cond, eqb, List, [], ◌∷◌, ◌++◌, length, get_or, take, map, sum, sum_by, count_by, fold, All, Contains, unwrap_or, Result, Ok, Err, OnOk, OnErr, refl, ap, sym, ◌∙◌, subst, arith, ⊎_elim, zero-add}
+use Rattle.std.proofs.Common.{◌≡◌, ◌≢◌, ℕ, zero, suc, ◌+◌, ◌-◌, ◌<◌, ◌≤◌, ◌^◌, eqb, List, [], ◌∷◌, length, get_or, take, sum, sum_by, count_by, All, Contains, Result, Ok, Err, OnOk, OnErr, refl, ap, sym, ◌∙◌, subst, arith, ⊎_elim, zero-add}
 use Rattle.std.specs.List.{range_with_len}
 use Rattle.std.specs.FinMap.{empty}
-use Rattle.std.proofs.lemmas.Bool.{cases_eq, cases_lt, eq-eqb, ne_eqb}
-use Rattle.std.proofs.lemmas.List.{get_or_default}
+use Rattle.std.proofs.lemmas.Bool.{cases_eq, eq-eqb, ne_eqb}
 use Rattle.std.proofs.lemmas.List.FromFn.{length-map-range_with_len, length-range_with_len, get_or-range_with_len}
 use Rattle.std.proofs.lemmas.List.Sums.{fold_more, count_by_more_yes, count_by_more_no}
 use Rattle.std.proofs.lemmas.List.Elements.{All-nil, All-cons}
@@ -14,7 +13,7 @@ use Rattle.kc_table.specs.Counts.{KeyCounts, IsStored, count_at, readied, added}
 use Rattle.kc_table.proofs.KeyCounts.{count_at-empty, count_at-readied, IsStored-readied, IsStored-readied_other, IsStored-added, count_at-added_same, count_at-added_other}
 use Rattle.kc_tally.specs.Histogram.{bins_of, bin_of, bin_at, raised}
 use Rattle.kc_tally.proofs.Bins.{IsOneMore, raise-some, raise-fits, bins_of-raised, bins_of-same}
-use Rattle.kc_stripe.specs.Counted.{TableSeen, KeepsLimits, counts_of, IsCounted, all_readied, SomeMayBeFull}
+use Rattle.kc_stripe.specs.Counted.{TableSeen, KeepsLimits, counts_of, IsCounted, all_readied}
 
 -- ---- the counts of all keys
 

@@ -1,9 +1,9 @@
 -- A lawful stripe: when nothing was booked, and when one batch more is booked.
-use Rattle.std.proofs.Common.{◌≡◌, ◌≢◌, ℕ, ◌+◌, ◌-◌, ◌*◌, ◌/◌, ◌%◌, ◌<◌, ◌≤◌, ◌^◌, ◌⊎◌, inl, inr, Bool, true, false, cond, ◌||◌, eqb, nat_eq, List, [], ◌∷◌, ◌++◌, length, get_or, map, filter, sum, sum_by, count_by, All, Contains, append-nil, refl, ap, ap₂, sym, ◌∙◌, subst, arith, ⊎_elim}
-use Rattle.std.specs.List.{range_with_len, flat_map, list_any, IsDistinct}
+use Rattle.std.proofs.Common.{◌≡◌, ◌≢◌, ℕ, ◌+◌, ◌<◌, ◌^◌, Bool, true, false, cond, ◌||◌, eqb, nat_eq, List, [], ◌∷◌, ◌++◌, get_or, filter, sum, sum_by, count_by, All, append-nil, refl, ap, sym, ◌∙◌, arith, ⊎_elim}
+use Rattle.std.specs.List.{range_with_len, list_any, IsDistinct}
 use Rattle.std.proofs.lemmas.Bool.{eqb-true, eq-eqb, ne_eqb, cases_eq}
 use Rattle.std.proofs.lemmas.Bool.Decides.{eqb_tells}
-use Rattle.std.proofs.lemmas.List.{map_push, length-map}
+use Rattle.std.proofs.lemmas.List.{map_push}
 use Rattle.std.proofs.lemmas.List.Concat.{flat_map-append}
 use Rattle.std.proofs.lemmas.List.Elements.{All-filter, filter_passes, All-map}
 use Rattle.std.proofs.lemmas.List.Folds.{list_any-append}
@@ -11,10 +11,9 @@ use Rattle.std.proofs.lemmas.Map.Views.{Contains-from_any, list_any-from_Contain
 use Rattle.std.specs.Cmp.{nat_eq_equiv}
 use Rattle.std.specs.FinMap.{empty}
 use Rattle.kc_base.proofs.Distinct.{IsDistinct-push_new}
-use Rattle.kc_base.proofs.Lists.{map-same, All-range}
-use Rattle.kc_base.proofs.Sums.{sum_by-map, sum_by-same, sum_by-zeros, sum_by-filter, sum_by-parts, sum_by-one_place}
+use Rattle.kc_base.proofs.Lists.{All-range}
+use Rattle.kc_base.proofs.Sums.{sum_by-map, sum_by-same, sum_by-filter, sum_by-parts, sum_by-one_place}
 use Rattle.kc_base.proofs.Permutations.{WeighTheSame}
-use Rattle.kc_fastx.specs.Reads.{Read}
 use Rattle.kc_word.specs.Word.{text}
 use Rattle.kc_word.specs.Occurrences.{occurrences, words_of}
 use Rattle.kc_word.specs.Cutting.{NumberedPieces, as_reads}
@@ -31,7 +30,6 @@ use Rattle.kc_stripe.specs.Faults.{booking_fault}
 use Rattle.kc_stripe.specs.Cut.{StripeCut, keys_of, keys_among, cut_at}
 use Rattle.kc_stripe.specs.Counted.{counts_of, IsCounted}
 use Rattle.kc_stripe.specs.Stripe.{numbers_of, reads_in, word_occurrences, stripe_occurrences, IsLawful, IsBooked, IsKept}
-use Rattle.kc_stripe.proofs.CountedTables.{counts_of-same}
 
 -- ---- the words of a stripe and their keys
 

@@ -2,3 +2,4 @@ pub mod Codes
 pub mod Parts
 pub mod CountedTables
 pub mod Lawful
+pub mod StripeRows

@@ -2,12 +2,11 @@
 use Rattle.std.proofs.Common.{◌≡◌, ◌≢◌, ℕ, ◌+◌, ◌/◌, ◌%◌, ◌*◌, ◌-◌, ◌^◌, ◌<◌, ◌≤◌, Bool, true, false, cond, eqb, List, [], ◌∷◌, ◌++◌, length, get_or, set, take, map, filter, All, count_by, replicate, bit_and, Vec, Global, append-nil, refl, ap, ap₂, sym, ◌∙◌, arith, ⊎_elim, below_more}
 use Rattle.std.specs.List.{range_with_len}
 use Rattle.std.proofs.lemmas.Nat.{mod_below, pow_pos, one_shl}
-use Rattle.std.proofs.lemmas.Bool.{cases_eq, eq-eqb, ne_eqb}
-use Rattle.std.proofs.lemmas.List.{get_or-set_same, get_or-set_other, length-set, length-map, length-replicate, get_or-map, ext_get_or, take_all, map_push}
+use Rattle.std.proofs.lemmas.Bool.{cases_eq, cases_lt, eq-eqb, ne_eqb}
+use Rattle.std.proofs.lemmas.List.{get_or-replicate, get_or_past, get_or-set_same, get_or-set_other, length-set, length-map, length-replicate, get_or-map, ext_get_or, take_all, map_push}
 use Rattle.std.proofs.lemmas.List.Sums.{count_by_more_yes, count_by_more_no}
 use Rattle.std.proofs.lemmas.List.Elements.{filter_more}
 use Rattle.std.proofs.lemmas.List.FromFn.{length-map-range_with_len, get_or-map-range_with_len}
-use Rattle.kc_hash.specs.Columns.{zeros-get_or}
 use Rattle.kc_base.proofs.Lists.{range_more, map-same, All-range}
 use Rattle.kc_word.specs.Rule.{CountingRule}
 use Rattle.kc_word.specs.Occurrences.{words_of}
@@ -55,8 +54,14 @@ pub record IsCountedTo (s : ℕ) (codes sizes : List ℕ) (i : ℕ) : Type 0 whe
 pub IsCountedTo-none : (s : ℕ) (codes zeros : List ℕ) → zeros ≡ replicate 64 0 → IsCountedTo s codes zeros 0
 IsCountedTo-none s codes zeros is = record {
   full = ap length is ∙ length-replicate {A = ℕ} 64 0;
-  counts = λ stripe. ap (λ xs. get_or xs stripe 0) is ∙ zeros-get_or 64 stripe;
+  counts = λ stripe. ap (λ xs. get_or xs stripe 0) is ∙ each_zero 64 stripe;
 }
+  where
+    each_zero : (n i : ℕ) → get_or {A = ℕ} (replicate n 0) i 0 ≡ 0
+    each_zero n i =
+        ⊎_elim (λ (h : i < n). get_or-replicate n i 0 0 h)
+        (λ (h : n ≤ i). get_or_past (replicate n 0) i 0 (omega (arith, length-replicate {A = ℕ} n 0)))
+        (cases_lt i n)
 
 pub IsCountedTo-more : (s : ℕ) (codes sizes : List ℕ) (i j size : ℕ) → i < length codes → j ≡ get_or codes i 0 % 2 ^ s → j < 64
     → IsCountedTo s codes sizes i → size ≡ get_or sizes j 0 + 1 → IsCountedTo s codes (set sizes j size) (i + 1)

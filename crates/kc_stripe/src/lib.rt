@@ -12,3 +12,6 @@ pub use cut::{Cut, cut_up};
 pub use fault::BookFault;
 pub use setup::Setup;
 pub use stripe::Stripe;
+
+#[cfg(test)]
+mod tests;

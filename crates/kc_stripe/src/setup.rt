@@ -1,5 +1,5 @@
 //! How the words of a count are divided among stripes.
-ghost use Rattle.std.specs.Prelude.{◌≡◌, ℕ, ◌^◌, ◌<◌, ◌≤◌, ◌↔◌, length, IsSome, IfSome};
+ghost use Rattle.std.specs.Prelude.{◌≡◌, ℕ, ◌+◌, ◌*◌, ◌^◌, ◌<◌, ◌≤◌, ◌↔◌, length, IsSome, IfSome};
 ghost use Rattle.kc_hash.specs.Product.{product};
 ghost use Rattle.kc_stripe.specs.Setup.{StripeSetup, IsSetup, HasBits, word_count, stripe_count, key_bits, stripe_of, key_of, StandsAt, DividesWords};
 
@@ -139,10 +139,10 @@ impl Setup {
     pub(crate) fn code_at(&self, stripe: u32, key: u64) -> u64
         requires stripe { stripe < stripe_count self.now }
         requires key { key < 2 ^ key_bits self.now }
+        ensures value { result ≡ key * stripe_count self.now + stripe }
         ensures within { result < 2 ^ length self.now.hash }
         ensures stands { (word : ℕ) → word < 2 ^ length self.now.hash → product self.now.hash word ≡ result → StandsAt self.now stripe key word }
         ensures hashed { (word : ℕ) → StandsAt self.now stripe key word → product self.now.hash word ≡ result }
-        ensures bits { HasBits self.now.rule.k self.now.hash self.now.stripe_bits }
     {
         (key << self.stripe_bits) + stripe as u64
     }

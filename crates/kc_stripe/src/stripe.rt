@@ -39,8 +39,14 @@ impl<C: Counts> Model for Stripe<C> {
 
     ghost Value = { StripeState C };
 
-    ghost view = { λ s. record { setup = s.setup; number = s.number; journal = values s.journal.items;
-        table = s.counted.table; bins = s.counted.bins; total = s.counted.total } };
+    ghost view = { λ s. record {
+      setup = s.setup;
+      number = s.number;
+      journal = values s.journal.items;
+      table = s.counted.table;
+      bins = s.counted.bins;
+      total = s.counted.total;
+    } };
 
     ghost invariant = { λ s. IsLawful s.setup s.number (values s.journal.items) (C.counts s.counted.table) s.counted.bins s.counted.total
         × IsKept s.setup s.number (values s.journal.items) (C.bits s.counted.table) (contains nat_eq s.booked) };
@@ -138,6 +144,9 @@ impl<C: Counts> Stripe<C> {
     pub fn rows(&self, alloc: Global) -> Result<Vec<Row>, AllocError>
         ensures { IfOk result (λ rows. AreStripeRows self.now.setup self.now.number self.now.journal rows.items) }
     {
+        // what is known of the words and their keys
+        self.setup.divides_words();
+        let _bits = self.setup.stripe_bits();
         let counted = self.counted.table().rows(alloc)?;
         let tables = self.setup.hash().back_tables();
         let mut rows = Vec::with_capacity(alloc, counted.len())?;

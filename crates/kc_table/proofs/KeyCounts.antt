@@ -1,5 +1,5 @@
 -- The finite map of a list of entries: what it finds, what one more entry does to it, and its rows.
-use Rattle.std.proofs.Common.{◌≡◌, ◌≢◌, ◌∙◌, ℕ, zero, suc, zero-lt-suc, ◌+◌, ◌<◌, ◌≤◌, ◌^◌, Bool, true, false, cond, List, [], ◌∷◌, length, Some, None, Option, All, Contains, filter, nat_eq, nat_lt, nat_cmp, is_eq, get_or, unwrap_or, refl, sym, ap, subst, subst₂, arith, IsSome, is_some, ◌⊎◌, inl, inr, slice_get, Result, Ok, Err, IfOk}
+use Rattle.std.proofs.Common.{◌≡◌, ◌≢◌, ◌∙◌, ℕ, ◌+◌, ◌<◌, ◌≤◌, ◌^◌, Bool, true, false, cond, List, [], ◌∷◌, Some, None, Option, All, Contains, filter, nat_eq, nat_lt, nat_cmp, is_eq, get_or, unwrap_or, refl, sym, ap, subst, subst₂, arith, IsSome, is_some, inl, inr, slice_get, Result, Ok, Err, IfOk}
 use Rattle.std.specs.List.Sorted.{IsStrictlySortedBy}
 use Rattle.std.proofs.lemmas.Map.Keys.{IsDistinct-from_sorted}
 use Rattle.std.proofs.lemmas.Grind.{common_steps}
@@ -13,7 +13,7 @@ use Rattle.std.proofs.lemmas.Map.Made.{IsDistinct-keys_filter}
 use Rattle.std.proofs.lemmas.Map.Entries.{lookup_from_place, place_from_lookup}
 use Rattle.std.proofs.lemmas.List.Elements.{All-filter, All-contains, filter_passes}
 use Rattle.std.proofs.lemmas.Option.{get_or_from_slice_get, slice_get-get_or, slice_get_within}
-use Rattle.std.proofs.lemmas.Bool.{cases_lt, cases_eq, eqb-true}
+use Rattle.std.proofs.lemmas.Bool.{cases_eq, eqb-true}
 use Rattle.std.specs.FinMap.{get, insert, from_entries, find, contains_key, empty, len, len-insert, get-from_entries, get-insert, get-empty, same_map, nat_cmp-IsAntisymmetric}
 use Rattle.kc_base.proofs.Lists.{Contains-filter}
 use Rattle.kc_table.specs.Counts.{KeyCounts, AreRowsOf, IsWithin, count_at, readied, added, IsStored}

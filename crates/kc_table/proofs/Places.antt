@@ -1,5 +1,5 @@
 -- Places and keys: a slot, a number of reprobes and a remainder give one key, and a key's places differ.
-use Rattle.std.proofs.Common.{◌≡◌, ◌∙◌, ℕ, zero, suc, ◌+◌, ◌-◌, ◌*◌, ◌/◌, ◌%◌, ◌^◌, ◌<◌, ◌≤◌, Bool, true, false, ◌&&◌, List, [], ◌∷◌, get_or, nat_eq, min, unwrap_or, refl, sym, ap, arith, mod-lt, mod-eq_of_lt, suc-mul, add-zero, inl, inr}
+use Rattle.std.proofs.Common.{◌≡◌, ◌∙◌, ℕ, zero, suc, ◌+◌, ◌-◌, ◌*◌, ◌/◌, ◌%◌, ◌^◌, ◌<◌, ◌≤◌, Bool, true, false, ◌&&◌, nat_eq, min, unwrap_or, refl, sym, ap, arith, mod-lt, mod-eq_of_lt, suc-mul, add-zero, inl, inr}
 use Rattle.std.proofs.Math.Nat.{mod-add-mod, add-mul-mod_self_left, add-mul-div_right, mod-mod, min-le_left}
 use Rattle.std.specs.List.{find, range_with_len}
 use Rattle.std.proofs.Math.Pow.{mod-mod-pow}

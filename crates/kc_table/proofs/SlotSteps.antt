@@ -1,23 +1,22 @@
 -- Slots and what they hold: what a slot that is written changes, what a found, a free and a crowded key say of the map.
-use Rattle.std.proofs.Common.{◌≡◌, ◌≢◌, ◌∙◌, ℕ, zero, suc, ◌+◌, ◌-◌, ◌*◌, ◌/◌, ◌%◌, ◌^◌, ◌<◌, ◌≤◌, true, false, cond, List, [], ◌∷◌, length, take, set, replicate, Some, None, Option, nat_eq, nat_cmp, get_or, refl, sym, ap, subst, arith, slice_get, inl, inr, zero-add, add-zero, bit_and, pow_mono, le-add_right, take_all, subst₂}
+use Rattle.std.proofs.Common.{◌≡◌, ◌≢◌, ◌∙◌, ℕ, zero, suc, ◌+◌, ◌^◌, ◌<◌, ◌≤◌, true, false, cond, List, [], ◌∷◌, length, set, replicate, Some, None, Option, nat_eq, nat_cmp, get_or, refl, sym, ap, subst, arith, slice_get, inl, inr, zero-add, add-zero}
 use Rattle.std.proofs.Math.Nat.{min-le_left}
 use Rattle.std.proofs.lemmas.Bool.{cases_eq, cases_lt}
-use Rattle.std.proofs.lemmas.List.{get_or-set_same, get_or-set_other, get_or_past, get_or_read, get_or-replicate, length-replicate}
+use Rattle.std.proofs.lemmas.List.{get_or_past, get_or_read, get_or-replicate, length-replicate}
 use Rattle.std.proofs.lemmas.Option.{slice_get_within}
 use Rattle.std.proofs.lemmas.Grind.{common_steps}
-use Rattle.std.specs.FinMap.{get, insert, empty, get-empty}
+use Rattle.std.specs.FinMap.{get, empty, get-empty}
 use Rattle.kc_table.specs.declared.slots.Slot.{Slot}
 use Rattle.kc_table.specs.Counts.{KeyCounts, IsStored, IsWithin}
-use Rattle.kc_table.specs.QuotientTable.{counts_in, Holds, HoldsKey, IsCrowded, HasStoredCrowd, MayBeTooSmall, different_places}
-use Rattle.kc_table.specs.Reprobing.{triangle, place, tag_of, reprobe_of, IsFound, IsFree, IsOut, AreTakenBefore}
+use Rattle.kc_table.specs.QuotientTable.{counts_in, Holds, HoldsKey, IsCrowded, different_places}
+use Rattle.kc_table.specs.Reprobing.{place, tag_of, reprobe_of, IsFound, IsFree, IsOut, AreTakenBefore}
 use Rattle.kc_table.specs.Sizes.{place_count}
 use Rattle.kc_table.specs.Slot.{key_in, IsSound, empty_slot, tag_at, slot_count, content_of, contents_from, contents_of, counts_of}
-use Rattle.kc_table.proofs.Crowding.{crowded_from, crowded_wider}
+use Rattle.kc_table.proofs.Crowding.{crowded_from}
 use Rattle.kc_table.proofs.KeyCounts.{same_counts, stored_found}
 use Rattle.kc_table.proofs.Places.{place-lt, place-home, places_differ, reprobe_of-tag_of}
-use Rattle.kc_table.proofs.Contents.{Apart, IsNowhere, counts_in-set, get-counts_in, get-counts_in_nowhere, IsStored-held, held_by_stored, IsStored-take, get-take_next, counts_in-take_empty, counts_in-take_held}
-use Rattle.kc_table.proofs.ReprobingSteps.{key_computed}
-use Rattle.kc_table.proofs.Soundness.{reprobe_small, at_place, has_tag, log_below_by_out, absent_by_free, absent_by_out, found_some, found_key, key_in-lt, sound_put, sound_same, stands}
+use Rattle.kc_table.proofs.Contents.{Apart, IsNowhere, get-counts_in, get-counts_in_nowhere, IsStored-held, held_by_stored}
+use Rattle.kc_table.proofs.Soundness.{reprobe_small, at_place, has_tag, absent_by_free, absent_by_out, found_some, found_key, key_in-lt, stands}
 
 pub length-contents_from : (log a : ℕ) (slots : List Slot) → length (contents_from log a slots) ≡ length slots
 length-contents_from log a [] = refl

@@ -2,6 +2,7 @@ pub mod Arguments
 pub mod Command
 pub mod Counting
 pub mod FaultLines
+pub mod Faults
 pub mod Laws
 pub mod Numbers
 pub mod Reading

@@ -49,27 +49,41 @@ pub IsCutTo-left : (k size index position : ℕ) (pieces : List (List ℕ)) (bat
 IsCutTo-left k size index position pieces batches parts some is done =
     ⊎_elim (λ h. h) (λ h. absurd (some (ap length (is ∙ stretches-past k (position_number k pieces index position) (position_number k pieces index position + size) pieces h)))) (cases_lt (position_number k pieces index position) (position_total k pieces))
 
--- one batch more
-pub IsCutTo-more : (k size index position index' position' : ℕ) (pieces : List (List ℕ)) (batches after : List NumberedPieces) (parts : List (List ℕ)) (n : ℕ) → (length parts ≡ 0 → ⊥)
-    → parts ≡ stretches k (position_number k pieces index position) (position_number k pieces index position + size) pieces
-    → IsCursor k pieces index' position' → position_number k pieces index' position' ≡ min (position_number k pieces index position + size) (position_total k pieces)
-    → n ≡ length batches → after ≡ batches ++ record { number = n; pieces = parts } ∷ []
-    → IsCutTo k size pieces index position batches → IsCutTo k size pieces index' position' after
-IsCutTo-more k size index position index' position' pieces batches after parts n some is cursor moved is_n is_after done =
-    let left = IsCutTo-left k size index position pieces batches parts some is done in
+-- one batch more: what was taken from the cursor on, and where the cursor stands then
+pub record CutStep (k size : ℕ) (pieces : List (List ℕ)) : Type 0 where
+  pub index : ℕ
+  pub position : ℕ
+  pub next_index : ℕ
+  pub next_position : ℕ
+  pub batches : List NumberedPieces
+  pub after : List NumberedPieces
+  pub parts : List (List ℕ)
+  pub count : ℕ
+  pub some : length parts ≡ 0 → ⊥
+  pub parts_are : parts ≡ stretches k (position_number k pieces index position) (position_number k pieces index position + size) pieces
+  pub stands : IsCursor k pieces next_index next_position
+  pub moved : position_number k pieces next_index next_position ≡ min (position_number k pieces index position + size) (position_total k pieces)
+  pub count_is : count ≡ length batches
+  pub after_is : after ≡ batches ++ record { number = count; pieces = parts } ∷ []
+
+pub IsCutTo-more : (k size : ℕ) (pieces : List (List ℕ)) (s : CutStep k size pieces) → IsCutTo k size pieces s.index s.position s.batches → IsCutTo k size pieces s.next_index s.next_position s.after
+IsCutTo-more k size pieces s done =
+    let left = IsCutTo-left k size s.index s.position pieces s.batches s.parts s.some s.parts_are done in
     let number = done.number in
-    let low : position_number k pieces index position ≡ length batches * size = omega (arith, number, left) in
-    let high : position_number k pieces index position + size ≡ (length batches + 1) * size = omega (arith, low) in
-    let long : length after ≡ length batches + 1 = ap length is_after ∙ length_push batches (record { number = n; pieces = parts }) in
-    let same : parts ≡ stretches k (length batches * size) ((length batches + 1) * size) pieces =
-    is ∙ ap (λ l. stretches k l (position_number k pieces index position + size) pieces) low ∙ ap (λ h. stretches k (length batches * size) h pieces) high in
-    let more : length after * size ≡ length batches * size + size = ap (λ m. m * size) long ∙ omega arith in
+    let low : position_number k pieces s.index s.position ≡ length s.batches * size = omega (arith, number, left) in
+    let high : position_number k pieces s.index s.position + size ≡ (length s.batches + 1) * size = omega (arith, low) in
+    let long : length s.after ≡ length s.batches + 1 = ap length s.after_is ∙ length_push s.batches (record { number = s.count; pieces = s.parts }) in
+    let same : s.parts ≡ stretches k (length s.batches * size) ((length s.batches + 1) * size) pieces =
+    s.parts_are ∙ ap (λ l. stretches k l (position_number k pieces s.index s.position + size) pieces) low ∙ ap (λ h. stretches k (length s.batches * size) h pieces) high in
+    let more : length s.after * size ≡ length s.batches * size + size = ap (λ m. m * size) long ∙ omega arith in
+    let numbered : s.count ≡ length s.batches = s.count_is in
+    let moved = s.moved in
     record {
-      cursor = cursor;
+      cursor = s.stands;
       made =
-          is_after ∙ ap (λ xs. xs ++ record { number = n; pieces = parts } ∷ []) done.made
-          ∙ (λ i. map (λ j. batch_of k size pieces j) (range_with_len 0 (length batches)) ++ record { number = is_n i; pieces = same i } ∷ [])
-          ∙ sym (map-range_with_len_more (λ j. batch_of k size pieces j) 0 (length batches) (length batches) (omega arith))
+          s.after_is ∙ ap (λ xs. xs ++ record { number = s.count; pieces = s.parts } ∷ []) done.made
+          ∙ (λ i. map (λ j. batch_of k size pieces j) (range_with_len 0 (length s.batches)) ++ record { number = numbered i; pieces = same i } ∷ [])
+          ∙ sym (map-range_with_len_more (λ j. batch_of k size pieces j) 0 (length s.batches) (length s.batches) (omega arith))
           ∙ ap (λ m. map (λ j. batch_of k size pieces j) (range_with_len 0 m)) (sym long);
       number = omega (arith, moved, low, more);
       inhabited = omega (arith, low, left, more);

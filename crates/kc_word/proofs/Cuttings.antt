@@ -1,8 +1,8 @@
 -- What a cutting holds: batch by batch the windows of the pieces, each once and in order.
 use Rattle.std.proofs.Common.{◌≡◌, ℕ, zero, suc, ◌+◌, ◌-◌, ◌*◌, ◌/◌, ◌<◌, ◌≤◌, min, ⊎_elim, ◌⊎◌, inl, inr, Bool, false, cond, List, [], ◌∷◌, ◌++◌, length, get_or, take, drop, None, filter_map, sum_by, count_by, refl, ap, sym, ◌∙◌, arith, le-div_iff_mul-le, div-add-mod', mod-lt}
 use Rattle.std.proofs.lemmas.Bool.{cases_lt, cond-true, cond-false, lt-ltb, le-ltb}
-use Rattle.std.proofs.lemmas.List.{length-append, length-take, length-drop, length-take-le, take-take, drop-drop, drop-take, take_all, take-append-drop, drop_all, same_lists, get_or-take, get_or-drop, append-nil, take_min, map-id}
-use Rattle.std.proofs.lemmas.List.FromFn.{length-map-range_with_len, get_or-map-range_with_len, map-range_with_len_more}
+use Rattle.std.proofs.lemmas.List.{length-append, length-take, length-drop, length-take-le, take-take, drop-drop, drop-take, take_all, take-append-drop, drop_all, same_lists, get_or-take, get_or-drop, append-nil, take_min}
+use Rattle.std.proofs.lemmas.List.FromFn.{length-map-range_with_len, get_or-map-range_with_len}
 use Rattle.std.proofs.lemmas.List.Elements.{filter_map-append}
 use Rattle.std.proofs.lemmas.List.Concat.{flat_map-append}
 use Rattle.std.proofs.lemmas.List.Folds.{flat_map-map, fold-map}

@@ -13,3 +13,4 @@ pub mod Stretches
 pub mod Cuttings
 pub mod Taking
 pub mod Batching
+pub mod Sameness

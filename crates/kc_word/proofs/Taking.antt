@@ -102,63 +102,76 @@ taken-split k high pieces index position room taken h number inside e =
     to : min (position_count k (length (get_or pieces index []))) (high - position_total k (take index pieces)) ≡ position + taken
     to = omega (arith, number, inside, e)
 
--- one piece more: it is used up, or there is no more room
-pub IsTaking-more : (k low high : ℕ) (pieces : List (List ℕ)) (index position room count taken index' position' : ℕ) (parts parts' : List (List ℕ)) → 1 ≤ k → index < length pieces → count ≡ position_count k (length (get_or pieces index [])) → taken ≡ min room (count - position)
-    → parts' ≡ parts ++ given k (get_or pieces index []) position taken
-    → ((position + taken ≡ count) × (index' ≡ index + 1) × (position' ≡ 0)) ⊎ ((position + taken ≡ count → ⊥) × (index' ≡ index) × (position' ≡ position + taken))
-    → IsTaking k low high pieces index position room parts → IsTaking k low high pieces index' position' (room - taken) parts'
-IsTaking-more k low high pieces index position room count taken index' position' parts parts' some h is_count is_taken is_parts moved taking =
-    ⊎_elim (λ m. used m) (λ m. full m) moved
+-- one piece more: of its `count` positions, `taken` are taken from `position` on. It is used up, or there is no more room
+pub record TakingStep (k : ℕ) (pieces : List (List ℕ)) : Type 0 where
+  pub index : ℕ
+  pub position : ℕ
+  pub room : ℕ
+  pub count : ℕ
+  pub taken : ℕ
+  pub next_index : ℕ
+  pub next_position : ℕ
+  pub parts : List (List ℕ)
+  pub next_parts : List (List ℕ)
+  pub within : index < length pieces
+  pub count_is : count ≡ position_count k (length (get_or pieces index []))
+  pub taken_is : taken ≡ min room (count - position)
+  pub parts_are : next_parts ≡ parts ++ given k (get_or pieces index []) position taken
+  pub moved : ((position + taken ≡ count) × (next_index ≡ index + 1) × (next_position ≡ 0)) ⊎ ((position + taken ≡ count → ⊥) × (next_index ≡ index) × (next_position ≡ position + taken))
+
+pub IsTaking-more : (k low high : ℕ) (pieces : List (List ℕ)) → 1 ≤ k → (s : TakingStep k pieces) → IsTaking k low high pieces s.index s.position s.room s.parts → IsTaking k low high pieces s.next_index s.next_position (s.room - s.taken) s.next_parts
+IsTaking-more k low high pieces some s taking =
+    ⊎_elim (λ m. used m) (λ m. full m) s.moved
   where
     piece : List ℕ
-    piece = get_or pieces index []
+    piece = get_or pieces s.index []
 
-    inside : position ≤ count
-    inside = let fits = taking.cursor.inside in omega (arith, fits, is_count)
+    inside : s.position ≤ s.count
+    inside = let fits = taking.cursor.inside in omega (arith, fits, s.count_is)
 
-    least : taken ≡ min room (position_count k (length (get_or pieces index [])) - position)
-    least = is_taken ∙ ap (λ n. min room (n - position)) is_count
+    least : s.taken ≡ min s.room (position_count k (length (get_or pieces s.index [])) - s.position)
+    least = s.taken_is ∙ ap (λ n. min s.room (n - s.position)) s.count_is
 
-    split : parts' ++ stretches_from k (position_number k pieces index position) high (position_total k (take index pieces) + position_count k (length (get_or pieces index []))) (drop (index + 1) pieces) ≡ stretches_from k low high 0 pieces
+    split : s.next_parts ++ stretches_from k (position_number k pieces s.index s.position) high (position_total k (take s.index pieces) + position_count k (length (get_or pieces s.index []))) (drop (s.index + 1) pieces) ≡ stretches_from k low high 0 pieces
     split =
-        ap (λ xs. xs ++ stretches_from k (position_number k pieces index position) high (position_total k (take index pieces) + position_count k (length (get_or pieces index []))) (drop (index + 1) pieces)) is_parts
-        ∙ append_assoc parts (given k (get_or pieces index []) position taken) (stretches_from k (position_number k pieces index position) high (position_total k (take index pieces) + position_count k (length (get_or pieces index []))) (drop (index + 1) pieces))
-        ∙ ap (λ xs. parts ++ xs) (sym (taken-split k high pieces index position room taken h taking.number taking.cursor.inside least))
+        ap (λ xs. xs ++ stretches_from k (position_number k pieces s.index s.position) high (position_total k (take s.index pieces) + position_count k (length (get_or pieces s.index []))) (drop (s.index + 1) pieces)) s.parts_are
+        ∙ append_assoc s.parts (given k (get_or pieces s.index []) s.position s.taken) (stretches_from k (position_number k pieces s.index s.position) high (position_total k (take s.index pieces) + position_count k (length (get_or pieces s.index []))) (drop (s.index + 1) pieces))
+        ∙ ap (λ xs. s.parts ++ xs) (sym (taken-split k high pieces s.index s.position s.room s.taken s.within taking.number taking.cursor.inside least))
         ∙ taking.taken
 
-    total : position_total k (take (index + 1) pieces) ≡ position_total k (take index pieces) + position_count k (length (get_or pieces index []))
-    total = sum_by_more (λ p. position_count k (length p)) pieces index [] h
+    total : position_total k (take (s.index + 1) pieces) ≡ position_total k (take s.index pieces) + position_count k (length (get_or pieces s.index []))
+    total = sum_by_more (λ p. position_count k (length p)) pieces s.index [] s.within
 
-    used : (position + taken ≡ count) × (index' ≡ index + 1) × (position' ≡ 0) → IsTaking k low high pieces index' position' (room - taken) parts'
+    used : (s.position + s.taken ≡ s.count) × (s.next_index ≡ s.index + 1) × (s.next_position ≡ 0) → IsTaking k low high pieces s.next_index s.next_position (s.room - s.taken) s.next_parts
     used m =
-        let next : position_number k pieces (index + 1) 0 ≡ position_number k pieces index position + taken = (let all = m.0 in omega (arith, total, all, is_count)) in
-        let goes : IsTaking k low high pieces (index + 1) 0 (room - taken) parts' = record {
-          cursor = record { within = omega (arith, h); inside = omega arith };
-          number = (let number = taking.number in omega (arith, next, number, is_taken));
+        let next : position_number k pieces (s.index + 1) 0 ≡ position_number k pieces s.index s.position + s.taken = (let all = m.0 in omega (arith, total, all, s.count_is)) in
+        let goes : IsTaking k low high pieces (s.index + 1) 0 (s.room - s.taken) s.next_parts = record {
+          cursor = record { within = omega (arith, s.within); inside = omega arith };
+          number = (let number = taking.number in omega (arith, next, number, s.taken_is));
           taken =
-              ap (λ n. parts' ++ stretches_from k (position_number k pieces (index + 1) 0) high n (drop (index + 1) pieces)) total
-              ∙ ap (λ xs. parts' ++ xs) (stretches-early k (position_number k pieces (index + 1) 0) (position_number k pieces index position) high (position_total k (take index pieces) + position_count k (length (get_or pieces index []))) (drop (index + 1) pieces)
-              (omega (arith, total)) (omega (arith, inside, is_count)))
+              ap (λ n. s.next_parts ++ stretches_from k (position_number k pieces (s.index + 1) 0) high n (drop (s.index + 1) pieces)) total
+              ∙ ap (λ xs. s.next_parts ++ xs) (stretches-early k (position_number k pieces (s.index + 1) 0) (position_number k pieces s.index s.position) high (position_total k (take s.index pieces) + position_count k (length (get_or pieces s.index []))) (drop (s.index + 1) pieces)
+              (omega (arith, total)) (omega (arith, inside, s.count_is)))
               ∙ split;
         } in
-        subst (λ i. IsTaking k low high pieces i position' (room - taken) parts') (sym m.1) (subst (λ p. IsTaking k low high pieces (index + 1) p (room - taken) parts') (sym m.2) goes)
+        subst (λ i. IsTaking k low high pieces i s.next_position (s.room - s.taken) s.next_parts) (sym m.1) (subst (λ p. IsTaking k low high pieces (s.index + 1) p (s.room - s.taken) s.next_parts) (sym m.2) goes)
 
-    full : (position + taken ≡ count → ⊥) × (index' ≡ index) × (position' ≡ position + taken) → IsTaking k low high pieces index' position' (room - taken) parts'
+    full : (s.position + s.taken ≡ s.count → ⊥) × (s.next_index ≡ s.index) × (s.next_position ≡ s.position + s.taken) → IsTaking k low high pieces s.next_index s.next_position (s.room - s.taken) s.next_parts
     full m =
-        let differ : position + taken ≡ count → ⊥ = m.0 in
-        let spent : taken ≡ room = omega (arith, differ, is_taken, inside) in
+        let differ : s.position + s.taken ≡ s.count → ⊥ = m.0 in
+        let spent : s.taken ≡ s.room = omega (arith, differ, s.taken_is, inside) in
         let number = taking.number in
-        let next : position_number k pieces index (position + taken) ≡ high = omega (arith, number, spent) in
-        let goes : IsTaking k low high pieces index (position + taken) (room - taken) parts' = record {
-          cursor = record { within = taking.cursor.within; inside = omega (arith, is_taken, inside, is_count) };
+        let next : position_number k pieces s.index (s.position + s.taken) ≡ high = omega (arith, number, spent) in
+        let goes : IsTaking k low high pieces s.index (s.position + s.taken) (s.room - s.taken) s.next_parts = record {
+          cursor = record { within = taking.cursor.within; inside = omega (arith, s.taken_is, inside, s.count_is) };
           number = omega (arith, next, spent);
           taken =
-              ap (λ xs. parts' ++ xs)
-              (stretches-none k (position_number k pieces index (position + taken)) high (position_total k (take index pieces)) (drop index pieces) (omega (arith, next))
-              ∙ sym (stretches-late k (position_number k pieces index position) high (position_total k (take index pieces) + position_count k (length (get_or pieces index []))) (drop (index + 1) pieces) (omega (arith, number, spent, differ, is_taken, inside, is_count))))
+              ap (λ xs. s.next_parts ++ xs)
+              (stretches-none k (position_number k pieces s.index (s.position + s.taken)) high (position_total k (take s.index pieces)) (drop s.index pieces) (omega (arith, next))
+              ∙ sym (stretches-late k (position_number k pieces s.index s.position) high (position_total k (take s.index pieces) + position_count k (length (get_or pieces s.index []))) (drop (s.index + 1) pieces) (omega (arith, number, spent, differ, s.taken_is, inside, s.count_is))))
               ∙ split;
         } in
-        subst (λ i. IsTaking k low high pieces i position' (room - taken) parts') (sym m.1) (subst (λ p. IsTaking k low high pieces index p (room - taken) parts') (sym m.2) goes)
+        subst (λ i. IsTaking k low high pieces i s.next_position (s.room - s.taken) s.next_parts) (sym m.1) (subst (λ p. IsTaking k low high pieces s.index p (s.room - s.taken) s.next_parts) (sym m.2) goes)
 
 position_number-le : (k : ℕ) (pieces : List (List ℕ)) (index position : ℕ) → 1 ≤ k → IsCursor k pieces index position → position_number k pieces index position ≤ position_total k pieces
 position_number-le k pieces index position some cursor =

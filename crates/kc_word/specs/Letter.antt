@@ -1,5 +1,6 @@
 -- The four bases of DNA: their letters, their codes and their partners on the other strand.
--- Source: the two-bit codes A 0, C 1, G 2, T 3 of the Jellyfish paper (Marçais and Kingsford 2011); Watson and Crick's pairs A T and C G.
+-- Source: the two-bit codes A 0, C 1, G 2, T 3 of the Jellyfish paper (Marçais and Kingsford 2011); Watson and
+-- Crick's pairs A T and C G.
 use Rattle.std.specs.Prelude.{ℕ, Bool, ◌==◌, ◌||◌, List, if◌then◌else◌}
 use Rattle.std.specs.List.{list_all}
 
@@ -34,4 +35,6 @@ base n = if n == 0 then adenine else (if n == 1 then cytosine else (if n == 2 th
 
 -- the base that stands opposite on the other strand
 unfoldable pub complement : ℕ → ℕ
-complement letter = if letter == adenine then thymine else (if letter == cytosine then guanine else (if letter == guanine then cytosine else adenine))
+complement letter =
+    if letter == adenine then thymine
+    else (if letter == cytosine then guanine else (if letter == guanine then cytosine else adenine))

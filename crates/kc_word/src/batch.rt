@@ -119,7 +119,8 @@ fn take_positions(
     ensures taken { IfOk result (λ parts. let low = position_number k pieces.now next.old.piece next.old.position in
         parts.items ≡ stretches k low (low + size) pieces.now) }
     ensures moved { OnOk result (let low = position_number k pieces.now next.old.piece next.old.position in
-        position_number k pieces.now next.new.piece next.new.position ≡ min (low + size) (position_total k pieces.now)) }
+        position_number k pieces.now next.new.piece next.new.position
+        ≡ min (low + size) (position_total k pieces.now)) }
 {
     let bases = k.get() as usize;
     let mut parts = Vec::new(alloc);

@@ -5,7 +5,10 @@ ghost use Rattle.kc_word.specs.Word.{number, text, reverse_complement, canonical
 ghost use Rattle.kc_word.specs.Rule.{counting_all};
 ghost use Rattle.kc_word.specs.Occurrences.{occurrences, words_in};
 ghost use Rattle.kc_word.specs.Cutting.{cleaned, cutting};
-ghost use Rattle.kc_word.specs.Laws.{NumberOfText, PackedText, OrderOfTexts, ReversedTwice, OneCanonicalForm, JoinedOccurrences, CountedWords, CuttingWords, CuttingOccurrences, CuttingNumbers, CuttingPositions, BatchPositions, PositionsWithinBytes, CleanedLength, WordsAreBelow, WordsAreForms, WordsAreFew, CleanedWords};
+ghost use Rattle.kc_word.specs.Laws.{NumberOfText, PackedText, OrderOfTexts, ReversedTwice, OneCanonicalForm};
+ghost use Rattle.kc_word.specs.Laws.{JoinedOccurrences, CountedWords, CuttingWords, CuttingOccurrences};
+ghost use Rattle.kc_word.specs.Laws.{CuttingNumbers, CuttingPositions, BatchPositions, PositionsWithinBytes};
+ghost use Rattle.kc_word.specs.Laws.{CleanedLength, WordsAreBelow, WordsAreForms, WordsAreFew, CleanedWords};
 
 /// A number below 4^k is the number of its text.
 pub fn number_of_text()

@@ -1,5 +1,6 @@
 //! Reads cleaned into pieces.
-ghost use Rattle.std.specs.Prelude.{◌≡◌, ◌+◌, ◌^◌, ◌<◌, ◌↔◌, length, slice_index, slice_range, ◌≤◌, map, Some, IfOk, IsTrue};
+ghost use Rattle.std.specs.Prelude.{◌≡◌, ◌+◌, ◌^◌, ◌<◌, ◌↔◌, length, slice_index, slice_range, ◌≤◌, map, Some, IfOk};
+ghost use Rattle.std.specs.Prelude.{IsTrue};
 ghost use Rattle.kc_fastx.specs.Reads.{read_of};
 ghost use Rattle.kc_word.specs.Occurrences.{position_count};
 ghost use Rattle.kc_word.specs.Cutting.{cleaned, cleaned_letter, is_piece_byte};

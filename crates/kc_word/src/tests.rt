@@ -275,16 +275,16 @@ fn words_of_reads(rt: HostRuntime) -> Result<(), Fail> {
 
 #[test]
 fn counted_slowly(rt: HostRuntime) -> Result<(), Fail> {
-    let rows: [(&[&[u8]], u32, bool, u64, u64); 6] = [
-        (&[b"ACGTA"], 3, false, 6, 1),
-        (&[b"ACGTA"], 3, true, 6, 2),
-        (&[b"ACGT", b"", b"ac"], 2, false, 1, 2),
-        (&[b"ACNGT"], 2, false, 6, 0),
-        (&[b"ACGT"], 4, true, 27, 1),
-        (&[b"AAAAAAAAAA"], 3, false, 0, 8),
+    let rows: [(&[&[u8]], bool, &[u8], u64); 6] = [
+        (&[b"ACGTA"], false, b"acg", 1),
+        (&[b"ACGTA"], true, b"acg", 2),
+        (&[b"ACGT", b"", b"ac"], false, b"ac", 2),
+        (&[b"ACNGT"], false, b"CG", 0),
+        (&[b"ACGT"], true, b"ACGT", 1),
+        (&[b"AAAAAAAAAA"], false, b"AAA", 8),
     ];
-    for (texts, k, both, word, want) in rows {
-        let rule = rule_of(k, both)?;
+    for (texts, both, word, want) in rows {
+        let rule = rule_of(word.len() as u32, both)?;
         let mut reads = Vec::new(rt.alloc());
         for bases in texts {
             reads.push(read_of(rt.alloc(), bases, None)?)?;
@@ -292,8 +292,10 @@ fn counted_slowly(rt: HostRuntime) -> Result<(), Fail> {
         let Some(_) = slow::base_count(&reads) else {
             return Err(Fail::from("too many bases"));
         };
-        assert!(rt; word < 1 << (2 * rule.k().get()));
-        assert_eq!(rt; slow::occurrences(&reads, &rule, Word(word)), want);
+        let Some(word) = pack(word, rule.k()) else {
+            return Err(Fail::from("no word"));
+        };
+        assert_eq!(rt; slow::occurrences(&reads, &rule, word), want);
     }
     Ok(())
 }

@@ -18,30 +18,56 @@ overflow_add-end-then-taken-gt0 c = omega arith
 pub loop-room-preserved-then-next-taken : goal.loop-room-preserved-then-next-taken
 loop-room-preserved-then-next-taken c =
     let here = get_or_read c.args.pieces.now c.loop-room.next.piece c.index-pieces-next.result (omega arith) c.index-pieces-next.is [] in
-    IsTaking-more c.args.k _ _ c.args.pieces.now c.loop-room.next.piece c.loop-room.next.position c.loop-room.room c.position_count-count.result c.min-taken.result _ _ c.loop-room.parts.items c.if-taken-gt0.parts.items
-    c.get-bases.ensures.some (omega arith) (c.position_count-count.ensures.value ∙ ap (λ p. position_count c.args.k (length p)) here) c.min-taken.ensures
-    (elim c.if-taken-gt0.branch [
-      | then-taken-gt0+in_ok-part+in_ok-push w ↦ ap (λ v. v.items) w.parts-is ∙ w.in_ok-push.ensures.items
-          ∙ ap (λ part. c.loop-room.parts.items ++ part ∷ []) (w.in_ok-part.ensures ∙ part-taken _ c.args.k _ _ c.loop-room.next.position c.min-taken.result c.get-bases.ensures.value here)
-          ∙ ap (λ xs. c.loop-room.parts.items ++ xs) (sym (given-some c.args.k (get_or c.args.pieces.now c.loop-room.next.piece []) c.loop-room.next.position c.min-taken.result w.if-taken-gt0.true))
-      | else-taken-gt0 w ↦ ap (λ v. v.items) w.parts-is ∙ sym (append-nil c.loop-room.parts.items)
-          ∙ ap (λ xs. c.loop-room.parts.items ++ xs) (sym (given-none c.args.k (get_or c.args.pieces.now c.loop-room.next.piece []) c.loop-room.next.position c.min-taken.result w.if-taken-gt0.false))
-    ])
-    (inl (c.if-next-taken.true, refl, refl)) c.loop-room.invariant
+    IsTaking-more c.args.k _ _ c.args.pieces.now c.get-bases.ensures.some (record {
+      index = c.loop-room.next.piece;
+      position = c.loop-room.next.position;
+      room = c.loop-room.room;
+      count = c.position_count-count.result;
+      taken = c.min-taken.result;
+      next_index = c.loop-room.next.piece + 1;
+      next_position = 0;
+      parts = c.loop-room.parts.items;
+      next_parts = c.if-taken-gt0.parts.items;
+      within = omega arith;
+      count_is = c.position_count-count.ensures.value ∙ ap (λ p. position_count c.args.k (length p)) here;
+      taken_is = c.min-taken.ensures;
+      parts_are =
+          elim c.if-taken-gt0.branch [
+            | then-taken-gt0+in_ok-part+in_ok-push w ↦ ap (λ v. v.items) w.parts-is ∙ w.in_ok-push.ensures.items
+                ∙ ap (λ part. c.loop-room.parts.items ++ part ∷ []) (w.in_ok-part.ensures ∙ part-taken _ c.args.k _ _ c.loop-room.next.position c.min-taken.result c.get-bases.ensures.value here)
+                ∙ ap (λ xs. c.loop-room.parts.items ++ xs) (sym (given-some c.args.k (get_or c.args.pieces.now c.loop-room.next.piece []) c.loop-room.next.position c.min-taken.result w.if-taken-gt0.true))
+            | else-taken-gt0 w ↦ ap (λ v. v.items) w.parts-is ∙ sym (append-nil c.loop-room.parts.items)
+                ∙ ap (λ xs. c.loop-room.parts.items ++ xs) (sym (given-none c.args.k (get_or c.args.pieces.now c.loop-room.next.piece []) c.loop-room.next.position c.min-taken.result w.if-taken-gt0.false))
+          ];
+      moved = inl (c.if-next-taken.true, refl, refl);
+    }) c.loop-room.invariant
 
 pub loop-room-preserved : goal.loop-room-preserved
 loop-room-preserved c =
     let here = get_or_read c.args.pieces.now c.loop-room.next.piece c.index-pieces-next.result (omega arith) c.index-pieces-next.is [] in
-    IsTaking-more c.args.k _ _ c.args.pieces.now c.loop-room.next.piece c.loop-room.next.position c.loop-room.room c.position_count-count.result c.min-taken.result _ _ c.loop-room.parts.items c.if-taken-gt0.parts.items
-    c.get-bases.ensures.some (omega arith) (c.position_count-count.ensures.value ∙ ap (λ p. position_count c.args.k (length p)) here) c.min-taken.ensures
-    (elim c.if-taken-gt0.branch [
-      | then-taken-gt0+in_ok-part+in_ok-push w ↦ ap (λ v. v.items) w.parts-is ∙ w.in_ok-push.ensures.items
-          ∙ ap (λ part. c.loop-room.parts.items ++ part ∷ []) (w.in_ok-part.ensures ∙ part-taken _ c.args.k _ _ c.loop-room.next.position c.min-taken.result c.get-bases.ensures.value here)
-          ∙ ap (λ xs. c.loop-room.parts.items ++ xs) (sym (given-some c.args.k (get_or c.args.pieces.now c.loop-room.next.piece []) c.loop-room.next.position c.min-taken.result w.if-taken-gt0.true))
-      | else-taken-gt0 w ↦ ap (λ v. v.items) w.parts-is ∙ sym (append-nil c.loop-room.parts.items)
-          ∙ ap (λ xs. c.loop-room.parts.items ++ xs) (sym (given-none c.args.k (get_or c.args.pieces.now c.loop-room.next.piece []) c.loop-room.next.position c.min-taken.result w.if-taken-gt0.false))
-    ])
-    (inr (c.if-next-taken.false, refl, refl)) c.loop-room.invariant
+    IsTaking-more c.args.k _ _ c.args.pieces.now c.get-bases.ensures.some (record {
+      index = c.loop-room.next.piece;
+      position = c.loop-room.next.position;
+      room = c.loop-room.room;
+      count = c.position_count-count.result;
+      taken = c.min-taken.result;
+      next_index = c.loop-room.next.piece;
+      next_position = c.loop-room.next.position + c.min-taken.result;
+      parts = c.loop-room.parts.items;
+      next_parts = c.if-taken-gt0.parts.items;
+      within = omega arith;
+      count_is = c.position_count-count.ensures.value ∙ ap (λ p. position_count c.args.k (length p)) here;
+      taken_is = c.min-taken.ensures;
+      parts_are =
+          elim c.if-taken-gt0.branch [
+            | then-taken-gt0+in_ok-part+in_ok-push w ↦ ap (λ v. v.items) w.parts-is ∙ w.in_ok-push.ensures.items
+                ∙ ap (λ part. c.loop-room.parts.items ++ part ∷ []) (w.in_ok-part.ensures ∙ part-taken _ c.args.k _ _ c.loop-room.next.position c.min-taken.result c.get-bases.ensures.value here)
+                ∙ ap (λ xs. c.loop-room.parts.items ++ xs) (sym (given-some c.args.k (get_or c.args.pieces.now c.loop-room.next.piece []) c.loop-room.next.position c.min-taken.result w.if-taken-gt0.true))
+            | else-taken-gt0 w ↦ ap (λ v. v.items) w.parts-is ∙ sym (append-nil c.loop-room.parts.items)
+                ∙ ap (λ xs. c.loop-room.parts.items ++ xs) (sym (given-none c.args.k (get_or c.args.pieces.now c.loop-room.next.piece []) c.loop-room.next.position c.min-taken.result w.if-taken-gt0.false))
+          ];
+      moved = inr (c.if-next-taken.false, refl, refl);
+    }) c.loop-room.invariant
 
 pub returns-clause-taken : goal.returns-clause-taken
 returns-clause-taken c = (IsTaking-all c.args.k _ _ c.args.pieces.now c.loop-room.next.piece c.loop-room.next.position c.loop-room.room c.loop-room.parts.items c.get-bases.ensures.some

@@ -1,5 +1,4 @@
-use Rattle.std.proofs.Common.{◌≡◌, ◌<◌, ◌≤◌, ◌^◌, arith, ap, subst, sym}
-use Rattle.kc_stripe.specs.Counted.{TableSeen}
+use Rattle.std.proofs.Common.{arith}
 use Rattle.kc_stripe.proofs.CountedTables.{count_at-at_most, raise-there, raise-room, IsCounted-added}
 use Rattle.kc_stripe.proofs.counted.CountedTable.add.Goals as goal
 

@@ -1,5 +1,3 @@
-use Rattle.std.proofs.Common.{◌≡◌, subst, sym, ℕ}
-use Rattle.kc_stripe.specs.Counted.{IsCounted}
 use Rattle.kc_stripe.proofs.CountedTables.{IsCounted-same, count_at-asked}
 use Rattle.kc_stripe.proofs.counted.CountedTable.ready.Goals as goal
 

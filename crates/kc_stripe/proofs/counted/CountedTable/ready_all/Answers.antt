@@ -1,4 +1,4 @@
-use Rattle.std.proofs.Common.{◌≡◌, ◌∙◌, ap, take}
+use Rattle.std.proofs.Common.{◌∙◌, ap, take}
 use Rattle.kc_table.specs.Counts.{KeyCounts, count_at}
 use Rattle.kc_stripe.proofs.CountedTables.{count_at-all_readied}
 use Rattle.kc_stripe.proofs.counted.CountedTable.ready_all.Goals as goal

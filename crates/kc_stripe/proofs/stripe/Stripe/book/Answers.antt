@@ -1,15 +1,14 @@
-use Rattle.std.proofs.Common.{◌≡◌, ◌∙◌, ◌+◌, ◌<◌, ◌^◌, ◌++◌, [], ◌∷◌, ℕ, List, Bool, true, cond, All, eqb, nat_eq, count_by, Err, inr, refl, ap, ap₂, sym, subst, arith}
+use Rattle.std.proofs.Common.{◌≡◌, ◌∙◌, ◌+◌, ◌++◌, [], ◌∷◌, ℕ, List, Bool, true, cond, eqb, nat_eq, count_by, Err, inr, refl, ap, ap₂, sym, subst}
 use Rattle.std.proofs.lemmas.List.{map_push}
 use Rattle.std.proofs.lemmas.Result.{err_from_is_err_and}
 use Rattle.std.specs.HashSet.{contains}
 use Rattle.kc_word.specs.Cutting.{NumberedPieces}
 use Rattle.kc_word.specs.Shared.{values}
-use Rattle.kc_table.specs.Counts.{IsStored}
 use Rattle.kc_stripe.specs.declared.fault.BookFault.TheVariants as book
 use Rattle.kc_stripe.specs.Faults.{booking_fault}
 use Rattle.kc_stripe.specs.Cut.{keys_of, cut_at}
-use Rattle.kc_stripe.specs.Counted.{SomeMayBeFull, all_readied}
-use Rattle.kc_stripe.specs.Stripe.{IsLawful, IsKept, IsBooked}
+use Rattle.kc_stripe.specs.Counted.{SomeMayBeFull}
+use Rattle.kc_stripe.specs.Stripe.{IsKept, IsBooked}
 use Rattle.kc_stripe.proofs.CountedTables.{IsStored-all_readied}
 use Rattle.kc_stripe.proofs.Lawful.{IsLawful-from, CountsWords-more, keys-fit, known-more, numbers_differ-more, own_keys, was_full}
 use Rattle.kc_stripe.proofs.stripe.Stripe.book.Goals as goal
@@ -53,8 +52,8 @@ invariant_of-self-2 g c =
     let number : c.number.result ≡ batch.number = c.number.ensures ∙ ap (λ (b : NumberedPieces). b.number) c.deref.ensures in
     let own = rw (← c.self.view_is) at c.in_ok-check.ensures.own in
     let new : ¬ IsBooked old batch.number = λ stands. c.in_ok-check.ensures.new
-        (subst (λ (n : ℕ). IsBooked c.args.self.now.journal n) (ap (λ (b : NumberedPieces). b.number) named)
-        (subst (λ (xs : List NumberedPieces). IsBooked xs batch.number) (ap (λ s. s.journal) c.self.view_is) stands)) in
+    (subst (λ (n : ℕ). IsBooked c.args.self.now.journal n) (ap (λ (b : NumberedPieces). b.number) named)
+    (subst (λ (xs : List NumberedPieces). IsBooked xs batch.number) (ap (λ s. s.journal) c.self.view_is) stands)) in
     let keys : c.keys-2.result.now ≡ keys_of (cut_at setup batch c.self.inside.number) =
     c.keys-2.ensures ∙ own_keys setup c.self.inside.number batch c.args.cut.now own.0 own.1 (sym named) in
     let kept : IsKept setup c.self.inside.number (old ++ batch ∷ []) (g.C.Counts.bits c.add_all.new.self.table) (contains nat_eq c.insert.new.self) = record {
@@ -65,11 +64,11 @@ invariant_of-self-2 g c =
           (λ n. c.in-Ok.ensures.updates.0 n ∙ ap₂ (λ (m : ℕ) (b : Bool). cond (nat_eq m n) true b) number (c.in_ok-reserve-2.ensures.keys.2 n));
     } in
     let lawful = IsLawful-from kept c.add_all.ensures.counted (numbers_differ-more old batch before.numbers_differ new)
-        (CountsWords-more setup c.self.inside.number old (g.C.Counts.counts c.self.inside.counted.table) (g.C.Counts.counts c.add_all.new.self.table) batch
-        c.counted_words.ensures c.joined_occurrences.ensures c.words_of_reads.ensures.below held.divided
-        (record {
-          before = before.counts_are;
-          added = λ q. c.add_all.ensures.counts q
-              ∙ ap₂ (λ (m n : ℕ). m + n) (c.in_ok-ready_all.ensures.same_counts q) (ap (λ (ks : List ℕ). count_by (λ key. eqb key q) ks) keys);
-        })) in
+    (CountsWords-more setup c.self.inside.number old (g.C.Counts.counts c.self.inside.counted.table) (g.C.Counts.counts c.add_all.new.self.table) batch
+    c.counted_words.ensures c.joined_occurrences.ensures c.words_of_reads.ensures.below held.divided
+    (record {
+      before = before.counts_are;
+      added = λ q. c.add_all.ensures.counts q
+          ∙ ap₂ (λ (m n : ℕ). m + n) (c.in_ok-ready_all.ensures.same_counts q) (ap (λ (ks : List ℕ). count_by (λ key. eqb key q) ks) keys);
+    })) in
     rw journal (lawful, kept)

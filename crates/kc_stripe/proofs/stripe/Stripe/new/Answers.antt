@@ -1,8 +1,7 @@
-use Rattle.std.proofs.Common.{◌≡◌, ◌∙◌, ℕ, List, [], ap, map, refl, sym, subst, nat_eq}
+use Rattle.std.proofs.Common.{◌≡◌, ◌∙◌, [], ap, nat_eq}
 use Rattle.std.specs.List.{list_any}
-use Rattle.kc_word.specs.Cutting.{NumberedPieces}
 use Rattle.kc_word.specs.Shared.{values}
-use Rattle.kc_stripe.specs.Stripe.{IsLawful, IsKept}
+use Rattle.kc_stripe.specs.Stripe.{IsKept}
 use Rattle.kc_stripe.proofs.Lawful.{IsLawful-none}
 use Rattle.kc_stripe.proofs.stripe.Stripe.new.Goals as goal
 

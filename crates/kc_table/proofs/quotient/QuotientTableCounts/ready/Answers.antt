@@ -1,6 +1,6 @@
 use Rattle.std.proofs.Common.{◌<◌, ◌^◌, ◌∙◌, refl, sym, subst}
 use Rattle.kc_table.specs.Counts.{IsStored}
-use Rattle.kc_table.specs.QuotientTable.{counts_in, IsShutOut, IsCrowded, MayBeTooSmall}
+use Rattle.kc_table.specs.QuotientTable.{counts_in, IsShutOut, IsCrowded}
 use Rattle.kc_table.proofs.KeyCounts.{readied_stored, readied_new}
 use Rattle.kc_table.proofs.Resizing.{small_by_out}
 use Rattle.kc_table.proofs.SlotSteps.{get_found, get_free, get_out, crowded_by_out, taken_out, not_shut_found, not_shut_free, not_stored}

@@ -1,4 +1,4 @@
-use Rattle.std.proofs.Common.{ℕ, ◌≡◌, ◌+◌, ◌<◌, ◌≤◌, subst, arith, rules, inl, inr}
+use Rattle.std.proofs.Common.{◌≡◌, subst, arith, rules, inl, inr}
 use Rattle.std.proofs.lemmas.Bool.{cases_lt}
 use Rattle.kc_table.specs.QuotientTable.{MayBeTooSmall}
 use Rattle.kc_table.specs.Slot.{counts_of}
