@@ -1,5 +1,5 @@
 //! A stripe's journal beside the batches that were given.
-ghost use Rattle.std.specs.Prelude.{◌≡◌, ℕ, ◌<◌, ◌↔◌, length, All, true, slice_get, Some, IsTrue, IsNone, IfOk, IfSome, IfNone, slice_index};
+ghost use Rattle.std.specs.Prelude.{◌≡◌, ℕ, ◌<◌, ◌↔◌, length, All, true, false, IsTrue, IsNone, IfOk, IfSome, slice_index_or};
 ghost use Rattle.kc_word.specs.Shared.{values};
 ghost use Rattle.kc_stripe.specs.Stripe.{IsBooked};
 ghost use Rattle.kc_gather.specs.Gathering.{IsGiven, IsLeastMissing, HasAllNumbers};
@@ -26,7 +26,7 @@ pub(crate) fn booked_marks(
     ensures foreign { IfOk result (λ marks. IsNone marks ↔ (¬ All (IsGiven (values batches.now)) (values journal.now))) }
     ensures one_each { IfOk result (λ found. IfSome found (λ marks. length marks.items ≡ length batches.now)) }
     ensures marks { IfOk result (λ found. IfSome found (λ marks. (n : ℕ) → n < length batches.now
-        → (slice_index marks.items n ≡ true) ↔ IsBooked (values journal.now) n)) }
+        → (slice_index_or marks.items n false ≡ true) ↔ IsBooked (values journal.now) n)) }
 {
     let mut marks = vec![in alloc; false; batches.len()]?;
     for batch in journal {
