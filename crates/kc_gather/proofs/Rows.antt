@@ -5,8 +5,9 @@ use Rattle.std.specs.List.Sorted.{IsPermutation, IsNonDecreasingBy, IsStrictlyIn
 use Rattle.std.proofs.lemmas.Bool.{cases_lt, cases_eq, eq-eqb, ne_eqb, cond-true, cond-false}
 use Rattle.std.proofs.lemmas.Bool.Decides.{eqb_tells}
 use Rattle.std.proofs.lemmas.Nat.{pow_pos}
+use Rattle.std.proofs.Math.Nat.{mod-lt}
 use Rattle.std.proofs.lemmas.Option.{slice_get-get_or, get_or_from_slice_get, slice_get_within}
-use Rattle.std.proofs.lemmas.List.{length-map, map-append, get_or-map, get_or_default, length-take-le, length-append}
+use Rattle.std.proofs.lemmas.List.{length-map, map-append, get_or-map, get_or_default, get_or-take, get_or_push, take_all, take-take, take-append-le, length-take, length_push, length-append}
 use Rattle.std.proofs.lemmas.List.Elements.{All-head, All-tail, All-append, All-nil, All-map, All-contains, All-from_recursion, recursion_from_All}
 use Rattle.std.proofs.lemmas.List.Sums.{sum_by-cons, sum_by-append}
 use Rattle.std.proofs.lemmas.List.Sorted.{All-permutation, sum_by-IsPermutation, IsPermutation-map}
@@ -76,6 +77,7 @@ IsDistinct-append (x ∷ xs) ys first second apart =
 -- ---- stripes from the last one on
 
 pub AreRowsFrom-none : (setup : StripeSetup) (batches : List NumberedPieces) (n : ℕ) → n ≡ stripe_count setup → AreRowsFrom setup batches n []
+unfolding IsDistinct
 AreRowsFrom-none setup batches n all = record {
   once = distinct_none;
   words = All-nil (λ row. (row.word < word_count setup) × (n ≤ stripe_of setup row.word));
@@ -84,11 +86,10 @@ AreRowsFrom-none setup batches n all = record {
 }
   where
     distinct_none : IsDistinct nat_eq []
-    unfolding IsDistinct
     distinct_none = tt
 
     stripe-below : (s : StripeSetup) (word : ℕ) → stripe_of s word < stripe_count s
-    stripe-below s word = mod_below _ (stripe_count s) (pow_pos s.stripe_bits)
+    stripe-below s word = mod-lt _ (pow_pos s.stripe_bits)
 
 pub AreRowsFrom-more : (setup : StripeSetup) (batches : List NumberedPieces) (n : ℕ) (rows part : List Row) → AreRowsFrom setup batches (n + 1) rows
     → AreStripeRows setup n batches part → AreRowsFrom setup batches n (rows ++ part)
@@ -127,6 +128,7 @@ AreRowsFrom-more setup batches n rows part from of = record {
 pub rows-whole : {C : Type 0} (setup : StripeSetup) (batches : List NumberedPieces) (i : ℕ) (stripe : StripeState C) (rows : List Row)
     → IsDistinct nat_eq (numbers_of stripe.journal) → IsWhole setup batches i stripe → AreStripeRows stripe.setup stripe.number stripe.journal rows
     → AreStripeRows setup i batches rows
+unfolding occurrences
 rows-whole setup batches i stripe rows distinct whole are =
     let here = subst (λ s. AreStripeRows s stripe.number stripe.journal rows) whole.own.same_setup are in
     let own = subst (λ n. AreStripeRows setup n stripe.journal rows) whole.own.same_number here in
@@ -138,7 +140,6 @@ rows-whole setup batches i stripe rows distinct whole are =
     }
   where
     as_sum : (entries : List NumberedPieces) (word : ℕ) → word_occurrences setup entries word ≡ sum_by (λ batch. occurrences setup.rule (as_reads batch.pieces) (text setup.rule.k word)) entries
-    unfolding occurrences
     as_sum entries word = sum_by-flat_map (λ read. occurrences_in setup.rule read (text setup.rule.k word)) (λ (batch : NumberedPieces). as_reads batch.pieces) entries
 
     same_occurrences : (word : ℕ) → word_occurrences setup stripe.journal word ≡ word_occurrences setup batches word
@@ -146,3 +147,43 @@ rows-whole setup batches i stripe rows distinct whole are =
         as_sum stripe.journal word
         ∙ weighs_whole batches stripe.journal distinct whole.own.given whole.all (λ batch. occurrences setup.rule (as_reads batch.pieces) (text setup.rule.k word))
         ∙ sym (as_sum batches word)
+
+-- stripes are taken from the last one on: these are left, and the rows of the others are taken
+pub record IsTakenTo {C : Type 0} (whole left : List (StripeState C)) (rows : List Row) : Type 0 where
+  pub left_are : left ≡ take (length left) whole
+  pub rows_are : (setup : StripeSetup) (batches : List NumberedPieces) → length whole ≡ stripe_count setup → AreWholeBefore setup batches whole (length whole)
+      → AreRowsFrom setup batches (length left) rows
+
+pub IsTakenTo-none : {C : Type 0} {whole : List (StripeState C)} {rows : List Row} → rows ≡ [] → IsTakenTo whole whole rows
+IsTakenTo-none {C} {whole} {rows} none = record {
+  left_are = sym (take_all (length whole) whole (omega arith));
+  rows_are = λ setup batches as_many are. subst (AreRowsFrom setup batches (length whole)) (sym none) (AreRowsFrom-none setup batches (length whole) as_many);
+}
+
+pub IsTakenTo-more : {C : Type 0} {whole old new : List (StripeState C)} {rows part more : List Row} (stripe : StripeState C) → old ≡ new ++ stripe ∷ [] → more ≡ rows ++ part
+    → IsDistinct nat_eq (numbers_of stripe.journal) → AreStripeRows stripe.setup stripe.number stripe.journal part
+    → IsTakenTo whole old rows → IsTakenTo whole new more
+IsTakenTo-more {C} {whole} {old} {new} {rows} {part} {more} stripe last joined distinct part_are before = record {
+  left_are =
+      sym (take_all (length new) new (omega arith)) ∙ sym (take-append-le (length new) new (stripe ∷ []) (omega arith)) ∙ ap (take (length new)) (sym last ∙ before.left_are)
+      ∙ take-take (length new) (length old) whole (omega (arith, one_more));
+  rows_are = λ setup batches as_many are.
+      let (found, there, whole_there) = are (length new) (inside) in
+      let same : found ≡ stripe = sym (get_or_from_slice_get whole (length new) found stripe there) ∙ at in
+      subst (AreRowsFrom setup batches (length new)) (sym joined)
+      (AreRowsFrom-more setup batches (length new) rows part
+      (subst (λ n. AreRowsFrom setup batches n rows) one_more (before.rows_are setup batches as_many are))
+      (rows-whole setup batches (length new) stripe part distinct (subst (IsWhole setup batches (length new)) same whole_there) part_are));
+}
+  where
+    one_more : length old ≡ length new + 1
+    one_more = ap length last ∙ length_push new stripe
+
+    inside : length new < length whole
+    inside = let kept = ap length before.left_are in let taken = length-take (length old) whole in omega (arith, one_more, kept, taken)
+
+    at : get_or whole (length new) stripe ≡ stripe
+    at =
+        sym (get_or-take (length old) whole (length new) stripe (omega (arith, one_more)))
+        ∙ ap (λ xs. get_or xs (length new) stripe) (sym before.left_are ∙ last)
+        ∙ get_or_push new stripe stripe (length new) refl
