@@ -186,3 +186,35 @@ weighs_whole batches journal distinct given all f =
     ∙ one_stands i (f (get_or batches i none)) (numbers_of journal) distinct (all i (omega (arith, high)))))
     ∙ sum_by-places f batches none count (omega arith)
     ∙ ap (sum_by f) (take_all count batches (omega arith))
+
+-- ---- the first number that a journal lacks
+
+-- the marks say which numbers the journal has
+abbrev pub AreMarksOf : List NumberedPieces → List NumberedPieces → List Bool → Type 0
+AreMarksOf batches journal marks = (n : ℕ) → n < length batches → (get_or marks n false ≡ true) ↔ IsBooked journal n
+
+pub least_missing : (batches journal : List NumberedPieces) (marks : List Bool) (n : ℕ) → length marks ≡ length batches → AreMarksOf batches journal marks
+    → (n < length marks) × (get_or marks n true ≡ false) → ((m : ℕ) → m < n → get_or marks m false ≡ true) → IsLeastMissing batches journal n
+least_missing batches journal marks n one_each are found before = record {
+  given = omega (arith, found.0, one_each);
+  missing = λ stands.
+      let here : get_or marks n false ≡ true = (are n (omega (arith, found.0, one_each))).1 stands in
+      let same : get_or marks n false ≡ get_or marks n true = get_or_default marks n false true found.0 in
+      absurd (let never : true ≡ false = sym here ∙ same ∙ found.1 in cc);
+  least = λ m less. (are m (omega (arith, found.0, one_each, less))).0 (before m less);
+}
+
+pub all_numbers : (batches journal : List NumberedPieces) (marks : List Bool) → length marks ≡ length batches → AreMarksOf batches journal marks
+    → ((m : ℕ) → m < length marks → get_or marks m false ≡ true) → HasAllNumbers batches journal
+all_numbers batches journal marks one_each are each n within = (are n within).0 (each n (omega (arith, one_each, within)))
+
+-- the same for shared batches, and what is seen of them
+pub marks_of : (batches : List (Arc Batch Global)) (seen journal : List NumberedPieces) (items marks : List Bool) → seen ≡ journal → marks ≡ items
+    → ((n : ℕ) → n < length batches → (get_or items n false ≡ true) ↔ IsBooked seen n) → AreMarksOf (values batches) journal marks
+marks_of batches seen journal items marks same is are n within =
+    let long = length-map batches (λ (b : Arc Batch Global). b.value) in
+    let told = are n (omega (arith, long, within)) in
+    (λ h. subst (λ j. IsBooked j n) same (told.0 (sym (ap (λ ms. get_or ms n false) is) ∙ h)), λ h. ap (λ ms. get_or ms n false) is ∙ told.1 (subst (λ j. IsBooked j n) (sym same) h))
+
+pub as_many_marks : (batches : List (Arc Batch Global)) (items marks : List Bool) → marks ≡ items → length items ≡ length batches → length marks ≡ length (values batches)
+as_many_marks batches items marks is one_each = ap length is ∙ one_each ∙ sym (length-map batches (λ (b : Arc Batch Global). b.value))

@@ -28,13 +28,13 @@ use Rattle.kc_stripe.specs.Stripe.{StripeState, numbers_of, reads_in, word_occur
 use Rattle.kc_gather.specs.Gathering.{IsOwn, IsWhole, AreWholeBefore, AreRowsFrom, position_sum}
 use Rattle.kc_gather.proofs.Journals.{weighs_whole}
 
-abbrev words_in_rows : List Row → List ℕ
+abbrev pub words_in_rows : List Row → List ℕ
 words_in_rows rows = map (λ row. row.word) rows
 
 -- ---- counts as sums
 
 -- what the row counts under the word
-abbrev weight_of : ℕ → Row → ℕ
+abbrev pub weight_of : ℕ → Row → ℕ
 weight_of word row = cond (eqb row.word word) row.count 0
 
 -- where no row has the word, none counts under it
@@ -43,7 +43,7 @@ no_weight word rows apart =
     sum_by-zeros (weight_of word) rows (λ k d within. ap (λ b. cond b (get_or rows k d).count 0) (ne_eqb (get_or rows k d).word word (apart k d within)))
 
 -- of rows of different words
-count_of-sum : (rows : List Row) (word : ℕ) → IsDistinct nat_eq (words_in_rows rows) → count_of rows word ≡ sum_by (weight_of word) rows
+pub count_of-sum : (rows : List Row) (word : ℕ) → IsDistinct nat_eq (words_in_rows rows) → count_of rows word ≡ sum_by (weight_of word) rows
 count_of-sum [] word distinct = refl
 count_of-sum (row ∷ rows) word distinct =
     let split = sum_by-cons (weight_of word) row rows in

@@ -1,6 +1,6 @@
 -- When the stripes of a count may be gathered, and why not.
 -- Source: this project's own.
-use Rattle.std.specs.Prelude.{◌≡◌, ℕ, ◌<◌, ◌≤◌, ◌^◌, List, length, map, sum_by, All, Some, nat_eq, slice_get, slice_index_or}
+use Rattle.std.specs.Prelude.{◌≡◌, ℕ, ◌<◌, ◌≤◌, ◌^◌, List, length, map, sum_by, All, Some, nat_eq, slice_get}
 use Rattle.std.specs.List.{IsDistinct}
 use Rattle.kc_word.specs.Cutting.{NumberedPieces, position_total}
 use Rattle.kc_tally.specs.declared.row.Row.{Row}
@@ -10,15 +10,11 @@ use Rattle.kc_stripe.specs.Stripe.{StripeState, IsBooked, word_occurrences}
 use Rattle.kc_gather.specs.declared.fault.GatherFault.{GatherFault}
 use Rattle.kc_gather.specs.declared.fault.GatherFault.TheVariants.{Foreign, Missing, Memory}
 
--- at index i stands the batch of number i
-abbrev pub AreNumbered : List NumberedPieces → Type 0
-AreNumbered batches = (i : ℕ) (d : NumberedPieces) → i < length batches → (slice_index_or batches i d).number ≡ i
-
 -- how many positions the batches have together
 abbrev pub position_sum : ℕ → List NumberedPieces → ℕ
 position_sum k batches = sum_by (λ batch. position_total k batch.pieces) batches
 
--- the batch is the one that is given under its number
+-- the batch is the one that is given under its number, that is, at this index
 abbrev pub IsGiven : List NumberedPieces → NumberedPieces → Type 0
 IsGiven batches batch = slice_get batches batch.number ≡ Some batch
 

@@ -5,10 +5,10 @@ ghost use Rattle.kc_word.specs.Cutting.{NumberedPieces};
 ghost use Rattle.kc_tally.specs.Tally.{IsTallyOf};
 ghost use Rattle.kc_stripe.specs.Setup.{StripeSetup, stripe_count};
 ghost use Rattle.kc_stripe.specs.Stripe.{reads_in};
-ghost use Rattle.kc_gather.specs.Gathering.{AreNumbered, position_sum, IsWhole, AreWholeBefore, IsRefusal, IsStripeRefusal, AreRowsFrom};
+ghost use Rattle.kc_gather.specs.Gathering.{position_sum, IsWhole, AreWholeBefore, IsRefusal, IsStripeRefusal, AreRowsFrom};
 
 use crate::fault::GatherFault;
-use crate::journal::booked_marks;
+use crate::journal::{booked_marks, first_unset};
 use kc_stripe::{Setup, Stripe};
 use kc_table::Counts;
 use kc_tally::{Row, Tally};
@@ -19,8 +19,7 @@ use std::sync::Arc;
 /// The tally of the batches, gathered from the stripes in which they were booked. It is refused unless each stripe is
 /// that of its index and its journal holds exactly the given batches, whichever stripe counted what.
 ///
-/// Conditions: as many stripes as the setup says; at index i stands the batch of number i; the batches have together at
-/// most 2^62 positions.
+/// Conditions: as many stripes as the setup says; the batches have together at most 2^62 positions.
 pub fn gather<C: Counts + Drop>(
     alloc: Global,
     stripes: Vec<Stripe<C>>,
@@ -28,7 +27,6 @@ pub fn gather<C: Counts + Drop>(
     setup: &Setup,
 ) -> Result<Tally, GatherFault>
     requires one_each { length stripes.items ≡ stripe_count setup.now }
-    requires numbers { AreNumbered (values batches.now) }
     requires few { position_sum setup.now.rule.k (values batches.now) ≤ 2 ^ 62 }
     ensures whole { OnOk result (AreWholeBefore setup.now (values batches.now) stripes.items (length stripes.items)) }
     ensures tally { IfOk result (IsTallyOf setup.now.rule (reads_in (values batches.now))) }
@@ -75,8 +73,8 @@ fn check_stripe<C: Counts>(
     let Some(marks) = booked_marks(alloc, stripe.journal(), batches)? else {
         return Err(GatherFault::Foreign(index));
     };
-    match marks.iter().position(|mark| !*mark) {
-        Some(number) => Err(GatherFault::Missing(index, number as u64)),
+    match first_unset(&marks) {
+        Some(number) => Err(GatherFault::Missing(index, number)),
         None => Ok(()),
     }
 }

@@ -1,5 +1,5 @@
 //! A stripe's journal beside the batches that were given.
-ghost use Rattle.std.specs.Prelude.{◌≡◌, ℕ, ◌<◌, ◌↔◌, length, All, true, false, IsTrue, IsNone, IfOk, IfSome, slice_index_or};
+ghost use Rattle.std.specs.Prelude.{◌≡◌, ℕ, ◌<◌, ◌↔◌, length, All, true, false, IsTrue, IsSome, IfOk, IfSome, IfNone, slice_index_or};
 ghost use Rattle.kc_word.specs.Shared.{values};
 ghost use Rattle.kc_stripe.specs.Stripe.{IsBooked};
 ghost use Rattle.kc_gather.specs.Gathering.{IsGiven, IsLeastMissing, HasAllNumbers};
@@ -23,7 +23,7 @@ pub(crate) fn booked_marks(
     journal: &[Arc<Batch>],
     batches: &[Arc<Batch>],
 ) -> Result<Option<Vec<bool>>, AllocError>
-    ensures foreign { IfOk result (λ marks. IsNone marks ↔ (¬ All (IsGiven (values batches.now)) (values journal.now))) }
+    ensures given { IfOk result (λ marks. IsSome marks ↔ All (IsGiven (values batches.now)) (values journal.now)) }
     ensures one_each { IfOk result (λ found. IfSome found (λ marks. length marks.items ≡ length batches.now)) }
     ensures marks { IfOk result (λ found. IfSome found (λ marks. (n : ℕ) → n < length batches.now
         → (slice_index_or marks.items n false ≡ true) ↔ IsBooked (values journal.now) n)) }
@@ -36,4 +36,18 @@ pub(crate) fn booked_marks(
         marks[batch.number() as usize] = true;
     }
     Ok(Some(marks))
+}
+
+// The index of the first mark that isn't set.
+pub(crate) fn first_unset(marks: &[bool]) -> Option<u64>
+    ensures found { IfSome result (λ n. (n < length marks.now) × (slice_index_or marks.now n true ≡ false)) }
+    ensures before { IfSome result (λ n. (m : ℕ) → m < n → slice_index_or marks.now m false ≡ true) }
+    ensures none { IfNone result ((m : ℕ) → m < length marks.now → slice_index_or marks.now m false ≡ true) }
+{
+    for (i, mark) in marks.iter().enumerate() {
+        if !*mark {
+            return Some(i as u64);
+        }
+    }
+    None
 }

@@ -6,11 +6,11 @@ use Rattle.kc_word.specs.Cutting.{NumberedPieces}
 use Rattle.kc_gather.proofs.Journals.{IsMarkedTo, IsMarkedTo-none, IsMarkedTo-more, IsMarkedTo-all, values-item, not_all_given}
 use Rattle.kc_gather.proofs.journal.booked_marks.Goals as goal
 
-pub returns-then-not-is_given-clause-foreign : goal.returns-then-not-is_given-clause-foreign
-returns-then-not-is_given-clause-foreign c =
+pub returns-then-not-is_given-clause-given : goal.returns-then-not-is_given-clause-given
+returns-then-not-is_given-clause-given c =
     let item = values-item c.args.journal.now c.batch-item.result c.loop-batch.batch-index c.deref.result.now c.loop-batch-test.true c.batch-item.is c.deref.ensures in
-    (λ _. not_all_given (values c.args.batches.now) (values c.args.journal.now) c.loop-batch.batch-index c.deref.result.now item.0 item.1
-    (λ given. let never : true ≡ false = sym (c.is_given.ensures.1 given) ∙ c.if-not-is_given.true in cc), λ _. refl)
+    (λ never. absurd (cc never), λ all. absurd (not_all_given (values c.args.batches.now) (values c.args.journal.now) c.loop-batch.batch-index c.deref.result.now item.0 item.1
+    (λ given. let never : true ≡ false = sym (c.is_given.ensures.1 given) ∙ c.if-not-is_given.true in cc) all))
 
 pub index_mut-requires : goal.index_mut-requires
 index_mut-requires c =
@@ -27,11 +27,11 @@ loop-batch-preserved c =
     rw same (IsMarkedTo-more (values c.args.batches.now) (values c.args.journal.now) c.loop-batch.marks.items c.loop-batch.batch-index c.deref.result.now item.0 item.1
     (c.is_given.ensures.0 c.if-not-is_given.false) c.loop-batch.invariant)
 
-pub returns-clause-foreign : goal.returns-clause-foreign
-returns-clause-foreign c =
+pub returns-clause-given : goal.returns-clause-given
+returns-clause-given c =
     let long = length-map c.args.journal.now (λ batch. batch.value) in
     let whole = IsMarkedTo-all (values c.args.batches.now) (values c.args.journal.now) c.loop-batch.marks.items c.loop-batch.batch-index (omega (arith, long, c.loop-batch-test.false)) c.loop-batch.invariant in
-    (λ never. absurd (cc never), λ strange. absurd (strange whole.0))
+    (λ _. whole.0, λ _. refl)
 
 pub returns-clause-marks : goal.returns-clause-marks
 returns-clause-marks c =
