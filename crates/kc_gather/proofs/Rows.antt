@@ -1,31 +1,26 @@
 -- Rows that are dealt out among stripes, joined and sorted.
-use Rattle.std.proofs.Common.{◌≡◌, ◌≢◌, ℕ, zero, suc, ◌+◌, ◌-◌, ◌%◌, ◌<◌, ◌≤◌, ◌^◌, ◌⊎◌, inl, inr, ⊎_elim, Bool, true, false, cond, eqb, nat_eq, List, [], ◌∷◌, ◌++◌, length, get_or, map, take, Some, slice_get, sum_by, count_by, All, Contains, refl, ap, ap₂, sym, ◌∙◌, subst, arith}
-use Rattle.std.specs.List.{IsDistinct, AllByRecursion, flat_map}
-use Rattle.std.specs.List.Sorted.{IsPermutation, IsNonDecreasingBy, IsStrictlyIncreasing}
-use Rattle.std.proofs.lemmas.Bool.{cases_lt, cases_eq, eq-eqb, ne_eqb, cond-true, cond-false}
+use Rattle.std.proofs.Common.{◌≡◌, ◌≢◌, ℕ, ◌+◌, ◌<◌, ◌≤◌, ⊎_elim, false, cond, eqb, nat_eq, List, [], ◌∷◌, ◌++◌, length, get_or, map, take, sum_by, All, Contains, refl, ap, sym, ◌∙◌, subst, arith}
+use Rattle.std.specs.List.{IsDistinct}
+use Rattle.std.proofs.lemmas.Bool.{cases_eq, eq-eqb, ne_eqb, cond-true, cond-false}
 use Rattle.std.proofs.lemmas.Bool.Decides.{eqb_tells}
 use Rattle.std.proofs.lemmas.Nat.{pow_pos}
 use Rattle.std.proofs.Math.Nat.{mod-lt}
-use Rattle.std.proofs.lemmas.Option.{slice_get-get_or, get_or_from_slice_get, slice_get_within}
-use Rattle.std.proofs.lemmas.List.{length-map, map-append, get_or-map, get_or_default, get_or-take, get_or_push, take_all, take-take, take-append-le, length-take, length_push, length-append}
-use Rattle.std.proofs.lemmas.List.Elements.{All-head, All-tail, All-append, All-nil, All-map, All-contains, All-from_recursion, recursion_from_All}
+use Rattle.std.proofs.lemmas.Option.{get_or_from_slice_get}
+use Rattle.std.proofs.lemmas.List.{map-append, get_or_default, get_or-take, get_or_push, take_all, take-take, take-append-le, length-take, length_push}
+use Rattle.std.proofs.lemmas.List.Elements.{All-head, All-tail, All-append, All-nil, All-map, All-from_recursion, recursion_from_All}
 use Rattle.std.proofs.lemmas.List.Sums.{sum_by-cons, sum_by-append}
-use Rattle.std.proofs.lemmas.List.Sorted.{All-permutation, sum_by-IsPermutation, IsPermutation-map}
-use Rattle.std.proofs.lemmas.Map.Keys.{IsDistinct-tail, IsDistinct-head, IsDistinct-cons, IsDistinct-IsPermutation, IsStrictlyIncreasing-from_distinct}
-use Rattle.kc_base.proofs.Distinct.{head_apart, equal_flips, Contains-from_times}
-use Rattle.kc_base.proofs.Lists.{Contains-cons, Contains-map}
-use Rattle.kc_base.proofs.Sums.{sum_by-zeros, sum_by-same, sum_by-flat_map, sum_by-at_most}
-use Rattle.kc_fastx.specs.Reads.{Read}
-use Rattle.kc_word.specs.Word.{text, form}
-use Rattle.kc_word.specs.Rule.{CountingRule}
-use Rattle.kc_word.specs.Occurrences.{occurrences_in, occurrences, words_of}
-use Rattle.kc_word.specs.Cutting.{NumberedPieces, as_reads, position_total}
-use Rattle.kc_word.specs.Laws.{JoinedOccurrences}
+use Rattle.std.proofs.lemmas.Map.Keys.{IsDistinct-tail, IsDistinct-head, IsDistinct-cons}
+use Rattle.kc_base.proofs.Distinct.{head_apart}
+use Rattle.kc_base.proofs.Lists.{Contains-map}
+use Rattle.kc_base.proofs.Sums.{sum_by-zeros, sum_by-flat_map}
+use Rattle.kc_word.specs.Word.{text}
+use Rattle.kc_word.specs.Occurrences.{occurrences_in, occurrences}
+use Rattle.kc_word.specs.Cutting.{NumberedPieces, as_reads}
 use Rattle.kc_tally.specs.declared.row.Row.{Row}
-use Rattle.kc_tally.specs.Tally.{count_of, total_of, AreOrderedRows, AreRows, IsTally}
+use Rattle.kc_tally.specs.Tally.{count_of}
 use Rattle.kc_stripe.specs.Setup.{StripeSetup, word_count, stripe_count, stripe_of}
-use Rattle.kc_stripe.specs.Stripe.{StripeState, numbers_of, reads_in, word_occurrences, AreStripeRows}
-use Rattle.kc_gather.specs.Gathering.{IsOwn, IsWhole, AreWholeBefore, AreRowsFrom, position_sum}
+use Rattle.kc_stripe.specs.Stripe.{StripeState, numbers_of, word_occurrences, AreStripeRows}
+use Rattle.kc_gather.specs.Gathering.{IsWhole, AreWholeBefore, AreRowsFrom}
 use Rattle.kc_gather.proofs.Journals.{weighs_whole}
 
 abbrev pub words_in_rows : List Row → List ℕ

@@ -1,6 +1,6 @@
 -- The tally that the rows of all stripes are when they are sorted.
-use Rattle.std.proofs.Common.{◌≡◌, ◌≢◌, ℕ, ◌+◌, ◌^◌, ◌<◌, ◌≤◌, Bool, true, cond, eqb, nat_eq, List, [], ◌∷◌, ◌++◌, length, get_or, map, sum_by, count_by, All, Contains, refl, ap, sym, ◌∙◌, subst, arith}
-use Rattle.std.specs.List.{IsDistinct, flat_map}
+use Rattle.std.proofs.Common.{◌≡◌, ◌^◌, ◌<◌, ◌≤◌, eqb, nat_eq, List, [], ◌∷◌, length, get_or, refl, ap, sym, ◌∙◌, arith}
+use Rattle.std.specs.List.{IsDistinct}
 use Rattle.std.specs.List.Sorted.{IsPermutation, IsNonDecreasingBy, IsStrictlyIncreasing}
 use Rattle.std.proofs.lemmas.Bool.{eq-eqb, cond-true}
 use Rattle.std.proofs.lemmas.Bool.Decides.{eqb_tells}
@@ -13,12 +13,12 @@ use Rattle.std.proofs.lemmas.Map.Keys.{IsDistinct-IsPermutation, IsStrictlyIncre
 use Rattle.kc_base.proofs.Distinct.{equal_flips, Contains-from_times}
 use Rattle.kc_base.proofs.Sums.{term-le-sum_by}
 use Rattle.kc_word.specs.Word.{text, form}
-use Rattle.kc_word.specs.Occurrences.{words_in, occurrences, words_of}
+use Rattle.kc_word.specs.Occurrences.{words_in, words_of}
 use Rattle.kc_word.specs.Cutting.{NumberedPieces, as_reads, position_total}
 use Rattle.kc_word.proofs.Cuttings.{length-words_of-pieces}
 use Rattle.kc_word.proofs.WordCounts.{times-words_of, All-forms}
 use Rattle.kc_tally.specs.declared.row.Row.{Row}
-use Rattle.kc_tally.specs.Tally.{row_of, count_of, total_of, AreOrderedRows, AreRows, IsTally}
+use Rattle.kc_tally.specs.Tally.{row_of, AreRows, IsTally}
 use Rattle.kc_tally.proofs.Tallies.{tally_total}
 use Rattle.kc_stripe.specs.Setup.{StripeSetup, word_count, stripe_of}
 use Rattle.kc_stripe.specs.Stripe.{reads_in}

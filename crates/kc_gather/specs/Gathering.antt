@@ -1,6 +1,6 @@
 -- When the stripes of a count may be gathered, and why not.
 -- Source: this project's own.
-use Rattle.std.specs.Prelude.{◌≡◌, ℕ, ◌<◌, ◌≤◌, ◌^◌, List, length, map, sum_by, All, Some, nat_eq, slice_get}
+use Rattle.std.specs.Prelude.{◌≡◌, ℕ, ◌<◌, ◌≤◌, List, length, map, sum_by, All, Some, nat_eq, slice_get}
 use Rattle.std.specs.List.{IsDistinct}
 use Rattle.kc_word.specs.Cutting.{NumberedPieces, position_total}
 use Rattle.kc_tally.specs.declared.row.Row.{Row}

@@ -10,3 +10,6 @@ mod tables;
 pub use fault::GatherFault;
 pub use gathering::gather;
 pub use tables::{plain_tables, quotient_tables};
+
+#[cfg(test)]
+mod tests;

@@ -1,4 +1,3 @@
-use Rattle.std.proofs.Common.{◌≡◌, length}
 use Rattle.kc_word.specs.Shared.{values}
 use Rattle.kc_gather.specs.Gathering.{AreWholeBefore}
 use Rattle.kc_gather.proofs.gathering.check_stripes.Given as goal

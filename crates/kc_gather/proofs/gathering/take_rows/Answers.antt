@@ -1,4 +1,4 @@
-use Rattle.std.proofs.Common.{◌≡◌, ◌∙◌, length, subst, ap, sym, arith}
+use Rattle.std.proofs.Common.{◌≡◌, length, subst, arith}
 use Rattle.std.proofs.lemmas.Grind.{common_steps}
 use Rattle.kc_gather.specs.Gathering.{AreRowsFrom}
 use Rattle.kc_gather.proofs.Rows.{IsTakenTo-none, IsTakenTo-more}

@@ -1,9 +1,9 @@
-use Rattle.std.proofs.Common.{◌≡◌, ◌<◌, ◌∙◌, true, false, length, take, ap, sym, subst, refl, arith}
+use Rattle.std.proofs.Common.{◌≡◌, ◌<◌, ◌∙◌, true, false, length, ap, sym, refl, arith}
 use Rattle.std.proofs.lemmas.Option.{slice_get_within}
 use Rattle.std.proofs.lemmas.List.{length-map}
 use Rattle.kc_word.specs.Shared.{values}
 use Rattle.kc_word.specs.Cutting.{NumberedPieces}
-use Rattle.kc_gather.proofs.Journals.{IsMarkedTo, IsMarkedTo-none, IsMarkedTo-more, IsMarkedTo-all, values-item, not_all_given}
+use Rattle.kc_gather.proofs.Journals.{IsMarkedTo-more, IsMarkedTo-all, values-item, not_all_given}
 use Rattle.kc_gather.proofs.journal.booked_marks.Goals as goal
 
 pub returns-then-not-is_given-clause-given : goal.returns-then-not-is_given-clause-given

@@ -1,4 +1,3 @@
-use Rattle.std.proofs.Common.{◌∙◌, ap, sym, arith}
 use Rattle.kc_gather.proofs.Journals.{given_at, is_given-at, given_past}
 use Rattle.kc_gather.proofs.journal.is_given.Goals as goal
 
