@@ -5,7 +5,8 @@ ghost use Rattle.kc_word.specs.Cutting.{NumberedPieces};
 ghost use Rattle.kc_tally.specs.Tally.{IsTallyOf};
 ghost use Rattle.kc_stripe.specs.Setup.{StripeSetup, stripe_count};
 ghost use Rattle.kc_stripe.specs.Stripe.{reads_in};
-ghost use Rattle.kc_gather.specs.Gathering.{position_sum, IsWhole, AreWholeBefore, IsRefusal, IsStripeRefusal, AreRowsFrom};
+ghost use Rattle.kc_gather.specs.Gathering.{position_sum, IsWhole, AreWholeBefore, AreRowsFrom};
+ghost use Rattle.kc_gather.specs.Gathering.{IsRefusal, IsStripeRefusal};
 
 use crate::fault::GatherFault;
 use crate::journal::{booked_marks, first_unset};

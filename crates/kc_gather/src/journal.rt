@@ -1,8 +1,9 @@
 //! A stripe's journal beside the batches that were given.
-ghost use Rattle.std.specs.Prelude.{◌≡◌, ℕ, ◌<◌, ◌↔◌, length, All, true, false, IsTrue, IsSome, IfOk, IfSome, IfNone, slice_index_or};
+ghost use Rattle.std.specs.Prelude.{◌≡◌, ℕ, ◌<◌, ◌↔◌, length, All, true, false};
+ghost use Rattle.std.specs.Prelude.{IsTrue, IsSome, IfOk, IfSome, IfNone, slice_index_or};
 ghost use Rattle.kc_word.specs.Shared.{values};
 ghost use Rattle.kc_stripe.specs.Stripe.{IsBooked};
-ghost use Rattle.kc_gather.specs.Gathering.{IsGiven, IsLeastMissing, HasAllNumbers};
+ghost use Rattle.kc_gather.specs.Gathering.{IsGiven};
 
 use kc_word::Batch;
 use std::alloc::{AllocError, Global};

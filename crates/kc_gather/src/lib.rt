@@ -1,5 +1,5 @@
-//! The two ends of a count: the tables with which it begins, an empty one for each stripe, and the tally that is gathered
-//! from its stripes when all batches were booked.
+//! The two ends of a count: the tables with which it begins, an empty one for each stripe, and the tally that is
+//! gathered from its stripes when all batches were booked.
 #![tactic(auto)]
 
 mod fault;

@@ -40,7 +40,8 @@ pub fn quotient_tables(
 ) -> Result<Vec<QuotientTable>, AllocError>
     ensures one_each { IfOk result (λ tables. length tables.items ≡ stripe_count setup.now) }
     ensures bits { IfOk result (λ tables. All (λ table. table.bits ≡ key_bits setup.now) tables.items) }
-    ensures max_log { IfOk result (λ tables. All (λ table. table.max_log ≡ min most_log (key_bits setup.now)) tables.items) }
+    ensures max_log { IfOk result (λ tables.
+        All (λ table. table.max_log ≡ min most_log (key_bits setup.now)) tables.items) }
     ensures log { IfOk result (λ tables.
         All (λ table. IsStartLog (stripe_count setup.now) size (key_bits setup.now) table.log) tables.items) }
     ensures empty { IfOk result (λ tables. All (λ table. counts_in table.slots ≡ empty) tables.items) }
