@@ -1,0 +1,5 @@
+pub mod Logs
+pub mod Journals
+pub mod Rows
+pub mod Stripes
+pub mod Tallies

@@ -1,0 +1,184 @@
+-- Rows that are dealt out among stripes, joined and sorted.
+use Rattle.std.proofs.Common.{◌≡◌, ◌≢◌, ℕ, ◌+◌, ◌<◌, ◌≤◌, ⊎_elim, false, cond, eqb, nat_eq, List, [], ◌∷◌, ◌++◌, length, get_or, map, take, sum_by, All, Contains, refl, ap, sym, ◌∙◌, subst, arith}
+use Rattle.std.specs.List.{IsDistinct}
+use Rattle.std.proofs.lemmas.Bool.{cases_eq, eq-eqb, ne_eqb, cond-true, cond-false}
+use Rattle.std.proofs.lemmas.Bool.Decides.{eqb_tells}
+use Rattle.std.proofs.lemmas.Nat.{pow_pos}
+use Rattle.std.proofs.Math.Nat.{mod-lt}
+use Rattle.std.proofs.lemmas.Option.{get_or_from_slice_get}
+use Rattle.std.proofs.lemmas.List.{map-append, get_or_default, get_or-take, get_or_push, take_all, take-take, take-append-le, length-take, length_push}
+use Rattle.std.proofs.lemmas.List.Elements.{All-head, All-tail, All-append, All-nil, All-map, All-from_recursion, recursion_from_All}
+use Rattle.std.proofs.lemmas.List.Sums.{sum_by-cons, sum_by-append}
+use Rattle.std.proofs.lemmas.Map.Keys.{IsDistinct-tail, IsDistinct-head, IsDistinct-cons}
+use Rattle.kc_base.proofs.Distinct.{head_apart}
+use Rattle.kc_base.proofs.Lists.{Contains-map}
+use Rattle.kc_base.proofs.Sums.{sum_by-zeros, sum_by-flat_map}
+use Rattle.kc_word.specs.Word.{text}
+use Rattle.kc_word.specs.Occurrences.{occurrences_in, occurrences}
+use Rattle.kc_word.specs.Cutting.{NumberedPieces, as_reads}
+use Rattle.kc_tally.specs.declared.row.Row.{Row}
+use Rattle.kc_tally.specs.Tally.{count_of}
+use Rattle.kc_stripe.specs.Setup.{StripeSetup, word_count, stripe_count, stripe_of}
+use Rattle.kc_stripe.specs.Stripe.{StripeState, numbers_of, word_occurrences, AreStripeRows}
+use Rattle.kc_gather.specs.Gathering.{IsWhole, AreWholeBefore, AreRowsFrom}
+use Rattle.kc_gather.proofs.Journals.{weighs_whole}
+
+abbrev pub words_in_rows : List Row → List ℕ
+words_in_rows rows = map (λ row. row.word) rows
+
+-- ---- counts as sums
+
+-- what the row counts under the word
+abbrev pub weight_of : ℕ → Row → ℕ
+weight_of word row = cond (eqb row.word word) row.count 0
+
+-- where no row has the word, none counts under it
+no_weight : (word : ℕ) (rows : List Row) → All (λ row. row.word ≢ word) rows → sum_by (weight_of word) rows ≡ 0
+no_weight word rows apart =
+    sum_by-zeros (weight_of word) rows (λ k d within. ap (λ b. cond b (get_or rows k d).count 0) (ne_eqb (get_or rows k d).word word (apart k d within)))
+
+-- of rows of different words
+pub count_of-sum : (rows : List Row) (word : ℕ) → IsDistinct nat_eq (words_in_rows rows) → count_of rows word ≡ sum_by (weight_of word) rows
+count_of-sum [] word distinct = refl
+count_of-sum (row ∷ rows) word distinct =
+    let split = sum_by-cons (weight_of word) row rows in
+    ⊎_elim
+    (λ (same : row.word ≡ word).
+    let none = no_weight word rows (λ k d within other.
+    head_apart nat_eq eqb_tells row.word (words_in_rows rows) distinct
+    (subst (Contains (words_in_rows rows)) (other ∙ sym same) (Contains-map (λ (r : Row). r.word) rows (get_or rows k d) (k, within, get_or_default_itself rows k d within)))) in
+    let here : count_of (row ∷ rows) word ≡ row.count = cond-true (eqb row.word word) row.count (count_of rows word) (eq-eqb row.word word same) in
+    let weight : weight_of word row ≡ row.count = cond-true (eqb row.word word) row.count 0 (eq-eqb row.word word same) in
+    omega (arith, split, none, here, weight))
+    (λ (other : row.word ≢ word).
+    let rest = count_of-sum rows word (IsDistinct-tail nat_eq row.word (words_in_rows rows) distinct) in
+    let here : count_of (row ∷ rows) word ≡ count_of rows word = cond-false (eqb row.word word) row.count (count_of rows word) (ne_eqb row.word word other) in
+    let weight : weight_of word row ≡ 0 = cond-false (eqb row.word word) row.count 0 (ne_eqb row.word word other) in
+    omega (arith, split, rest, here, weight))
+    (cases_eq row.word word)
+  where
+    get_or_default_itself : (xs : List Row) (k : ℕ) (d : Row) → k < length xs → get_or xs k (get_or xs k d) ≡ get_or xs k d
+    get_or_default_itself xs k d within = get_or_default xs k (get_or xs k d) d within
+
+-- numbers that differ, and that are none of other ones
+IsDistinct-append : (xs ys : List ℕ) → IsDistinct nat_eq xs → IsDistinct nat_eq ys → All (λ x. All (λ y. x ≢ y) ys) xs → IsDistinct nat_eq (xs ++ ys)
+IsDistinct-append [] ys first second apart = second
+IsDistinct-append (x ∷ xs) ys first second apart =
+    let others = All-from_recursion (λ z. nat_eq x z ≡ false) xs (IsDistinct-head nat_eq x xs first) in
+    let strange : All (λ z. nat_eq x z ≡ false) ys = λ k d within. ne_eqb x (get_or ys k d) (All-head (λ z. All (λ y. z ≢ y) ys) x xs apart k d within) in
+    IsDistinct-cons nat_eq x (xs ++ ys) (recursion_from_All (λ z. nat_eq x z ≡ false) (xs ++ ys) (All-append (λ z. nat_eq x z ≡ false) xs ys others strange))
+    (IsDistinct-append xs ys (IsDistinct-tail nat_eq x xs first) second (All-tail (λ z. All (λ y. z ≢ y) ys) x xs apart))
+
+-- ---- stripes from the last one on
+
+pub AreRowsFrom-none : (setup : StripeSetup) (batches : List NumberedPieces) (n : ℕ) → n ≡ stripe_count setup → AreRowsFrom setup batches n []
+unfolding IsDistinct
+AreRowsFrom-none setup batches n all = record {
+  once = distinct_none;
+  words = All-nil (λ row. (row.word < word_count setup) × (n ≤ stripe_of setup row.word));
+  present = All-nil (λ row. 1 ≤ row.count);
+  counts_are = λ word below past. absurd (let within = stripe-below setup word in omega (arith, within, past, all));
+}
+  where
+    distinct_none : IsDistinct nat_eq []
+    distinct_none = tt
+
+    stripe-below : (s : StripeSetup) (word : ℕ) → stripe_of s word < stripe_count s
+    stripe-below s word = mod-lt _ (pow_pos s.stripe_bits)
+
+pub AreRowsFrom-more : (setup : StripeSetup) (batches : List NumberedPieces) (n : ℕ) (rows part : List Row) → AreRowsFrom setup batches (n + 1) rows
+    → AreStripeRows setup n batches part → AreRowsFrom setup batches n (rows ++ part)
+AreRowsFrom-more setup batches n rows part from of = record {
+  once = distinct;
+  words = All-append (λ row. (row.word < word_count setup) × (n ≤ stripe_of setup row.word)) rows part
+      (λ k d within. let (below, past) = from.words k d within in (below, omega (arith, past)))
+      (λ k d within. let (below, own) = of.words k d within in (below, omega (arith, own)));
+  present = All-append (λ row. 1 ≤ row.count) rows part from.present of.present;
+  counts_are = λ word below past.
+      let whole = count_of-sum (rows ++ part) word distinct ∙ sum_by-append (weight_of word) rows part in
+      ⊎_elim
+      (λ (own : stripe_of setup word ≡ n).
+      let none = no_weight word rows (λ k d within same. let (_, higher) = from.words k d within in let here = ap (stripe_of setup) same in omega (arith, higher, own, here)) in
+      let here = count_of-sum part word of.once in
+      let counted = of.counts_are word below own in
+      omega (arith, whole, none, here, counted))
+      (λ (other : stripe_of setup word ≢ n).
+      let none = no_weight word part (λ k d within same. let (_, own) = of.words k d within in other (ap (stripe_of setup) (sym same) ∙ own)) in
+      let here = count_of-sum rows word from.once in
+      let counted = from.counts_are word below (omega (arith, other, past)) in
+      omega (arith, whole, none, here, counted))
+      (cases_eq (stripe_of setup word) n);
+}
+  where
+    distinct : IsDistinct nat_eq (words_in_rows (rows ++ part))
+    distinct = subst (IsDistinct nat_eq) (sym (map-append (λ (row : Row). row.word) rows part))
+        (IsDistinct-append (words_in_rows rows) (words_in_rows part) from.once of.once
+        (All-map (λ x. All (λ y. x ≢ y) (words_in_rows part)) (λ (row : Row). row.word) rows (λ k d within.
+        All-map (λ y. (get_or rows k d).word ≢ y) (λ (row : Row). row.word) part (λ j e inside same.
+        let (_, higher) = from.words k d within in
+        let (_, own) = of.words j e inside in
+        let stripes = ap (stripe_of setup) same in omega (arith, higher, own, stripes)))))
+
+-- a stripe whose journal holds exactly the given batches has their rows
+pub rows-whole : {C : Type 0} (setup : StripeSetup) (batches : List NumberedPieces) (i : ℕ) (stripe : StripeState C) (rows : List Row)
+    → IsDistinct nat_eq (numbers_of stripe.journal) → IsWhole setup batches i stripe → AreStripeRows stripe.setup stripe.number stripe.journal rows
+    → AreStripeRows setup i batches rows
+unfolding occurrences
+rows-whole setup batches i stripe rows distinct whole are =
+    let here = subst (λ s. AreStripeRows s stripe.number stripe.journal rows) whole.own.same_setup are in
+    let own = subst (λ n. AreStripeRows setup n stripe.journal rows) whole.own.same_number here in
+    record {
+      once = own.once;
+      words = own.words;
+      present = own.present;
+      counts_are = λ word below falls. own.counts_are word below falls ∙ same_occurrences word;
+    }
+  where
+    as_sum : (entries : List NumberedPieces) (word : ℕ) → word_occurrences setup entries word ≡ sum_by (λ batch. occurrences setup.rule (as_reads batch.pieces) (text setup.rule.k word)) entries
+    as_sum entries word = sum_by-flat_map (λ read. occurrences_in setup.rule read (text setup.rule.k word)) (λ (batch : NumberedPieces). as_reads batch.pieces) entries
+
+    same_occurrences : (word : ℕ) → word_occurrences setup stripe.journal word ≡ word_occurrences setup batches word
+    same_occurrences word =
+        as_sum stripe.journal word
+        ∙ weighs_whole batches stripe.journal distinct whole.own.given whole.all (λ batch. occurrences setup.rule (as_reads batch.pieces) (text setup.rule.k word))
+        ∙ sym (as_sum batches word)
+
+-- stripes are taken from the last one on: these are left, and the rows of the others are taken
+pub record IsTakenTo {C : Type 0} (whole left : List (StripeState C)) (rows : List Row) : Type 0 where
+  pub left_are : left ≡ take (length left) whole
+  pub rows_are : (setup : StripeSetup) (batches : List NumberedPieces) → length whole ≡ stripe_count setup → AreWholeBefore setup batches whole (length whole)
+      → AreRowsFrom setup batches (length left) rows
+
+pub IsTakenTo-none : {C : Type 0} {whole : List (StripeState C)} {rows : List Row} → rows ≡ [] → IsTakenTo whole whole rows
+IsTakenTo-none {C} {whole} {rows} none = record {
+  left_are = sym (take_all (length whole) whole (omega arith));
+  rows_are = λ setup batches as_many are. subst (AreRowsFrom setup batches (length whole)) (sym none) (AreRowsFrom-none setup batches (length whole) as_many);
+}
+
+pub IsTakenTo-more : {C : Type 0} {whole old new : List (StripeState C)} {rows part more : List Row} (stripe : StripeState C) → old ≡ new ++ stripe ∷ [] → more ≡ rows ++ part
+    → IsDistinct nat_eq (numbers_of stripe.journal) → AreStripeRows stripe.setup stripe.number stripe.journal part
+    → IsTakenTo whole old rows → IsTakenTo whole new more
+IsTakenTo-more {C} {whole} {old} {new} {rows} {part} {more} stripe last joined distinct part_are before = record {
+  left_are =
+      sym (take_all (length new) new (omega arith)) ∙ sym (take-append-le (length new) new (stripe ∷ []) (omega arith)) ∙ ap (take (length new)) (sym last ∙ before.left_are)
+      ∙ take-take (length new) (length old) whole (omega (arith, one_more));
+  rows_are = λ setup batches as_many are.
+      let (found, there, whole_there) = are (length new) (inside) in
+      let same : found ≡ stripe = sym (get_or_from_slice_get whole (length new) found stripe there) ∙ at in
+      subst (AreRowsFrom setup batches (length new)) (sym joined)
+      (AreRowsFrom-more setup batches (length new) rows part
+      (subst (λ n. AreRowsFrom setup batches n rows) one_more (before.rows_are setup batches as_many are))
+      (rows-whole setup batches (length new) stripe part distinct (subst (IsWhole setup batches (length new)) same whole_there) part_are));
+}
+  where
+    one_more : length old ≡ length new + 1
+    one_more = ap length last ∙ length_push new stripe
+
+    inside : length new < length whole
+    inside = let kept = ap length before.left_are in let taken = length-take (length old) whole in omega (arith, one_more, kept, taken)
+
+    at : get_or whole (length new) stripe ≡ stripe
+    at =
+        sym (get_or-take (length old) whole (length new) stripe (omega (arith, one_more)))
+        ∙ ap (λ xs. get_or xs (length new) stripe) (sym before.left_are ∙ last)
+        ∙ get_or_push new stripe stripe (length new) refl

@@ -1,0 +1,79 @@
+-- When the stripes of a count may be gathered, and why not.
+-- Source: this project's own.
+use Rattle.std.specs.Prelude.{◌≡◌, ℕ, ◌<◌, ◌≤◌, List, length, map, sum_by, All, Some, nat_eq, slice_get}
+use Rattle.std.specs.List.{IsDistinct}
+use Rattle.kc_word.specs.Cutting.{NumberedPieces, position_total}
+use Rattle.kc_tally.specs.declared.row.Row.{Row}
+use Rattle.kc_tally.specs.Tally.{count_of}
+use Rattle.kc_stripe.specs.Setup.{StripeSetup, word_count, stripe_of}
+use Rattle.kc_stripe.specs.Stripe.{StripeState, IsBooked, word_occurrences}
+use Rattle.kc_gather.specs.declared.fault.GatherFault.{GatherFault}
+use Rattle.kc_gather.specs.declared.fault.GatherFault.TheVariants.{Foreign, Missing, Memory}
+
+-- how many positions the batches have together
+abbrev pub position_sum : ℕ → List NumberedPieces → ℕ
+position_sum k batches = sum_by (λ batch. position_total k batch.pieces) batches
+
+-- the batch is the one that is given under its number, that is, at this index
+abbrev pub IsGiven : List NumberedPieces → NumberedPieces → Type 0
+IsGiven batches batch = slice_get batches batch.number ≡ Some batch
+
+-- n is the least number of a given batch that the journal lacks
+pub record IsLeastMissing (batches journal : List NumberedPieces) (n : ℕ) : Type 0 where
+  pub given : n < length batches
+  pub missing : ¬ IsBooked journal n
+  pub least : (m : ℕ) → m < n → IsBooked journal m
+
+-- the journal holds a batch of each given number
+abbrev pub HasAllNumbers : List NumberedPieces → List NumberedPieces → Type 0
+HasAllNumbers batches journal = (n : ℕ) → n < length batches → IsBooked journal n
+
+module _ {C : Type 0} (setup : StripeSetup) (batches : List NumberedPieces) where
+  -- the stripe is that of index i in a count of the given batches: it has this setup and the number i, and each batch
+  -- in its journal is the one that is given under its number
+  pub record IsOwn (i : ℕ) (stripe : StripeState C) : Type 0 where
+    pub same_setup : stripe.setup ≡ setup
+    pub same_number : stripe.number ≡ i
+    pub given : All (IsGiven batches) stripe.journal
+
+  -- and the journal holds exactly the given batches
+  pub record IsWhole (i : ℕ) (stripe : StripeState C) : Type 0 where
+    pub own : IsOwn i stripe
+    pub all : HasAllNumbers batches stripe.journal
+
+  -- why a stripe at this index is refused
+  abbrev pub IsStripeRefusal : ℕ → StripeState C → GatherFault → Type 0
+  IsStripeRefusal i stripe (Foreign at) = (at ≡ i) × ¬ IsOwn i stripe
+  IsStripeRefusal i stripe (Missing at n) = (at ≡ i) × IsOwn i stripe × IsLeastMissing batches stripe.journal n
+  IsStripeRefusal i stripe Memory = Unit
+
+  -- at this index stands such a stripe
+  abbrev pub StandsThere : List (StripeState C) → ℕ → (StripeState C → Type 0) → Type 0
+  StandsThere stripes i Is = (stripe : StripeState C) × (slice_get stripes i ≡ Some stripe) × Is stripe
+
+  -- the journals of the first n stripes hold exactly the given batches
+  abbrev pub AreWholeBefore : List (StripeState C) → ℕ → Type 0
+  AreWholeBefore stripes n = (i : ℕ) → i < n → StandsThere stripes i (IsWhole i)
+
+  -- the stripe at this index is foreign
+  abbrev pub IsForeign : List (StripeState C) → ℕ → Type 0
+  IsForeign stripes i = StandsThere stripes i (λ stripe. ¬ IsOwn i stripe)
+
+  -- it is not, and n is the least number that its journal lacks
+  abbrev pub IsLacking : List (StripeState C) → ℕ → ℕ → Type 0
+  IsLacking stripes i n = StandsThere stripes i (λ stripe. IsOwn i stripe × IsLeastMissing batches stripe.journal n)
+
+  -- why the first stripe that is refused is refused; want of memory says nothing of the stripes
+  abbrev pub IsRefusal : List (StripeState C) → GatherFault → Type 0
+  IsRefusal stripes (Foreign i) = AreWholeBefore stripes i × IsForeign stripes i
+  IsRefusal stripes (Missing i n) = AreWholeBefore stripes i × IsLacking stripes i n
+  IsRefusal stripes Memory = Unit
+
+-- the rows are the words that fall in the stripes from number n on and occur in the batches, each once, with its
+-- occurrences
+pub record AreRowsFrom (setup : StripeSetup) (batches : List NumberedPieces) (n : ℕ) (rows : List Row) : Type 0 where
+  pub once : IsDistinct nat_eq (map (λ row. row.word) rows)
+  pub words : All (λ row. (row.word < word_count setup) × (n ≤ stripe_of setup row.word)) rows
+  pub present : All (λ row. 1 ≤ row.count) rows
+  pub counts_are : (word : ℕ) → word < word_count setup → n ≤ stripe_of setup word
+      → count_of rows word ≡ word_occurrences setup batches word

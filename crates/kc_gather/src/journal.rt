@@ -1,0 +1,54 @@
+//! A stripe's journal beside the batches that were given.
+ghost use Rattle.std.specs.Prelude.{◌≡◌, ℕ, ◌<◌, ◌↔◌, length, All, true, false};
+ghost use Rattle.std.specs.Prelude.{IsTrue, IsSome, IfOk, IfSome, IfNone, slice_index_or};
+ghost use Rattle.kc_word.specs.Shared.{values};
+ghost use Rattle.kc_stripe.specs.Stripe.{IsBooked};
+ghost use Rattle.kc_gather.specs.Gathering.{IsGiven};
+
+use kc_word::Batch;
+use std::alloc::{AllocError, Global};
+use std::sync::Arc;
+
+// Whether the batch is the one that is given under its number.
+fn is_given(batch: &Batch, batches: &[Arc<Batch>]) -> bool
+    ensures { IsTrue result ↔ IsGiven (values batches.now) batch.now }
+{
+    let number = batch.number();
+    number < batches.len() as u64 && *batches[number as usize] == *batch
+}
+
+// For each given batch, in order, whether the journal holds one of its number; and None where a batch in the journal is
+// not the one that is given under its number.
+pub(crate) fn booked_marks(
+    alloc: Global,
+    journal: &[Arc<Batch>],
+    batches: &[Arc<Batch>],
+) -> Result<Option<Vec<bool>>, AllocError>
+    ensures given { IfOk result (λ marks. IsSome marks ↔ All (IsGiven (values batches.now)) (values journal.now)) }
+    ensures one_each { IfOk result (λ found. IfSome found (λ marks. length marks.items ≡ length batches.now)) }
+    ensures marks { IfOk result (λ found. IfSome found (λ marks. (n : ℕ) → n < length batches.now
+        → (slice_index_or marks.items n false ≡ true) ↔ IsBooked (values journal.now) n)) }
+{
+    let mut marks = vec![in alloc; false; batches.len()]?;
+    for batch in journal {
+        if !is_given(batch, batches) {
+            return Ok(None);
+        }
+        marks[batch.number() as usize] = true;
+    }
+    Ok(Some(marks))
+}
+
+// The index of the first mark that isn't set.
+pub(crate) fn first_unset(marks: &[bool]) -> Option<u64>
+    ensures found { IfSome result (λ n. (n < length marks.now) × (slice_index_or marks.now n true ≡ false)) }
+    ensures before { IfSome result (λ n. (m : ℕ) → m < n → slice_index_or marks.now m false ≡ true) }
+    ensures none { IfNone result ((m : ℕ) → m < length marks.now → slice_index_or marks.now m false ≡ true) }
+{
+    for (i, mark) in marks.iter().enumerate() {
+        if !*mark {
+            return Some(i as u64);
+        }
+    }
+    None
+}

@@ -1,0 +1,15 @@
+//! The two ends of a count: the tables with which it begins, an empty one for each stripe, and the tally that is
+//! gathered from its stripes when all batches were booked.
+#![tactic(auto)]
+
+mod fault;
+mod gathering;
+mod journal;
+mod tables;
+
+pub use fault::GatherFault;
+pub use gathering::gather;
+pub use tables::{plain_tables, quotient_tables};
+
+#[cfg(test)]
+mod tests;

@@ -1,0 +1,159 @@
+// Worked rows of tables and of gathering.
+ghost use Rattle.std.specs.Prelude.{◌≡◌, ◌≤◌, ◌^◌, IfOk};
+ghost use Rattle.kc_word.specs.Shared.{values};
+ghost use Rattle.kc_gather.specs.Gathering.{position_sum};
+
+use crate::{GatherFault, gather, plain_tables, quotient_tables};
+use kc_fastx::SeqRead;
+use kc_hash::{Hash, Matrix};
+use kc_stripe::{Setup, Stripe, cut_up};
+use kc_table::{Counts, PlainCounts};
+use kc_tally::{Row, Tally};
+use kc_word::{Batch, K, Rule, clean, cut, laws};
+use std::alloc::Global;
+use std::sync::Arc;
+use std::test::Fail;
+
+// Words of k bases on one strand, in so many stripes, by a hash that leaves them as they are.
+fn setup_of(k: u32, stripes: u32) -> Option<Setup> {
+    let k = K::new(k)?;
+    let hash = Hash::of_matrix(Matrix::identity(2 * k.get())).ok()?;
+    Setup::new(Rule::new(k, false, b'!'), hash, stripes)
+}
+
+#[test]
+fn a_table_for_each_stripe(rt: HostRuntime) -> Result<(), Fail> {
+    for (k, stripes, bits) in [(1, 4, 0), (3, 1, 6), (31, 16, 58)] {
+        let setup = setup_of(k, stripes).ok_or("no setup")?;
+        let plain = plain_tables(rt.alloc(), &setup)?;
+        assert_eq!(rt; plain.len(), stripes as usize);
+        for table in &plain {
+            assert_eq!(rt; (table.key_bits(), table.rows(rt.alloc())?.len()), (bits, 0));
+        }
+        let tables = quotient_tables(rt.alloc(), &setup, 1_000)?;
+        assert_eq!(rt; tables.len(), stripes as usize);
+        for table in &tables {
+            assert_eq!(rt; (table.key_bits(), table.rows(rt.alloc())?.len()), (bits, 0));
+        }
+    }
+    Ok(())
+}
+
+#[test]
+fn quotient_tables_begin_with_the_size(rt: HostRuntime) -> Result<(), Fail> {
+    let rows = [
+        (31, 16, 1_000_000, 16),
+        (31, 16, 1, 4),
+        (31, 16, 1 << 20, 16),
+        (31, 16, (1 << 20) + 1, 17),
+        (3, 4, 0, 4),
+        (3, 4, u64::MAX, 4),
+    ];
+    for (k, stripes, size, log) in rows {
+        let setup = setup_of(k, stripes).ok_or("no setup")?;
+        for table in &quotient_tables(rt.alloc(), &setup, size)? {
+            assert_eq!(rt; table.log(), log);
+        }
+    }
+    Ok(())
+}
+
+// The batches of one read, of so many positions each.
+fn batches_of(
+    alloc: Global,
+    setup: &Setup,
+    bases: &[u8],
+    size: u64,
+) -> Result<Vec<Arc<Batch>>, Fail>
+    ensures { IfOk result (λ batches. position_sum setup.now.rule.k (values batches.items) ≤ 2 ^ 62) }
+{
+    // what is known of the positions
+    laws::cutting_positions();
+    laws::positions_within_bytes();
+    laws::cleaned_length();
+    if bases.len() > 1_000 {
+        return Err(Fail::from("too many bases"));
+    }
+    let read = SeqRead::new(Vec::from_slice(alloc, bases)?, None).ok_or("no read")?;
+    let mut pieces = Vec::new(alloc);
+    pieces.push(clean(alloc, &read, setup.rule())?)?;
+    let batches = cut(alloc, pieces, setup.rule().k(), size.max(1))?;
+    Ok(batches)
+}
+
+// The stripe of this number in which the batches were booked.
+fn stripe_of(
+    alloc: Global,
+    setup: &Setup,
+    number: u32,
+    batches: &[Arc<Batch>],
+) -> Result<Stripe<PlainCounts>, Fail> {
+    if number >= setup.stripes() {
+        return Err(Fail::from("no such stripe"));
+    }
+    let table = PlainCounts::new(alloc, setup.key_bits());
+    let mut stripe = Stripe::new(alloc, setup, number, table)?;
+    for batch in batches {
+        if let Some(cut) = cut_up(alloc, setup, batch)?.get(number as usize) {
+            stripe.book(cut)?;
+        }
+    }
+    Ok(stripe)
+}
+
+// What gathering these stripes answers, where the batches of the read are given.
+fn gathered(
+    alloc: Global,
+    setup: &Setup,
+    stripes: Vec<Stripe<PlainCounts>>,
+    bases: &[u8],
+    size: u64,
+) -> Result<Result<Tally, GatherFault>, Fail> {
+    let batches = batches_of(alloc, setup, bases, size)?;
+    if stripes.len() != setup.stripes() as usize {
+        return Err(Fail::from("other stripes"));
+    }
+    Ok(gather(alloc, stripes, &batches, setup))
+}
+
+#[test]
+fn a_stripe_that_lacks_a_batch_or_has_another(rt: HostRuntime) -> Result<(), Fail> {
+    let alloc = rt.alloc();
+    let setup = setup_of(3, 1).ok_or("no setup")?;
+    let booked = batches_of(alloc, &setup, b"AAAA", 2)?;
+    let rows = [
+        (b"AAAAC", GatherFault::Missing(0, 1)),
+        (b"CCCCC", GatherFault::Foreign(0)),
+    ];
+    for (bases, fault) in rows {
+        let mut stripes = Vec::new(alloc);
+        stripes.push(stripe_of(alloc, &setup, 0, &booked)?)?;
+        let Err(found) = gathered(alloc, &setup, stripes, bases, 2)? else {
+            return Err(Fail::from("a tally"));
+        };
+        assert!(rt; found == fault);
+    }
+    Ok(())
+}
+
+#[test]
+fn the_tally_of_all_stripes(rt: HostRuntime) -> Result<(), Fail> {
+    let alloc = rt.alloc();
+    for (count, size) in [(1, 1), (4, 2), (4, 7), (64, 1)] {
+        let setup = setup_of(3, count).ok_or("no setup")?;
+        let batches = batches_of(alloc, &setup, b"ACGTANACG", size)?;
+        let mut stripes = Vec::new(alloc);
+        for number in 0..count {
+            stripes.push(stripe_of(alloc, &setup, number, &batches)?)?;
+        }
+        let Ok(tally) = gathered(alloc, &setup, stripes, b"ACGTANACG", size)? else {
+            return Err(Fail::from("no tally"));
+        };
+        let want = [(6, 2), (27, 1), (44, 1)];
+        assert_eq!(rt; tally.rows().len(), want.len());
+        for (row, (word, count)) in tally.rows().iter().zip(want) {
+            assert_eq!(rt; *row, Row { word, count });
+        }
+    }
+    Ok(())
+}
