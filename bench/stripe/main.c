@@ -5,10 +5,12 @@
 #include <stdlib.h>
 #include <string.h>
 
+#include "../batches.h"
+#include "../byte_tables.h"
 #include "../common.h"
+#include "../slots.h"
 
 #define LENGTH 150
-#define SIZE 65536
 #define K 21
 #define BITS (2 * K)
 #define DEPTH 20
@@ -34,206 +36,6 @@ static int make(long batch_total, const char *path) {
     }
     free(genome);
     return fclose(out) != 0;
-}
-
-struct piece {
-    unsigned char *bytes;
-    size_t length;
-};
-
-struct batch {
-    struct piece *pieces;
-    size_t count, room, positions;
-};
-
-static struct batch *batches;
-static size_t batch_count, batch_room;
-
-static void add_piece(const unsigned char *bytes, size_t length, size_t positions) {
-    if (batch_count == 0 || batches[batch_count - 1].positions == SIZE) {
-        if (batch_count == batch_room) batches = realloc(batches, (batch_room = batch_room ? 2 * batch_room : 64) * sizeof *batches);
-        memset(&batches[batch_count++], 0, sizeof *batches);
-    }
-    struct batch *batch = &batches[batch_count - 1];
-    if (batch->count == batch->room) batch->pieces = realloc(batch->pieces, (batch->room = batch->room ? 2 * batch->room : 64) * sizeof *batch->pieces);
-    unsigned char *copy = malloc(length);
-    memcpy(copy, bytes, length);
-    batch->pieces[batch->count++] = (struct piece){copy, length};
-    batch->positions += positions;
-}
-
-static void cut(const unsigned char *bytes, size_t length, size_t k) {
-    if (length < k) return;
-    size_t count = length + 1 - k;
-    for (size_t p = 0; p < count;) {
-        size_t used = batch_count ? batches[batch_count - 1].positions % SIZE : 0;
-        size_t room = SIZE - used, taken = room < count - p ? room : count - p;
-        add_piece(bytes + p, taken + k - 1, taken);
-        p += taken;
-    }
-}
-
-static unsigned char codes[256];
-
-static size_t words(const struct batch *batch, int k, uint64_t *out) {
-    const uint64_t mask = (1ull << (2 * k)) - 1;
-    const int top = 2 * (k - 1);
-    size_t n = 0;
-    for (size_t i = 0; i < batch->count; i++) {
-        const struct piece *piece = &batch->pieces[i];
-        uint64_t forward = 0, backward = 0;
-        size_t run = 0;
-        for (size_t j = 0; j < piece->length; j++) {
-            unsigned char code = codes[piece->bytes[j]];
-            uint64_t digit = code & 3;
-            forward = ((forward << 2) | digit) & mask;
-            backward = (backward >> 2) | ((3 - digit) << top);
-            run = code < 4 ? run + 1 : 0;
-            if (run >= (size_t)k) out[n++] = forward < backward ? forward : backward;
-        }
-    }
-    return n;
-}
-
-static int invertible(const uint64_t *columns, int bits) {
-    uint64_t basis[64] = {0};
-    for (int i = 0; i < bits; i++) {
-        uint64_t v = columns[i];
-        while (v) {
-            int top = 63 - __builtin_clzll(v);
-            if (!basis[top]) {
-                basis[top] = v;
-                break;
-            }
-            v ^= basis[top];
-        }
-        if (!v) return 0;
-    }
-    return 1;
-}
-
-struct tables {
-    uint64_t words[8][256];
-};
-
-static __attribute__((noinline)) void build(struct tables *t, const uint64_t *columns) {
-    for (int place = 0; place < 8; place++) {
-        t->words[place][0] = 0;
-        for (int bit = 0; bit < 8; bit++) {
-            int at = 8 * place + bit, width = 1 << bit;
-            uint64_t column = at < 62 ? columns[at] : 0;
-            for (int lower = 0; lower < width; lower++)
-                t->words[place][width + lower] = t->words[place][lower] ^ column;
-        }
-    }
-}
-
-static uint64_t apply(const struct tables *t, uint64_t x) {
-    uint64_t sum = 0;
-    for (int place = 0; place < 8; place++) sum ^= t->words[place][x >> (8 * place) & 255];
-    return sum;
-}
-
-typedef struct {
-    uint64_t tag, count;
-} Row;
-
-typedef struct {
-    uint32_t log, max_log;
-    Row *rows;
-} Table;
-
-enum { FOUND, FREE, CROWDED };
-
-static inline int probe(const Table *table, uint64_t key, uint64_t *place, uint64_t *tag) {
-    uint64_t mask = (1ull << table->log) - 1;
-    uint64_t remainder = (key >> table->log) << 6;
-    uint64_t at = key & mask;
-    for (uint64_t i = 0; i < 63; i++) {
-        at = (at + i) & mask;
-        uint64_t wanted = remainder | (i + 1);
-        uint64_t read = table->rows[at].tag;
-        *place = at;
-        *tag = wanted;
-        if (read == wanted)
-            return FOUND;
-        if (read == 0)
-            return FREE;
-    }
-    return CROWDED;
-}
-
-static inline uint64_t key_at(const Table *table, uint64_t place, uint64_t tag) {
-    uint64_t mask = (1ull << table->log) - 1;
-    uint64_t i = (tag & 63) - 1;
-    return ((tag >> 6) << table->log) | ((place - i * (i + 1) / 2) & mask);
-}
-
-// The rows are written here, so that their first touch is not counted to the keys.
-static __attribute__((noinline)) void clear(Row *rows, uint64_t count) {
-    for (uint64_t i = 0; i < count; i++)
-        rows[i] = (Row){0, 0};
-}
-
-static int empty(Table *table, uint32_t log, uint32_t max_log) {
-    table->log = log;
-    table->max_log = max_log;
-    table->rows = malloc((1ull << log) * sizeof(Row));
-    if (table->rows == NULL)
-        return 0;
-    clear(table->rows, 1ull << log);
-    return 1;
-}
-
-static int take(Table *table, uint64_t key, uint64_t count) {
-    uint64_t place, tag;
-    if (probe(table, key, &place, &tag) == CROWDED)
-        return 0;
-    table->rows[place].tag = tag;
-    table->rows[place].count = count;
-    return 1;
-}
-
-static int resized(const Table *old, Table *table, uint32_t log) {
-    if (!empty(table, log, old->max_log))
-        exit(2);
-    for (uint64_t place = 0; place < 1ull << old->log; place++) {
-        Row row = old->rows[place];
-        if (row.tag && !take(table, key_at(old, place, row.tag), row.count)) {
-            free(table->rows);
-            return 0;
-        }
-    }
-    return 1;
-}
-
-static __attribute__((noinline)) void grow(Table *table, uint64_t key) {
-    for (uint32_t log = table->log + 1; log <= table->max_log; log++) {
-        Table larger;
-        if (!resized(table, &larger, log))
-            continue;
-        if (take(&larger, key, 0)) {
-            free(table->rows);
-            *table = larger;
-            return;
-        }
-        free(larger.rows);
-    }
-    exit(1);
-}
-
-static inline void ready(Table *table, uint64_t key) {
-    uint64_t place, tag;
-    switch (probe(table, key, &place, &tag)) {
-    case FOUND:
-        return;
-    case FREE:
-        table->rows[place].tag = tag;
-        table->rows[place].count = 0;
-        return;
-    default:
-        grow(table, key);
-    }
 }
 
 static void seeded(uint64_t *columns) {
@@ -288,14 +90,7 @@ static __attribute__((noinline)) void book(Stripe *stripe, const Cut *cut) {
 int main(int argc, char **argv) {
     if (argc == 4 && strcmp(argv[1], "make") == 0) return make(atol(argv[2]), argv[3]);
     if (argc != 2) return 2;
-    memset(codes, 4, sizeof codes);
-    for (int i = 0; i < 4; i++) codes[(unsigned char)"ACGT"[i]] = i;
-    FILE *in = fopen(argv[1], "rb");
-    if (!in) return 1;
-    static char line[1024];
-    while (fgets(line, sizeof line, in))
-        if (line[0] != '>') cut((unsigned char *)line, strcspn(line, "\n"), K);
-    fclose(in);
+    if (cut_file(argv[1], K)) return 1;
     uint64_t columns[62] = {0};
     seeded(columns);
     for (int stripe_bits = 4; stripe_bits <= 6; stripe_bits += 2) {

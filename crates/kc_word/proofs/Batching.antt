@@ -36,9 +36,11 @@ stretches-past k low high pieces h =
     ∙ stretches-nil k low high (0 + position_total k (take (length pieces) pieces))
 
 -- where there is no stretch there is no position left
-positions-past : (k low size : ℕ) (pieces : List (List ℕ)) → 1 ≤ k → 1 ≤ size → stretches k low (low + size) pieces ≡ [] → position_total k pieces ≤ low
+positions-past : (k low size : ℕ) (pieces : List (List ℕ)) → 1 ≤ k → 1 ≤ size → stretches k low (low + size) pieces ≡ []
+    → position_total k pieces ≤ low
 positions-past k low size pieces some size_some none =
-    let empty = sym (stretches-windows k low (low + size) 0 pieces some) ∙ ap (flat_map (λ part. windows k part)) (sym (stretches-are k low (low + size) pieces) ∙ none) in
+    let empty = sym (stretches-windows k low (low + size) 0 pieces some)
+    ∙ ap (flat_map (λ part. windows k part)) (sym (stretches-are k low (low + size) pieces) ∙ none) in
     let gone = ap length empty in
     let long = length-cut (low - 0) (low + size - 0) (flat_map (λ piece. windows k piece) pieces) in
     let total = length-all_windows k pieces in
@@ -52,9 +54,11 @@ pub record NextParts (k size : ℕ) (pieces : List (List ℕ)) : Type 0 where
   pub parts_are : parts ≡ stretches k (position_number k pieces index position) (position_number k pieces index position + size) pieces
 
 -- where there are any, a position is left
-pub positions-left : (k size : ℕ) (pieces : List (List ℕ)) (s : NextParts k size pieces) → (length s.parts ≡ 0 → ⊥) → position_number k pieces s.index s.position < position_total k pieces
+pub positions-left : (k size : ℕ) (pieces : List (List ℕ)) (s : NextParts k size pieces) → (length s.parts ≡ 0 → ⊥)
+    → position_number k pieces s.index s.position < position_total k pieces
 positions-left k size pieces s some =
-    ⊎_elim (λ h. h) (λ h. absurd (some (ap length (s.parts_are ∙ stretches-past k low (low + size) pieces h)))) (cases_lt low (position_total k pieces))
+    ⊎_elim (λ h. h) (λ h. absurd (some (ap length (s.parts_are ∙ stretches-past k low (low + size) pieces h))))
+    (cases_lt low (position_total k pieces))
   where
     low : ℕ
     low = position_number k pieces s.index s.position
@@ -69,7 +73,8 @@ pub record CutStep (k size : ℕ) (pieces : List (List ℕ)) : Type 0 where
   pub count : ℕ
   pub some : length taken.parts ≡ 0 → ⊥
   pub stands : IsCursor k pieces next_index next_position
-  pub moved : position_number k pieces next_index next_position ≡ min (position_number k pieces taken.index taken.position + size) (position_total k pieces)
+  pub moved : position_number k pieces next_index next_position
+      ≡ min (position_number k pieces taken.index taken.position + size) (position_total k pieces)
   pub count_is : count ≡ length batches
   pub batches_are : next_batches ≡ batches ++ record { number = count; pieces = taken.parts } ∷ []
 
@@ -82,7 +87,8 @@ IsCutTo-more k size pieces s done =
     let number = done.number in
     let low : from ≡ made * size = omega (arith, number, left) in
     let high : from + size ≡ (made + 1) * size = omega (arith, low) in
-    let long : length s.next_batches ≡ made + 1 = ap length s.batches_are ∙ length_push s.batches (record { number = s.count; pieces = s.taken.parts }) in
+    let long : length s.next_batches ≡ made + 1 =
+    ap length s.batches_are ∙ length_push s.batches (record { number = s.count; pieces = s.taken.parts }) in
     let same : s.taken.parts ≡ stretches k (made * size) ((made + 1) * size) pieces =
     s.taken.parts_are ∙ ap (λ l. stretches k l (from + size) pieces) low ∙ ap (λ h. stretches k (made * size) h pieces) high in
     let more : length s.next_batches * size ≡ made * size + size = ap (λ m. m * size) long ∙ omega arith in
@@ -103,15 +109,17 @@ batch_count-is : (total size n : ℕ) → 1 ≤ size → n * size < total + size
 batch_count-is total size n some few enough =
     let least : n ≤ (total + size - 1) / size = (le-div_iff_mul-le {k = size} {x = n} {y = total + size - 1} some).1 (omega (arith, few)) in
     let next : (n + 1) * size ≡ n * size + size = omega arith in
-    let most : (total + size - 1) / size < n + 1 = (div-lt_iff_lt-mul {k = size} {x = total + size - 1} {y = n + 1} some).1 (omega (arith, enough, some, next)) in
+    let most : (total + size - 1) / size < n + 1 =
+    (div-lt_iff_lt-mul {k = size} {x = total + size - 1} {y = n + 1} some).1 (omega (arith, enough, some, next)) in
     omega (arith, least, most)
 
 -- when no position is left, the batches are the cutting
-pub IsCutTo-all : {batches : List NumberedPieces} (k size : ℕ) (pieces : List (List ℕ)) (s : NextParts k size pieces) → 1 ≤ k → 1 ≤ size → length s.parts ≡ 0
-    → IsCutTo k size pieces s.index s.position batches → batches ≡ cutting k size pieces
+pub IsCutTo-all : {batches : List NumberedPieces} (k size : ℕ) (pieces : List (List ℕ)) (s : NextParts k size pieces) → 1 ≤ k → 1 ≤ size
+    → length s.parts ≡ 0 → IsCutTo k size pieces s.index s.position batches → batches ≡ cutting k size pieces
 unfolding cutting
 IsCutTo-all {batches} k size pieces s some size_some none done =
-    let past = positions-past k (position_number k pieces s.index s.position) size pieces some size_some (sym s.parts_are ∙ nil_from_length s.parts none) in
+    let past = positions-past k (position_number k pieces s.index s.position) size pieces some size_some
+    (sym s.parts_are ∙ nil_from_length s.parts none) in
     let number = done.number in
     let few = done.inhabited in
     done.made ∙ ap (λ n. map (λ i. batch_of k size pieces i) (range_with_len 0 n))
@@ -119,12 +127,14 @@ IsCutTo-all {batches} k size pieces s some size_some none done =
 
 -- ---- what a cutting says of the words
 
-pub occurrences-cut : (k size : ℕ) (pieces : List (List ℕ)) (batches : List NumberedPieces) → 1 ≤ k → 1 ≤ size → batches ≡ cutting k size pieces → KeepsOccurrences k pieces batches
+pub occurrences-cut : (k size : ℕ) (pieces : List (List ℕ)) (batches : List NumberedPieces) → 1 ≤ k → 1 ≤ size → batches ≡ cutting k size pieces
+    → KeepsOccurrences k pieces batches
 occurrences-cut k size pieces batches some size_some e rule word same =
     ap (sum_by (λ b. occurrences rule (as_reads b.pieces) word)) (e ∙ ap (λ j. cutting j size pieces) (sym same))
     ∙ cutting-occurrences rule size pieces word (subst (λ j. 1 ≤ j) (sym same) some) size_some
 
-pub words-cut : (k size : ℕ) (pieces : List (List ℕ)) (batches : List NumberedPieces) → 1 ≤ k → 1 ≤ size → batches ≡ cutting k size pieces → KeepsWords k pieces batches
+pub words-cut : (k size : ℕ) (pieces : List (List ℕ)) (batches : List NumberedPieces) → 1 ≤ k → 1 ≤ size → batches ≡ cutting k size pieces
+    → KeepsWords k pieces batches
 words-cut k size pieces batches some size_some e rule same =
     ap (flat_map (λ b. words_of rule (as_reads b.pieces))) (e ∙ ap (λ j. cutting j size pieces) (sym same))
     ∙ cutting-words rule size pieces (subst (λ j. 1 ≤ j) (sym same) some) size_some

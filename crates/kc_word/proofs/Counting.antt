@@ -29,12 +29,14 @@ words_in-none rule h = ap (λ n. filter_map (λ p. option_map number (form_at ru
     none = omega (arith, h)
 
 words_in_push : (rule : CountingRule) (seen : List ℕ) (byte : ℕ)
-    → words_in rule (read_of (seen ++ byte ∷ []) None) ≡ words_in rule (read_of seen None) ++ option_to_list (word_of rule.both (last_window rule.k (seen ++ byte ∷ [])))
+    → words_in rule (read_of (seen ++ byte ∷ []) None)
+    ≡ words_in rule (read_of seen None) ++ option_to_list (word_of rule.both (last_window rule.k (seen ++ byte ∷ [])))
 words_in_push rule seen byte =
     words_in-windows rule (seen ++ byte ∷ []) ∙ words_push rule.k rule.both seen byte
     ∙ ap (λ xs. xs ++ option_to_list (word_of rule.both (last_window rule.k (seen ++ byte ∷ [])))) (sym (words_in-windows rule seen))
 
-pub IsCounted-none : (rule : CountingRule) (old : List ℕ) (backward : ℕ) → 1 ≤ rule.k → backward + 1 ≡ 4 ^ rule.k → IsCounted rule [] old old 0 backward 0
+pub IsCounted-none : (rule : CountingRule) (old : List ℕ) (backward : ℕ) → 1 ≤ rule.k → backward + 1 ≡ 4 ^ rule.k
+    → IsCounted rule [] old old 0 backward 0
 IsCounted-none rule old backward some e = record {
   rolled = IsRolled-none rule.k backward e;
   pushed = sym (ap (λ xs. old ++ xs) (words_in-none rule some) ∙ append-nil old);
@@ -168,7 +170,8 @@ pub words_of-more : (rule : CountingRule) (pieces : List (List ℕ)) (s : PieceS
 unfolding words_of
 words_of-more rule pieces s before =
     s.pushed ∙ ap (λ xs. xs ++ words_in rule (read_of s.piece None)) before
-    ∙ ap (λ xs. flat_map (λ read. words_in rule read) (as_reads (take s.index pieces)) ++ xs) (sym (append-nil (words_in rule (read_of s.piece None))))
+    ∙ ap (λ xs. flat_map (λ read. words_in rule read) (as_reads (take s.index pieces)) ++ xs)
+    (sym (append-nil (words_in rule (read_of s.piece None))))
     ∙ sym (flat_map-append (λ read. words_in rule read) (as_reads (take s.index pieces)) (read_of s.piece None ∷ []))
     ∙ ap (flat_map (λ read. words_in rule read)) (sym (map_push (λ p. read_of p None) (take s.index pieces) s.piece))
     ∙ ap (λ ps. flat_map (λ read. words_in rule read) (as_reads ps))

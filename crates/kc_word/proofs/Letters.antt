@@ -65,8 +65,8 @@ text-reversed k m n same =
     get_or-text k m i (k - 1 - i) d e ∙ ap base (same i (k - 1 - i) e) ∙ sym (get_or-reversed_text k n i (k - 1 - i) d e))
 
 -- a text that is written letter by letter over the front of an array
-pub written-more : {letters : List ℕ} (word old : List ℕ) (i b : ℕ) → i < length word → i < length old → letters ≡ take i word ++ drop i old → b ≡ get_or word i 0
-    → set letters i b ≡ take (i + 1) word ++ drop (i + 1) old
+pub written-more : {letters : List ℕ} (word old : List ℕ) (i b : ℕ) → i < length word → i < length old → letters ≡ take i word ++ drop i old
+    → b ≡ get_or word i 0 → set letters i b ≡ take (i + 1) word ++ drop (i + 1) old
 written-more word old i b hw ho e is =
     ap (λ xs. set xs i b) (e ∙ ap (λ xs. take i word ++ xs) (drop_more old i 0 ho))
     ∙ set_at (take i word) (get_or old i 0) (drop (i + 1) old) b i (length-take-le i word (omega (arith, hw)))

@@ -13,13 +13,15 @@ unfolding stretch
 stretch-empty k piece p q h = cond-false _ (slice_range piece p (q + k - 1) ∷ []) [] (le-ltb p q h)
 
 -- what lies before the first number is passed over
-pub stretches-skip : (k low high first index : ℕ) (pieces : List (List ℕ)) → first + position_total k (take index pieces) ≤ low → stretches_from k low high first pieces ≡ stretches_from k low high (first + position_total k (take index pieces)) (drop index pieces)
+pub stretches-skip : (k low high first index : ℕ) (pieces : List (List ℕ)) → first + position_total k (take index pieces) ≤ low
+    → stretches_from k low high first pieces ≡ stretches_from k low high (first + position_total k (take index pieces)) (drop index pieces)
 unfolding stretches_from
 stretches-skip k low high first zero pieces h = ap (λ n. stretches_from k low high n pieces) (omega arith)
 stretches-skip k low high first (suc index) [] h = refl
 stretches-skip k low high first (suc index) (piece ∷ pieces) h =
     let sum = sum_by-cons (λ p. position_count k (length p)) piece (take index pieces) in
-    ap (λ xs. xs ++ stretches_from k low high (first + position_count k (length piece)) pieces) (stretch-empty k piece (low - first) (min (position_count k (length piece)) (high - first)) (omega (arith, h, sum)))
+    ap (λ xs. xs ++ stretches_from k low high (first + position_count k (length piece)) pieces)
+    (stretch-empty k piece (low - first) (min (position_count k (length piece)) (high - first)) (omega (arith, h, sum)))
     ∙ stretches-skip k low high (first + position_count k (length piece)) index pieces (omega (arith, h, sum))
     ∙ ap (λ n. stretches_from k low high n (drop index pieces)) (omega (arith, sum))
 
@@ -28,7 +30,8 @@ stretches-late : (k low high first : ℕ) (pieces : List (List ℕ)) → high �
 unfolding stretches_from
 stretches-late k low high first [] h = refl
 stretches-late k low high first (piece ∷ pieces) h =
-    ap (λ xs. xs ++ stretches_from k low high (first + position_count k (length piece)) pieces) (stretch-empty k piece (low - first) (min (position_count k (length piece)) (high - first)) (omega (arith, h)))
+    ap (λ xs. xs ++ stretches_from k low high (first + position_count k (length piece)) pieces)
+    (stretch-empty k piece (low - first) (min (position_count k (length piece)) (high - first)) (omega (arith, h)))
     ∙ stretches-late k low high (first + position_count k (length piece)) pieces (omega (arith, h))
 
 -- from one number to itself nothing is taken
@@ -36,18 +39,25 @@ stretches-none : (k low high first : ℕ) (pieces : List (List ℕ)) → high �
 unfolding stretches_from
 stretches-none k low high first [] h = refl
 stretches-none k low high first (piece ∷ pieces) h =
-    ap (λ xs. xs ++ stretches_from k low high (first + position_count k (length piece)) pieces) (stretch-empty k piece (low - first) (min (position_count k (length piece)) (high - first)) (omega (arith, h)))
+    ap (λ xs. xs ++ stretches_from k low high (first + position_count k (length piece)) pieces)
+    (stretch-empty k piece (low - first) (min (position_count k (length piece)) (high - first)) (omega (arith, h)))
     ∙ stretches-none k low high (first + position_count k (length piece)) pieces h
 
 -- before the first piece it is the same where the taking begins
-stretches-early : (k low other high first : ℕ) (pieces : List (List ℕ)) → low ≤ first → other ≤ first → stretches_from k low high first pieces ≡ stretches_from k other high first pieces
+stretches-early : (k low other high first : ℕ) (pieces : List (List ℕ)) → low ≤ first → other ≤ first
+    → stretches_from k low high first pieces ≡ stretches_from k other high first pieces
 unfolding stretches_from
 stretches-early k low other high first [] h g = refl
 stretches-early k low other high first (piece ∷ pieces) h g =
-    ap (λ n. stretch k piece n (min (position_count k (length piece)) (high - first)) ++ stretches_from k low high (first + position_count k (length piece)) pieces) (omega (arith, h, g))
-    ∙ ap (λ xs. stretch k piece (other - first) (min (position_count k (length piece)) (high - first)) ++ xs) (stretches-early k low other high (first + position_count k (length piece)) pieces (omega (arith, h)) (omega (arith, g)))
+    ap (λ n. stretch k piece n (min (position_count k (length piece)) (high - first))
+    ++ stretches_from k low high (first + position_count k (length piece)) pieces) (omega (arith, h, g))
+    ∙ ap (λ xs. stretch k piece (other - first) (min (position_count k (length piece)) (high - first)) ++ xs)
+    (stretches-early k low other high (first + position_count k (length piece)) pieces (omega (arith, h)) (omega (arith, g)))
 
-stretches-cons : (k low high first : ℕ) (piece : List ℕ) (pieces : List (List ℕ)) → stretches_from k low high first (piece ∷ pieces) ≡ stretch k piece (low - first) (min (position_count k (length piece)) (high - first)) ++ stretches_from k low high (first + position_count k (length piece)) pieces
+stretches-cons : (k low high first : ℕ) (piece : List ℕ) (pieces : List (List ℕ))
+    → stretches_from k low high first (piece ∷ pieces)
+    ≡ stretch k piece (low - first) (min (position_count k (length piece)) (high - first))
+    ++ stretches_from k low high (first + position_count k (length piece)) pieces
 unfolding stretches_from
 stretches-cons k low high first piece pieces = refl
 
@@ -59,29 +69,36 @@ stretches-nil k low high first = refl
 pub record IsTaking (k low high : ℕ) (pieces : List (List ℕ)) (index position room : ℕ) (parts : List (List ℕ)) : Type 0 where
   pub cursor : IsCursor k pieces index position
   pub number : position_number k pieces index position + room ≡ high
-  pub taken : parts ++ stretches_from k (position_number k pieces index position) high (position_total k (take index pieces)) (drop index pieces) ≡ stretches_from k low high 0 pieces
+  pub taken : parts ++ stretches_from k (position_number k pieces index position) high (position_total k (take index pieces)) (drop index pieces)
+      ≡ stretches_from k low high 0 pieces
 
-pub IsTaking-none : (k size index position : ℕ) (pieces : List (List ℕ)) → IsCursor k pieces index position → IsTaking k (position_number k pieces index position) (position_number k pieces index position + size) pieces index position size []
+pub IsTaking-none : (k size index position : ℕ) (pieces : List (List ℕ)) → IsCursor k pieces index position
+    → IsTaking k (position_number k pieces index position) (position_number k pieces index position + size) pieces index position size []
 IsTaking-none k size index position pieces cursor = record {
   cursor = cursor;
   number = refl;
-  taken = sym (stretches-skip k (position_number k pieces index position) (position_number k pieces index position + size) 0 index pieces (omega arith)
-      ∙ ap (λ n. stretches_from k (position_number k pieces index position) (position_number k pieces index position + size) n (drop index pieces)) (omega arith));
+  taken =
+      sym (stretches-skip k (position_number k pieces index position) (position_number k pieces index position + size) 0 index pieces (omega arith)
+      ∙ ap (λ n. stretches_from k (position_number k pieces index position) (position_number k pieces index position + size) n (drop index pieces))
+      (omega arith));
 }
 
 -- what one piece gives: the stretch from the position on, as far as there is room
 pub given : ℕ → List ℕ → ℕ → ℕ → List (List ℕ)
 given k piece position taken = stretch k piece position (position + taken)
 
-given-some : (k : ℕ) (piece : List ℕ) (position taken : ℕ) → 0 < taken → given k piece position taken ≡ slice_range piece position (position + taken + k - 1) ∷ []
+given-some : (k : ℕ) (piece : List ℕ) (position taken : ℕ) → 0 < taken
+    → given k piece position taken ≡ slice_range piece position (position + taken + k - 1) ∷ []
 unfolding given stretch
-given-some k piece position taken h = cond-true _ (slice_range piece position (position + taken + k - 1) ∷ []) [] (lt-ltb position (position + taken) (omega (arith, h)))
+given-some k piece position taken h =
+    cond-true _ (slice_range piece position (position + taken + k - 1) ∷ []) [] (lt-ltb position (position + taken) (omega (arith, h)))
 
 given-none : (k : ℕ) (piece : List ℕ) (position taken : ℕ) → taken ≤ 0 → given k piece position taken ≡ []
 unfolding given
 given-none k piece position taken h = stretch-empty k piece position (position + taken) (omega (arith, h))
 
--- the step of the code: where the piece gives positions, their part, which ends `bases` - 1 bytes behind the last of them, is pushed, and else nothing
+-- how the parts grow: where positions of the piece are taken, the part that holds them is pushed, which ends `bases` - 1 bytes
+-- behind the last of them, and else nothing
 pub record PartStep (k : ℕ) (pieces : List (List ℕ)) : Type 0 where
   pub index : ℕ
   pub position : ℕ
@@ -92,10 +109,12 @@ pub record PartStep (k : ℕ) (pieces : List (List ℕ)) : Type 0 where
   pub next_parts : List (List ℕ)
   pub bases_are : bases ≡ k
   pub piece_is : piece ≡ get_or pieces index []
-  pub pushed : ((0 < taken) × (next_parts ≡ parts ++ slice_range piece position (position + taken + bases - 1) ∷ [])) ⊎ ((taken ≤ 0) × (next_parts ≡ parts))
+  pub pushed : ((0 < taken) × (next_parts ≡ parts ++ slice_range piece position (position + taken + bases - 1) ∷ []))
+      ⊎ ((taken ≤ 0) × (next_parts ≡ parts))
 
 -- what stands behind the step are the parts before it and what the piece gives
-pub given-more : (k : ℕ) (pieces : List (List ℕ)) (s : PartStep k pieces) → s.next_parts ≡ s.parts ++ given k (get_or pieces s.index []) s.position s.taken
+pub given-more : (k : ℕ) (pieces : List (List ℕ)) (s : PartStep k pieces)
+    → s.next_parts ≡ s.parts ++ given k (get_or pieces s.index []) s.position s.taken
 given-more k pieces s =
     ⊎_elim
     (λ p. p.1 ∙ ap (λ n. s.parts ++ slice_range s.piece s.position (s.position + s.taken + n - 1) ∷ []) s.bases_are
@@ -119,7 +138,8 @@ pub record TakingStep (k : ℕ) (pieces : List (List ℕ)) : Type 0 where
   pub count_is : count ≡ position_count k (length (get_or pieces index []))
   pub taken_is : taken ≡ min room (count - position)
   pub parts_are : next_parts ≡ parts ++ given k (get_or pieces index []) position taken
-  pub moved : ((position + taken ≡ count) × (next_index ≡ index + 1) × (next_position ≡ 0)) ⊎ ((position + taken ≡ count → ⊥) × (next_index ≡ index) × (next_position ≡ position + taken))
+  pub moved : ((position + taken ≡ count) × (next_index ≡ index + 1) × (next_position ≡ 0))
+      ⊎ ((position + taken ≡ count → ⊥) × (next_index ≡ index) × (next_position ≡ position + taken))
 
 -- the piece that the cursor stands in, with what it gives, and the rest
 taken-split : (k high : ℕ) (pieces : List (List ℕ)) (s : TakingStep k pieces) → position_number k pieces s.index s.position + s.room ≡ high
@@ -157,7 +177,8 @@ taken-split k high pieces s number inside =
         let least : s.taken ≡ min s.room (count - s.position) = s.taken_is ∙ ap (λ n. min s.room (n - s.position)) s.count_is in
         omega (arith, number, inside, least)
 
-pub IsTaking-more : (k low high : ℕ) (pieces : List (List ℕ)) → 1 ≤ k → (s : TakingStep k pieces) → IsTaking k low high pieces s.index s.position s.room s.parts
+pub IsTaking-more : (k low high : ℕ) (pieces : List (List ℕ)) → 1 ≤ k → (s : TakingStep k pieces)
+    → IsTaking k low high pieces s.index s.position s.room s.parts
     → IsTaking k low high pieces s.next_index s.next_position (s.room - s.taken) s.next_parts
 IsTaking-more k low high pieces some s taking =
     ⊎_elim (λ m. used m) (λ m. full m) s.moved
@@ -226,12 +247,15 @@ IsTaking-more k low high pieces some s taking =
               ∙ split;
         })
 
-position_number-le : (k : ℕ) (pieces : List (List ℕ)) (index position : ℕ) → 1 ≤ k → IsCursor k pieces index position → position_number k pieces index position ≤ position_total k pieces
+position_number-le : (k : ℕ) (pieces : List (List ℕ)) (index position : ℕ) → 1 ≤ k → IsCursor k pieces index position
+    → position_number k pieces index position ≤ position_total k pieces
 position_number-le k pieces index position some cursor =
     let inside = cursor.inside in
     ⊎_elim
     (λ h. let most = sum_by_more_le (λ p. position_count k (length p)) pieces index [] h in omega (arith, most, inside))
-    (λ h. let none = ap (λ p. position_count k (length p)) (get_or_past pieces index [] h) in let whole = ap (position_total k) (take_all index pieces h) in omega (arith, inside, none, whole, some))
+    (λ h. let none = ap (λ p. position_count k (length p)) (get_or_past pieces index [] h) in
+    let whole = ap (position_total k) (take_all index pieces h) in
+    omega (arith, inside, none, whole, some))
     (cases_lt index (length pieces))
 
 -- when there is no more room, or no more piece
@@ -239,19 +263,22 @@ pub record IsTaken (k low high : ℕ) (pieces : List (List ℕ)) (index position
   pub parts_are : parts ≡ stretches k low high pieces
   pub moved : position_number k pieces index position ≡ min high (position_total k pieces)
 
-pub IsTaking-all : {index position room : ℕ} {parts : List (List ℕ)} (k low high : ℕ) (pieces : List (List ℕ)) → 1 ≤ k → (room ≤ 0) ⊎ (length pieces ≤ index)
-    → IsTaking k low high pieces index position room parts → IsTaken k low high pieces index position parts
+pub IsTaking-all : {index position room : ℕ} {parts : List (List ℕ)} (k low high : ℕ) (pieces : List (List ℕ)) → 1 ≤ k
+    → (room ≤ 0) ⊎ (length pieces ≤ index) → IsTaking k low high pieces index position room parts → IsTaken k low high pieces index position parts
 IsTaking-all {index} {position} {room} {parts} k low high pieces some ends taking =
+    let from : ℕ = position_number k pieces index position in
+    let first : ℕ = position_total k (take index pieces) in
     let number = taking.number in
     let most = position_number-le k pieces index position some taking.cursor in
     record {
       parts_are =
           sym (append-nil parts)
           ∙ ⊎_elim
-          (λ h. ap (λ xs. parts ++ xs) (sym (stretches-none k (position_number k pieces index position) high (position_total k (take index pieces)) (drop index pieces) (omega (arith, number, h)))))
-          (λ h. ap (λ xs. parts ++ xs) (sym (ap (stretches_from k (position_number k pieces index position) high (position_total k (take index pieces))) (drop_all index pieces h) ∙ stretches-nil k (position_number k pieces index position) high (position_total k (take index pieces)))))
+          (λ h. ap (λ xs. parts ++ xs) (sym (stretches-none k from high first (drop index pieces) (omega (arith, number, h)))))
+          (λ h. ap (λ xs. parts ++ xs) (sym (ap (stretches_from k from high first) (drop_all index pieces h) ∙ stretches-nil k from high first)))
           ends
           ∙ taking.taken ∙ sym (stretches-are k low high pieces);
       moved =
-          ⊎_elim (λ h. omega (arith, number, h, most)) (λ h. let whole = ap (position_total k) (take_all index pieces h) in omega (arith, number, most, whole)) ends;
+          ⊎_elim (λ h. omega (arith, number, h, most))
+          (λ h. let whole = ap (position_total k) (take_all index pieces h) in omega (arith, number, most, whole)) ends;
     }

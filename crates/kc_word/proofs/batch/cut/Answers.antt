@@ -8,22 +8,28 @@ use Rattle.kc_word.proofs.Batching.{positions-left, IsCutTo-more, IsCutTo-all, o
 use Rattle.kc_word.proofs.batch.cut.Goals as goal
 
 -- the parts that are taken from a cursor on, and how far the cursor moves, of whichever list the pieces are read from
-abbrev IsFrom : ℕ → ℕ → ℕ → ℕ → List (List ℕ) → List (List ℕ) → Type 0
-IsFrom k size index position parts pieces = parts ≡ stretches k (position_number k pieces index position) (position_number k pieces index position + size) pieces
+abbrev IsTakenFrom : ℕ → ℕ → ℕ → ℕ → List (List ℕ) → List (List ℕ) → Type 0
+IsTakenFrom k size index position parts pieces =
+    parts ≡ stretches k (position_number k pieces index position) (position_number k pieces index position + size) pieces
 
-abbrev Moves : ℕ → ℕ → ℕ → ℕ → ℕ → ℕ → List (List ℕ) → Type 0
-Moves k size index position next_index next_position pieces =
+abbrev HasMoved : ℕ → ℕ → ℕ → ℕ → ℕ → ℕ → List (List ℕ) → Type 0
+HasMoved k size index position next_index next_position pieces =
     position_number k pieces next_index next_position ≡ min (position_number k pieces index position + size) (position_total k pieces)
 
 pub loop-batches-smaller : goal.loop-batches-smaller
 loop-batches-smaller c =
-    let moved = subst (Moves c.args.k c.args.size c.loop-batches.next.piece c.loop-batches.next.position c.take_positions.new.next.piece c.take_positions.new.next.position)
+    let moved =
+    subst
+    (HasMoved c.args.k c.args.size c.loop-batches.next.piece c.loop-batches.next.position
+    c.take_positions.new.next.piece c.take_positions.new.next.position)
     c.deref.ensures.value c.in_ok-parts.ensures.moved in
     let left = positions-left c.args.k c.args.size c.args.pieces.items (record {
       index = c.loop-batches.next.piece;
       position = c.loop-batches.next.position;
       parts = c.in_ok-parts.parts.items;
-      parts_are = subst (IsFrom c.args.k c.args.size c.loop-batches.next.piece c.loop-batches.next.position c.in_ok-parts.parts.items) c.deref.ensures.value c.in_ok-parts.ensures.taken;
+      parts_are =
+          subst (IsTakenFrom c.args.k c.args.size c.loop-batches.next.piece c.loop-batches.next.position c.in_ok-parts.parts.items)
+          c.deref.ensures.value c.in_ok-parts.ensures.taken;
     })
     (λ e. eqb-false c.in_ok-parts.parts.len 0 (sym c.is_empty.ensures ∙ c.if-is_empty.false) (omega (arith, e, c.in_ok-parts.parts.ok))) in
     omega (arith, moved, left)
@@ -35,7 +41,9 @@ loop-batches-preserved c =
         index = c.loop-batches.next.piece;
         position = c.loop-batches.next.position;
         parts = c.in_ok-parts.parts.items;
-        parts_are = subst (IsFrom c.args.k c.args.size c.loop-batches.next.piece c.loop-batches.next.position c.in_ok-parts.parts.items) c.deref.ensures.value c.in_ok-parts.ensures.taken;
+        parts_are =
+            subst (IsTakenFrom c.args.k c.args.size c.loop-batches.next.piece c.loop-batches.next.position c.in_ok-parts.parts.items)
+            c.deref.ensures.value c.in_ok-parts.ensures.taken;
       };
       next_index = c.take_positions.new.next.piece;
       next_position = c.take_positions.new.next.position;
@@ -43,9 +51,13 @@ loop-batches-preserved c =
       next_batches = map (λ batch. batch.value) c.push.new.self.items;
       count = c.len-count.result;
       some = λ e. eqb-false c.in_ok-parts.parts.len 0 (sym c.is_empty.ensures ∙ c.if-is_empty.false) (omega (arith, e, c.in_ok-parts.parts.ok));
-      stands = subst (λ xs. IsCursor c.args.k xs c.take_positions.new.next.piece c.take_positions.new.next.position) c.deref.ensures.value c.in_ok-parts.ensures.cursor;
+      stands =
+          subst (λ xs. IsCursor c.args.k xs c.take_positions.new.next.piece c.take_positions.new.next.position)
+          c.deref.ensures.value c.in_ok-parts.ensures.cursor;
       moved =
-          subst (Moves c.args.k c.args.size c.loop-batches.next.piece c.loop-batches.next.position c.take_positions.new.next.piece c.take_positions.new.next.position)
+          subst
+          (HasMoved c.args.k c.args.size c.loop-batches.next.piece c.loop-batches.next.position
+          c.take_positions.new.next.piece c.take_positions.new.next.position)
           c.deref.ensures.value c.in_ok-parts.ensures.moved;
       count_is = c.len-count.ensures ∙ c.loop-batches.batches.ok.0 ∙ sym (length-map c.loop-batches.batches.items (λ batch. batch.value));
       batches_are =
@@ -59,12 +71,18 @@ returns-clause-cutting c =
       index = c.loop-batches.next.piece;
       position = c.loop-batches.next.position;
       parts = c.in_ok-parts.parts.items;
-      parts_are = subst (IsFrom c.args.k c.args.size c.loop-batches.next.piece c.loop-batches.next.position c.in_ok-parts.parts.items) c.deref.ensures.value c.in_ok-parts.ensures.taken;
+      parts_are =
+          subst (IsTakenFrom c.args.k c.args.size c.loop-batches.next.piece c.loop-batches.next.position c.in_ok-parts.parts.items)
+          c.deref.ensures.value c.in_ok-parts.ensures.taken;
     }) c.take_positions.ensures.some c.requires
     (sym c.in_ok-parts.parts.ok.0 ∙ eqb-true c.in_ok-parts.parts.len 0 (sym c.is_empty.ensures ∙ c.if-is_empty.true)) c.loop-batches.invariant
 
 pub returns-clause-occurrences : goal.returns-clause-occurrences
-returns-clause-occurrences c = occurrences-cut c.args.k c.args.size c.args.pieces.items (values c.loop-batches.batches.items) c.take_positions.ensures.some c.requires (returns-clause-cutting c)
+returns-clause-occurrences c =
+    occurrences-cut c.args.k c.args.size c.args.pieces.items (values c.loop-batches.batches.items) c.take_positions.ensures.some c.requires
+    (returns-clause-cutting c)
 
 pub returns-clause-words : goal.returns-clause-words
-returns-clause-words c = words-cut c.args.k c.args.size c.args.pieces.items (values c.loop-batches.batches.items) c.take_positions.ensures.some c.requires (returns-clause-cutting c)
+returns-clause-words c =
+    words-cut c.args.k c.args.size c.args.pieces.items (values c.loop-batches.batches.items) c.take_positions.ensures.some c.requires
+    (returns-clause-cutting c)

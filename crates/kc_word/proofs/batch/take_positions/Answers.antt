@@ -95,9 +95,15 @@ loop-room-preserved c =
 pub returns-clause-taken : goal.returns-clause-taken
 returns-clause-taken c =
     (IsTaking-all c.args.k _ _ c.args.pieces.now c.get-bases.ensures.some
-    (elim c.loop-room-test.branch [ then-loop-room-test+else-next-pieces w ↦ inr (omega arith) | else-loop-room-test w ↦ inl (omega arith) ]) c.loop-room.invariant).parts_are
+    (elim c.loop-room-test.branch [
+      | then-loop-room-test+else-next-pieces w ↦ inr (omega arith)
+      | else-loop-room-test w ↦ inl (omega arith)
+    ]) c.loop-room.invariant).parts_are
 
 pub returns-clause-moved : goal.returns-clause-moved
 returns-clause-moved c =
     (IsTaking-all c.args.k _ _ c.args.pieces.now c.get-bases.ensures.some
-    (elim c.loop-room-test.branch [ then-loop-room-test+else-next-pieces w ↦ inr (omega arith) | else-loop-room-test w ↦ inl (omega arith) ]) c.loop-room.invariant).moved
+    (elim c.loop-room-test.branch [
+      | then-loop-room-test+else-next-pieces w ↦ inr (omega arith)
+      | else-loop-room-test w ↦ inl (omega arith)
+    ]) c.loop-room.invariant).moved

@@ -5,7 +5,8 @@ use Rattle.kc_word.proofs.roll.push_words.Goals as goal
 use Rattle.kc_word.proofs.roll.push_words.Goals.{then-code-lt-NO_BASE, else-code-lt-NO_BASE, then-both, else-both, then-run-k+in_ok-push, else-run-k}
 
 pub loop-byte-init : goal.loop-byte-init
-loop-byte-init c = IsCounted-none c.args.rule c.args.words.now.items _ (omega arith) (backward-start c.args.rule.k c.get-k.result (omega arith) (omega arith))
+loop-byte-init c =
+    IsCounted-none c.args.rule c.args.words.now.items _ (omega arith) (backward-start c.args.rule.k c.get-k.result (omega arith) (omega arith))
 
 pub overflow_mul-forward : goal.overflow_mul-forward
 overflow_mul-forward c =
@@ -20,7 +21,8 @@ overflow_add-forward c =
 
 pub overflow_add-backward : goal.overflow_add-backward
 overflow_add-backward c =
-    let small = backward-fits {backward = c.loop-byte.backward} (bit_and c.code_of-code.result 3) c.get-k.result (omega arith) (omega arith) (omega arith) c.loop-byte.invariant in
+    let small = backward-fits {backward = c.loop-byte.backward} (bit_and c.code_of-code.result 3) c.get-k.result
+    (omega arith) (omega arith) (omega arith) c.loop-byte.invariant in
     omega arith
 
 pub overflow_add-run : goal.overflow_add-run
@@ -44,7 +46,9 @@ loop-byte-preserved c =
         next_run = c.if-code-lt-NO_BASE.run;
         found_is = c.code_of-code.ensures;
         forward_is = forward-masked c.args.rule.k c.get-k.result _ same (omega arith);
-        backward_is = ap (λ n. c.loop-byte.backward / 4 + n) (top-shifted c.args.rule.k c.get-k.result (bit_and c.code_of-code.result 3) same (omega arith) (omega arith));
+        backward_is =
+            ap (λ n. c.loop-byte.backward / 4 + n)
+            (top-shifted c.args.rule.k c.get-k.result (bit_and c.code_of-code.result 3) same (omega arith) (omega arith));
         grows = elim c.if-code-lt-NO_BASE.branch [ then-code-lt-NO_BASE w ↦ (λ _. w.run-is) | else-code-lt-NO_BASE w ↦ (λ h. absurd (omega arith)) ];
         breaks = elim c.if-code-lt-NO_BASE.branch [ then-code-lt-NO_BASE w ↦ (λ h. absurd (omega arith)) | else-code-lt-NO_BASE w ↦ (λ _. w.run-is) ];
       };
@@ -58,7 +62,8 @@ loop-byte-preserved c =
               omega arith,
               ap (λ v. v.items) w.words-is ∙ w.in_ok-push.ensures.items ∙ ap (λ n. c.loop-byte.words.items ++ n ∷ [])
                   (elim c.if-both.branch [
-                    | then-both v ↦ word-lesser c.args.rule.both c.both-both.result _ _ _ c.both-both.ensures v.if-both.true (v.word-is ∙ v.min-word.ensures)
+                    | then-both v ↦ word-lesser c.args.rule.both c.both-both.result _ _ _ c.both-both.ensures v.if-both.true
+                        (v.word-is ∙ v.min-word.ensures)
                     | else-both v ↦ word-forward c.args.rule.both c.both-both.result _ _ _ c.both-both.ensures v.if-both.false v.word-is
                   ]),
             )

@@ -20,12 +20,14 @@ loop-part-preserved c =
       next_words = c.push_words.new.words.items;
       within = omega arith;
       piece_is = c.part-item.is;
-      pushed = c.in_ok-push_words.ensures.words ∙ ap (λ bytes. c.loop-part.words.items ++ words_in c.args.rule.now (read_of bytes None)) c.bytes.ensures;
+      pushed =
+          c.in_ok-push_words.ensures.words ∙ ap (λ bytes. c.loop-part.words.items ++ words_in c.args.rule.now (read_of bytes None)) c.bytes.ensures;
     }) c.loop-part.invariant
 
 pub returns-clause-below : goal.returns-clause-below
 returns-clause-below c =
-    subst (λ (xs : List ℕ). All (λ n. n < 4 ^ c.args.rule.now.k) xs) (sym c.loop-part.invariant) (All-words_of c.args.rule.now (as_reads (take c.loop-part.part-index c.pieces-part-items.result.now)))
+    subst (λ (xs : List ℕ). All (λ n. n < 4 ^ c.args.rule.now.k) xs) (sym c.loop-part.invariant)
+    (All-words_of c.args.rule.now (as_reads (take c.loop-part.part-index c.pieces-part-items.result.now)))
 
 pub returns-clause-short : goal.returns-clause-short
 returns-clause-short c =

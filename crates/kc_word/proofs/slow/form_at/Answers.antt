@@ -17,11 +17,13 @@ returns-then-bases-count-clause-none c =
 
 pub returns-then-not-is_usable-clause-none : goal.returns-then-not-is_usable-clause-none
 returns-then-not-is_usable-clause-none c =
-    form_at-broken c.args.rule.now c.args.read.now c.args.position c.loop-i.i (omega arith) (omega arith) (sym c.is_usable.ensures ∙ c.if-not-is_usable.true)
+    form_at-broken c.args.rule.now c.args.read.now c.args.position c.loop-i.i (omega arith) (omega arith)
+    (sym c.is_usable.ensures ∙ c.if-not-is_usable.true)
 
 pub loop-i-preserved : goal.loop-i-preserved
 loop-i-preserved c =
-    usable-more c.args.rule.now c.args.read.now c.args.position c.loop-i.i (omega arith) c.loop-i.invariant (sym c.is_usable.ensures ∙ c.if-not-is_usable.false)
+    usable-more c.args.rule.now c.args.read.now c.args.position c.loop-i.i (omega arith) c.loop-i.invariant
+    (sym c.is_usable.ensures ∙ c.if-not-is_usable.false)
 
 pub returns-in_err-word-clause-none : goal.returns-in_err-word-clause-none
 returns-in_err-word-clause-none c =
@@ -52,8 +54,10 @@ returns-then-both-clause-some c =
           ∙ c.loop-i.invariant;
     }) in
     word-packed c.args.rule.now c.args.read.now c.args.position c.k-k.result c.in_ok-word.word.0 held c.k-k.ensures c.in_ok-word.ensures.spelled
-    ∙ ap Some (sym (counted-both c.args.rule.now c.both.result (text c.args.rule.now.k c.canonical-counted.result.0) (text c.args.rule.now.k c.in_ok-word.word.0) c.both.ensures c.if-both.true
-    (ap (λ j. text j c.canonical-counted.result.0) (sym c.k-k.ensures) ∙ c.canonical-counted.ensures.lesser ∙ ap (λ j. canonical (text j c.in_ok-word.word.0)) c.k-k.ensures)))
+    ∙ ap Some (sym (counted-both c.args.rule.now c.both.result (text c.args.rule.now.k c.canonical-counted.result.0)
+    (text c.args.rule.now.k c.in_ok-word.word.0) c.both.ensures c.if-both.true
+    (ap (λ j. text j c.canonical-counted.result.0) (sym c.k-k.ensures) ∙ c.canonical-counted.ensures.lesser
+    ∙ ap (λ j. canonical (text j c.in_ok-word.word.0)) c.k-k.ensures)))
 
 pub returns-else-both-clause-some : goal.returns-else-both-clause-some
 returns-else-both-clause-some c =
@@ -69,4 +73,5 @@ returns-else-both-clause-some c =
           ∙ c.loop-i.invariant;
     }) in
     word-packed c.args.rule.now c.args.read.now c.args.position c.k-k.result c.in_ok-word.word.0 held c.k-k.ensures c.in_ok-word.ensures.spelled
-    ∙ ap Some (sym (counted-one c.args.rule.now c.both.result (text c.args.rule.now.k c.in_ok-word.word.0) (text c.args.rule.now.k c.in_ok-word.word.0) c.both.ensures c.if-both.false refl))
+    ∙ ap Some (sym (counted-one c.args.rule.now c.both.result (text c.args.rule.now.k c.in_ok-word.word.0)
+    (text c.args.rule.now.k c.in_ok-word.word.0) c.both.ensures c.if-both.false refl))
