@@ -1,5 +1,5 @@
 # What the benchmarks share. A script sources it, names its two programs by `rattle_program` and `c_program`, and is then its
-# measuring loop: `in_turn` runs both, and `row` prints a line of the table of docs/STATUS.md.
+# measuring loop: `in_turn` runs both, and `row` and `ratio` print lines of the table of docs/STATUS.md.
 #
 # A program prints lines `KEY NANOSECONDS CHECK..`. What stands behind the time has to be the same in every run and in both
 # programs; of the times the least is kept.
@@ -116,4 +116,15 @@ row() {
             ratio = 0 in least && 1 in least ? sprintf("%.2f", least[0] / least[1]) : ""
             printf "| `%s` | %s | %s | %s | %s |\n", script, what, shown(0), shown(1), ratio
         }' "$work/times.rattle" "$work/times.plain"
+}
+
+# ratio KEY BASE WHAT: a line of the table: on each side, the least time of KEY as a ratio to that of BASE.
+ratio() {
+    awk -v key="$1" -v base="$2" -v what="$3" -v script="$script" '
+        { side = FILENAME ~ /rattle$/ ? 0 : 1 }
+        !((side, $1) in least) || $2 < least[side, $1] { least[side, $1] = $2 }
+        function shown(side) {
+            return (side, key) in least && (side, base) in least ? sprintf("%.3f", least[side, key] / least[side, base]) : ""
+        }
+        END { printf "| `%s` | %s | %s | %s | |\n", script, what, shown(0), shown(1) }' "$work/times.rattle" "$work/times.plain"
 }
