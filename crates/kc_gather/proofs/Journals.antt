@@ -27,14 +27,16 @@ use Rattle.kc_gather.specs.Gathering.{IsGiven, IsLeastMissing, HasAllNumbers}
 -- the batch given under its number tells
 pub is_given-at : (batches : List NumberedPieces) (batch there : NumberedPieces) (same : Bool) → slice_get batches batch.number ≡ Some there
     → same ≡ is_same_batch there batch → IsTrue same ↔ IsGiven batches batch
-is_given-at batches batch there same at is =
-    (λ true_. at ∙ ap Some ((is_same_batch-Decides there batch).0 (sym is ∙ true_)),
-    λ given. is ∙ (is_same_batch-Decides there batch).1 (let e : Some there ≡ Some batch = sym at ∙ given in cc))
+is_given-at batches batch there same at is = (
+  λ true_. at ∙ ap Some ((is_same_batch-Decides there batch).0 (sym is ∙ true_)),
+  λ given. is ∙ (is_same_batch-Decides there batch).1 (let e : Some there ≡ Some batch = sym at ∙ given in cc),
+)
 
 pub is_given-past : (batches : List NumberedPieces) (batch : NumberedPieces) (same : Bool) → length batches ≤ batch.number → same ≡ false → IsTrue same ↔ IsGiven batches batch
-is_given-past batches batch same past is =
-    (λ true_. absurd (let never : true ≡ false = sym true_ ∙ is in cc),
-    λ given. let within = slice_get_within batches batch.number batch given in absurd (omega (arith, within, past)))
+is_given-past batches batch same past is = (
+  λ true_. absurd (let never : true ≡ false = sym true_ ∙ is in cc),
+  λ given. let within = slice_get_within batches batch.number batch given in absurd (omega (arith, within, past)),
+)
 
 -- the same for shared batches
 pub given_at : (batches : List (Arc Batch Global)) (shared : Arc Batch Global) (number index : ℕ) (there : NumberedPieces) → index ≡ number → index < length batches
@@ -117,9 +119,10 @@ IsMarkedTo-more batches journal marks i batch within is given before = record {
 pub IsMarkedTo-all : (batches journal : List NumberedPieces) (marks : List Bool) (i : ℕ) → length journal ≤ i → IsMarkedTo batches journal marks i
     → All (IsGiven batches) journal × ((n : ℕ) → (get_or marks n false ≡ true) ↔ IsBooked journal n)
 IsMarkedTo-all batches journal marks i all marked =
-    let whole = take_all i journal all in
-    (subst (All (IsGiven batches)) whole marked.given,
-    λ n. (λ true_. subst (λ j. IsBooked j n) whole (marked.marked n true_), λ stands. marked.booked n (subst (λ j. IsBooked j n) (sym whole) stands)))
+    let whole = take_all i journal all in (
+      subst (All (IsGiven batches)) whole marked.given,
+      λ n. (λ true_. subst (λ j. IsBooked j n) whole (marked.marked n true_), λ stands. marked.booked n (subst (λ j. IsBooked j n) (sym whole) stands)),
+    )
 
 -- a batch that isn't given under its number
 pub not_all_given : (batches journal : List NumberedPieces) (i : ℕ) (batch : NumberedPieces) → i < length journal → batch ≡ get_or journal i batch

@@ -22,10 +22,12 @@ AreWholeBefore-more {C} {setup} {batches} stripes i stripe within is whole befor
 -- what the first stripe that is refused is refused for
 pub refusal-at : {C : Type 0} {setup : StripeSetup} {batches : List NumberedPieces} (stripes : List (StripeState C)) (i : ℕ) (stripe : StripeState C) (why : GatherFault) → i < length stripes
     → stripe ≡ get_or stripes i stripe → AreWholeBefore setup batches stripes i → IsStripeRefusal setup batches i stripe why → IsRefusal setup batches stripes why
-refusal-at {C} {setup} {batches} stripes i stripe (Foreign at) within is before refused =
-    (subst (AreWholeBefore setup batches stripes) (sym refused.0) before,
-    (stripe, ap (slice_get stripes) refused.0 ∙ slice_get-get_or stripes i stripe within ∙ ap Some (sym is), subst (λ n. ¬ IsOwn setup batches n stripe) (sym refused.0) refused.1))
-refusal-at {C} {setup} {batches} stripes i stripe (Missing at n) within is before refused =
-    (subst (AreWholeBefore setup batches stripes) (sym refused.0) before,
-    (stripe, ap (slice_get stripes) refused.0 ∙ slice_get-get_or stripes i stripe within ∙ ap Some (sym is), (subst (λ m. IsOwn setup batches m stripe) (sym refused.0) refused.1, refused.2)))
+refusal-at {C} {setup} {batches} stripes i stripe (Foreign at) within is before refused = (
+  subst (AreWholeBefore setup batches stripes) (sym refused.0) before,
+  (stripe, ap (slice_get stripes) refused.0 ∙ slice_get-get_or stripes i stripe within ∙ ap Some (sym is), subst (λ n. ¬ IsOwn setup batches n stripe) (sym refused.0) refused.1),
+)
+refusal-at {C} {setup} {batches} stripes i stripe (Missing at n) within is before refused = (
+  subst (AreWholeBefore setup batches stripes) (sym refused.0) before,
+  (stripe, ap (slice_get stripes) refused.0 ∙ slice_get-get_or stripes i stripe within ∙ ap Some (sym is), (subst (λ m. IsOwn setup batches m stripe) (sym refused.0) refused.1, refused.2)),
+)
 refusal-at {C} {setup} {batches} stripes i stripe Memory within is before refused = tt

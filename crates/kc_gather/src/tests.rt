@@ -28,12 +28,18 @@ fn a_table_for_each_stripe(rt: HostRuntime) -> Result<(), Fail> {
         let plain = plain_tables(rt.alloc(), &setup)?;
         assert_eq!(rt; plain.len(), stripes as usize);
         for table in &plain {
-            assert_eq!(rt; (table.key_bits(), table.rows(rt.alloc())?.len()), (bits, 0));
+            assert_eq!(rt;
+                (table.key_bits(), table.rows(rt.alloc())?.len()),
+                (bits, 0)
+            );
         }
         let tables = quotient_tables(rt.alloc(), &setup, 1_000)?;
         assert_eq!(rt; tables.len(), stripes as usize);
         for table in &tables {
-            assert_eq!(rt; (table.key_bits(), table.rows(rt.alloc())?.len()), (bits, 0));
+            assert_eq!(rt;
+                (table.key_bits(), table.rows(rt.alloc())?.len()),
+                (bits, 0)
+            );
         }
     }
     Ok(())

@@ -6,12 +6,14 @@ use Rattle.kc_gather.proofs.gathering.check_stripe.Goals as goal
 pub returns-in-Some-first_unset-clause-refused : goal.returns-in-Some-first_unset-clause-refused
 returns-in-Some-first_unset-clause-refused g c =
     let told = rw c.in-Some.is at c.in_ok-marks.ensures in
-    let marks = c.deref.result.now in
-    (refl, record { same_setup = search rules; same_number = search rules; given = search rules },
-    least_missing (values c.args.batches.now) c.args.stripe.now.journal marks c.in-Some-first_unset.number
-    (as_many_marks c.args.batches.now c.in-Some.marks.items marks c.deref.ensures.value told.one_each)
-    (marks_of c.args.batches.now (values c.journal.result.now) c.args.stripe.now.journal c.in-Some.marks.items marks c.journal.ensures c.deref.ensures.value told.marks)
-    c.in-Some-first_unset.ensures.found c.in-Some-first_unset.ensures.before)
+    let marks = c.deref.result.now in (
+      refl,
+      record { same_setup = search rules; same_number = search rules; given = search rules },
+      least_missing (values c.args.batches.now) c.args.stripe.now.journal marks c.in-Some-first_unset.number
+          (as_many_marks c.args.batches.now c.in-Some.marks.items marks c.deref.ensures.value told.one_each)
+          (marks_of c.args.batches.now (values c.journal.result.now) c.args.stripe.now.journal c.in-Some.marks.items marks c.journal.ensures c.deref.ensures.value told.marks)
+          c.in-Some-first_unset.ensures.found c.in-Some-first_unset.ensures.before,
+    )
 
 pub returns-clause-whole : goal.returns-clause-whole
 returns-clause-whole g c =

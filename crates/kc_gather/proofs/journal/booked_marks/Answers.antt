@@ -8,9 +8,11 @@ use Rattle.kc_gather.proofs.journal.booked_marks.Goals as goal
 
 pub returns-then-not-is_given-clause-given : goal.returns-then-not-is_given-clause-given
 returns-then-not-is_given-clause-given c =
-    let item = values-item c.args.journal.now c.batch-item.result c.loop-batch.batch-index c.deref.result.now c.loop-batch-test.true c.batch-item.is c.deref.ensures in
-    (λ never. absurd (cc never), λ all. absurd (not_all_given (values c.args.batches.now) (values c.args.journal.now) c.loop-batch.batch-index c.deref.result.now item.0 item.1
-    (λ given. let never : true ≡ false = sym (c.is_given.ensures.1 given) ∙ c.if-not-is_given.true in cc) all))
+    let item = values-item c.args.journal.now c.batch-item.result c.loop-batch.batch-index c.deref.result.now c.loop-batch-test.true c.batch-item.is c.deref.ensures in (
+      λ never. absurd (cc never),
+      λ all. absurd (not_all_given (values c.args.batches.now) (values c.args.journal.now) c.loop-batch.batch-index c.deref.result.now item.0 item.1
+          (λ given. let never : true ≡ false = sym (c.is_given.ensures.1 given) ∙ c.if-not-is_given.true in cc) all),
+    )
 
 pub index_mut-requires : goal.index_mut-requires
 index_mut-requires c =
