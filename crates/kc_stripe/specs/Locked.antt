@@ -25,8 +25,8 @@ pub record IsOnSheet {C : Type 0} (stripe : StripeState C) (kept : KeptStripe) :
   pub total : word_total kept.journal ≡ stripe.total
   pub total_at_most : stripe.total ≤ 2 ^ 62
 
--- What was booked into a stripe is all of it: the words are its total, the entries its journal's length, and the batches
--- those of its journal, each as often.
+-- What was booked into a stripe is all of it: the words are its total, the entries its journal's length, and the
+-- batches those of its journal, each as often.
 pub record IsAllOf {C : Type 0} (booked : List Booking) (stripe : StripeState C) : Type 0 where
   pub words : word_total_in stripe.number booked ≡ stripe.total
   pub entries : entry_total_in stripe.number booked ≡ length stripe.journal

@@ -35,4 +35,5 @@ pub record IsSeen (setup : StripeSetup) (word count : ℕ) (batches : List Numbe
 
 -- each batch that was booked into the stripe of this number is among the batches
 abbrev pub AreNamed : ℕ → List Booking → List NumberedPieces → Type 0
-AreNamed stripe booked batches = (entry : Entry) → Contains (entries_in stripe booked) entry → Contains batches entry.batch
+AreNamed stripe booked batches =
+    (entry : Entry) → Contains (entries_in stripe booked) entry → Contains batches entry.batch

@@ -109,7 +109,7 @@ impl Setup {
         self.hash.is_onto();
     }
 
-    /// The form under which a word counts: the canonical one where both strands count. Condition: the word is below 4^k.
+    /// The form under which a word counts: the canonical one where both strands do. Condition: the word is below 4^k.
     pub fn form_of(&self, word: Word) -> Word
         requires { word.0 < word_count self.now }
         ensures value { result.0 ≡ form_of self.now word.0 }

@@ -76,8 +76,8 @@ impl<C: Counts + Drop, N: Books> Stripes<C, N> {
         Ok((stripes, share))
     }
 
-    /// Ends the sharing: the stripes, in the order of their locks. Where the share is the whole, what was booked with it
-    /// is all that the stripes have.
+    /// Ends the sharing: the stripes, in the order of their locks. Where the share is the whole, what was booked with
+    /// it is all that the stripes have.
     pub fn into_stripes(
         self,
         alloc: Global,
