@@ -51,3 +51,7 @@ StaysBelow columns = (x : ℕ) → x < 2 ^ length columns → product columns x 
 abbrev pub IsOneToOne : List ℕ → Type 0
 IsOneToOne columns =
     (x y : ℕ) → x < 2 ^ length columns → y < 2 ^ length columns → product columns x ≡ product columns y → x ≡ y
+
+-- the matrix maps a number below 2 ^ n to each number below 2 ^ n
+abbrev pub IsOnto : List ℕ → Type 0
+IsOnto columns = (y : ℕ) → y < 2 ^ length columns → (x : ℕ) × (x < 2 ^ length columns) × (product columns x ≡ y)

@@ -3,7 +3,7 @@
 ghost use Rattle.std.specs.Prelude.{◌≡◌, ℕ, ◌<◌, ◌^◌, List, length, IfOk, IfErr, IsErr};
 ghost use Rattle.kc_hash.specs.Matrix.{IsWidth};
 ghost use Rattle.kc_hash.specs.Product.{product, identity, AreInverse, StaysBelow, IsInKernel};
-ghost use Rattle.kc_hash.specs.Product.{IsNonsingular, IsOneToOne};
+ghost use Rattle.kc_hash.specs.Product.{IsNonsingular, IsOneToOne, IsOnto};
 ghost use Rattle.kc_hash.specs.Seeds.{turn_columns, NoneIsNonsingular};
 ghost use Rattle.kc_hash.specs.Hash.{IsHash, inverse_of};
 ghost use Rattle.kc_hash.specs.Inversion.{inverse_is};
@@ -103,6 +103,13 @@ impl Hash {
     /// A law: no two numbers have one hashed number.
     pub fn is_one_to_one(&self)
         ensures { IsOneToOne self.now }
+    {
+        let _matrix = &self.matrix;
+    }
+
+    /// A law: each number is a hashed number.
+    pub fn is_onto(&self)
+        ensures { IsOnto self.now }
     {
         let _matrix = &self.matrix;
     }
