@@ -1,2 +1,5 @@
 pub mod Bytes
 pub mod Dumping
+pub mod Table
+pub mod TableReading
+pub mod Faults

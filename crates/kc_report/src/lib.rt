@@ -10,9 +10,11 @@
 mod block;
 mod dumping;
 mod faults;
+mod table;
 #[cfg(test)]
 mod tests;
 
 pub use block::{BLOCK_SIZE, Block, NUMBER_SIZE};
 pub use dumping::{Dump, GREATEST_COUNT, write_dump};
 pub use faults::ReportFault;
+pub use table::write_table;
