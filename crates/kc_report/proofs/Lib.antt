@@ -1,2 +1,5 @@
 pub mod DumpLemmas
 pub mod TableLemmas
+pub mod TableLines
+pub mod TableFronts
+pub mod TableAnswers

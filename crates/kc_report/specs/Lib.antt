@@ -3,3 +3,4 @@ pub mod Dumping
 pub mod Table
 pub mod TableReading
 pub mod Faults
+pub mod Lines

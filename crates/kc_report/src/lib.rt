@@ -10,7 +10,11 @@
 mod block;
 mod dumping;
 mod faults;
+mod lines;
 mod table;
+pub mod table_laws;
+mod table_reading;
+mod table_rows;
 #[cfg(test)]
 mod tests;
 
@@ -18,3 +22,4 @@ pub use block::{BLOCK_SIZE, Block, NUMBER_SIZE};
 pub use dumping::{Dump, GREATEST_COUNT, write_dump};
 pub use faults::ReportFault;
 pub use table::write_table;
+pub use table_reading::read_table;

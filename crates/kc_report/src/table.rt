@@ -43,7 +43,7 @@ fn table_by_blocks<W: Sink>(writer: &mut W, tally: &Tally) -> Result<(), Failed>
 }
 
 // The header, at the end of the block.
-fn push_header(block: &mut Block, k: K, both: bool)
+pub(crate) fn push_header(block: &mut Block, k: K, both: bool)
     requires room { length block.old + HEADER_SIZE ≤ BLOCK_SIZE }
     ensures { block.new ≡ block.old ++ ended (header_line k both) }
 {
