@@ -3,3 +3,4 @@ pub mod TableLemmas
 pub mod TableLines
 pub mod TableFronts
 pub mod TableAnswers
+pub mod TableSearch

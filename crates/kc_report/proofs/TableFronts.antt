@@ -103,3 +103,11 @@ length-le_total (row ∷ rows) all =
     let more = length-le_total rows (λ k d h. all (suc k) d (omega (arith, h))) in
     let some = all 0 row (omega arith) in
     omega (arith, more, some, sum_by-cons (λ (row : Row). row.count) row rows)
+
+-- no rows are rows that a tally may have
+pub AreRows-none : (k : ℕ) (both : Bool) → AreRows k both []
+AreRows-none k both = record {
+  ordered = record { rising = λ i h. absurd (omega (arith, h)); words = λ i d h. absurd (omega (arith, h)); present = λ i d h. absurd (omega (arith, h)) };
+  forms = λ i d h. absurd (omega (arith, h));
+  small = omega arith;
+}

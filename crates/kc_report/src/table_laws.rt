@@ -5,9 +5,10 @@ ghost use Rattle.kc_report.specs.declared.faults.ReportFault.{ReportFault};
 ghost use Rattle.kc_report.specs.Table.{table_text};
 ghost use Rattle.kc_report.specs.TableReading.{IsTable, IsTableOf};
 
-/// No byte string has two answers, a tally or a first fault.
+/// Every byte string has an answer, a tally or its first fault, and none has two.
 pub fn one_table()
-    ensures { (bytes : List ℕ) (one other : Result TallySeen ReportFault)
+    ensures some { (bytes : List ℕ) → (answer : Result TallySeen ReportFault) × IsTableOf bytes answer }
+    ensures only { (bytes : List ℕ) (one other : Result TallySeen ReportFault)
         → IsTableOf bytes one → IsTableOf bytes other → one ≡ other }
 {}
 
