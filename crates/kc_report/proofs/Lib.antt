@@ -4,3 +4,5 @@ pub mod TableLines
 pub mod TableFronts
 pub mod TableAnswers
 pub mod TableSearch
+pub mod LineLemmas
+pub mod FieldLemmas

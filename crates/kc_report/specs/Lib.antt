@@ -4,3 +4,4 @@ pub mod Table
 pub mod TableReading
 pub mod Faults
 pub mod Lines
+pub mod TableRows

@@ -2,10 +2,11 @@
 ghost use Rattle.std.specs.Prelude.{◌≡◌, ◌≢◌, ◌↔◌, ℕ, ◌+◌, ◌<◌, ◌^◌, ◌++◌, [], ◌∷◌, false, length, decimal};
 ghost use Rattle.std.specs.Prelude.{IsTrue, IfSome, IfNone, IfOk, OnOk, Some};
 ghost use Rattle.kc_tally.specs.declared.row.Row.{Row};
-ghost use Rattle.kc_tally.specs.Tally.{total_of};
+ghost use Rattle.kc_word.specs.Word.{text, form};
 ghost use Rattle.kc_report.specs.Dumping.{row_in_columns};
 ghost use Rattle.kc_report.specs.Table.{end_text};
 ghost use Rattle.kc_report.specs.TableReading.{MayFollow};
+ghost use Rattle.kc_report.specs.TableRows.{RisesTo};
 
 use crate::block::Block;
 use crate::dumping::{GREATEST_COUNT, push_columns};
@@ -62,7 +63,9 @@ impl TableRows {
         ensures follows { IfSome result (λ row. MayFollow self.now row) }
         ensures none { IfNone result ((row : Row) → MayFollow self.now row → line.now ≢ row_in_columns self.now.k false row) }
     {
-        let row = row_of(scratch, line, self.k)?;
+        let Some(row) = row_of(scratch, line, self.k) else {
+            return None;
+        };
         if !self.may_follow(row) {
             return None;
         }
@@ -74,13 +77,23 @@ impl TableRows {
         requires below { row.word < 4 ^ self.now.k }
         ensures { IsTrue result ↔ MayFollow self.now row }
     {
-        let rises = match self.rows.last() {
-            Some(last) => last.word < row.word,
+        if !self.rises_to(row.word) {
+            return false;
+        }
+        if row.count < 1 || row.count > GREATEST_COUNT - self.total {
+            return false;
+        }
+        is_form(Word(row.word), self.k, self.both)
+    }
+
+    // Whether the word comes behind that of the last row.
+    fn rises_to(&self, word: u64) -> bool
+        ensures { IsTrue result ↔ RisesTo self.now.rows word }
+    {
+        match self.rows.last() {
+            Some(last) => last.word < word,
             None => true,
-        };
-        let fits = 1 <= row.count && row.count <= GREATEST_COUNT - self.total;
-        let formed = !self.both || canonical(Word(row.word), self.k) == Word(row.word);
-        rises && fits && formed
+        }
     }
 
     // Puts the row behind the others. Condition: it may come next.
@@ -110,13 +123,28 @@ impl TableRows {
     }
 }
 
+// Whether a word stands in the form under which it counts.
+fn is_form(word: Word, k: K, both: bool) -> bool
+    requires { word.0 < 4 ^ k }
+    ensures { IsTrue result ↔ (form both (text k word.0) ≡ text k word.0) }
+{
+    if both {
+        canonical(word, k).0 == word.0
+    } else {
+        true
+    }
+}
+
 // The row that the line says.
 fn row_of(scratch: &mut Block, line: &[u8], k: K) -> Option<Row>
     ensures below { IfSome result (λ row. row.word < 4 ^ k) }
+    ensures small { IfSome result (λ row. row.count < 2 ^ 64) }
     ensures some { IfSome result (λ row. line.now ≡ row_in_columns k false row) }
     ensures none { IfNone result ((row : Row) → row.word < 4 ^ k → row.count < 2 ^ 64 → line.now ≢ row_in_columns k false row) }
 {
-    let row = fields_of(line, k)?;
+    let Some(row) = fields_of(line, k) else {
+        return None;
+    };
     scratch.clear();
     push_columns(scratch, k, false, row);
     if !is_same(scratch, line) {
@@ -128,11 +156,12 @@ fn row_of(scratch: &mut Block, line: &[u8], k: K) -> Option<Row>
 // The word and the count of a line that may be a row: where it is a row, it is this one.
 fn fields_of(line: &[u8], k: K) -> Option<Row>
     ensures below { IfSome result (λ row. row.word < 4 ^ k) }
+    ensures small { IfSome result (λ row. row.count < 2 ^ 64) }
     ensures found { (row : Row) → row.word < 4 ^ k → row.count < 2 ^ 64 → line.now ≡ row_in_columns k false row → result ≡ Some row }
 {
     let (letters, fields) = line.split_at_checked(k.get() as usize)?;
     let word = pack(letters, k)?;
-    let digits = fields.get(1..fields.len().saturating_sub(1))?;
+    let digits = fields.strip_prefix(b" ")?.strip_suffix(b"\n")?;
     let count = number_of(digits)?;
     Some(Row {
         word: word.0,
@@ -142,7 +171,8 @@ fn fields_of(line: &[u8], k: K) -> Option<Row>
 
 // The number of a text that may be a number: where it is one in decimal, it is this one.
 fn number_of(digits: &[u8]) -> Option<u64>
-    ensures { (n : ℕ) → n < 2 ^ 64 → digits.now ≡ decimal n → result ≡ Some n }
+    ensures small { IfSome result (λ number. number < 2 ^ 64) }
+    ensures found { (n : ℕ) → n < 2 ^ 64 → digits.now ≡ decimal n → result ≡ Some n }
 {
     let Ok(text) = str::from_utf8(digits) else {
         return None;
