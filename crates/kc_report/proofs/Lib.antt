@@ -6,3 +6,5 @@ pub mod TableAnswers
 pub mod TableSearch
 pub mod LineLemmas
 pub mod FieldLemmas
+pub mod NextRowLemmas
+pub mod TableReadingLemmas

@@ -44,7 +44,7 @@ fn table_of(alloc: Global, bytes: &[u8]) -> Result<Tally, ReportFault>
     let mut rows = TableRows::new(alloc, k, both);
     'lines: while let Some((line, rest)) = split_line(left) {
         if line.starts_with(b"END") {
-            if !rest.is_empty() || !rows.is_end(&mut scratch, line) {
+            if !rows.is_end(&mut scratch, left) {
                 return Err(ReportFault::BadEnd);
             }
             return Ok(rows.into_tally(alloc)?);
@@ -61,6 +61,8 @@ fn table_of(alloc: Global, bytes: &[u8]) -> Result<Tally, ReportFault>
 // The length of the words, and whether both strands were counted, that a header says.
 fn header_of(scratch: &mut Block, line: &[u8]) -> Option<(K, bool)>
     ensures some { IfSome result (λ head. line.now ≡ ended (header_line head.0 head.1)) }
+    ensures least { IfSome result (λ head. 1 ≤ head.0) }
+    ensures most { IfSome result (λ head. head.0 ≤ 31) }
     ensures none { IfNone result ((k : ℕ) (both : Bool) → 1 ≤ k → k ≤ 31 → line.now ≢ ended (header_line k both)) }
 {
     // there are few headers

@@ -106,13 +106,13 @@ impl TableRows {
         Ok(())
     }
 
-    // Whether the line is the end of a table of these rows.
-    pub(crate) fn is_end(&self, scratch: &mut Block, line: &[u8]) -> bool
-        ensures { IsTrue result ↔ (line.now ≡ end_text self.now.rows) }
+    // Whether the bytes are the end of a table of these rows.
+    pub(crate) fn is_end(&self, scratch: &mut Block, bytes: &[u8]) -> bool
+        ensures { IsTrue result ↔ (bytes.now ≡ end_text self.now.rows) }
     {
         scratch.clear();
         push_end(scratch, self.rows.len() as u64, self.total);
-        is_same(scratch, line)
+        is_same(scratch, bytes)
     }
 
     // The tally of the rows.
@@ -183,9 +183,9 @@ fn number_of(digits: &[u8]) -> Option<u64>
     }
 }
 
-// Whether the line is what the block holds.
-pub(crate) fn is_same(block: &Block, line: &[u8]) -> bool
-    ensures { IsTrue result ↔ (line.now ≡ block.now) }
+// Whether the bytes are what the block holds.
+pub(crate) fn is_same(block: &Block, bytes: &[u8]) -> bool
+    ensures { IsTrue result ↔ (bytes.now ≡ block.now) }
 {
-    line == block.as_slice()
+    bytes == block.as_slice()
 }
