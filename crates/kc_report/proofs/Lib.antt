@@ -8,3 +8,4 @@ pub mod LineLemmas
 pub mod FieldLemmas
 pub mod NextRowLemmas
 pub mod TableReadingLemmas
+pub mod QueryLemmas

@@ -5,3 +5,4 @@ pub mod TableReading
 pub mod Faults
 pub mod Lines
 pub mod TableRows
+pub mod Querying

@@ -2,7 +2,7 @@
 
 ghost use Rattle.std.specs.Prelude.{◌≡◌};
 
-use crate::{Dump, ReportFault, read_table, write_dump, write_table};
+use crate::{Dump, ReportFault, query, read_table, write_dump, write_table};
 use kc_io::{FromBytes, ToVec};
 use kc_tally::{Row, Tally};
 use kc_word::K;
@@ -123,5 +123,38 @@ fn fronts_of_a_table(rt: HostRuntime) -> Result<(), Fail> {
     assert_eq!(rt; table_fault(rt.alloc(), more)?, ReportFault::BadEnd);
     let long = read_table(rt.alloc(), &mut FromBytes::new(TABLE), 29);
     assert_eq!(rt; long.err(), Some(ReportFault::TableTooLong));
+    Ok(())
+}
+
+// What a query of these words writes, on the worked table.
+fn queried(alloc: Global, words: &[&str]) -> Result<Result<Vec<u8>, ReportFault>, Fail> {
+    let tally = read_table(alloc, &mut FromBytes::new(TABLE), 100)?;
+    let mut asked = Vec::new(alloc);
+    for word in words {
+        asked.push(String::from_str(alloc, word)?)?;
+    }
+    let mut sink = ToVec::new(Vec::new(alloc));
+    match query(&mut sink, &tally, &asked) {
+        Ok(()) => Ok(Ok(sink.into_inner())),
+        Err(fault) => Ok(Err(fault)),
+    }
+}
+
+#[test]
+fn queries(rt: HostRuntime) -> Result<(), Fail> {
+    let rows: [(&[&str], &[u8]); 3] = [
+        (&["CGT", "aaa"], b"ACG 2\nAAA 0\n"),
+        (&["gta", "GTA", "TAC"], b"GTA 1\nGTA 1\nGTA 1\n"),
+        (&[], b""),
+    ];
+    for (words, want) in rows {
+        let text = queried(rt.alloc(), words)?.ok().ok_or("a fault")?;
+        assert_eq!(rt; text.as_slice(), want);
+    }
+    let bad: [(&[&str], u64); 3] = [(&["ACG", "AC"], 2), (&["ACN", "AC"], 1), (&["ACGT"], 1)];
+    for (words, number) in bad {
+        let fault = queried(rt.alloc(), words)?.err();
+        assert_eq!(rt; fault, Some(ReportFault::BadWord(number)));
+    }
     Ok(())
 }
