@@ -1,5 +1,5 @@
 -- What stands in a line that is a row.
-use Rattle.std.proofs.Common.{◌≡◌, ◌≢◌, ℕ, ◌+◌, ◌^◌, ◌<◌, ◌≤◌, ◌↔◌, true, false, List, [], ◌∷◌, ◌++◌, map, length, take, drop, refl, sym, ◌∙◌, ap, subst, append_assoc, arith, Some, None, Option, Result, Ok, Err, eqb, eq-eqb}
+use Rattle.std.proofs.Common.{◌≡◌, ℕ, ◌^◌, ◌<◌, ◌≤◌, true, false, List, [], ◌∷◌, ◌++◌, map, length, take, drop, refl, sym, ◌∙◌, ap, subst, append_assoc, arith, Some, None, Option, Result, Ok, Err, eqb, eq-eqb}
 use Rattle.std.specs.Prelude.{decimal, IsTrue}
 use Rattle.std.specs.Char.{to_ascii_uppercase}
 use Rattle.std.specs.Str.Parse.{ParsesUnsigned}
@@ -47,9 +47,10 @@ count_field k row line e =
 
 -- the letters of a word are packed
 pub letters_packed : (k n : ℕ) (letters : List ℕ) → letters ≡ text k n → (length letters ≡ k) × IsTrue (are_bases (map to_ascii_uppercase letters))
-letters_packed k n letters e =
-    (ap length e ∙ length-text k n,
-    ap (λ l. are_bases (map to_ascii_uppercase l)) e ∙ ap are_bases (upper-bases (text k n) (are_bases-text k n)) ∙ are_bases-text k n)
+letters_packed k n letters e = (
+  ap length e ∙ length-text k n,
+  ap (λ l. are_bases (map to_ascii_uppercase l)) e ∙ ap are_bases (upper-bases (text k n) (are_bases-text k n)) ∙ are_bases-text k n,
+)
 
 pub packed_word : (k n m : ℕ) (letters : List ℕ) → n < 4 ^ k → m < 4 ^ k → letters ≡ text k n → text k m ≡ map to_ascii_uppercase letters → m ≡ n
 packed_word k n m letters below below_ e h = same_from_text k m n below_ below (h ∙ ap (map to_ascii_uppercase) e ∙ upper-bases (text k n) (are_bases-text k n))
@@ -81,9 +82,10 @@ none_some x e = cc
 pub formed : (k word other : ℕ) → word < 4 ^ k → other < 4 ^ k → text k other ≡ canonical (text k word)
     → (IsTrue (eqb other word) → form true (text k word) ≡ text k word) × (form true (text k word) ≡ text k word → IsTrue (eqb other word))
 unfolding form
-formed k word other below below_ e =
-    (λ is. sym e ∙ ap (text k) (eqb-true other word is),
-    λ same. eq-eqb other word (same_from_text k other word below_ below (e ∙ same)))
+formed k word other below below_ e = (
+  λ is. sym e ∙ ap (text k) (eqb-true other word is),
+  λ same. eq-eqb other word (same_from_text k other word below_ below (e ∙ same)),
+)
 
 pub as_it_is : (word : List ℕ) → form false word ≡ word
 unfolding form

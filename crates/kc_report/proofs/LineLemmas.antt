@@ -1,9 +1,8 @@
 -- The first line of some bytes.
-use Rattle.std.proofs.Common.{◌≡◌, ◌≢◌, ℕ, zero, suc, ◌+◌, ◌<◌, ◌≤◌, true, eqb, List, [], ◌∷◌, ◌++◌, length, get_or, take, refl, sym, ◌∙◌, ap, arith, eq-eqb}
+use Rattle.std.proofs.Common.{◌≡◌, ℕ, zero, suc, ◌+◌, ◌<◌, ◌≤◌, true, eqb, List, [], ◌∷◌, ◌++◌, length, get_or, take, ◌∙◌, ap, arith, eq-eqb}
 use Rattle.std.proofs.lemmas.Bool.{eqb-true}
 use Rattle.std.proofs.lemmas.List.{take_more}
 use Rattle.kc_report.specs.Bytes.{line_feed}
-use Rattle.kc_report.specs.Table.{ended}
 use Rattle.kc_report.specs.Lines.{Without, IsLine}
 
 without_take : (bytes : List ℕ) (k : ℕ) → ((j : ℕ) → 0 ≤ j → j < k → ¬ (eqb (get_or bytes j 0) line_feed ≡ true)) → Without line_feed (take k bytes)

@@ -1,5 +1,5 @@
 -- Whether a row may come next.
-use Rattle.std.proofs.Common.{◌≡◌, ℕ, ◌+◌, ◌-◌, ◌^◌, ◌<◌, ◌≤◌, Bool, true, false, List, [], ◌∷◌, ◌++◌, sym, ◌∙◌, ap, subst, arith}
+use Rattle.std.proofs.Common.{◌≡◌, ℕ, ◌-◌, ◌^◌, ◌<◌, ◌≤◌, Bool, false, List, sym, ◌∙◌, ap, subst, arith}
 use Rattle.std.specs.Prelude.{IsTrue}
 use Rattle.kc_word.specs.Word.{text, form}
 use Rattle.kc_tally.specs.declared.row.Row.{Row}
@@ -47,6 +47,7 @@ pub may_come : (t u : TallySeen) (row : Row) (total : ℕ) (formed : Bool) → t
 may_come t u row total formed view tested_ below rises some fits =
     let tested = subst (λ t. Tested t row total formed) view tested_ in
     let sum = tested.sum in
-    let most = tested.rows.small in
-    (λ is. AreRows-push u.k u.both u.rows row tested.rows (record { word = below; count = some; formed = tested.to is; small = omega (arith, sum, most, fits); above = rises }),
-    λ follows. tested.from (AreRows-last u.k u.both u.rows row follows).formed)
+    let most = tested.rows.small in (
+      λ is. AreRows-push u.k u.both u.rows row tested.rows (record { word = below; count = some; formed = tested.to is; small = omega (arith, sum, most, fits); above = rises }),
+      λ follows. tested.from (AreRows-last u.k u.both u.rows row follows).formed,
+    )

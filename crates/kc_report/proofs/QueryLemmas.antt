@@ -1,6 +1,6 @@
 -- The counts of asked words.
-use Rattle.std.proofs.Common.{◌≡◌, ◌≢◌, ℕ, zero, suc, ◌+◌, ◌-◌, ◌^◌, ◌<◌, ◌≤◌, Bool, true, false, eqb, cond, List, [], ◌∷◌, ◌++◌, map, length, get_or, drop, take, refl, sym, ◌∙◌, ap, subst, arith, append_assoc, append-nil, eq-eqb, ne_eqb, Result, Ok, Err, drop-cons, add-one, ⊎_elim}
-use Rattle.std.specs.Prelude.{decimal, MatchResult, IsTrue, flat_map}
+use Rattle.std.proofs.Common.{◌≡◌, ◌≢◌, ℕ, zero, suc, ◌+◌, ◌-◌, ◌^◌, ◌<◌, ◌≤◌, Bool, true, false, eqb, List, [], ◌∷◌, ◌++◌, map, length, get_or, drop, take, refl, sym, ◌∙◌, ap, subst, arith, append_assoc, eq-eqb, ne_eqb, Result, Ok, Err, drop-cons, add-one, ⊎_elim}
+use Rattle.std.specs.Prelude.{decimal, MatchResult}
 use Rattle.std.specs.List.Sorted.{IsStrictlyIncreasing, IsSearchInRange, IsBinarySearchResult, IsNonDecreasingBy}
 use Rattle.std.specs.Ordering.{nat_cmp, ordering_index}
 use Rattle.std.proofs.lemmas.Bool.{cond-true, cond-false, cases_lt}

@@ -1,16 +1,15 @@
 -- Bytes have one answer as a table text.
-use Rattle.std.proofs.Common.{◌≡◌, ℕ, zero, suc, ◌+◌, ◌^◌, ◌<◌, ◌≤◌, Bool, true, false, List, [], ◌∷◌, ◌++◌, length, drop, refl, sym, ◌∙◌, ap, subst, append_assoc, append-nil, arith, inl, inr, ◌⊎◌, ⊎_elim}
+use Rattle.std.proofs.Common.{◌≡◌, ℕ, ◌+◌, ◌^◌, ◌<◌, ◌≤◌, Bool, false, List, [], ◌∷◌, ◌++◌, length, drop, refl, sym, ◌∙◌, ap, subst, append_assoc, append-nil, arith, inl, inr, ◌⊎◌}
 use Rattle.std.specs.Prelude.{codes, Result, Ok, Err}
 use Rattle.kc_tally.specs.declared.row.Row.{Row}
 use Rattle.kc_tally.specs.Tally.{AreRows, TallySeen, total_of}
 use Rattle.kc_report.specs.declared.faults.ReportFault.{ReportFault}
 use Rattle.kc_report.specs.declared.faults.ReportFault.TheVariants.{BadHeader, BadRow, BadEnd, Write, TableTooLong, TableRead, BadWord, Memory}
-use Rattle.kc_report.specs.Bytes.{line_feed}
 use Rattle.kc_report.specs.Dumping.{row_in_columns}
-use Rattle.kc_report.specs.Table.{header_line, end_line, ended, rows_text, front_text, end_text, table_text}
-use Rattle.kc_report.specs.TableReading.{BeginsWith, HasLine, IsTable, ReadsTo, MayFollow, HasBadHeader, HasBadRow, HasBadEnd, HasTable, HasTableFault, IsTableOf}
+use Rattle.kc_report.specs.Table.{header_line, end_line, ended, rows_text, end_text, table_text}
+use Rattle.kc_report.specs.TableReading.{BeginsWith, HasLine, IsTable, ReadsTo, HasBadHeader, IsTableOf}
 use Rattle.kc_report.proofs.TableLines.{row_line, first_line, same_row, same_header, row-no_end, Without-row, Without-header}
-use Rattle.kc_report.proofs.TableFronts.{AreRows-front, AreRows-last, IsLast}
+use Rattle.kc_report.proofs.TableFronts.{AreRows-front, AreRows-last}
 
 -- no row that may come next stands at the front of the rest
 abbrev pub Stops : ℕ → Bool → List Row → List ℕ → Type 0

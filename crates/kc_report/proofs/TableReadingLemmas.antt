@@ -1,5 +1,5 @@
 -- A table text, line by line.
-use Rattle.std.proofs.Common.{◌≡◌, ℕ, ◌+◌, ◌^◌, ◌<◌, ◌≤◌, Bool, true, false, eqb, List, [], ◌∷◌, ◌++◌, length, get_or, drop, take, refl, sym, ◌∙◌, ap, subst, append_assoc, append-nil, arith, inl, inr, ◌⊎◌}
+use Rattle.std.proofs.Common.{◌≡◌, ℕ, ◌+◌, ◌≤◌, Bool, true, false, eqb, List, [], ◌∷◌, ◌++◌, length, get_or, drop, take, sym, ◌∙◌, ap, subst, append_assoc, arith, inl, inr}
 use Rattle.std.specs.Prelude.{codes, IsTrue}
 use Rattle.std.specs.Cmp.Lexicographic.{pointwise}
 use Rattle.std.proofs.lemmas.Bool.Decides.{Decides-eqb}
@@ -21,7 +21,7 @@ use Rattle.kc_report.specs.TableReading.{BeginsWith, HasLine, ReadsTo, MayFollow
 use Rattle.kc_report.proofs.FieldLemmas.{never}
 use Rattle.kc_report.proofs.NextRowLemmas.{follower_fits}
 use Rattle.kc_report.proofs.TableAnswers.{end_has_line}
-use Rattle.kc_report.proofs.TableLines.{row_line, row_ended, first_line, Without-row, Without-header}
+use Rattle.kc_report.proofs.TableLines.{row_line, first_line, Without-row, Without-header}
 use Rattle.kc_report.proofs.TableSearch.{one_more, no_row_yet}
 
 -- the first line of the bytes, and what comes behind it

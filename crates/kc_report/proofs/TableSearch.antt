@@ -1,17 +1,17 @@
 -- Bytes have an answer as a table text.
-use Rattle.std.proofs.Common.{◌≡◌, ◌≢◌, ℕ, zero, suc, ◌+◌, ◌^◌, ◌<◌, ◌≤◌, Bool, true, false, eqb, List, [], ◌∷◌, ◌++◌, length, get_or, drop, refl, sym, ◌∙◌, ap, subst, append_assoc, append-nil, arith, inl, inr, ◌⊎◌, ⊎_elim, eq-eqb}
-use Rattle.std.specs.Prelude.{codes, decimal, Result, Ok, Err}
+use Rattle.std.proofs.Common.{◌≡◌, ℕ, zero, suc, ◌+◌, ◌^◌, ◌<◌, ◌≤◌, Bool, true, false, eqb, List, [], ◌∷◌, ◌++◌, length, get_or, drop, refl, sym, ◌∙◌, ap, subst, append_assoc, append-nil, arith, inl, inr, ◌⊎◌, ⊎_elim, eq-eqb}
+use Rattle.std.specs.Prelude.{codes, Result, Ok, Err}
 use Rattle.std.proofs.lemmas.Bool.{cases_lt, cases_Bool, eqb-true}
 use Rattle.std.proofs.lemmas.List.{length-append}
 use Rattle.kc_word.specs.Word.{text, form}
 use Rattle.kc_tally.specs.declared.row.Row.{Row}
-use Rattle.kc_tally.specs.Tally.{AreRows, TallySeen, total_of}
+use Rattle.kc_tally.specs.Tally.{TallySeen, total_of}
 use Rattle.kc_report.specs.declared.faults.ReportFault.{ReportFault}
 use Rattle.kc_report.specs.declared.faults.ReportFault.TheVariants.{BadHeader, BadRow, BadEnd}
 use Rattle.kc_report.specs.Bytes.{line_feed}
 use Rattle.kc_report.specs.Dumping.{row_in_columns}
-use Rattle.kc_report.specs.Table.{header_line, end_line, ended, rows_text, front_text, end_text, table_text}
-use Rattle.kc_report.specs.TableReading.{BeginsWith, HasLine, IsTable, ReadsTo, MayFollow, HasBadHeader, HasBadRow, HasBadEnd, HasTable, HasTableFault, IsTableOf}
+use Rattle.kc_report.specs.Table.{header_line, ended, rows_text, front_text, end_text}
+use Rattle.kc_report.specs.TableReading.{BeginsWith, HasLine, IsTable, ReadsTo, MayFollow, HasBadHeader, IsTableOf}
 use Rattle.kc_report.proofs.TableLines.{row_line}
 use Rattle.kc_report.proofs.TableFronts.{AreRows-none, AreRows-last, AreRows-push, IsLast}
 use Rattle.kc_report.proofs.TableAnswers.{Stops}
@@ -119,10 +119,10 @@ known_last k both_ rows row =
     (both (1 ≤ row.count) _ (known_le 1 row.count)
     (both (form both_ (text k row.word) ≡ text k row.word) _ (known_text (form both_ (text k row.word)) (text k row.word))
     (both (total_of rows + row.count ≤ 2 ^ 62) (IsAbove rows row) (known_le (total_of rows + row.count) (2 ^ 62)) (known_above rows row))))) where
-  joined : Known ((row.word < 4 ^ k) × ((1 ≤ row.count) × ((form both_ (text k row.word) ≡ text k row.word) × ((total_of rows + row.count ≤ 2 ^ 62) × IsAbove rows row))))
-      → Known (IsLast k both_ rows row)
-  joined (inl p) = inl (record { word = p.0; count = p.1.0; formed = p.1.1.0; small = p.1.1.1.0; above = p.1.1.1.1 })
-  joined (inr p) = inr (λ l. p (l.word, (l.count, (l.formed, (l.small, l.above)))))
+      joined : Known ((row.word < 4 ^ k) × ((1 ≤ row.count) × ((form both_ (text k row.word) ≡ text k row.word) × ((total_of rows + row.count ≤ 2 ^ 62) × IsAbove rows row))))
+          → Known (IsLast k both_ rows row)
+      joined (inl p) = inl (record { word = p.0; count = p.1.0; formed = p.1.1.0; small = p.1.1.1.0; above = p.1.1.1.1 })
+      joined (inr p) = inr (λ l. p (l.word, (l.count, (l.formed, (l.small, l.above)))))
 
 -- the row of these numbers stands next, and may come next
 abbrev IsNext : TallySeen → List ℕ → ℕ → ℕ → Type 0
@@ -238,6 +238,7 @@ answer bytes = found (known_header bytes) where
   begun : (k : ℕ) → 1 ≤ k → k < 32 → BeginsWith bytes (ended (header_line k true)) ⊎ BeginsWith bytes (ended (header_line k false)) → Answer bytes
   begun k some most (inl at) = behind_header bytes k true some most at
   begun k some most (inr at) = behind_header bytes k false some most at
+
   found : Known (HasHeader bytes) → Answer bytes
   found (inl h) = begun h.0 h.2.0 h.1 h.2.1
   found (inr none) = (Err BadHeader, no_header none) where

@@ -63,7 +63,15 @@ fn push_answer(block: &mut Block, tally: &Tally, asked: &[u8])
     if let Some(word) = pack(asked, k) {
         let word = counted_form(word, k, tally.both());
         let count = count_in(tally.rows(), word.0);
-        push_columns(block, k, false, Row { word: word.0, count });
+        push_columns(
+            block,
+            k,
+            false,
+            Row {
+                word: word.0,
+                count,
+            },
+        );
     }
 }
 

@@ -13,6 +13,7 @@ use kc_word::K;
 
 // The most bytes of a header and of an end line, each with its line end.
 pub(crate) const HEADER_SIZE: usize = 6 + NUMBER_SIZE + 3;
+
 pub(crate) const END_SIZE: usize = 4 + NUMBER_SIZE + 1 + NUMBER_SIZE + 1;
 
 /// Writes the table text of a tally, from which `read_table` makes the same tally again. It takes no memory.

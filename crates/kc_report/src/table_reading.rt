@@ -20,7 +20,11 @@ use std::alloc::Global;
 /// `TableTooLong` where the source gave more than `limit` bytes, and `TableRead` where it failed, whichever the reading met
 /// first; these before any line is looked at. Else the first fault of the bytes: `BadHeader`, `BadRow` with its line or
 /// `BadEnd`. `Memory` where a growth was refused.
-pub fn read_table<R: Source>(alloc: Global, reader: &mut R, limit: u64) -> Result<Tally, ReportFault>
+pub fn read_table<R: Source>(
+    alloc: Global,
+    reader: &mut R,
+    limit: u64,
+) -> Result<Tally, ReportFault>
     requires { limit ≤ 2 ^ 42 }
     ensures table { IfOk result (λ tally. GivesTable (R.seen reader.old) (R.seen reader.new) limit tally) }
     ensures fault { IfErr result (RefusesTable (R.seen reader.old) (R.seen reader.new) limit) }

@@ -16,7 +16,10 @@ fn worked_tally(alloc: Global, k: K) -> Result<Tally, AllocError>
     let rows = vec![in alloc;
         Row { word: 1, count: 2 },
         Row { word: 6, count: 1 },
-        Row { word: 11, count: 70_000 },
+        Row {
+            word: 11,
+            count: 70_000
+        },
     ]?;
     Tally::of_rows(alloc, k, false, rows)
 }
@@ -100,8 +103,14 @@ fn faults_of_tables(rt: HostRuntime) -> Result<(), Fail> {
         (b"KCT 1 3 s\nACG 0\nEND 1 0\n", ReportFault::BadRow(2)),
         (b"KCT 1 3 s\n\nEND 0 0\n", ReportFault::BadRow(2)),
         (b"KCT 1 3 s\nACG +1\nEND 1 1\n", ReportFault::BadRow(2)),
-        (b"KCT 1 3 s\nACG 4611686018427387905\n", ReportFault::BadRow(2)),
-        (b"KCT 1 3 s\nACG 4611686018427387904\nGTA 1\n", ReportFault::BadRow(3)),
+        (
+            b"KCT 1 3 s\nACG 4611686018427387905\n",
+            ReportFault::BadRow(2),
+        ),
+        (
+            b"KCT 1 3 s\nACG 4611686018427387904\nGTA 1\n",
+            ReportFault::BadRow(3),
+        ),
     ];
     for (text, want) in rows {
         assert_eq!(rt; table_fault(rt.alloc(), text)?, want);

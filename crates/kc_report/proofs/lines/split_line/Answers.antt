@@ -1,4 +1,3 @@
-use Rattle.kc_report.specs.Lines.{IsLine}
 use Rattle.kc_report.proofs.LineLemmas.{line_at}
 use Rattle.kc_report.proofs.lines.split_line.Goals as goal
 

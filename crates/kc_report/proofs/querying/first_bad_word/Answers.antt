@@ -1,4 +1,4 @@
-use Rattle.std.proofs.Common.{map, length, sym, ◌∙◌, arith}
+use Rattle.std.proofs.Common.{map, sym, ◌∙◌, arith}
 use Rattle.std.specs.Prelude.{string_bytes}
 use Rattle.std.proofs.lemmas.List.{length-map}
 use Rattle.kc_report.proofs.FieldLemmas.{never}

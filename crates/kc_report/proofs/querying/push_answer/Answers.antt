@@ -1,5 +1,4 @@
-use Rattle.std.proofs.Common.{◌≡◌, ◌++◌, ap, ◌∙◌, sym}
-use Rattle.kc_report.specs.Dumping.{row_in_columns}
+use Rattle.std.proofs.Common.{◌++◌, ap, ◌∙◌}
 use Rattle.kc_report.proofs.QueryLemmas.{answer_line}
 use Rattle.kc_report.proofs.querying.push_answer.Goals as goal
 

@@ -1,8 +1,6 @@
-use Rattle.std.proofs.Common.{◌≡◌, ◌++◌, ap, ◌∙◌}
 use Rattle.std.proofs.lemmas.Result.{err_from_is_err_and}
 use Rattle.kc_io.proofs.SinksLemmas.{began_front}
-use Rattle.kc_report.specs.Table.{table_text, end_text, end_line, ended, rows_text}
-use Rattle.kc_report.specs.Dumping.{row_in_columns}
+use Rattle.kc_report.specs.Table.{table_text, end_text}
 use Rattle.kc_report.proofs.TableLemmas.{next_row, written}
 use Rattle.kc_report.proofs.table.table_by_blocks.Goals as goal
 

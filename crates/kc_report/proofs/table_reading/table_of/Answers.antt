@@ -1,4 +1,4 @@
-use Rattle.kc_report.proofs.TableReadingLemmas.{no_line-no_header, other_line-no_header, begins_with_header, with_row, bad_row, bad_end, no_end_line, whole_table}
+use Rattle.kc_report.proofs.TableReadingLemmas.{no_line-no_header, other_line-no_header, bad_row, no_end_line}
 use Rattle.kc_report.proofs.table_reading.table_of.Goals as goal
 
 pub returns-in_default-clause-fault : goal.returns-in_default-clause-fault

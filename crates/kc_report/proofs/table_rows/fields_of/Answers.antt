@@ -1,10 +1,9 @@
-use Rattle.std.proofs.Common.{◌≡◌, ◌∙◌, ◌++◌, ℕ, List, [], ◌∷◌, sym, arith, None, Some}
+use Rattle.std.proofs.Common.{◌∙◌, ◌++◌, [], ◌∷◌, sym, arith, None, Some}
 use Rattle.std.specs.Prelude.{decimal}
 use Rattle.std.proofs.lemmas.Bool.Decides.{Decides-eqb}
 use Rattle.std.proofs.lemmas.List.{same_from_push}
 use Rattle.std.proofs.lemmas.Option.{same_Some}
 use Rattle.std.proofs.lemmas.Slice.Eq.{strip_prefix_is, strip_suffix_is}
-use Rattle.std.proofs.Math.Seq.{drop-append_seam}
 use Rattle.kc_report.specs.Bytes.{line_feed}
 use Rattle.kc_report.proofs.FieldLemmas.{long_enough, letters-are, fields-are, letters_packed, packed_word, same_fields, never, none_some, same_tail}
 use Rattle.kc_report.proofs.table_rows.fields_of.Goals as goal

@@ -1,4 +1,4 @@
-use Rattle.std.proofs.Common.{◌≡◌, true, refl}
+use Rattle.std.proofs.Common.{refl}
 use Rattle.kc_report.proofs.FieldLemmas.{formed, as_it_is}
 use Rattle.kc_report.proofs.table_rows.is_form.Goals as goal
 
