@@ -1,5 +1,6 @@
 -- The answer to a query, a function of a tally and the asked words: source, our formats page ("Reports").
-use Rattle.std.specs.Prelude.{◌≡◌, ℕ, ◌+◌, List, [], ◌∷◌, ◌++◌, map, length, All, decimal, flat_map, Result, Ok, Err, IsTrue}
+use Rattle.std.specs.Prelude.{◌≡◌, ℕ, ◌+◌, List, [], ◌∷◌, ◌++◌, map}
+use Rattle.std.specs.Prelude.{length, All, decimal, flat_map, Result, Ok, Err, IsTrue}
 use Rattle.std.specs.Char.{to_ascii_uppercase}
 use Rattle.kc_word.specs.Base.{are_bases}
 use Rattle.kc_word.specs.Word.{number, form}
@@ -23,7 +24,8 @@ asked_form tally word = form tally.both (in_upper_case word)
 
 -- the line of an asked word: the form under which it counts, and its count, 0 where it has no row
 abbrev pub query_line : TallySeen → List ℕ → List ℕ
-query_line tally word = asked_form tally word ++ space ∷ decimal (count_of tally.rows (number (asked_form tally word))) ++ line_feed ∷ []
+query_line tally word =
+    asked_form tally word ++ space ∷ decimal (count_of tally.rows (number (asked_form tally word))) ++ line_feed ∷ []
 
 -- the lines of the asked words, in their order
 abbrev pub query_text : TallySeen → List (List ℕ) → List ℕ
@@ -39,7 +41,8 @@ pub record IsFirstBadWord (k : ℕ) (words : List (List ℕ)) (number : ℕ) : T
   pub good : All (IsAskable k) before
   pub bad : ¬ IsAskable k word
 
--- What a query does: Ok, all words are k bases, and the text is written; where one isn't, it is told and the sink is as it was;
+-- What a query does: Ok, all words are k bases, and the text is written; where one isn't, it is told and the sink
+-- is as it was;
 -- else the sink failed in this call, and took a beginning of the text.
 abbrev pub Answers : {A : Type 0} → Written → Written → TallySeen → List (List ℕ) → Result A ReportFault → Type 0
 Answers old new tally words (Ok done) = All (IsAskable tally.k) words × HasWritten old new (query_text tally words)

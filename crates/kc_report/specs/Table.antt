@@ -1,4 +1,5 @@
--- The table text of a tally, version 1: source, our formats page ("Table text"). It is ASCII, each line ends with a line
+-- The table text of a tally, version 1: source, our formats page ("Table text"). It is ASCII, each line ends with
+-- a line
 -- feed alone, and numbers are decimal without leading zeros.
 use Rattle.std.specs.Prelude.{ℕ, Bool, List, [], ◌∷◌, ◌++◌, false, length, codes, decimal, flat_map, if◌then◌else◌}
 use Rattle.kc_tally.specs.declared.row.Row.{Row}

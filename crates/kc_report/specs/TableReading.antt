@@ -1,13 +1,16 @@
--- What a byte string says where it is read as a table text: the tally whose text it is, or its first fault. Source, our formats
+-- What a byte string says where it is read as a table text: the tally whose text it is, or its first fault.
+-- Source, our formats
 -- page ("Table text").
-use Rattle.std.specs.Prelude.{◌≡◌, ℕ, ◌+◌, ◌≤◌, Bool, false, List, [], ◌∷◌, ◌++◌, length, codes, Result, MatchResult, ◌⊎◌}
+use Rattle.std.specs.Prelude.{◌≡◌, ℕ, ◌+◌, ◌≤◌, Bool, false, List}
+use Rattle.std.specs.Prelude.{[], ◌∷◌, ◌++◌, length, codes, Result, MatchResult, ◌⊎◌}
 use Rattle.kc_io.specs.declared.taking.TakeFault.TheVariants as taking
 use Rattle.kc_io.specs.Sources.{Seen}
 use Rattle.kc_io.specs.Taking.{TakesAll, TakingFails}
 use Rattle.kc_tally.specs.declared.row.Row.{Row}
 use Rattle.kc_tally.specs.Tally.{TallySeen, AreRows}
 use Rattle.kc_report.specs.declared.faults.ReportFault.{ReportFault}
-use Rattle.kc_report.specs.declared.faults.ReportFault.TheVariants.{BadHeader, BadRow, BadEnd, TableTooLong, TableRead, Memory}
+use Rattle.kc_report.specs.declared.faults.ReportFault.TheVariants.{BadHeader, BadRow, BadEnd}
+use Rattle.kc_report.specs.declared.faults.ReportFault.TheVariants.{TableTooLong, TableRead, Memory}
 use Rattle.kc_report.specs.Dumping.{row_in_columns}
 use Rattle.kc_report.specs.Table.{header_line, ended, front_text, end_text, table_text}
 
@@ -79,7 +82,8 @@ pub record GivesTable (old new : Seen) (limit : ℕ) (tally : TallySeen) : Type 
   pub taken : TakesAll old new limit bytes
   pub has_table : HasTable bytes tally
 
--- why `read_table` gave no tally: the taking failed, or all bytes were taken and have this fault. Memory was refused in the
+-- why `read_table` gave no tally: the taking failed, or all bytes were taken and have this fault. Memory was
+-- refused in the
 -- taking or behind it
 abbrev pub RefusesTable : Seen → Seen → ℕ → ReportFault → Type 0
 RefusesTable old new limit TableTooLong = TakingFails old new limit taking.TooLong

@@ -1,6 +1,8 @@
 //! Reports on a tally, each a text that is written to a `Sink`.
 //!
-//! `write_dump` writes the words with their counts, as a `Dump` asks. A report goes to the writer by blocks of 64 KB: `Block` gathers them.
+//! `write_dump` writes the words with their counts, as a `Dump` asks, `write_table` the table text, from which `read_table`
+//! makes the same tally again, and `query` the counts of asked words. `table_laws` says what holds of table texts. A report
+//! goes to the writer by blocks of 64 KB: `Block` gathers them.
 //!
 //! ```text
 //! write_dump(&mut ToWrite::new(output), &tally, &Dump::in_columns())?;

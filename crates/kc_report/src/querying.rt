@@ -13,11 +13,13 @@ use kc_io::{Failed, Sink, write_out};
 use kc_tally::{Row, Tally};
 use kc_word::{K, Word, canonical, pack};
 
-/// Writes for each asked word, in their order, a line with the word and its count: `WORD COUNT`, in upper case, its canonical
+/// Writes for each asked word, in their order, a line with the word and its count: `WORD COUNT`, in upper case,
+/// its canonical
 /// form where both strands were counted, and 0 where it does not occur. It takes no memory.
 ///
 /// # Errors
-/// `BadWord` with the number of the first word, from 1, that isn't k bases of `ACGTacgt`; then nothing was written. `Write`
+/// `BadWord` with the number of the first word, from 1, that isn't k bases of `ACGTacgt`; then nothing was
+/// written. `Write`
 /// where the writer failed or took no byte. It took a beginning of the text.
 pub fn query<W: Sink>(writer: &mut W, tally: &Tally, words: &[String]) -> Result<(), ReportFault>
     ensures { Answers (W.seen writer.old) (W.seen writer.new) tally.now (map string_bytes words.now) result }
@@ -30,7 +32,8 @@ pub fn query<W: Sink>(writer: &mut W, tally: &Tally, words: &[String]) -> Result
 
 // The number of the first word, from 1, that isn't k bases.
 fn first_bad_word(words: &[String], k: K) -> Option<u64>
-    ensures { MatchOption result (All (IsAskable k) (map string_bytes words.now)) (IsFirstBadWord k (map string_bytes words.now)) }
+    ensures { MatchOption result (All (IsAskable k) (map string_bytes words.now)) (IsFirstBadWord k
+        (map string_bytes words.now)) }
 {
     for (i, word) in words.iter().enumerate() {
         if pack(word.as_bytes(), k).is_none() {
@@ -43,7 +46,8 @@ fn first_bad_word(words: &[String], k: K) -> Option<u64>
 // Writes the lines of the words, a block at a time.
 fn counts_by_blocks<W: Sink>(writer: &mut W, tally: &Tally, words: &[String]) -> Result<(), Failed>
     requires { All (IsAskable tally.now.k) (map string_bytes words.now) }
-    ensures { Writes (W.seen writer.old) (W.seen writer.new) result (query_text tally.now (map string_bytes words.now)) }
+    ensures { Writes (W.seen writer.old) (W.seen writer.new) result (query_text tally.now
+        (map string_bytes words.now)) }
 {
     let mut block = Block::new();
     for word in words {

@@ -14,10 +14,12 @@ use kc_tally::Tally;
 use kc_word::K;
 use std::alloc::Global;
 
-/// Takes all bytes of the source, and answers the tally whose table text they are. Condition: the limit is at most 2^42.
+/// Takes all bytes of the source, and answers the tally whose table text they are. Condition: the limit is at most
+/// 2^42.
 ///
 /// # Errors
-/// `TableTooLong` where the source gave more than `limit` bytes, and `TableRead` where it failed, whichever the reading met
+/// `TableTooLong` where the source gave more than `limit` bytes, and `TableRead` where it failed, whichever the
+/// reading met
 /// first; these before any line is looked at. Else the first fault of the bytes: `BadHeader`, `BadRow` with its line or
 /// `BadEnd`. `Memory` where a growth was refused.
 pub fn read_table<R: Source>(

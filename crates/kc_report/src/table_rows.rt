@@ -61,7 +61,8 @@ impl TableRows {
     pub(crate) fn next_row(&self, scratch: &mut Block, line: &[u8]) -> Option<Row>
         ensures some { IfSome result (λ row. line.now ≡ row_in_columns self.now.k false row) }
         ensures follows { IfSome result (λ row. MayFollow self.now row) }
-        ensures none { IfNone result ((row : Row) → MayFollow self.now row → line.now ≢ row_in_columns self.now.k false row) }
+        ensures none { IfNone result ((row : Row) → MayFollow self.now row
+            → line.now ≢ row_in_columns self.now.k false row) }
     {
         let Some(row) = row_of(scratch, line, self.k) else {
             return None;
@@ -140,7 +141,8 @@ fn row_of(scratch: &mut Block, line: &[u8], k: K) -> Option<Row>
     ensures below { IfSome result (λ row. row.word < 4 ^ k) }
     ensures small { IfSome result (λ row. row.count < 2 ^ 64) }
     ensures some { IfSome result (λ row. line.now ≡ row_in_columns k false row) }
-    ensures none { IfNone result ((row : Row) → row.word < 4 ^ k → row.count < 2 ^ 64 → line.now ≢ row_in_columns k false row) }
+    ensures none { IfNone result ((row : Row) → row.word < 4 ^ k → row.count < 2 ^ 64
+        → line.now ≢ row_in_columns k false row) }
 {
     let Some(row) = fields_of(line, k) else {
         return None;
@@ -157,7 +159,8 @@ fn row_of(scratch: &mut Block, line: &[u8], k: K) -> Option<Row>
 fn fields_of(line: &[u8], k: K) -> Option<Row>
     ensures below { IfSome result (λ row. row.word < 4 ^ k) }
     ensures small { IfSome result (λ row. row.count < 2 ^ 64) }
-    ensures found { (row : Row) → row.word < 4 ^ k → row.count < 2 ^ 64 → line.now ≡ row_in_columns k false row → result ≡ Some row }
+    ensures found { (row : Row) → row.word < 4 ^ k → row.count < 2 ^ 64
+        → line.now ≡ row_in_columns k false row → result ≡ Some row }
 {
     let (letters, fields) = line.split_at_checked(k.get() as usize)?;
     let word = pack(letters, k)?;
