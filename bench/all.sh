@@ -10,7 +10,7 @@ trap 'rm -rf "$BENCH_WORK"' EXIT
 
 echo '| Script | What | Rattle | C or peer | Ratio |'
 echo '|---|---|---|---|---|'
-for script in parse words hash table tickets count; do
+for script in parse words hash table tickets stripe count; do
     rm -f "$BENCH_WORK"/times.*
     "$bench/$script.sh"
 done

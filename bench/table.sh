@@ -3,7 +3,7 @@
 # are readied and then counted, in a table that begins at 2^16 slots and grows, and in one that begins with 2^25.
 . "$(dirname "$0")/lib.sh"
 keys=${KEYS:-20000000}
-rattle_program table kc_table anyhow
+rattle_program table kc_table anyhow rand_core rand_xoshiro
 c_program table
 
 in_turn "" "$keys"

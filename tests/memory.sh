@@ -17,7 +17,8 @@ printf 'ACG 2\nGTA 1\n' > "$work/wanted"
 
 # Refuses one growth after the other of a count of this file, until twenty in a row are not missed.
 refuse_growths() {
-    local refused=0 passed=0 n status
+    local refused=0 passed=0 n number status
+    : > "$work/answers"
     for n in $(seq 1 2000); do
         status=0
         REFUSE=$n LD_PRELOAD="$work/refuse.so" "$kcount" count -m 3 -C --batch 2 --min-qual-char '#' --print dump --column \
@@ -30,11 +31,15 @@ refuse_growths() {
             [ "$status" = 1 ] || { echo "growth $n refused: status $status"; cat "$work/said"; exit 1; }
             [ ! -s "$work/got" ] || { echo "growth $n refused: something was written"; exit 1; }
             grep -qxE 'kcount: (8|46): no memory|Error: .*' "$work/said" || { echo "growth $n refused: $(cat "$work/said")"; exit 1; }
+            cat "$work/said" >> "$work/answers"
             refused=$((refused + 1))
             passed=0
         fi
     done
     [ "$refused" -gt 0 ] && [ "$passed" -ge 20 ] || { echo "no growth was refused, or there is no end of them"; exit 1; }
+    for number in 8 46; do
+        grep -q "^kcount: $number:" "$work/answers" || { echo "no growth was answered $number"; exit 1; }
+    done
     echo "memory: $refused growths refused in turn, each answered as such (${1##*.})"
 }
 refuse_growths "$work/reads.fa"

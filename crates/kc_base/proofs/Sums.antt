@@ -159,7 +159,7 @@ sum_by-swap f (x ∷ xs) ys =
     ∙ sym (sum_by-same (λ y. sum_by (λ z. f z y) (x ∷ xs)) (λ y. f x y + sum_by (λ z. f z y) xs) ys (λ k d within. sum_by-cons (λ z. f z (get_or ys k d)) x xs))
 
 -- one place below n weighs
-sum_by-one_place : (v place n : ℕ) → place < n → sum_by (λ i. cond (eqb place i) v 0) (range_with_len 0 n) ≡ v
+pub sum_by-one_place : (v place n : ℕ) → place < n → sum_by (λ i. cond (eqb place i) v 0) (range_with_len 0 n) ≡ v
 sum_by-one_place v place zero within = absurd (omega arith)
 sum_by-one_place v place (suc n) within =
     let one_more : suc n ≡ n + 1 = omega arith in

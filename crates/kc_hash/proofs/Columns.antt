@@ -1,5 +1,5 @@
 -- The columns that are seen of a matrix.
-use Rattle.std.proofs.Common.{◌≡◌, ℕ, ◌<◌, ◌≤◌, ◌^◌, List, length, take, get_or, sym, ◌∙◌, ap, arith}
+use Rattle.std.proofs.Common.{◌≡◌, ℕ, ◌<◌, ◌^◌, List, length, take, get_or, sym, ◌∙◌, ap, arith}
 use Rattle.std.proofs.lemmas.List.{get_or-take}
 use Rattle.kc_hash.specs.Inversion.{columns-length}
 use Rattle.kc_hash.specs.Matrix.{IsMatrix}

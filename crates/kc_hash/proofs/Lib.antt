@@ -4,4 +4,3 @@ pub mod Copies
 pub mod Generator
 pub mod Linear
 pub mod RowSteps
-pub mod Worked

@@ -1,12 +1,15 @@
 -- A bit matrix of n columns as the list of its columns, each a number whose bits are the column's, and its product with
 -- a number of n bits (Marçais and Kingsford 2011: a k-mer's bits, as a vector, are multiplied by an invertible matrix).
-use Rattle.std.specs.Prelude.{◌≡◌, ℕ, ◌<◌, ◌^◌, List, [], ◌∷◌, length, map, ◌==◌, slice_index, bit_xor}
+use Rattle.std.specs.Prelude.{◌≡◌, refl, ℕ, ◌<◌, ◌^◌, List, [], ◌∷◌, length, map, ◌==◌, slice_index, bit_xor}
 use Rattle.std.specs.List.{filter, range_with_len}
 use Rattle.std.specs.Int.{bit_at}
 
 -- the positions of the set bits of x among the lowest n, from the lowest up
 abbrev pub set_bits : ℕ → ℕ → List ℕ
 set_bits n x = filter (λ i. bit_at x i == 1) (range_with_len 0 n)
+
+set_bits_row : set_bits 6 0b101100 ≡ 2 ∷ 3 ∷ 5 ∷ []
+set_bits_row = refl
 
 -- the xor of all these numbers, 0 where there are none
 abbrev pub xor_of : List ℕ → ℕ
@@ -17,9 +20,22 @@ xor_of (y ∷ ys) = bit_xor y (xor_of ys)
 unfoldable pub product : List ℕ → ℕ → ℕ
 product columns x = xor_of (map (λ i. slice_index columns i) (set_bits (length columns) x))
 
+product_rows : (product (1 ∷ 3 ∷ []) 1 ≡ 1) × (product (1 ∷ 3 ∷ []) 2 ≡ 3) × (product (1 ∷ 3 ∷ []) 3 ≡ 2)
+unfolding product
+product_rows = (refl, refl, refl)
+
+-- a singular matrix
+singular_row : product (1 ∷ 1 ∷ []) 3 ≡ 0
+unfolding product
+singular_row = refl
+
 -- the matrix that leaves every number as it is: column i has bit i alone
 unfoldable pub identity : ℕ → List ℕ
 identity n = map (λ i. 2 ^ i) (range_with_len 0 n)
+
+identity_row : identity 4 ≡ 1 ∷ 2 ∷ 4 ∷ 8 ∷ []
+unfolding identity
+identity_row = refl
 
 -- the second matrix undoes the product with the first
 abbrev pub Undoes : List ℕ → List ℕ → Type 0

@@ -65,31 +65,47 @@ write_some h text n some =
     let moved : is_end n text ≡ false = grind (arith, nat_tests) in
     ap (λ b. after h (if b then Err (record {}) else Ok n) text) moved
 
+-- A call in the midst of a text: the sink as it was at the start of the text, as the call finds it and as the call leaves
+-- it, and what was left of the text before the call.
+pub record SinkCall : Type 0 where
+  pub start : Written
+  pub now : Written
+  pub next : Written
+  pub text : List ℕ
+  pub rest : List ℕ
+  pub pending : Pending start now text rest
+
 -- The sink took the first n bytes of what was left by one write.
-pub wrote_some : (s a b : Written) (text rest : List ℕ) (n : ℕ) → Pending s a text rest → (n ≡ 0 → ⊥) → Appends a.bytes b.bytes (take n rest)
-    → b.history ≡ after a.history (write_answer (Ok n) rest) rest
-    → Pending s b text (drop n rest) × (b.history.flushed ≡ a.history.flushed)
-wrote_some s a b text rest n p some appends history =
-    let e : b.history ≡ after a.history (Ok n) rest = history ∙ write_some a.history rest n some in
-    (took_some s a b text rest n p (record { bytes = appends; taken = ap (λ h. h.bytes) e; failures = ap (λ h. h.failures) e }), ap (λ h. h.flushed) e)
+pub wrote_some : (c : SinkCall) (n : ℕ) → (n ≡ 0 → ⊥) → Appends c.now.bytes c.next.bytes (take n c.rest)
+    → c.next.history ≡ after c.now.history (write_answer (Ok n) c.rest) c.rest
+    → Pending c.start c.next c.text (drop n c.rest) × (c.next.history.flushed ≡ c.now.history.flushed)
+wrote_some c n some appends history =
+    let e : c.next.history ≡ after c.now.history (Ok n) c.rest = history ∙ write_some c.now.history c.rest n some in
+    let taken : HasTaken c.now c.next (take n c.rest) = record {
+      bytes = appends;
+      taken = ap (λ h. h.bytes) e;
+      failures = ap (λ h. h.failures) e;
+    } in
+    (took_some c.start c.now c.next c.text c.rest n c.pending taken, ap (λ h. h.flushed) e)
 
 -- The sink failed, and took nothing.
-pub failed : (s a b : Written) (text rest : List ℕ) → Pending s a text rest → Keeps a.bytes b.bytes → b.history.bytes ≡ a.history.bytes
-    → a.history.failures < b.history.failures → HasBegun s b text
-failed s a b text rest p kept same rose = record {
-  front = p.front;
-  rest = rest;
-  whole = p.whole;
-  bytes = appends_kept s.bytes a.bytes b.bytes p.front p.taken.bytes kept;
-  taken = same ∙ p.taken.taken;
-  failures = omega (arith, p.taken.failures, rose);
+pub failed : (c : SinkCall) → Keeps c.now.bytes c.next.bytes → c.next.history.bytes ≡ c.now.history.bytes
+    → c.now.history.failures < c.next.history.failures → HasBegun c.start c.next c.text
+failed c kept same rose = record {
+  front = c.pending.front;
+  rest = c.rest;
+  whole = c.pending.whole;
+  bytes = appends_kept c.start.bytes c.now.bytes c.next.bytes c.pending.front c.pending.taken.bytes kept;
+  taken = same ∙ c.pending.taken.taken;
+  failures = omega (arith, c.pending.taken.failures, rose);
 }
 
 -- The sink took some of a block, in front of more.
-pub drained : (s a b : Written) (text x y more : List ℕ) → Pending s a text (x ++ more) → Drains a b x y → Pending s b text (y ++ more)
-drained s a b text x y more p d =
-    let split : x ++ more ≡ d.front ++ (y ++ more) = ap (λ v. v ++ more) d.split ∙ append_assoc d.front y more in
-    took_front s a b text d.front (y ++ more) (subst (λ v. Pending s a text v) split p) d.taken
+pub drained : (c : SinkCall) (block left more : List ℕ) → c.rest ≡ block ++ more → Drains c.now c.next block left
+    → Pending c.start c.next c.text (left ++ more)
+drained c block left more whole d =
+    let split : c.rest ≡ d.front ++ (left ++ more) = whole ∙ ap (λ v. v ++ more) d.split ∙ append_assoc d.front left more in
+    took_front c.start c.now c.next c.text d.front (left ++ more) (subst (λ v. Pending c.start c.now c.text v) split c.pending) d.taken
 
 -- What is left is one text, which is written now, in either outcome.
 pub last : {A E : Type 0} (s a b : Written) (text x : List ℕ) (r : Result A E) → Pending s a text (x ++ []) → Writes a b r x → Writes s b r text

@@ -1,5 +1,5 @@
--- What one call of a reader or a writer of std came to: source, the documentation of std's `io::ErrorKind::Interrupted` ("interrupted
--- operations can typically be retried").
+-- What one call of a reader or a writer of std came to: source, the documentation of std's `io::ErrorKind::Interrupted`
+-- ("interrupted operations can typically be retried").
 use Rattle.std.specs.Prelude.{ℕ, ◌&&◌, Bool, true, false, nat_lt, Option, None, Some, Result, Ok, Err, if◌then◌else◌}
 use Rattle.std.specs.IoError.{error_kind}
 use Rattle.std.specs.declared.io.Error.{Error}

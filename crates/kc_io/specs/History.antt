@@ -1,6 +1,7 @@
--- The history of a stream of bytes: what a source or a sink answered, call by call. It is kept for contracts alone, and says what
--- went through a stream that doesn't tell its bytes.
-use Rattle.std.specs.Prelude.{ℕ, ◌+◌, ◌&&◌, ◌==◌, Bool, List, [], ◌∷◌, ◌++◌, length, take, nat_lt, Result, Ok, Err, if◌then◌else◌}
+-- The history of a stream of bytes: what a source or a sink answered, call by call. It is kept for contracts alone, and
+-- says what went through a stream that doesn't tell its bytes.
+use Rattle.std.specs.Prelude.{ℕ, ◌+◌, ◌&&◌, ◌==◌, Bool, List, [], ◌∷◌, ◌++◌, length, take, nat_lt, if◌then◌else◌}
+use Rattle.std.specs.Prelude.{Result, Ok, Err}
 use Rattle.kc_io.specs.declared.failures.Failed.{Failed}
 
 pub record History : Type 0 where

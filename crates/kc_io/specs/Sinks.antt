@@ -34,7 +34,8 @@ pub record HasBegun (old new : Written) (text : List ℕ) : Type 0 where
   pub taken : new.history.bytes ≡ old.history.bytes ++ front
   pub failures : old.history.failures < new.history.failures
 
--- What a call does that hands a text to the sink: Ok, the sink took it; else it failed in this call, and took a beginning of it.
+-- What a call does that hands a text to the sink: Ok, the sink took it; else it failed in this call, and took a
+-- beginning of it.
 abbrev pub HandsOver : {A E : Type 0} → Written → Written → Result A E → List ℕ → Type 0
 HandsOver old new (Ok done) text = HasTaken old new text
 HandsOver old new (Err fault) text = HasBegun old new text

@@ -5,8 +5,8 @@ use Rattle.kc_io.specs.declared.taking.TakeFault.{TakeFault}
 use Rattle.kc_io.specs.declared.taking.TakeFault.TheVariants.{TooLong, Read, Memory}
 use Rattle.kc_io.specs.Sources.{Seen}
 
--- These bytes were taken from the front of the source, by at most `limit + 1` reads, each with room for a byte. Meanwhile the
--- ends behind so many bytes were told, and `failed` reads failed.
+-- These bytes were taken from the front of the source, by at most `limit + 1` reads, each with room for a byte.
+-- Meanwhile the ends behind so many bytes were told, and `failed` reads failed.
 pub record Takes (old new : Seen) (limit : ℕ) (bytes ended : List ℕ) (failed : ℕ) : Type 0 where
   pub consumed : Consumes old.left new.left bytes
   pub given : new.history.bytes ≡ old.history.bytes ++ bytes

@@ -5,8 +5,8 @@ ghost use Rattle.kc_io.specs.History.{History, no_history, after, after_flush};
 use crate::failures::Failed;
 use std::marker::Model;
 
-/// What a source or a sink has answered so far. Proofs alone see it: it takes no bytes, and its counts have no bound. Who
-/// implements `Source` or `Sink` keeps one, and adds each answer to it.
+/// What a source or a sink has answered so far. Proofs alone see it: it takes no bytes, and its counts have no bound.
+/// Who implements `Source` or `Sink` keeps one, and adds each answer to it.
 #[derive(Drop)]
 pub struct Heard {
     pub ghost history: { History },

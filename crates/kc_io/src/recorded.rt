@@ -1,7 +1,7 @@
 //! Single calls of a reader or a writer of std, each of which goes into the history as it was answered.
 //!
-//! What std's streams answer no contract tells. So `read`, `write` and `flush` below are to be read by eye: one call of the
-//! stream, what it came to, and its record. What the layers above do with the answers is proved over the record.
+//! What std's streams answer no contract tells. So `read`, `write` and `flush` below are to be read by eye: one call of
+//! the stream, what it came to, and its record. What the layers above do with the answers is proved over the record.
 ghost use Rattle.std.specs.Prelude.{◌≡◌, ◌-◌, ◌^◌, ◌<◌, ◌≤◌, length, IfSome, OnSome, IfNone, IfOk, MatchOption};
 ghost use Rattle.std.specs.Io.KnownBytes.{ReadConsumes, WriteAppends, Keeps};
 ghost use Rattle.kc_io.specs.History.{no_history, after, after_flush};
@@ -69,8 +69,8 @@ impl<R: Read> Recorded<R> {
 }
 
 impl<W: Write> Recorded<W> {
-    /// One write to the stream; None where it was interrupted and is to be tried again. To take none of a text that has bytes
-    /// is to fail.
+    /// One write to the stream; None where it was interrupted and is to be tried again. To take none of a text that has
+    /// bytes is to fail.
     pub fn write(&mut self, bytes: &[u8]) -> Option<Result<usize, Failed>>
         ensures bound { IfSome result (λ answer. IfOk answer (λ n. n ≤ length bytes.now)) }
         ensures bytes { MatchOption result (Keeps (W.contents self.old.stream) (W.contents self.new.stream))

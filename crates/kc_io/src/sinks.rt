@@ -21,7 +21,8 @@ pub trait Sink {
     fn write(&mut self, bytes: &[u8]) -> Result<usize, Failed>
         ensures within { IfOk result (λ n. n ≤ length bytes.now) }
         ensures appends { WriteAppends (seen self.old).bytes (seen self.new).bytes result bytes.now }
-        ensures history { (seen self.new).history ≡ after (seen self.old).history (write_answer result bytes.now) bytes.now };
+        ensures history { (seen self.new).history
+            ≡ after (seen self.old).history (write_answer result bytes.now) bytes.now };
 
     /// Hands on what was taken.
     ///
@@ -93,8 +94,8 @@ impl Sink for ToVec {
     }
 }
 
-/// A sink over any writer of std. It tells its bytes where the writer does. A call that is interrupted is tried again; the
-/// 2^64th interruption in a row is a failure.
+/// A sink over any writer of std. It tells its bytes where the writer does. A call that is interrupted is tried again;
+/// the 2^64th interruption in a row is a failure.
 #[derive(Drop)]
 pub struct ToWrite<W: Write> {
     recorded: Recorded<W>,
@@ -142,7 +143,8 @@ impl<W: Write> Sink for ToWrite<W> {
 fn write_settled<W: Write>(recorded: &mut Recorded<W>, bytes: &[u8]) -> Result<usize, Failed>
     ensures within { IfOk result (λ n. n ≤ length bytes.now) }
     ensures appends { WriteAppends (W.contents recorded.old.stream) (W.contents recorded.new.stream) result bytes.now }
-    ensures history { recorded.new.heard.history ≡ after recorded.old.heard.history (write_answer result bytes.now) bytes.now }
+    ensures history { recorded.new.heard.history
+        ≡ after recorded.old.heard.history (write_answer result bytes.now) bytes.now }
 {
     'writing: loop {
         match recorded.write(bytes) {

@@ -14,7 +14,8 @@ use std::marker::Model;
 pub trait Source {
     ghost seen: { Self → Seen };
 
-    /// Moves the next `n` bytes to the front of the buffer and answers `Ok(n)`; 0 only at the end or for an empty buffer.
+    /// Moves the next `n` bytes to the front of the buffer and answers `Ok(n)`; 0 only at the end or for an empty
+    /// buffer.
     ///
     /// # Errors
     /// `Failed` where the read failed. The bytes that are left stay.
@@ -65,8 +66,8 @@ impl Source for FromBytes<'_> {
     }
 }
 
-/// A source over any reader of std. It tells its bytes where the reader does. A read that is interrupted is tried again; the
-/// 2^64th interruption in a row is a failure.
+/// A source over any reader of std. It tells its bytes where the reader does. A read that is interrupted is tried
+/// again; the 2^64th interruption in a row is a failure.
 #[derive(Drop)]
 pub struct FromRead<R: Read> {
     recorded: Recorded<R>,

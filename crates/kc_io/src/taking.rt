@@ -1,5 +1,5 @@
 //! The taking of all bytes of a source.
-ghost use Rattle.std.specs.Prelude.{◌≡◌, ◌<◌, length, IfOk, IfErr};
+ghost use Rattle.std.specs.Prelude.{◌≡◌, ◌<◌, ◌≤◌, length, IfOk, IfErr};
 ghost use Rattle.kc_io.specs.declared.taking.TakeFault.TheVariants.{Memory};
 ghost use Rattle.kc_io.specs.Taking.{TakesAll, TakingFails};
 
@@ -27,8 +27,8 @@ const BLOCK_SIZE: usize = 65_536;
 /// Takes all bytes of the source.
 ///
 /// # Errors
-/// `TooLong` where the source gave more than `limit` bytes, and `Read` where it failed, whichever the reading met first;
-/// `Memory` where a growth was refused. Each leaves what the source gave before as taken.
+/// `TooLong` where the source gave more than `limit` bytes, and `Read` where it failed, whichever the reading met
+/// first; `Memory` where a growth was refused. Each leaves what the source gave before as taken.
 pub fn take_all<S: Source>(alloc: Global, source: &mut S, limit: u64) -> Result<Vec<u8>, TakeFault>
     ensures taken { IfOk result (λ bytes. TakesAll (S.seen source.old) (S.seen source.new) limit bytes.items) }
     ensures fault { IfErr result (TakingFails (S.seen source.old) (S.seen source.new) limit) }
@@ -37,7 +37,7 @@ pub fn take_all<S: Source>(alloc: Global, source: &mut S, limit: u64) -> Result<
     take_by_blocks(alloc, source, limit, block.as_mut_slice())
 }
 
-// Takes all bytes of the source, by way of the block.
+// Takes all bytes of the source, by way of the block, whose size bounds what is asked of memory for it.
 fn take_by_blocks<S: Source>(
     alloc: Global,
     source: &mut S,
@@ -45,6 +45,7 @@ fn take_by_blocks<S: Source>(
     block: &mut [u8],
 ) -> Result<Vec<u8>, TakeFault>
     requires room { 0 < length block.old }
+    requires small { length block.old ≤ 65536 }
     ensures taken { IfOk result (λ bytes. TakesAll (S.seen source.old) (S.seen source.new) limit bytes.items) }
     ensures fault { IfErr result (TakingFails (S.seen source.old) (S.seen source.new) limit) }
 {

@@ -44,8 +44,8 @@ impl Read for Slow<'_> {
     }
 }
 
-// A writer that takes at most three bytes at a time, is interrupted before each call, and fails or takes none once it has as
-// many as it has room for.
+// A writer that takes at most three bytes at a time, is interrupted before each call, and fails or takes none once it
+// has as many as it has room for.
 #[derive(Drop)]
 struct Narrow {
     bytes: Vec<u8>,
@@ -61,7 +61,10 @@ impl Write for Narrow {
         if self.is_ready {
             return Err(interruption());
         }
-        let count = buf.len().min(3).min(self.room.saturating_sub(self.bytes.len()));
+        let count = buf
+            .len()
+            .min(3)
+            .min(self.room.saturating_sub(self.bytes.len()));
         if count == 0 && !self.takes_none {
             return Err(failure());
         }
@@ -108,7 +111,10 @@ fn every_failed_read(rt: HostRuntime) {
         let fault = take_slowly(rt.alloc(), fails_with, 8).err();
         assert_eq!(rt; fault, Some(TakeFault::Read), "{fails_with} bytes left");
     }
-    assert_eq!(rt; take_slowly(rt.alloc(), 0, 7).err(), Some(TakeFault::TooLong));
+    assert_eq!(rt;
+        take_slowly(rt.alloc(), 0, 7).err(),
+        Some(TakeFault::TooLong)
+    );
 }
 
 #[test]

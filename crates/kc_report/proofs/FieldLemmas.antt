@@ -6,7 +6,7 @@ use Rattle.std.specs.Str.Parse.{ParsesUnsigned}
 use Rattle.std.proofs.lemmas.Fmt.{parse-decimal}
 use Rattle.std.proofs.lemmas.List.{length-append, same_from_push}
 use Rattle.std.proofs.Math.Seq.{take-append_seam, drop-append_seam}
-use Rattle.kc_word.specs.Base.{are_bases}
+use Rattle.kc_word.specs.Letter.{are_bases}
 use Rattle.kc_word.specs.Word.{text, canonical, form}
 use Rattle.std.proofs.lemmas.Bool.{eqb-true}
 use Rattle.kc_word.proofs.WordLemmas.{length-text, are_bases-text, upper-bases, same_from_text}

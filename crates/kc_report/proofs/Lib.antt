@@ -1,3 +1,4 @@
+pub mod CountLemmas
 pub mod DumpLemmas
 pub mod TableLemmas
 pub mod TableLines
@@ -9,3 +10,4 @@ pub mod FieldLemmas
 pub mod NextRowLemmas
 pub mod TableReadingLemmas
 pub mod QueryLemmas
+pub mod HistoLemmas

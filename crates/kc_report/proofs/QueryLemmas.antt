@@ -17,7 +17,7 @@ use Rattle.kc_tally.specs.Tally.{TallySeen, count_of, row_of}
 use Rattle.kc_report.specs.Bytes.{line_feed, space}
 use Rattle.kc_report.specs.Dumping.{row_in_columns}
 use Rattle.kc_io.specs.Sinks.{Written, Drains, Writes}
-use Rattle.kc_io.proofs.SinksLemmas.{Pending, drained, last}
+use Rattle.kc_io.proofs.SinksLemmas.{Pending, SinkCall, drained, last}
 use Rattle.kc_report.specs.Querying.{in_upper_case, asked_form, query_line, query_text, IsAskable, IsFirstBadWord}
 
 count_at : (rows : List Row) (word i : ℕ) (d : Row) → i < length rows → (get_or rows i d).word ≡ word → ((j : ℕ) → j < i → (get_or rows j d).word ≢ word)
@@ -112,7 +112,9 @@ next_answer s a b tally text words i block room after word below p moved pushed 
     ap (query_text tally) (drop-cons words i [] below) ∙ ap (λ w. query_line tally w ++ later) is in
     let joined : room ++ query_text tally (drop i words) ≡ after ++ later =
     ap (λ v. room ++ v) cut ∙ sym (append_assoc room line later) ∙ ap (λ v. v ++ later) (sym pushed) in
-    rw add-one (subst (λ v. Pending s b text v) joined (drained s a b text block room (query_text tally (drop i words)) p moved))
+    let more = query_text tally (drop i words) in
+    let call : SinkCall = record { start = s; now = a; next = b; text = text; rest = block ++ more; pending = p } in
+    rw add-one (subst (λ v. Pending s b text v) joined (drained call block room more refl moved))
 
 pub query_written : {A E : Type 0} (s a b : Written) (tally : TallySeen) (text : List ℕ) (words : List (List ℕ)) (i : ℕ) (block : List ℕ) (r : Result A E) → length words ≤ i
     → Pending s a text (block ++ query_text tally (drop i words)) → Writes a b r block → Writes s b r text

@@ -15,7 +15,8 @@ row_in_lines k row = greater_than ∷ decimal row.count ++ line_feed ∷ text k 
 
 -- a row in columns: `WORD COUNT`, with a blank or a tab between them
 abbrev pub row_in_columns : ℕ → Bool → Row → List ℕ
-row_in_columns k with_tab row = text k row.word ++ (if with_tab then tab else space) ∷ decimal row.count ++ line_feed ∷ []
+row_in_columns k with_tab row =
+    text k row.word ++ (if with_tab then tab else space) ∷ decimal row.count ++ line_feed ∷ []
 
 abbrev pub row_text : ℕ → Dump → Row → List ℕ
 row_text k dump row = if dump.column then row_in_columns k dump.tab row else row_in_lines k row

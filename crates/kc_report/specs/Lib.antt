@@ -6,3 +6,5 @@ pub mod Faults
 pub mod Lines
 pub mod TableRows
 pub mod Querying
+pub mod Histo
+pub mod Statistics

@@ -2,7 +2,7 @@
 use Rattle.std.specs.Prelude.{◌≡◌, ℕ, ◌+◌, List, [], ◌∷◌, ◌++◌, map}
 use Rattle.std.specs.Prelude.{length, All, decimal, flat_map, Result, Ok, Err, IsTrue}
 use Rattle.std.specs.Char.{to_ascii_uppercase}
-use Rattle.kc_word.specs.Base.{are_bases}
+use Rattle.kc_word.specs.Letter.{are_bases}
 use Rattle.kc_word.specs.Word.{number, form}
 use Rattle.kc_tally.specs.Tally.{TallySeen, count_of}
 use Rattle.kc_io.specs.Sinks.{Written, HasWritten, HasBegun}

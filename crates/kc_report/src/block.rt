@@ -6,7 +6,7 @@ use itoa::Buffer;
 use kc_io::{Failed, Sink, write_all};
 use std::marker::Model;
 
-/// How many bytes a block holds.
+/// How many bytes a block holds. The invariant of `Block` has the same number.
 pub const BLOCK_SIZE: usize = 65_536;
 
 /// The most digits of a number of 64 bits.

@@ -67,7 +67,8 @@ impl Dump {
 /// # Errors
 /// `Write` where the writer failed or took no byte. It took a beginning of the dump.
 pub fn write_dump<W: Sink>(writer: &mut W, tally: &Tally, dump: &Dump) -> Result<(), ReportFault>
-    ensures written { Writes (W.seen writer.old) (W.seen writer.new) result (dump_text tally.now.k dump.now tally.now.rows) }
+    ensures written { Writes (W.seen writer.old) (W.seen writer.new) result
+        (dump_text tally.now.k dump.now tally.now.rows) }
     ensures fault { IfErr result (λ fault. fault ≡ Write) }
 {
     Ok(dump_by_blocks(writer, tally, dump)?)
@@ -93,7 +94,8 @@ fn put_row<W: Sink>(
     row: Row,
 ) -> Result<(), Failed>
     requires below { row.word < 4 ^ k }
-    ensures ok { OnOk result (Drains (W.seen writer.old) (W.seen writer.new) (block.old ++ shown_text k dump.now row) block.new) }
+    ensures ok { OnOk result (Drains (W.seen writer.old) (W.seen writer.new)
+        (block.old ++ shown_text k dump.now row) block.new) }
     ensures err { OnErr result (HasBegun (W.seen writer.old) (W.seen writer.new) block.old) }
 {
     if is_shown(dump, row) {

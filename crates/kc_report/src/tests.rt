@@ -2,7 +2,10 @@
 
 ghost use Rattle.std.specs.Prelude.{◌≡◌};
 
-use crate::{Dump, ReportFault, query, read_table, write_dump, write_table};
+use crate::{
+    Dump, GREATEST_HIGH, ReportFault, query, read_table, write_dump, write_histo, write_stats,
+    write_table,
+};
 use kc_io::{FromBytes, ToVec};
 use kc_tally::{Row, Tally};
 use kc_word::K;
@@ -49,6 +52,50 @@ fn dumps(rt: HostRuntime) -> Result<(), Fail> {
     for (dump, want) in rows {
         let text = dumped(rt.alloc(), dump)?;
         assert_eq!(rt; text.as_slice(), want);
+    }
+    Ok(())
+}
+
+fn statistics(alloc: Global) -> Result<Vec<u8>, Fail> {
+    let k = K::new(2).ok_or("no length of a word")?;
+    let tally = worked_tally(alloc, k)?;
+    let mut sink = ToVec::new(Vec::new(alloc));
+    write_stats(&mut sink, &tally)?;
+    Ok(sink.into_inner())
+}
+
+#[test]
+fn statistics_of_three_words(rt: HostRuntime) -> Result<(), Fail> {
+    let want = b"Unique:    1\nDistinct:  3\nTotal:     70003\nMax_count: 70000\n";
+    assert_eq!(rt; statistics(rt.alloc())?.as_slice(), want.as_slice());
+    Ok(())
+}
+
+fn histogram(alloc: Global, high: u64) -> Result<Vec<u8>, Fail> {
+    if high == 0 || high > GREATEST_HIGH {
+        return Err(Fail::from("no bound of a histogram"));
+    }
+    let k = K::new(2).ok_or("no length of a word")?;
+    let tally = worked_tally(alloc, k)?;
+    let mut sink = ToVec::new(Vec::new(alloc));
+    write_histo(alloc, &mut sink, &tally, high)?;
+    Ok(sink.into_inner())
+}
+
+#[test]
+fn histograms(rt: HostRuntime) -> Result<(), Fail> {
+    let rows: [(u64, &[u8]); 7] = [
+        (1, b"1 1\n2 2\n"),
+        (2, b"1 1\n2 1\n3 1\n"),
+        (10_000, b"1 1\n2 1\n10001 1\n"),
+        (10_001, b"1 1\n2 1\n10002 1\n"),
+        (69_999, b"1 1\n2 1\n70000 1\n"),
+        (70_000, b"1 1\n2 1\n70000 1\n"),
+        (100_000, b"1 1\n2 1\n70000 1\n"),
+    ];
+    for (high, want) in rows {
+        let text = histogram(rt.alloc(), high)?;
+        assert_eq!(rt; text.as_slice(), want, "up to {high}");
     }
     Ok(())
 }

@@ -10,6 +10,7 @@ use Rattle.std.proofs.lemmas.List.{take_more}
 use Rattle.std.proofs.lemmas.List.Elements.{filter_map-append, filter-append}
 use Rattle.std.proofs.lemmas.Grind.{common_steps}
 use Rattle.std.specs.FinMap.{get, insert, from_entries, from_entries_push, nat_cmp-IsAntisymmetric}
+use Rattle.kc_base.proofs.Lists.{slice_get-set_same, slice_get-set_other}
 use Rattle.kc_table.specs.Counts.{IsStored}
 use Rattle.kc_table.specs.QuotientTable.{SlotList, entries_in, counts_in, Holds}
 use Rattle.kc_table.proofs.KeyCounts.{eq_by_cmp_apart, get-entries, same_counts, get-insert_same, get-insert_other, find-lookup}
@@ -78,18 +79,6 @@ lookup-set_other (Some e ∷ slots) zero k v q apart (inr (m, held)) =
     ap (λ b. cond b (Some v) rest) (at_other q k apart) ∙ sym (ap (λ x. cond (is_at (nat_cmp q) x) (Some e.1) rest) key ∙ ap (λ b. cond b (Some e.1) rest) (at_other q k apart))
 lookup-set_other (None ∷ slots) (suc s) k v q apart ready = lookup-set_other slots s k v q apart ready
 lookup-set_other (Some e ∷ slots) (suc s) k v q apart ready = ap (cond (is_at (nat_cmp q) e.0) (Some e.1)) (lookup-set_other slots s k v q apart ready)
-
-pub slice_get-set_same : {X : Type 0} (xs : List X) (s : ℕ) (x : X) → s < length xs → slice_get (set xs s x) s ≡ Some x
-slice_get-set_same [] s x below = absurd (omega arith)
-slice_get-set_same (y ∷ xs) zero x below = refl
-slice_get-set_same (y ∷ xs) (suc s) x below = slice_get-set_same xs s x (omega arith)
-
-pub slice_get-set_other : {X : Type 0} (xs : List X) (s t : ℕ) (x : X) → t ≢ s → slice_get (set xs s x) t ≡ slice_get xs t
-slice_get-set_other [] s t x apart = refl
-slice_get-set_other (y ∷ xs) zero zero x apart = absurd (apart refl)
-slice_get-set_other (y ∷ xs) zero (suc t) x apart = refl
-slice_get-set_other (y ∷ xs) (suc s) zero x apart = refl
-slice_get-set_other (y ∷ xs) (suc s) (suc t) x apart = slice_get-set_other xs s t x (λ same. apart (ap suc same))
 
 -- the map after one slot is written
 pub counts_in-set : (slots : SlotList) (s k v : ℕ) → s < length slots → IsOpenTo slots s k → ((t m : ℕ) → t ≢ s → Holds slots t k m → ⊥) → counts_in (set slots s (Some (k, v))) ≡ insert (counts_in slots) k v
@@ -183,14 +172,10 @@ counted_in-zero slots i k n held none =
     let test : nat_lt 0 n ≡ false = grind (arith, common_steps) in
     counted_in-take slots i (Some (k, n)) held ∙ ap (λ b. counted_in i slots ++ cond b ((k, n) ∷ []) []) test ∙ append-nil _
 
-counted_in-some : (slots : SlotList) (i k n : ℕ) → Holds slots i k n → n ≢ 0 → counted_in (i + 1) slots ≡ counted_in i slots ++ (k, n) ∷ []
+pub counted_in-some : (slots : SlotList) (i k n : ℕ) → Holds slots i k n → n ≢ 0 → counted_in (i + 1) slots ≡ counted_in i slots ++ (k, n) ∷ []
 counted_in-some slots i k n held some =
     let test : nat_lt 0 n ≡ true = grind (arith, common_steps) in
     counted_in-take slots i (Some (k, n)) held ∙ ap (λ b. counted_in i slots ++ cond b ((k, n) ∷ []) []) test
 
 pub counted_in-all : (slots : SlotList) (i : ℕ) → length slots ≤ i → counted_in i slots ≡ filter (λ e. nat_lt 0 e.1) (entries_in slots)
 counted_in-all slots i all = ap (λ (xs : SlotList). filter (λ e. nat_lt 0 e.1) (entries_in xs)) (take_all i slots all)
-
--- one more row is pushed
-pub counted_in-push : (slots : SlotList) (i k n : ℕ) (items after : List (ℕ × ℕ)) → items ≡ counted_in i slots → after ≡ items ++ (k, n) ∷ [] → Holds slots i k n → n ≢ 0 → after ≡ counted_in (i + 1) slots
-counted_in-push slots i k n items after so_far is held some = is ∙ ap (λ (es : List (ℕ × ℕ)). es ++ (k, n) ∷ []) so_far ∙ sym (counted_in-some slots i k n held some)

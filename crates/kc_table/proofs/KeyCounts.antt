@@ -1,5 +1,5 @@
 -- The finite map of a list of entries: what it finds, what one more entry does to it, and its rows.
-use Rattle.std.proofs.Common.{◌≡◌, ◌≢◌, ◌∙◌, ℕ, zero, suc, zero-lt-suc, ◌+◌, ◌<◌, ◌≤◌, ◌^◌, Bool, true, false, cond, List, [], ◌∷◌, length, Some, None, Option, All, Contains, filter, nat_eq, nat_lt, nat_cmp, is_eq, get_or, unwrap_or, refl, sym, ap, subst, subst₂, arith, IsSome, is_some, ◌⊎◌, inl, inr, slice_get, Result, Ok, Err, IfOk}
+use Rattle.std.proofs.Common.{◌≡◌, ◌≢◌, ◌∙◌, ℕ, ◌+◌, ◌<◌, ◌≤◌, ◌^◌, Bool, true, false, cond, List, [], ◌∷◌, Some, None, Option, All, Contains, filter, nat_eq, nat_lt, nat_cmp, is_eq, get_or, unwrap_or, refl, sym, ap, subst, subst₂, arith, IsSome, is_some, inl, inr, slice_get, Result, Ok, Err, IfOk}
 use Rattle.std.specs.List.Sorted.{IsStrictlySortedBy}
 use Rattle.std.proofs.lemmas.Map.Keys.{IsDistinct-from_sorted}
 use Rattle.std.proofs.lemmas.Grind.{common_steps}
@@ -13,8 +13,9 @@ use Rattle.std.proofs.lemmas.Map.Made.{IsDistinct-keys_filter}
 use Rattle.std.proofs.lemmas.Map.Entries.{lookup_from_place, place_from_lookup}
 use Rattle.std.proofs.lemmas.List.Elements.{All-filter, All-contains, filter_passes}
 use Rattle.std.proofs.lemmas.Option.{get_or_from_slice_get, slice_get-get_or, slice_get_within}
-use Rattle.std.proofs.lemmas.Bool.{cases_lt, cases_eq, eqb-true}
+use Rattle.std.proofs.lemmas.Bool.{cases_eq, eqb-true}
 use Rattle.std.specs.FinMap.{get, insert, from_entries, find, contains_key, empty, len, len-insert, get-from_entries, get-insert, get-empty, same_map, nat_cmp-IsAntisymmetric}
+use Rattle.kc_base.proofs.Lists.{Contains-filter}
 use Rattle.kc_table.specs.Counts.{KeyCounts, AreRowsOf, IsWithin, count_at, readied, added, IsStored}
 
 abbrev pub Entries : Type 0
@@ -96,13 +97,6 @@ counts_found es m k is = ap (λ (n : KeyCounts). get n k) (sym is) ∙ get-entri
 
 pub stored_found : (o : Option ℕ) (m : KeyCounts) (k : ℕ) → IsStored m k → get m k ≡ o → o ≡ None → ⊥
 stored_found o m k stored is none = let never : false ≡ true = sym (ap is_some (is ∙ none)) ∙ stored in cc
-
-pub Contains-filter : (p : (ℕ × ℕ) → Bool) (es : Entries) (e : ℕ × ℕ) → p e ≡ true → Contains es e → Contains (filter p es) e
-Contains-filter p [] e passes c = absurd (let h : c.0 < 0 = c.1 in omega arith)
-Contains-filter p (x ∷ es) e passes (zero, below, is) = rw (ap p is ∙ passes) (zero, zero-lt-suc (length (filter p es)), is)
-Contains-filter p (x ∷ es) e passes (suc k, below, is) =
-    let rest : Contains (filter p es) e = Contains-filter p es e passes (k, omega arith, is) in
-    elim (p x) as (λ b. Contains (cond b (x ∷ filter p es) (filter p es)) e) [ true ↦ (suc rest.0, omega arith, rest.2) | false ↦ rest ]
 
 -- each entry is found by its key
 entries_found : (es : Entries) → IsDistinct nat_eq (keys_of es) → All (λ e. get {R = nat_cmp} (from_entries es) e.0 ≡ Some e.1) es

@@ -3,5 +3,7 @@ pub mod Crowding
 pub mod KeyCounts
 pub mod Places
 pub mod ReprobingSteps
+pub mod Resizing
 pub mod SlotSteps
 pub mod Soundness
+pub mod Writing

@@ -1,5 +1,5 @@
 -- Places and keys: a slot, a number of reprobes and a remainder give one key, and a key's places differ.
-use Rattle.std.proofs.Common.{◌≡◌, ◌∙◌, ℕ, zero, suc, ◌+◌, ◌-◌, ◌*◌, ◌/◌, ◌%◌, ◌^◌, ◌<◌, ◌≤◌, Bool, true, false, ◌&&◌, List, [], ◌∷◌, get_or, nat_eq, min, unwrap_or, refl, sym, ap, arith, mod-lt, mod-eq_of_lt, suc-mul, add-zero, inl, inr}
+use Rattle.std.proofs.Common.{◌≡◌, ◌∙◌, ℕ, zero, suc, ◌+◌, ◌-◌, ◌*◌, ◌/◌, ◌%◌, ◌^◌, ◌<◌, ◌≤◌, Bool, true, false, ◌&&◌, nat_eq, min, unwrap_or, refl, sym, ap, arith, mod-lt, mod-eq_of_lt, suc-mul, add-zero, inl, inr}
 use Rattle.std.proofs.Math.Nat.{mod-add-mod, add-mul-mod_self_left, add-mul-div_right, mod-mod, min-le_left}
 use Rattle.std.specs.List.{find, range_with_len}
 use Rattle.std.proofs.Math.Pow.{mod-mod-pow}
@@ -122,22 +122,30 @@ cancelled m h a b pos same =
     mod-add-mod (h + x) m ((m - 1) * h) ∙ ap (λ n. n % m) sum ∙ add-mul-mod_self_left x m h in
     sym (back a) ∙ ap (λ n. (n + (m - 1) * h) % m) same ∙ back b
 
--- places differ where they do in a table of 2 ^ l slots, of at most 64
-differ_by : (key i j log l : ℕ) → l ≤ 6 → l ≤ log → i < min 63 (2 ^ l) → j < min 63 (2 ^ l) → place key i log ≡ place key j log → i ≡ j
-differ_by key i j log l few narrow si sj same =
+-- two places that differ in a table of 2 ^ l slots, no larger than one of 64 or of 2 ^ log
+record AreSpread (l log i j : ℕ) : Type 0 where
+  few : l ≤ 6
+  narrow : l ≤ log
+  first : i < min 63 (2 ^ l)
+  second : j < min 63 (2 ^ l)
+
+-- places differ where they do in a table of 2 ^ l slots
+differ_by : (key i j log l : ℕ) → AreSpread l log i j → place key i log ≡ place key j log → i ≡ j
+differ_by key i j log l spread same =
+    let narrow : l ≤ log = spread.narrow in
     let split : log - l + l ≡ log = omega arith in
     let low : (n : ℕ) → n % 2 ^ log % 2 ^ l ≡ n % 2 ^ l = λ n. ap (λ k. n % 2 ^ k % 2 ^ l) (sym split) ∙ mod-mod-pow n (log - l) l in
     let h = key % 2 ^ log in
     let lows : (h + triangle i) % 2 ^ l ≡ (h + triangle j) % 2 ^ l = sym (low (h + triangle i)) ∙ ap (λ n. n % 2 ^ l) same ∙ low (h + triangle j) in
-    triangles_differ (2 ^ l) (min 63 (2 ^ l)) (all_turned l few) i j si sj (cancelled (2 ^ l) h (triangle i) (triangle j) (pow_pos l) lows)
+    triangles_differ (2 ^ l) (min 63 (2 ^ l)) (all_turned l spread.few) i j spread.first spread.second (cancelled (2 ^ l) h (triangle i) (triangle j) (pow_pos l) lows)
 
 -- the places of a key differ, as many as there are slots for
 pub places_differ : (key i j log : ℕ) → i < different_places log → j < different_places log → place key i log ≡ place key j log → i ≡ j
 places_differ key i j log si sj same =
     let most : different_places log ≤ 63 = min-le_left 63 (2 ^ log) in
     elim (cases_lt 6 log) [
-      | inl large ↦ differ_by key i j log 6 (omega arith) (omega arith) (omega arith) (omega arith) same
-      | inr few ↦ differ_by key i j log log few (omega arith) si sj same
+      | inl large ↦ differ_by key i j log 6 (record { few = omega arith; narrow = omega arith; first = omega arith; second = omega arith }) same
+      | inr few ↦ differ_by key i j log log (record { few = few; narrow = omega arith; first = si; second = sj }) same
     ]
 
 -- a key below the size of the table is its own home

@@ -166,12 +166,12 @@ impl Slots {
         ensures crowded { IfOk result (λ r. IfNone r (HasStoredCrowd log (key_counts self.now))) }
     {
         let mut table = Slots::empty(alloc, self.bits, log)?;
-        for index in 0..self.slots.len() {
-            let slot = self.slots[index];
+        for old_index in 0..self.slots.len() {
+            let slot = self.slots[old_index];
             if slot.tag == 0 {
                 continue;
             }
-            let key = self.key_at(index, slot.tag);
+            let key = self.key_at(old_index, slot.tag);
             if !table.take(key, slot.count) {
                 return Ok(None);
             }

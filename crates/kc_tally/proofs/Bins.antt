@@ -258,18 +258,33 @@ IsJoinedTo-all i old others new same all joined =
     ext_get_or 0 new (joined_bins old others) (joined.long ∙ sym (length-joined_bins old others same))
     (λ k h. joined.front k (let long = joined.long in omega (arith, h, long, all)) ∙ sym (get_or-joined_bins old others k same))
 
-pub joined-fits : (i a b : ℕ) (old others new : List ℕ) → All (λ size. size < 2 ^ 64) (joined_bins old others) → length old ≡ last_bin → length others ≡ last_bin
-    → i < last_bin → IsJoinedTo i old others new → a ≡ get_or new i a → b ≡ get_or others i b → a + b < 2 ^ 64
-joined-fits i a b old others new fits long also h joined is_a is_b =
+-- a step of the joining of bins: the old ones, the others, the new ones as far as they are made, and the sizes that are read
+-- at an index of the new ones and of the others
+pub record JoinStep (old others new : List ℕ) : Type 0 where
+  pub index : ℕ
+  pub size : ℕ
+  pub other_size : ℕ
+  pub within : index < last_bin
+  pub long : length old ≡ last_bin
+  pub others_long : length others ≡ last_bin
+  pub size_is : size ≡ get_or new index size
+  pub other_size_is : other_size ≡ get_or others index other_size
+
+pub joined-fits : (old others new : List ℕ) (s : JoinStep old others new) → All (λ size. size < 2 ^ 64) (joined_bins old others) → IsJoinedTo s.index old others new
+    → s.size + s.other_size < 2 ^ 64
+joined-fits old others new s fits joined =
+    let long : length old ≡ last_bin = s.long in
+    let also : length others ≡ last_bin = s.others_long in
+    let h : s.index < last_bin = s.within in
     let same : length old ≡ length others = omega (arith, long, also) in
     let wide = length-joined_bins old others same in
-    let small = fits i 0 (omega (arith, wide, long, h)) in
-    let sum = get_or-joined_bins old others i same in
-    let here = joined.rest i (omega arith) in
-    let long' = joined.long in
-    let first = get_or_default new i a 0 (omega (arith, long, long', h)) in
-    let second = get_or_default others i b 0 (omega (arith, also, h)) in
-    omega (arith, small, sum, here, is_a, is_b, first, second)
+    let small = fits s.index 0 (omega (arith, wide, long, h)) in
+    let sum = get_or-joined_bins old others s.index same in
+    let here = joined.rest s.index (omega arith) in
+    let as_long = joined.long in
+    let first = get_or_default new s.index s.size 0 (omega (arith, long, as_long, h)) in
+    let second = get_or_default others s.index s.other_size 0 (omega (arith, also, h)) in
+    omega (arith, small, sum, here, s.size_is, s.other_size_is, first, second)
 
 -- ---- the histogram of rows
 

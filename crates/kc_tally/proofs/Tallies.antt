@@ -1,5 +1,5 @@
 -- Rows that count the list of all words are the tally, which is one, and how much it holds.
-use Rattle.std.proofs.Common.{◌≡◌, ℕ, zero, suc, ◌+◌, ◌^◌, ◌<◌, ◌≤◌, ⊎_elim, cond, eqb, List, [], ◌∷◌, ◌++◌, map, length, get_or, sum_by, All, filter, refl, ap, sym, ◌∙◌, subst, arith, eq-eqb, ne_eqb, zero-add, not, le_refl}
+use Rattle.std.proofs.Common.{◌≡◌, ℕ, zero, suc, ◌+◌, ◌^◌, ◌<◌, ◌≤◌, ⊎_elim, cond, eqb, List, [], ◌∷◌, map, length, get_or, sum_by, All, filter, refl, ap, sym, ◌∙◌, subst, arith, eq-eqb, ne_eqb, zero-add, not, le_refl}
 use Rattle.std.proofs.lemmas.Bool.{cases_lt, cases_eq, cases_order, cond-true, cond-false}
 use Rattle.std.proofs.lemmas.List.{length-map}
 use Rattle.std.proofs.lemmas.List.Sums.{sum_by-cons, length-filter}
@@ -9,9 +9,10 @@ use Rattle.kc_fastx.specs.Reads.{Read}
 use Rattle.kc_word.specs.Word.{text, form}
 use Rattle.kc_word.specs.Rule.{CountingRule}
 use Rattle.kc_word.specs.Occurrences.{words_of}
-use Rattle.kc_word.proofs.Tallies.{times, times-words_of, All-words_of, All-forms, occurrences-append, length-words_of}
+use Rattle.kc_word.proofs.WordCounts.{times, times-words_of, All-words_of, All-forms, occurrences-append, length-words_of}
 use Rattle.kc_tally.specs.declared.row.Row.{Row}
 use Rattle.kc_tally.specs.Tally.{count_of, total_of, AreRows, IsTally, TallySeen, IsTallyOf}
+use Rattle.kc_tally.specs.Laws.{JoinedTally}
 
 -- rows that count the list of all words are the tally
 pub IsTally-from_words : (rule : CountingRule) (reads : List Read) (rows : List Row) → IsStrictlyIncreasing (map (λ row. row.word) rows) → All (λ row. row.word < 4 ^ rule.k) rows → All (λ row. 1 ≤ row.count) rows
@@ -61,14 +62,26 @@ count_of-here row rows n e = cond-true (eqb row.word n) row.count (count_of rows
 count_of-past : (row : Row) (rows : List Row) (n : ℕ) → (row.word ≡ n → ⊥) → count_of (row ∷ rows) n ≡ count_of rows n
 count_of-past row rows n ne = cond-false (eqb row.word n) row.count (count_of rows n) (ne_eqb row.word n ne)
 
--- a row whose number no later row can have is not missing in rows with the same counts
-not-before : (bound low : ℕ) (row other : Row) (rows others : List Row) → 1 ≤ row.count → row.word < bound → RisesFrom low (other ∷ others) → row.word < other.word → ((n : ℕ) → n < bound → count_of (row ∷ rows) n ≡ count_of (other ∷ others) n) → ⊥
+-- two lists of rows, of which the first begins with the lesser number
+record BeginsBefore (bound : ℕ) : Type 0 where
+  low : ℕ
+  row : Row
+  other : Row
+  rows : List Row
+  others : List Row
+  present : 1 ≤ row.count
+  below : row.word < bound
+  before : row.word < other.word
+  rises : RisesFrom low (other ∷ others)
+
+-- they do not have the same counts: the first row is missing in the second list
+not-the-same : (bound : ℕ) (s : BeginsBefore bound) → ((n : ℕ) → n < bound → count_of (s.row ∷ s.rows) n ≡ count_of (s.other ∷ s.others) n) → ⊥
 unfolding RisesFrom
-not-before bound low row other rows others present below rises before same =
-    let here = count_of-here row rows row.word refl in
-    let there = count_of-low other.word (other ∷ others) row.word (le_refl other.word, rises.1) before in
-    let equal = same row.word below in
-    omega (arith, here, there, equal, present)
+not-the-same bound s same =
+    let here = count_of-here s.row s.rows s.row.word refl in
+    let there = count_of-low s.other.word (s.other ∷ s.others) s.row.word (le_refl s.other.word, s.rises.1) s.before in
+    let equal = same s.row.word s.below in
+    omega (arith, here, there, equal, s.present)
 
 one_tally-rows : (bound low : ℕ) (rows others : List Row) → RiseWithin low bound rows → RiseWithin low bound others → ((n : ℕ) → n < bound → count_of rows n ≡ count_of others n) → rows ≡ others
 one_tally-rows bound low [] [] is also same = refl
@@ -86,8 +99,28 @@ one_tally-rows bound low (row ∷ rows) (other ∷ others) is also same =
     ⊎_elim
     (λ e. both e (λ less. one_tally-rows bound (suc row.word) rows others (RiseWithin-rest low bound row rows is) (subst (λ m. RiseWithin (suc m) bound others) (sym e) (RiseWithin-rest low bound other others also)) less))
     (λ o. ⊎_elim
-    (λ h. absurd (not-before bound low row other rows others (is.present 0 row (omega arith)) (is.below 0 row (omega arith)) also.rises h same))
-    (λ h. absurd (not-before bound low other row others rows (also.present 0 other (omega arith)) (also.below 0 other (omega arith)) is.rises h (λ n l. sym (same n l)))) o)
+    (λ h. absurd (not-the-same bound (record {
+      low = low;
+      row = row;
+      other = other;
+      rows = rows;
+      others = others;
+      present = is.present 0 row (omega arith);
+      below = is.below 0 row (omega arith);
+      before = h;
+      rises = also.rises;
+    }) same))
+    (λ h. absurd (not-the-same bound (record {
+      low = low;
+      row = other;
+      other = row;
+      rows = others;
+      others = rows;
+      present = also.present 0 other (omega arith);
+      below = also.below 0 other (omega arith);
+      before = h;
+      rises = is.rises;
+    }) (λ n l. sym (same n l)))) o)
     (cases_order row.word other.word)
   where
     both : row.word ≡ other.word → (((n : ℕ) → n < bound → count_of rows n ≡ count_of others n) → rows ≡ others) → row ∷ rows ≡ other ∷ others
@@ -115,8 +148,7 @@ one_tally rule reads rows others is also =
 
 -- ---- the tally of joined reads
 
-pub joined_tally : (rule : CountingRule) (reads more : List Read) (rows others sums : List Row) → IsTally rule reads rows → IsTally rule more others → IsTally rule (reads ++ more) sums
-    → (n : ℕ) → n < 4 ^ rule.k → count_of sums n ≡ count_of rows n + count_of others n
+pub joined_tally : JoinedTally
 joined_tally rule reads more rows others sums is also both n h =
     let joined = occurrences-append rule reads more (text rule.k n) in
     let first = is.counts n h in

@@ -1,7 +1,9 @@
 -- How many words have which count.
--- Source: what `jellyfish histo` prints with its default bounds, Marçais and Kingsford 2011: a bin for each count from 1 to
+-- Source: what `jellyfish histo` prints with its default bounds, Marçais and Kingsford 2011: a bin for each count
+-- from 1 to
 -- 10,000, and a last bin, 10,001, for all greater counts.
-use Rattle.std.specs.Prelude.{ℕ, ◌+◌, ◌-◌, ◌==◌, min, List, [], ◌∷◌, map, count_by, slice_index, slice_set, if◌then◌else◌}
+use Rattle.std.specs.Prelude.{ℕ, ◌+◌, ◌-◌, ◌==◌, min, List, [], ◌∷◌, map, count_by, slice_index, slice_set}
+use Rattle.std.specs.Prelude.{if◌then◌else◌}
 use Rattle.std.specs.List.{range_with_len}
 use Rattle.kc_tally.specs.declared.row.Row.{Row}
 

@@ -1,6 +1,6 @@
 -- What holds of tallies, whatever the reads are.
-use Rattle.std.specs.Prelude.{◌≡◌, ℕ, ◌+◌, ◌^◌, ◌<◌, ◌≤◌, List, ◌++◌, length, sum_by}
-use Rattle.kc_fastx.specs.Reads.{Read}
+use Rattle.std.specs.Prelude.{◌≡◌, ℕ, ◌+◌, ◌^◌, ◌<◌, ◌≤◌, List, ◌++◌, length}
+use Rattle.kc_fastx.specs.Reads.{Read, base_count}
 use Rattle.kc_word.specs.Rule.{CountingRule}
 use Rattle.kc_word.specs.Occurrences.{words_of}
 use Rattle.kc_tally.specs.declared.row.Row.{Row}
@@ -29,10 +29,10 @@ TallyTotal = (rule : CountingRule) (reads : List Read) (rows : List Row)
 
 abbrev pub BoundedTally : Type 0
 BoundedTally = (rule : CountingRule) (reads : List Read) (rows : List Row)
-    → 1 ≤ rule.k → IsTally rule reads rows → total_of rows ≤ sum_by (λ read. length read.bases) reads
+    → 1 ≤ rule.k → IsTally rule reads rows → total_of rows ≤ base_count reads
 
 -- the rows of a tally of at most 2 ^ 62 bases are the rows of a `Tally`
 abbrev pub RowsOfTally : Type 0
 RowsOfTally = (rule : CountingRule) (reads : List Read) (rows : List Row)
-    → 1 ≤ rule.k → sum_by (λ read. length read.bases) reads ≤ 2 ^ 62
+    → 1 ≤ rule.k → base_count reads ≤ 2 ^ 62
     → IsTally rule reads rows → AreRows rule.k rule.both rows

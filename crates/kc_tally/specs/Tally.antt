@@ -27,7 +27,8 @@ pub record AreOrderedRows (bound : ℕ) (rows : List Row) : Type 0 where
   pub words : All (λ row. row.word < bound) rows
   pub present : All (λ row. 1 ≤ row.count) rows
 
--- the rows that a tally of words of k bases may have: each word in the form under which it counts, and at most 2 ^ 62 counted
+-- the rows that a tally of words of k bases may have: each word in the form under which it counts, and at most 2 ^
+-- 62 counted
 pub record AreRows (k : ℕ) (both : Bool) (rows : List Row) : Type 0 where
   pub ordered : AreOrderedRows (4 ^ k) rows
   pub forms : All (λ row. form both (text k row.word) ≡ text k row.word) rows

@@ -1,6 +1,7 @@
 //! Histograms: how many words have which count.
 ghost use Rattle.std.specs.Prelude.{◌≡◌, ◌+◌, ◌^◌, ◌<◌, ◌≤◌, ℕ, [], length, All, IfOk};
-ghost use Rattle.kc_tally.specs.Histogram.{last_bin, bin_of, bins_of, bin_at, gained, lost, counted_in, raised, joined_bins, counts_of};
+ghost use Rattle.kc_tally.specs.Histogram.{last_bin, bin_of, bins_of, bin_at, gained, lost, counted_in, raised};
+ghost use Rattle.kc_tally.specs.Histogram.{joined_bins, counts_of};
 
 use crate::row::Row;
 use std::alloc::{AllocError, Global};
@@ -9,7 +10,8 @@ use std::marker::Model;
 // The number of the bins, and of the last one.
 const LAST_BIN: u64 = 10_001;
 
-/// The sizes of the bins 1 to 10,001. A count from 1 to 10,000 has a bin of its own, and all greater ones share the last.
+/// The sizes of the bins 1 to 10,001. A count from 1 to 10,000 has a bin of its own, and all greater ones share the
+/// last.
 #[derive(Drop)]
 pub struct Histogram {
     bins: Vec<u64>,

@@ -1,6 +1,7 @@
 //! A plain and slow tally, straight from the definitions: each number below 4^k is looked for at each position of each
 //! read. It is there to compute small examples.
-ghost use Rattle.std.specs.Prelude.{◌^◌, ◌<◌, length, sum_by, IfOk};
+ghost use Rattle.std.specs.Prelude.{◌^◌, ◌<◌, IfOk};
+ghost use Rattle.kc_fastx.specs.Reads.{base_count};
 ghost use Rattle.kc_tally.specs.Tally.{IsTally};
 
 use crate::row::Row;
@@ -12,7 +13,7 @@ use std::alloc::{AllocError, Global};
 /// The tally of the reads: each word that occurs and its occurrences, in the order of the words.
 /// Condition: the reads have fewer than 2^64 bases, which `kc_word::slow::base_count` tells.
 pub fn tally(alloc: Global, reads: &[SeqRead], rule: &Rule) -> Result<Vec<Row>, AllocError>
-    requires { sum_by (λ read. length read.bases) reads.now < 2 ^ 64 }
+    requires { base_count reads.now < 2 ^ 64 }
     ensures { IfOk result (λ rows. IsTally rule.now reads.now rows.items) }
 {
     let mut rows = Vec::new(alloc);

@@ -344,7 +344,7 @@ fn command_lines_that_clap_refuses(rt: HostRuntime) -> Result<(), Fail> {
         assert_eq!(rt; got.output.len(), 0, "{arguments}");
         assert!(rt; !got.errors.is_empty(), "{arguments}");
     }
-    for arguments in ["--help", "count --help", "--version"] {
+    for arguments in ["help", "help count", "--help", "count --help", "--version"] {
         let got = run(&rt, arguments, b"")?;
         assert_eq!(rt; got.status, 0, "{arguments}");
         assert!(rt; !got.output.is_empty(), "{arguments}");

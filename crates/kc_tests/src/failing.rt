@@ -107,16 +107,8 @@ fn sources_are_read_in_order(rt: HostRuntime) -> Result<(), Fail> {
 fn the_first_faulty_source_is_told(rt: HostRuntime) -> Result<(), Fail> {
     let options = columns(2).ok_or("a length")?;
     let rows: [([&[u8]; 3], u64, FastxFault); 3] = [
-        (
-            [b">a\nAC\n", b"ACGT\n", b"@\n"],
-            2,
-            FastxFault::BadStart(1),
-        ),
-        (
-            [b">a\nA C\n", b"ACGT\n", b""],
-            1,
-            FastxFault::BadBase(2),
-        ),
+        ([b">a\nAC\n", b"ACGT\n", b"@\n"], 2, FastxFault::BadStart(1)),
+        ([b">a\nA C\n", b"ACGT\n", b""], 1, FastxFault::BadBase(2)),
         (
             [b">a\nAC\n", b">b\nAC\n", b"\n@q\nA"],
             3,

@@ -19,7 +19,7 @@ use Rattle.std.proofs.lemmas.Map.Keys.{IsStrictlyIncreasing-from_sorted}
 use Rattle.std.proofs.lemmas.Map.Entries.{btree_map_get_place}
 use Rattle.std.proofs.lemmas.Cmp.{nat_cmp_total}
 use Rattle.std.proofs.lemmas.Option.{slice_get-get_or}
-use Rattle.kc_tally.specs.Tally.{count_of, IsTally, AreOrderedRows}
+use Rattle.kc_tally.specs.Tally.{count_of, IsTally}
 use Rattle.kc_tool.specs.Counting.{counted, entry_row, HasNoZeros}
 
 -- each number was counted once more for each time that it stands in the list
@@ -81,9 +81,9 @@ present_at words store ordered h i d within =
 below_from : (row bound count : ℕ) → 0 < count → (bound ≤ row → count ≡ 0) → row < bound
 below_from row bound count some none = grind arith
 
-below_at : (words : List ℕ) (most : ℕ) (store : BTreeMap ℕ ℕ) → All (λ word. word < most) words → IsOrdered nat_cmp store → HasCounted words store → (i : ℕ) (d : ℕ × ℕ) → i < length store.entries
+below_at : {words : List ℕ} (most : ℕ) (store : BTreeMap ℕ ℕ) → All (λ word. word < most) words → IsOrdered nat_cmp store → HasCounted words store → (i : ℕ) (d : ℕ × ℕ) → i < length store.entries
     → (get_or store.entries i d).0 < most
-below_at words most store below ordered h i d within =
+below_at {words} most store below ordered h i d within =
     let n = (get_or store.entries i d).0 in
     let count : counted store n ≡ (get_or store.entries i d).1 = ap (λ found. unwrap_or found 0) (found_at store ordered i d within) in
     below_from n most (counted store n) (rw count (present_at words store ordered h i d within)) (λ above. h.counts n ∙ count_by-absent words most n below above)
@@ -100,7 +100,7 @@ pub tally_rows : (rule : CountingRule) (reads : List Read) (store : BTreeMap ℕ
 tally_rows rule reads store ordered h below law = record {
   ordered = record {
     rising = rw (words_of_rows store.entries) (IsStrictlyIncreasing-from_sorted (map (λ row. row.0) store.entries) ordered);
-    words = All-map (λ (row : Row). row.word < 4 ^ rule.k) entry_row store.entries (below_at (words_of rule reads) (4 ^ rule.k) store below ordered h);
+    words = All-map (λ (row : Row). row.word < 4 ^ rule.k) entry_row store.entries (below_at (4 ^ rule.k) store below ordered h);
     present = All-map (λ (row : Row). 1 ≤ row.count) entry_row store.entries (present_at (words_of rule reads) store ordered h);
   };
   counts = λ n small. count_of-entries store.entries n ∙ h.counts n ∙ law n small;
@@ -113,40 +113,47 @@ nothing_counted store empty = record {
   present = λ n. subst (λ entries. IfSome (lookup (is_at (nat_cmp n)) entries) (λ count. 0 < count)) (sym empty) tt;
 }
 
+-- the part is the i-th of the parts
+pub record IsPart {X : Type 0} (parts : List X) (i : ℕ) (part : X) : Type 0 where
+  pub within : i < length parts
+  pub is : part ≡ get_or parts i part
+
 -- One more part of a list, whose parts have words of their own.
-flat_map-more : {X : Type 0} (words : X → List ℕ) (parts : List X) (i : ℕ) (part : X) → i < length parts → part ≡ get_or parts i part
+flat_map-more : {X : Type 0} (words : X → List ℕ) (parts : List X) (i : ℕ) (part : X) → IsPart parts i part
     → flat_map words (take (i + 1) parts) ≡ flat_map words (take i parts) ++ words part
-flat_map-more words parts i part within is =
-    rw (add-one, take-suc parts i part within, ← is) (flat_map-append words (take i parts) (part ∷ []) ∙ ap (λ v. flat_map words (take i parts) ++ v) (append-nil (words part)))
+flat_map-more words parts i part here =
+    rw (add-one, take-suc parts i part here.within, ← here.is) (flat_map-append words (take i parts) (part ∷ []) ∙ ap (λ v. flat_map words (take i parts) ++ v) (append-nil (words part)))
 
 -- The words of one more part were counted.
-pub counted_part : {X : Type 0} (words : X → List ℕ) (parts : List X) (i : ℕ) (part : X) (old new : BTreeMap ℕ ℕ) → i < length parts → part ≡ get_or parts i part
-    → HasCounted (flat_map words (take i parts)) old
-    → ((n : ℕ) → counted new n ≡ counted old n + count_by (λ word. word == n) (words part)) → (HasNoZeros old → HasNoZeros new)
-    → HasCounted (flat_map words (take (i + 1) parts)) new
-counted_part words parts i part old new within is h step kept =
-    subst (λ v. HasCounted v new) (sym (flat_map-more words parts i part within is)) (counted_more (flat_map words (take i parts)) (words part) old new h step kept)
+pub counted_part : {X : Type 0} (words : X → List ℕ) (parts : List X) (i : ℕ) (part : X) {old new : BTreeMap ℕ ℕ} → IsPart parts i part
+    → HasCounted (flat_map words (take i parts)) old → CountsMore old new (words part) → HasCounted (flat_map words (take (i + 1) parts)) new
+counted_part words parts i part {old} {new} here h more =
+    subst (λ v. HasCounted v new) (sym (flat_map-more words parts i part here)) (counted_more (flat_map words (take i parts)) (words part) old new h more.counts more.present)
 
 -- The counts of the parts so far leave room for one more part, where all parts together have few words.
-pub room_for : {X : Type 0} (words : X → List ℕ) (parts : List X) (i : ℕ) (part : X) (store : BTreeMap ℕ ℕ) → i < length parts → part ≡ get_or parts i part
+pub room_for : {X : Type 0} (words : X → List ℕ) (parts : List X) (i : ℕ) (part : X) {store : BTreeMap ℕ ℕ} → IsPart parts i part
     → HasCounted (flat_map words (take i parts)) store → length (flat_map words parts) ≤ 2 ^ 36 → (n : ℕ) → counted store n + length (words part) ≤ 2 ^ 62
-room_for words parts i part store within is h few n =
+room_for words parts i part {store} here h few n =
     let so_far = flat_map words (take i parts) in
     let later = flat_map words (drop (i + 1) parts) in
     let more : length (flat_map words (take (i + 1) parts)) ≡ length so_far + length (words part) =
-    ap length (flat_map-more words parts i part within is) ∙ length-append so_far (words part) in
+    ap length (flat_map-more words parts i part here) ∙ length-append so_far (words part) in
     let all : length (flat_map words parts) ≡ length (flat_map words (take (i + 1) parts)) + length later =
     ap (λ v. length (flat_map words v)) (sym (take-append-drop (i + 1) parts))
     ∙ ap length (flat_map-append words (take (i + 1) parts) (drop (i + 1) parts)) ∙ length-append (flat_map words (take (i + 1) parts)) later in
     let count : counted store n ≤ length so_far = rw (h.counts n) (count_by-le-length (λ word. word == n) so_far) in
     omega (arith, more, all, count, few)
 
+-- the words of the parts are those of the reads, and what is known of these
+pub record AreWordsOf {X : Type 0} (words : X → List ℕ) (parts : List X) (rule : CountingRule) (reads : List Read) : Type 0 where
+  pub same : flat_map words parts ≡ words_of rule reads
+  pub below : All (λ word. word < 4 ^ rule.k) (words_of rule reads)
+  pub counts : (n : ℕ) → n < 4 ^ rule.k → count_by (λ word. word == n) (words_of rule reads) ≡ occurrences rule reads (text rule.k n)
+
 -- The rows of a map that has counted the parts to their end, where the words of the parts are those of the reads.
-pub tally_of_parts : {X : Type 0} (words : X → List ℕ) (parts : List X) (rule : CountingRule) (reads : List Read) (i : ℕ) (store : BTreeMap ℕ ℕ)
-    → length parts ≤ i → flat_map words parts ≡ words_of rule reads → IsOrdered nat_cmp store → HasCounted (flat_map words (take i parts)) store
-    → All (λ word. word < 4 ^ rule.k) (words_of rule reads)
-    → ((n : ℕ) → n < 4 ^ rule.k → count_by (λ word. word == n) (words_of rule reads) ≡ occurrences rule reads (text rule.k n))
+pub tally_of_parts : {X : Type 0} {words : X → List ℕ} {parts : List X} {rule : CountingRule} {reads : List Read} (i : ℕ) (store : BTreeMap ℕ ℕ)
+    → AreWordsOf words parts rule reads → length parts ≤ i → IsOrdered nat_cmp store → HasCounted (flat_map words (take i parts)) store
     → IsTally rule reads (map entry_row store.entries)
-tally_of_parts words parts rule reads i store past same ordered h =
-    let whole : flat_map words (take i parts) ≡ words_of rule reads = ap (flat_map words) (take_all i parts past) ∙ same in
-    tally_rows rule reads store ordered (subst (λ v. HasCounted v store) whole h)
+tally_of_parts {X} {words} {parts} {rule} {reads} i store are past ordered h =
+    let whole : flat_map words (take i parts) ≡ words_of rule reads = ap (flat_map words) (take_all i parts past) ∙ are.same in
+    tally_rows rule reads store ordered (subst (λ v. HasCounted v store) whole h) are.below are.counts

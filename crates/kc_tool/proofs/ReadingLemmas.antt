@@ -36,16 +36,16 @@ nothing_used limit = omega arith
 later_limit : (limit a b : ℕ) → limit - (a + b) ≡ limit - a - b
 later_limit limit a b = omega arith
 
-GaveInputs-push : {S : Type 0} (seen : S → Seen) (limit : ℕ) (sources : List S) (inputs : List (List ℕ)) (source later : S) (input : List ℕ)
-    → GaveInputs seen limit sources inputs → TakesAll (seen source) (seen later) (limit - length (concat inputs)) input
+GaveInputs-push : {S : Type 0} (seen : S → Seen) (limit : ℕ) (sources : List S) (inputs : List (List ℕ)) (source : S) (input : List ℕ)
+    → GaveInputs seen limit sources inputs → (later : S) × TakesAll (seen source) (seen later) (limit - length (concat inputs)) input
     → GaveInputs seen limit (sources ++ source ∷ []) (inputs ++ input ∷ [])
-GaveInputs-push seen limit [] [] source later input h t = (later, subst (λ n. TakesAll (seen source) (seen later) n input) (nothing_used limit) t, tt)
-GaveInputs-push seen limit [] (first ∷ inputs) source later input h t = absurd h
-GaveInputs-push seen limit (first ∷ sources) [] source later input h t = absurd h
-GaveInputs-push seen limit (first ∷ sources) (front ∷ inputs) source later input h t =
+GaveInputs-push seen limit [] [] source input h t = (t.0, subst (λ n. TakesAll (seen source) (seen t.0) n input) (nothing_used limit) t.1, tt)
+GaveInputs-push seen limit [] (first ∷ inputs) source input h t = absurd h
+GaveInputs-push seen limit (first ∷ sources) [] source input h t = absurd h
+GaveInputs-push seen limit (first ∷ sources) (front ∷ inputs) source input h t =
     let same : limit - length (concat (front ∷ inputs)) ≡ limit - length front - length (concat inputs) =
     ap (λ n. limit - n) (length-append front (concat inputs)) ∙ later_limit limit (length front) (length (concat inputs)) in
-    (h.0, h.1, GaveInputs-push seen (limit - length front) sources inputs source later input h.2 (subst (λ n. TakesAll (seen source) (seen later) n input) same t))
+    (h.0, h.1, GaveInputs-push seen (limit - length front) sources inputs source input h.2 (t.0, subst (λ n. TakesAll (seen source) (seen t.0) n input) same t.1))
 
 HaveReads-push : (inputs : List (List ℕ)) (input : List ℕ) (reads more : List Read) → HaveReads inputs reads → HasReads input more → HaveReads (inputs ++ input ∷ []) (reads ++ more)
 HaveReads-push [] input reads more h e = (more, [], e, refl, ap (λ v. v ++ more) h ∙ sym (append-nil more))
@@ -61,10 +61,10 @@ left_of : (left used most : ℕ) → left + used ≡ most → left ≡ most - us
 left_of left used most e = omega (arith, e)
 
 -- The next source was read.
-pub one_more : {S : Type 0} (seen : S → Seen) (sources rest : List S) (source later : S) (reads more : List Read) (left number count : ℕ)
+pub one_more : {S : Type 0} (seen : S → Seen) {sources rest : List S} (source later : S) {reads : List Read} (more : List Read) {left number : ℕ} (count : ℕ)
     → ReadSoFar seen sources (source ∷ rest) reads left number → GivesReads (seen source) (seen later) left more count → base_count more ≤ count
     → ReadSoFar seen sources rest (reads ++ more) (left - count) (number + 1)
-one_more seen sources rest source later reads more left number count r given few =
+one_more seen {sources} {rest} source later {reads} more {left} {number} count r given few =
     let input = given.bytes in
     let inputs = r.inputs in
     let long = length-concat-push inputs input in
@@ -74,8 +74,8 @@ one_more seen sources rest source later reads more left number count r given few
       split = r.split ∙ sym (append_assoc r.done (source ∷ []) rest);
       inputs = inputs ++ input ∷ [];
       earlier = record {
-        gave = GaveInputs-push seen most_bytes r.done inputs source later input r.earlier.gave
-            (subst (λ n. TakesAll (seen source) (seen later) n input) (left_of left (length (concat inputs)) most_bytes r.budget) given.taken);
+        gave = GaveInputs-push seen most_bytes r.done inputs source input r.earlier.gave
+            (later, subst (λ n. TakesAll (seen source) (seen later) n input) (left_of left (length (concat inputs)) most_bytes r.budget) given.taken);
         within = omega (arith, long, r.budget, given.taken.within);
         has_reads = HaveReads-push inputs input reads more r.earlier.has_reads given.has_reads;
       };
@@ -85,9 +85,9 @@ one_more seen sources rest source later reads more left number count r given few
     }
 
 -- The next source was refused.
-pub refused : {S : Type 0} (seen : S → Seen) (sources rest : List S) (source later : S) (reads : List Read) (left number : ℕ) (fault : FastxFault)
+pub refused : {S : Type 0} (seen : S → Seen) {sources rest : List S} (source later : S) {reads : List Read} {left number : ℕ} (fault : FastxFault)
     → ReadSoFar seen sources (source ∷ rest) reads left number → RefusesFor (seen source) (seen later) left fault → FailsAt seen sources (number + 1) fault
-refused seen sources rest source later reads left number fault r h = record {
+refused seen {sources} {rest} source later {reads} {left} {number} fault r h = record {
   before = r.done;
   here = source;
   after = rest;

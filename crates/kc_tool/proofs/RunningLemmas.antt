@@ -25,24 +25,6 @@ asks_for_help : (arguments : List Text) (error : Error) → HasKind (fault_of kc
 asks_for_help arguments error h (inl is) = inl (among (fault_of kcount_app arguments) error DisplayHelp h is (λ e. cc))
 asks_for_help arguments error h (inr is) = inr (among (fault_of kcount_app arguments) error DisplayVersion h is (λ e. cc))
 
--- an answer of `clap` was shown
-pub shown : {S : Type 0} (seen : S → Seen) (input : S) (arguments : List Text) (error : Error) (old new : Written) (r : Result (Unit {0}) Ending)
-    → HasKind (fault_of kcount_app arguments) error → ShowsSo error old new r → CarriesOut seen input arguments old new r
-shown seen input arguments error old new (Ok done) h s = (s.0, inl (asks_for_help arguments error h s.1), s.2)
-shown seen input arguments error old new (Err (Fault Write)) h s = (s.0, inl (asks_for_help arguments error h s.1), s.2)
-shown seen input arguments error old new (Err (Fault Memory)) h s = s
-shown seen input arguments error old new (Err (Fault (Fastx number fault))) h s = absurd s
-shown seen input arguments error old new (Err (Fault (BadOption name))) h s = absurd s
-shown seen input arguments error old new (Err (Refused text)) h s = (
-  record {
-    reason = kind_of error;
-    among = among (fault_of kcount_app arguments) error (kind_of error) h refl s.1;
-    no_help = s.2;
-    no_version = s.3;
-  },
-  s.0,
-)
-
 -- `clap` takes the arguments where nothing fails
 taken : (arguments : List Text) (matches : ArgMatches) → fault_of kcount_app arguments ≡ [] → subcommand_rows_of matches ≡ subcommand_of kcount_app arguments
     → AreTaken arguments matches
@@ -63,13 +45,32 @@ parse_ends command arguments r is kinds matches =
     ends arguments r (subst (λ (a : App). FailsBy (fault_of a arguments) r) is (kinds (ap is_simple_and_free is)))
     (subst (λ (a : App). IfOk r (HasMatchesOf a arguments)) is matches)
 
--- a count failed
-pub count_failed : {S : Type 0} (seen : S → Seen) (input : S) (arguments : List Text) (rows : List Row) (old new : Written) (fault : ToolFault) → AskToCount arguments rows
-    → CountsSo seen input rows old new (Err fault) → FailsSo seen input arguments old new fault
-count_failed seen input arguments rows old new Write a s = (s.0, inr (rows, a, s.1), s.2)
-count_failed seen input arguments rows old new Memory a s = s.0
-count_failed seen input arguments rows old new (BadOption name) a s = (s.0, rows, a, s.1)
-count_failed seen input arguments rows old new (Fastx number fault) a s = (s.0, rows, a, s.1)
+module _ {S : Type 0} (seen : S → Seen) (input : S) (arguments : List Text) where
+  -- an answer of `clap` was shown
+  pub shown : (error : Error) (old new : Written) (r : Result (Unit {0}) Ending)
+      → HasKind (fault_of kcount_app arguments) error → ShowsSo error old new r → CarriesOut seen input arguments old new r
+  shown error old new (Ok done) h s = (s.0, inl (asks_for_help arguments error h s.1), s.2)
+  shown error old new (Err (Fault Write)) h s = (s.0, inl (asks_for_help arguments error h s.1), s.2)
+  shown error old new (Err (Fault Memory)) h s = s
+  shown error old new (Err (Fault (Fastx number fault))) h s = absurd s
+  shown error old new (Err (Fault (BadOption name))) h s = absurd s
+  shown error old new (Err (Refused text)) h s = (
+    record {
+      reason = kind_of error;
+      among = among (fault_of kcount_app arguments) error (kind_of error) h refl s.1;
+      no_help = s.2;
+      no_version = s.3;
+    },
+    s.0,
+  )
+
+  -- a count failed
+  pub count_failed : (rows : List Row) (old new : Written) (fault : ToolFault) → AskToCount arguments rows
+      → CountsSo seen input rows old new (Err fault) → FailsSo seen input arguments old new fault
+  count_failed rows old new Write a s = (s.0, inr (rows, a, s.1), s.2)
+  count_failed rows old new Memory a s = s.0
+  count_failed rows old new (BadOption name) a s = (s.0, rows, a, s.1)
+  count_failed rows old new (Fastx number fault) a s = (s.0, rows, a, s.1)
 
 -- a text went to the errors, whether all of it could be written or not
 pub told : {A E : Type 0} (old new : Written) (r : Result A E) (text : List ℕ) → Writes old new r text → IsTold old new text

@@ -1,5 +1,6 @@
 -- Numbers counted in a map, batch by batch.
 use Rattle.std.specs.Prelude.{ℕ, ◌<◌, ◌==◌, List, IfSome, count_by, unwrap_or}
+use Rattle.std.specs.List.{flat_map}
 use Rattle.std.specs.Global.{Global}
 use Rattle.std.specs.declared.sync.Arc.{Arc}
 use Rattle.kc_word.specs.Rule.{CountingRule}
@@ -24,6 +25,10 @@ HasNoZeros counts = (n : ℕ) → IfSome (get nat_cmp counts n) (λ count. 0 < c
 -- the words of a shared batch
 abbrev pub batch_words : CountingRule → Arc NumberedPieces Global → List ℕ
 batch_words rule batch = words_of rule (as_reads batch.value.pieces)
+
+-- the words of all batches, in order
+abbrev pub all_words : CountingRule → List (Arc NumberedPieces Global) → List ℕ
+all_words rule batches = flat_map (batch_words rule) batches
 
 -- the row of a word and its count
 abbrev pub entry_row : ℕ × ℕ → Row

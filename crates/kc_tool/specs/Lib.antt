@@ -2,6 +2,8 @@ pub mod Arguments
 pub mod Command
 pub mod Counting
 pub mod FaultLines
+pub mod Faults
+pub mod Laws
 pub mod Numbers
 pub mod Reading
 pub mod Reporting

@@ -20,4 +20,5 @@ is_number (byte ∷ bytes) = list_all is_ascii_digit (byte ∷ bytes)
 -- the number that a text is, where it stands between the bounds, both of which count
 abbrev pub number_between : ℕ → ℕ → List ℕ → Option ℕ
 number_between least most text =
-    if is_number text && nat_le least (decimal_value text) && nat_le (decimal_value text) most then Some (decimal_value text) else None
+    if is_number text && nat_le least (decimal_value text) && nat_le (decimal_value text) most
+    then Some (decimal_value text) else None

@@ -1,5 +1,5 @@
 -- The reads of all sources of one count: source, our formats page.
-use Rattle.std.specs.Prelude.{◌≡◌, ◌≤◌, ◌-◌, ℕ, List, [], ◌∷◌, length, ⊤}
+use Rattle.std.specs.Prelude.{◌≤◌, ◌-◌, ℕ, List, [], ◌∷◌, length, ⊤}
 use Rattle.std.specs.List.{concat}
 use Rattle.kc_io.specs.Sources.{Seen}
 use Rattle.kc_io.specs.Taking.{TakesAll}
@@ -19,7 +19,8 @@ GaveInputs {S} seen limit (source ∷ sources) (input ∷ inputs) =
 GaveInputs seen limit _ _ = ⊥
 
 -- the sources gave inputs that have these reads, joined in order
-pub record GaveReads {S : Type 0} (seen : S → Seen) (sources : List S) (inputs : List (List ℕ)) (reads : List Read) : Type 0 where
+pub record GaveReads {S : Type 0} (seen : S → Seen) (sources : List S) (inputs : List (List ℕ)) (reads : List Read)
+    : Type 0 where
   pub gave : GaveInputs seen most_bytes sources inputs
   pub within : length (concat inputs) ≤ most_bytes
   pub has_reads : HaveReads inputs reads

@@ -10,7 +10,8 @@ use Rattle.kc_tool.specs.declared.faults.ToolFault.{ToolFault}
 use Rattle.kc_tool.specs.Settings.{Settings, rule_of}
 
 -- the text is the report that is set, of the tally of all reads of the sources
-pub record IsReportOf {S : Type 0} (seen : S → Seen) (sources : List S) (settings : Settings) (text : List ℕ) : Type 0 where
+pub record IsReportOf {S : Type 0} (seen : S → Seen) (sources : List S) (settings : Settings) (text : List ℕ)
+    : Type 0 where
   pub reads : List Read
   pub are_reads : ReadsSources seen sources reads
   pub tally : TallySeen

@@ -78,7 +78,8 @@ FailsSo seen input arguments old new fault = (new ≡ old)
     × (options : List Row) × AskToCount arguments options × FailsWith seen input options fault
 
 -- what a count does with its options: its report was written; or a beginning of it, where writing failed; or nothing
-abbrev pub CountsSo : {S : Type 0} → (S → Seen) → S → List Row → Written → Written → Result (Unit {0}) ToolFault → Type 0
+abbrev pub CountsSo : {S : Type 0} → (S → Seen) → S → List Row → Written → Written → Result (Unit {0}) ToolFault
+    → Type 0
 CountsSo seen input options old new (Ok done) =
     (text : List ℕ) × IsReportFor seen input options text × HasWritten old new text
 CountsSo seen input options old new (Err Write) =
@@ -100,7 +101,8 @@ ShowsSo error old new (Err (Refused text)) = (new ≡ old) × (kind_of error ≢
     × (kind_of error ≢ DisplayHelp) × (kind_of error ≢ DisplayVersion)
 
 -- what is done with the arguments: the answer was written; or there was a fault; or they are refused
-abbrev pub CarriesOut : {S : Type 0} → (S → Seen) → S → List Text → Written → Written → Result (Unit {0}) Ending → Type 0
+abbrev pub CarriesOut : {S : Type 0} → (S → Seen) → S → List Text → Written → Written → Result (Unit {0}) Ending
+    → Type 0
 CarriesOut seen input arguments old new (Ok done) =
     (text : List ℕ) × IsAnswer seen input arguments text × HasWritten old new text
 CarriesOut seen input arguments old new (Err (Fault fault)) = FailsSo seen input arguments old new fault

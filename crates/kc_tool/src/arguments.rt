@@ -17,8 +17,8 @@ use std::alloc::Global;
 /// What the options of `count` ask for.
 ///
 /// # Errors
-/// `BadOption` with the first option, in the order of the help, whose value is outside its limits. An absent `--mer-len`
-/// or `--print` is so.
+/// `BadOption` with the first option, in the order of the help, whose value is outside its limits. An absent
+/// `--mer-len` or `--print` is so.
 pub fn options(_alloc: Global, matches: &ArgMatches<'_>) -> Result<Options, ToolFault>
     ensures first_bad { MatchResult result (λ o. first_bad (rows_of (found_of matches.now)) ≡ None)
         (λ fault. (name : OptionName) × (first_bad (rows_of (found_of matches.now)) ≡ Some name)

@@ -1,14 +1,7 @@
 //! The command line, as `clap` reads it.
-ghost use Rattle.std.specs.Prelude.{◌≡◌, IfOk, false, codes};
+ghost use Rattle.std.specs.Prelude.{◌≡◌, IfOk, false};
 ghost use Rattle.clap.specs.Words.{app_of, rule_of, shape_of};
-ghost use Rattle.kc_tool.specs.Command.{
-  kcount_app,
-  count_shape,
-  mer_len_option,
-  canonical_option,
-  value_option,
-  flag_option,
-};
+ghost use Rattle.kc_tool.specs.Command.{count_shape, flag_option, kcount_app, value_option};
 
 use clap::{Arg, ArgAction, Command};
 use std::alloc::{AllocError, Global};
@@ -31,81 +24,56 @@ pub(crate) fn command<'a>(alloc: Global) -> Result<Command<'a>, AllocError>
 fn count_command<'a>(alloc: Global) -> Result<Command<'a>, AllocError>
     ensures { IfOk result (λ command. shape_of command ≡ count_shape) }
 {
+    let mer_len = value_option(alloc, "mer-len", "K", "Length of the k-mers, 1 to 31");
+    let canonical = flag_option(
+        alloc,
+        "canonical",
+        "Count both strands: a k-mer under the lesser of it and its reverse complement",
+    );
+    let min_qual_char = value_option(
+        alloc,
+        "min-qual-char",
+        "C",
+        "Least quality character of a base that counts [default: !, so that all count]",
+    );
+    let batch = value_option(
+        alloc,
+        "batch",
+        "N",
+        "Positions that are counted at a time, 1 to 2^36 [default: 65536]",
+    );
+    let print = value_option(alloc, "print", "WHAT", "What to write: dump");
+    let column = flag_option(alloc, "column", "Dump a k-mer and its count in one line");
     Command::new(alloc, COUNT)
         .about(
             "Counts the k-mers of FASTA or FASTQ on standard input and writes them in rising order",
         )
-        .arg(mer_len(alloc))?
-        .arg(canonical(alloc))?
-        .arg(min_qual_char(alloc))?
-        .arg(batch(alloc))?
-        .arg(print(alloc))?
-        .arg(column(alloc))
+        .arg(mer_len.short('m'))?
+        .arg(canonical.short('C'))?
+        .arg(min_qual_char)?
+        .arg(batch)?
+        .arg(print)?
+        .arg(column)
 }
 
-// The option `--mer-len`.
-fn mer_len<'a>(alloc: Global) -> Arg<'a>
-    ensures rule { rule_of result ≡ mer_len_option }
+// An option with one value, which the help calls `value`.
+fn value_option<'a>(alloc: Global, name: &'a str, value: &'a str, help: &'a str) -> Arg<'a>
+    ensures rule { rule_of result ≡ value_option name.entry.now }
     ensures own { result.global ≡ false }
 {
-    Arg::new(alloc, "mer-len")
-        .short('m')
-        .long("mer-len")
-        .value_name("K")
-        .help("Length of the k-mers, 1 to 31")
+    Arg::new(alloc, name)
+        .long(name)
+        .value_name(value)
+        .help(help)
 }
 
-// The option `--canonical`.
-fn canonical<'a>(alloc: Global) -> Arg<'a>
-    ensures rule { rule_of result ≡ canonical_option }
+// An option without a value.
+fn flag_option<'a>(alloc: Global, name: &'a str, help: &'a str) -> Arg<'a>
+    ensures rule { rule_of result ≡ flag_option name.entry.now }
     ensures own { result.global ≡ false }
 {
-    Arg::new(alloc, "canonical")
-        .short('C')
-        .long("canonical")
+    Arg::new(alloc, name)
+        .long(name)
         .action(ArgAction::SetTrue)
-        .help("Count both strands: a k-mer under the lesser of it and its reverse complement")
-}
-
-// The option `--min-qual-char`.
-fn min_qual_char<'a>(alloc: Global) -> Arg<'a>
-    ensures rule { rule_of result ≡ value_option (codes "min-qual-char") }
-    ensures own { result.global ≡ false }
-{
-    Arg::new(alloc, "min-qual-char")
-        .long("min-qual-char")
-        .value_name("C")
-        .help("Least quality character of a base that counts [default: !, so that all count]")
-}
-
-// The option `--batch`.
-fn batch<'a>(alloc: Global) -> Arg<'a>
-    ensures rule { rule_of result ≡ value_option (codes "batch") }
-    ensures own { result.global ≡ false }
-{
-    Arg::new(alloc, "batch").long("batch").value_name("N").help(
-        "Positions that are counted at a time, 1 to 2^36 [default: 65536]",
-    )
-}
-
-// The option `--print`.
-fn print<'a>(alloc: Global) -> Arg<'a>
-    ensures rule { rule_of result ≡ value_option (codes "print") }
-    ensures own { result.global ≡ false }
-{
-    Arg::new(alloc, "print")
-        .long("print")
-        .value_name("WHAT")
-        .help("What to write: dump")
-}
-
-// The option `--column`.
-fn column<'a>(alloc: Global) -> Arg<'a>
-    ensures rule { rule_of result ≡ flag_option (codes "column") }
-    ensures own { result.global ≡ false }
-{
-    Arg::new(alloc, "column")
-        .long("column")
-        .action(ArgAction::SetTrue)
-        .help("Dump a k-mer and its count in one line")
+        .help(help)
 }

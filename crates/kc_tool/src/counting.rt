@@ -1,13 +1,12 @@
 //! Counting words.
 ghost use Rattle.std.specs.Prelude.{◌≡◌, ◌≤◌, ◌+◌, ◌^◌, ℕ, length, OnOk, IfOk, map};
-ghost use Rattle.std.specs.List.{flat_map};
 ghost use Rattle.std.specs.BTreeMap.{IsOrdered};
 ghost use Rattle.std.specs.Ordering.{nat_cmp};
 ghost use Rattle.kc_fastx.specs.Reads.{base_count};
 ghost use Rattle.kc_word.specs.Occurrences.{words_of};
 ghost use Rattle.kc_word.specs.Cutting.{cleaned};
 ghost use Rattle.kc_tally.specs.Tally.{IsTally, IsTallyOf};
-ghost use Rattle.kc_tool.specs.Counting.{counted, times, HasNoZeros, batch_words, entry_row};
+ghost use Rattle.kc_tool.specs.Counting.{counted, times, HasNoZeros, all_words, entry_row};
 
 use kc_fastx::SeqRead;
 use kc_tally::laws::rows_of_tally;
@@ -66,8 +65,8 @@ fn batches_of(
     size: u64,
 ) -> Result<Vec<Arc<Batch>>, AllocError>
     requires { 1 ≤ size }
-    ensures words { IfOk result (λ batches. flat_map (batch_words rule.now) batches.items ≡ words_of rule.now reads.now) }
-    ensures few { IfOk result (λ batches. length (flat_map (batch_words rule.now) batches.items) ≤ base_count reads.now) }
+    ensures words { IfOk result (λ batches. all_words rule.now batches.items ≡ words_of rule.now reads.now) }
+    ensures few { IfOk result (λ batches. length (all_words rule.now batches.items) ≤ base_count reads.now) }
 {
     let k = rule.k();
     // what is known of a length, and of the words of reads

@@ -2,6 +2,7 @@
 ghost use Rattle.std.specs.Prelude.{◌≡◌};
 ghost use Rattle.kc_tool.specs.declared.faults.ToolFault.TheVariants.{Memory, Write};
 ghost use Rattle.kc_tool.specs.FaultLines.{option_text};
+ghost use Rattle.kc_tool.specs.Faults.{report_fault};
 
 use kc_fastx::FastxFault;
 use kc_io::Failed;
@@ -83,11 +84,12 @@ impl From<Failed> for ToolFault {
 }
 
 impl From<ReportFault> for ToolFault {
-    ghost from_gives = { λ _ fault. fault ≡ Write };
+    ghost from_gives = { λ report fault. fault ≡ report_fault report };
 
     fn from(fault: ReportFault) -> ToolFault {
         match fault {
             ReportFault::Write => ToolFault::Write,
+            ReportFault::Memory => ToolFault::Memory,
         }
     }
 }

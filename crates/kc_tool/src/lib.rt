@@ -1,9 +1,10 @@
 //! The program `kcount`: how often each k-mer (word of length k) occurs in sequence reads.
 //!
-//! [`count_reads`] goes from sources of bytes to a written report, as [`Options`] say; [`program`] reads a whole command
-//! line, counts and answers the exit status. A refusal is a [`ToolFault`], and [`write_fault`] writes its line.
+//! `count_reads` goes from sources of bytes to a written report, as `Options` say. `program` reads a whole command
+//! line, counts and answers the exit status; `run` does the same over streams that the caller keeps. A refusal is a
+//! `ToolFault`, and `write_fault` writes its line.
 //!
-//! ```
+//! ```text
 //! let k = K::new(3).ok_or("a length")?;
 //! let options = Options::new(k, Dump::in_columns());
 //! let sources = vec![in alloc; FromBytes::new(b">r1\nACGTA\n")]?;
@@ -18,6 +19,7 @@ mod command;
 mod counting;
 mod fault_lines;
 mod faults;
+pub mod laws;
 mod numbers;
 mod reading;
 mod reporting;

@@ -10,12 +10,13 @@ use kc_io::{Sink, Source};
 use kc_report::write_dump;
 use std::alloc::Global;
 
-/// Reads all sources in order, counts their words, and writes the report that the options ask for. Nothing is
-/// written before all sources were read and counted. The sources have at most 2^36 bytes together.
+/// Reads all sources in order, counts their words, and writes the report that the options ask for. Nothing is written
+/// before all sources were read and counted. The sources have at most 2^36 bytes together.
 ///
 /// # Errors
 /// `Fastx` with the fault of the first source that has one, and its number from 1; so it is also where a growth was
-/// refused while that source was read. `Memory` where one was refused elsewhere. After both nothing was written. `Write` where the writer failed or took no byte; a beginning of the report was written.
+/// refused while that source was read. `Memory` where one was refused elsewhere. After both nothing was written.
+/// `Write` where the writer failed or took no byte; a beginning of the report was written.
 pub fn count_reads<H, R: Source + Drop, W: Sink>(
     _rt: &H,
     alloc: Global,

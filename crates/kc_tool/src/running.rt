@@ -35,8 +35,8 @@ const FAULT: u8 = 1;
 /// The exit status of a command line that is refused.
 const REFUSED: u8 = 2;
 
-/// Carries out the command line `arguments`, which begins with the program's name, and answers the exit status: 0; 1 for
-/// a fault; 2 for a command line that is refused. The line of a fault goes to `errors`, and so does the text of a
+/// Carries out the command line `arguments`, which begins with the program's name, and answers the exit status: 0; 1
+/// for a fault; 2 for a command line that is refused. The line of a fault goes to `errors`, and so does the text of a
 /// refusal. Failing to write there changes no status.
 pub fn program<H, I: io::Read + Drop, O: io::Write + Drop, E: io::Write + Drop>(
     rt: &H,
@@ -54,7 +54,10 @@ pub fn program<H, I: io::Read + Drop, O: io::Write + Drop, E: io::Write + Drop>(
     run(rt, alloc, &arguments, input, &mut output, &mut errors)
 }
 
-/// What `program` does, over streams that the caller keeps.
+/// What `program` does, over streams that the caller keeps. Status 0: the output has the answer, which is the report
+/// that the arguments ask for, or help or the version. Status 1: the line of a fault went to the errors, and the output
+/// is as it was, or has a beginning of the answer where writing failed. Status 2: the output is as it was, and why the
+/// arguments are refused went to the errors.
 pub fn run<H, R: Source + Drop, W: Sink, E: Sink>(
     rt: &H,
     alloc: Global,

@@ -28,7 +28,8 @@ impl Model for Options {
 
     ghost view = { λ o. record { k = o.k; both = o.both; floor = o.floor; batch = o.batch; dump = o.dump } };
 
-    ghost invariant = { λ o. IsWithinLimits (record { k = o.k; both = o.both; floor = o.floor; batch = o.batch; dump = o.dump }) };
+    ghost invariant = { λ o. IsWithinLimits
+        (record { k = o.k; both = o.both; floor = o.floor; batch = o.batch; dump = o.dump }) };
 
     ghost inverse = { λ s. record { k = s.k; both = s.both; floor = s.floor; batch = s.batch; dump = s.dump } };
 }

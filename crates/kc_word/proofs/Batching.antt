@@ -6,22 +6,22 @@ use Rattle.std.proofs.lemmas.List.FromFn.{map-range_with_len_more}
 use Rattle.std.specs.List.{range_with_len, flat_map}
 use Rattle.kc_word.specs.Occurrences.{occurrences, words_of}
 use Rattle.kc_word.specs.Cutting.{as_reads, NumberedPieces, stretches, position_total, batch_of, cutting, KeepsOccurrences, KeepsWords}
-use Rattle.kc_word.specs.Place.{number_at, IsPlace}
+use Rattle.kc_word.specs.Cursor.{position_number, IsCursor}
 use Rattle.kc_word.proofs.Windows.{windows}
 use Rattle.kc_word.proofs.Stretches.{stretches_from, stretches-are}
 use Rattle.kc_word.proofs.Taking.{stretches-skip, stretches-nil}
 use Rattle.kc_word.proofs.Cuttings.{length-cut, stretches-windows, length-all_windows, cutting-words, cutting-occurrences}
 
--- the batches made so far are the first ones of the cutting, and the place stands behind them
+-- the batches made so far are the first ones of the cutting, and the cursor stands behind them
 pub record IsCutTo (k size : ℕ) (pieces : List (List ℕ)) (index position : ℕ) (batches : List NumberedPieces) : Type 0 where
-  pub place : IsPlace k pieces index position
+  pub cursor : IsCursor k pieces index position
   pub made : batches ≡ map (λ i. batch_of k size pieces i) (range_with_len 0 (length batches))
-  pub number : number_at k pieces index position ≡ min (length batches * size) (position_total k pieces)
+  pub number : position_number k pieces index position ≡ min (length batches * size) (position_total k pieces)
   pub inhabited : length batches * size < position_total k pieces + size
 
 pub IsCutTo-none : (k size : ℕ) (pieces : List (List ℕ)) → 1 ≤ size → IsCutTo k size pieces 0 0 []
 IsCutTo-none k size pieces some = record {
-  place = record { within = omega arith; inside = omega arith };
+  cursor = record { within = omega arith; inside = omega arith };
   made = refl;
   number = omega arith;
   inhabited = omega (arith, some);
@@ -36,40 +36,70 @@ stretches-past k low high pieces h =
     ∙ stretches-nil k low high (0 + position_total k (take (length pieces) pieces))
 
 -- where there is no stretch there is no position left
-positions-past : (k low size : ℕ) (pieces : List (List ℕ)) → 1 ≤ k → 1 ≤ size → stretches k low (low + size) pieces ≡ [] → position_total k pieces ≤ low
+positions-past : (k low size : ℕ) (pieces : List (List ℕ)) → 1 ≤ k → 1 ≤ size → stretches k low (low + size) pieces ≡ []
+    → position_total k pieces ≤ low
 positions-past k low size pieces some size_some none =
-    let empty = sym (stretches-windows k low (low + size) 0 pieces some) ∙ ap (flat_map (λ part. windows k part)) (sym (stretches-are k low (low + size) pieces) ∙ none) in
+    let empty = sym (stretches-windows k low (low + size) 0 pieces some)
+    ∙ ap (flat_map (λ part. windows k part)) (sym (stretches-are k low (low + size) pieces) ∙ none) in
     let gone = ap length empty in
     let long = length-cut (low - 0) (low + size - 0) (flat_map (λ piece. windows k piece) pieces) in
     let total = length-all_windows k pieces in
     omega (arith, gone, long, total, size_some)
 
-pub IsCutTo-left : (k size index position : ℕ) (pieces : List (List ℕ)) (batches : List NumberedPieces) (parts : List (List ℕ)) → (length parts ≡ 0 → ⊥) → parts ≡ stretches k (number_at k pieces index position) (number_at k pieces index position + size) pieces → IsCutTo k size pieces index position batches
-    → number_at k pieces index position < position_total k pieces
-IsCutTo-left k size index position pieces batches parts some is done =
-    ⊎_elim (λ h. h) (λ h. absurd (some (ap length (is ∙ stretches-past k (number_at k pieces index position) (number_at k pieces index position + size) pieces h)))) (cases_lt (number_at k pieces index position) (position_total k pieces))
+-- the stretches that have the next positions, as many as a batch, from a cursor on
+pub record NextParts (k size : ℕ) (pieces : List (List ℕ)) : Type 0 where
+  pub index : ℕ
+  pub position : ℕ
+  pub parts : List (List ℕ)
+  pub parts_are : parts ≡ stretches k (position_number k pieces index position) (position_number k pieces index position + size) pieces
 
--- one batch more
-pub IsCutTo-more : (k size index position index' position' : ℕ) (pieces : List (List ℕ)) (batches after : List NumberedPieces) (parts : List (List ℕ)) (n : ℕ) → (length parts ≡ 0 → ⊥)
-    → parts ≡ stretches k (number_at k pieces index position) (number_at k pieces index position + size) pieces
-    → IsPlace k pieces index' position' → number_at k pieces index' position' ≡ min (number_at k pieces index position + size) (position_total k pieces)
-    → n ≡ length batches → after ≡ batches ++ record { number = n; pieces = parts } ∷ []
-    → IsCutTo k size pieces index position batches → IsCutTo k size pieces index' position' after
-IsCutTo-more k size index position index' position' pieces batches after parts n some is place moved is_n is_after done =
-    let left = IsCutTo-left k size index position pieces batches parts some is done in
+-- where there are any, a position is left
+pub positions-left : (k size : ℕ) (pieces : List (List ℕ)) (s : NextParts k size pieces) → (length s.parts ≡ 0 → ⊥)
+    → position_number k pieces s.index s.position < position_total k pieces
+positions-left k size pieces s some =
+    ⊎_elim (λ h. h) (λ h. absurd (some (ap length (s.parts_are ∙ stretches-past k low (low + size) pieces h))))
+    (cases_lt low (position_total k pieces))
+  where
+    low : ℕ
+    low = position_number k pieces s.index s.position
+
+-- one batch more: what was taken from the cursor on, and where the cursor stands then
+pub record CutStep (k size : ℕ) (pieces : List (List ℕ)) : Type 0 where
+  pub taken : NextParts k size pieces
+  pub next_index : ℕ
+  pub next_position : ℕ
+  pub batches : List NumberedPieces
+  pub next_batches : List NumberedPieces
+  pub count : ℕ
+  pub some : length taken.parts ≡ 0 → ⊥
+  pub stands : IsCursor k pieces next_index next_position
+  pub moved : position_number k pieces next_index next_position
+      ≡ min (position_number k pieces taken.index taken.position + size) (position_total k pieces)
+  pub count_is : count ≡ length batches
+  pub batches_are : next_batches ≡ batches ++ record { number = count; pieces = taken.parts } ∷ []
+
+pub IsCutTo-more : (k size : ℕ) (pieces : List (List ℕ)) (s : CutStep k size pieces) → IsCutTo k size pieces s.taken.index s.taken.position s.batches
+    → IsCutTo k size pieces s.next_index s.next_position s.next_batches
+IsCutTo-more k size pieces s done =
+    let from : ℕ = position_number k pieces s.taken.index s.taken.position in
+    let made : ℕ = length s.batches in
+    let left = positions-left k size pieces s.taken s.some in
     let number = done.number in
-    let low : number_at k pieces index position ≡ length batches * size = omega (arith, number, left) in
-    let high : number_at k pieces index position + size ≡ (length batches + 1) * size = omega (arith, low) in
-    let long : length after ≡ length batches + 1 = ap length is_after ∙ length_push batches (record { number = n; pieces = parts }) in
-    let same : parts ≡ stretches k (length batches * size) ((length batches + 1) * size) pieces =
-    is ∙ ap (λ l. stretches k l (number_at k pieces index position + size) pieces) low ∙ ap (λ h. stretches k (length batches * size) h pieces) high in
-    let more : length after * size ≡ length batches * size + size = ap (λ m. m * size) long ∙ omega arith in
+    let low : from ≡ made * size = omega (arith, number, left) in
+    let high : from + size ≡ (made + 1) * size = omega (arith, low) in
+    let long : length s.next_batches ≡ made + 1 =
+    ap length s.batches_are ∙ length_push s.batches (record { number = s.count; pieces = s.taken.parts }) in
+    let same : s.taken.parts ≡ stretches k (made * size) ((made + 1) * size) pieces =
+    s.taken.parts_are ∙ ap (λ l. stretches k l (from + size) pieces) low ∙ ap (λ h. stretches k (made * size) h pieces) high in
+    let more : length s.next_batches * size ≡ made * size + size = ap (λ m. m * size) long ∙ omega arith in
+    let numbered : s.count ≡ made = s.count_is in
+    let moved = s.moved in
     record {
-      place = place;
+      cursor = s.stands;
       made =
-          is_after ∙ ap (λ xs. xs ++ record { number = n; pieces = parts } ∷ []) done.made
-          ∙ (λ i. map (λ j. batch_of k size pieces j) (range_with_len 0 (length batches)) ++ record { number = is_n i; pieces = same i } ∷ [])
-          ∙ sym (map-range_with_len_more (λ j. batch_of k size pieces j) 0 (length batches) (length batches) (omega arith))
+          s.batches_are ∙ ap (λ xs. xs ++ record { number = s.count; pieces = s.taken.parts } ∷ []) done.made
+          ∙ (λ i. map (λ j. batch_of k size pieces j) (range_with_len 0 made) ++ record { number = numbered i; pieces = same i } ∷ [])
+          ∙ sym (map-range_with_len_more (λ j. batch_of k size pieces j) 0 made made (omega arith))
           ∙ ap (λ m. map (λ j. batch_of k size pieces j) (range_with_len 0 m)) (sym long);
       number = omega (arith, moved, low, more);
       inhabited = omega (arith, low, left, more);
@@ -79,15 +109,17 @@ batch_count-is : (total size n : ℕ) → 1 ≤ size → n * size < total + size
 batch_count-is total size n some few enough =
     let least : n ≤ (total + size - 1) / size = (le-div_iff_mul-le {k = size} {x = n} {y = total + size - 1} some).1 (omega (arith, few)) in
     let next : (n + 1) * size ≡ n * size + size = omega arith in
-    let most : (total + size - 1) / size < n + 1 = (div-lt_iff_lt-mul {k = size} {x = total + size - 1} {y = n + 1} some).1 (omega (arith, enough, some, next)) in
+    let most : (total + size - 1) / size < n + 1 =
+    (div-lt_iff_lt-mul {k = size} {x = total + size - 1} {y = n + 1} some).1 (omega (arith, enough, some, next)) in
     omega (arith, least, most)
 
 -- when no position is left, the batches are the cutting
-pub IsCutTo-all : (k size index position : ℕ) (pieces : List (List ℕ)) (batches : List NumberedPieces) (parts : List (List ℕ)) → 1 ≤ k → 1 ≤ size → length parts ≡ 0
-    → parts ≡ stretches k (number_at k pieces index position) (number_at k pieces index position + size) pieces → IsCutTo k size pieces index position batches → batches ≡ cutting k size pieces
+pub IsCutTo-all : {batches : List NumberedPieces} (k size : ℕ) (pieces : List (List ℕ)) (s : NextParts k size pieces) → 1 ≤ k → 1 ≤ size
+    → length s.parts ≡ 0 → IsCutTo k size pieces s.index s.position batches → batches ≡ cutting k size pieces
 unfolding cutting
-IsCutTo-all k size index position pieces batches parts some size_some none is done =
-    let past = positions-past k (number_at k pieces index position) size pieces some size_some (sym is ∙ nil_from_length parts none) in
+IsCutTo-all {batches} k size pieces s some size_some none done =
+    let past = positions-past k (position_number k pieces s.index s.position) size pieces some size_some
+    (sym s.parts_are ∙ nil_from_length s.parts none) in
     let number = done.number in
     let few = done.inhabited in
     done.made ∙ ap (λ n. map (λ i. batch_of k size pieces i) (range_with_len 0 n))
@@ -95,12 +127,14 @@ IsCutTo-all k size index position pieces batches parts some size_some none is do
 
 -- ---- what a cutting says of the words
 
-pub occurrences-cut : (k size : ℕ) (pieces : List (List ℕ)) (batches : List NumberedPieces) → 1 ≤ k → 1 ≤ size → batches ≡ cutting k size pieces → KeepsOccurrences k pieces batches
+pub occurrences-cut : (k size : ℕ) (pieces : List (List ℕ)) (batches : List NumberedPieces) → 1 ≤ k → 1 ≤ size → batches ≡ cutting k size pieces
+    → KeepsOccurrences k pieces batches
 occurrences-cut k size pieces batches some size_some e rule word same =
     ap (sum_by (λ b. occurrences rule (as_reads b.pieces) word)) (e ∙ ap (λ j. cutting j size pieces) (sym same))
     ∙ cutting-occurrences rule size pieces word (subst (λ j. 1 ≤ j) (sym same) some) size_some
 
-pub words-cut : (k size : ℕ) (pieces : List (List ℕ)) (batches : List NumberedPieces) → 1 ≤ k → 1 ≤ size → batches ≡ cutting k size pieces → KeepsWords k pieces batches
+pub words-cut : (k size : ℕ) (pieces : List (List ℕ)) (batches : List NumberedPieces) → 1 ≤ k → 1 ≤ size → batches ≡ cutting k size pieces
+    → KeepsWords k pieces batches
 words-cut k size pieces batches some size_some e rule same =
     ap (flat_map (λ b. words_of rule (as_reads b.pieces))) (e ∙ ap (λ j. cutting j size pieces) (sym same))
     ∙ cutting-words rule size pieces (subst (λ j. 1 ≤ j) (sym same) some) size_some

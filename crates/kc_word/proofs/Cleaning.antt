@@ -9,7 +9,8 @@ use Rattle.std.proofs.lemmas.List.FromFn.{fill_by_all, length-map-range_with_len
 use Rattle.std.specs.List.{list_all, range_with_len, flat_map}
 use Rattle.std.specs.Char.{to_ascii_uppercase}
 use Rattle.kc_fastx.specs.Reads.{Read, read_of, IsRead, has_quality_each}
-use Rattle.kc_word.specs.Base.{is_base}
+use Rattle.kc_base.proofs.Lists.{list_all-drop, list_all-take}
+use Rattle.kc_word.specs.Letter.{is_base}
 use Rattle.kc_word.specs.Word.{number, form}
 use Rattle.kc_word.specs.Rule.{CountingRule}
 use Rattle.kc_word.specs.Occurrences.{is_usable, passes_floor, word_at, form_at, positions, position_count, counts_under, occurrences_in, occurrences, words_in, words_of}
@@ -38,7 +39,8 @@ unfolding cleaned is_usable is_base
 are_piece_bytes-cleaned rule read =
     list_all-map-all _ (λ j. cleaned_base rule read j) (λ j.
     cond_both (is_usable rule read j) (to_ascii_uppercase (get_or read.bases j 0)) unusable (λ b. (is_base b || (eqb b unusable)) ≡ true)
-    (λ h. or_left (is_base (to_ascii_uppercase (get_or read.bases j 0))) _ (and_parts (is_base (to_ascii_uppercase (get_or read.bases j 0))) (passes_floor rule.floor read.quals j) h).0)
+    (λ h. or_left (is_base (to_ascii_uppercase (get_or read.bases j 0))) _
+    (and_parts (is_base (to_ascii_uppercase (get_or read.bases j 0))) (passes_floor rule.floor read.quals j) h).0)
     (λ _. refl))
     (range_with_len 0 (length read.bases))
 
@@ -47,40 +49,50 @@ pub cleaned-none : (rule : CountingRule) (bases : List ℕ) → map cleaned_lett
 unfolding cleaned is_usable
 cleaned-none rule bases =
     fill_by_all (λ j. cleaned_base rule (read_of bases None) j) (map cleaned_letter bases) (length bases) 0 (length-map bases cleaned_letter)
-    (λ j h. get_or-map cleaned_letter bases j 0 0 h ∙ ap (λ b. cond b (to_ascii_uppercase (get_or bases j 0)) unusable) (sym (and-true (is_base (to_ascii_uppercase (get_or bases j 0))))))
+    (λ j h. get_or-map cleaned_letter bases j 0 0 h
+    ∙ ap (λ b. cond b (to_ascii_uppercase (get_or bases j 0)) unusable) (sym (and-true (is_base (to_ascii_uppercase (get_or bases j 0))))))
   where
     and-true : (b : Bool) → (b && true) ≡ b
     and-true true = refl
     and-true false = refl
 
 -- with qualities a base is cleaned by itself where its quality reaches the floor, and is N elsewhere
-pub cleaned_base-high : (rule : CountingRule) (bases quals : List ℕ) (j floor : ℕ) → floor ≡ rule.floor → floor ≤ get_or quals j 0 → cleaned_letter (get_or bases j 0) ≡ cleaned_base rule (read_of bases (Some quals)) j
+pub cleaned_base-high : (rule : CountingRule) (bases quals : List ℕ) (j floor : ℕ) → floor ≡ rule.floor → floor ≤ get_or quals j 0
+    → cleaned_letter (get_or bases j 0) ≡ cleaned_base rule (read_of bases (Some quals)) j
 unfolding is_usable
 cleaned_base-high rule bases quals j floor e h =
-    ap (λ b. cond b (to_ascii_uppercase (get_or bases j 0)) unusable) (sym (ap (λ b. is_base (to_ascii_uppercase (get_or bases j 0)) && b) (le-leb rule.floor (get_or quals j 0) (omega (arith, e, h))) ∙ and-true (is_base (to_ascii_uppercase (get_or bases j 0)))))
+    ap (λ b. cond b (to_ascii_uppercase (get_or bases j 0)) unusable)
+    (sym (ap (λ b. is_base (to_ascii_uppercase (get_or bases j 0)) && b) (le-leb rule.floor (get_or quals j 0) (omega (arith, e, h)))
+    ∙ and-true (is_base (to_ascii_uppercase (get_or bases j 0)))))
   where
     and-true : (b : Bool) → (b && true) ≡ b
     and-true true = refl
     and-true false = refl
 
-pub cleaned_base-low : (rule : CountingRule) (bases quals : List ℕ) (j floor : ℕ) → floor ≡ rule.floor → get_or quals j 0 < floor → unusable ≡ cleaned_base rule (read_of bases (Some quals)) j
+pub cleaned_base-low : (rule : CountingRule) (bases quals : List ℕ) (j floor : ℕ) → floor ≡ rule.floor → get_or quals j 0 < floor
+    → unusable ≡ cleaned_base rule (read_of bases (Some quals)) j
 unfolding is_usable
 cleaned_base-low rule bases quals j floor e h =
-    sym (cond-false _ (to_ascii_uppercase (get_or bases j 0)) unusable (and_right (is_base (to_ascii_uppercase (get_or bases j 0))) _ (lt-leb rule.floor (get_or quals j 0) (omega (arith, e, h)))))
+    sym (cond-false _ (to_ascii_uppercase (get_or bases j 0)) unusable
+    (and_right (is_base (to_ascii_uppercase (get_or bases j 0))) _ (lt-leb rule.floor (get_or quals j 0) (omega (arith, e, h)))))
 
-pub cleaned-more : (rule : CountingRule) (read : Read) (i letter : ℕ) (xs ys : List ℕ) → xs ≡ map (λ j. cleaned_base rule read j) (range_with_len 0 i) → ys ≡ xs ++ letter ∷ [] → letter ≡ cleaned_base rule read i → ys ≡ map (λ j. cleaned_base rule read j) (range_with_len 0 (i + 1))
-cleaned-more rule read i letter xs ys e push is =
+pub cleaned-more : {xs ys : List ℕ} (rule : CountingRule) (read : Read) (i letter : ℕ) → xs ≡ map (λ j. cleaned_base rule read j) (range_with_len 0 i)
+    → ys ≡ xs ++ letter ∷ []
+    → letter ≡ cleaned_base rule read i → ys ≡ map (λ j. cleaned_base rule read j) (range_with_len 0 (i + 1))
+cleaned-more rule read i letter e push is =
     push ∙ ap (λ zs. zs ++ letter ∷ []) e ∙ ap (λ b. map (λ j. cleaned_base rule read j) (range_with_len 0 i) ++ b ∷ []) is
     ∙ sym (map-range_with_len_more (λ j. cleaned_base rule read j) 0 i i (omega arith))
 
-pub cleaned-all : (rule : CountingRule) (read : Read) (i : ℕ) (xs : List ℕ) → i ≤ length read.bases → length read.bases ≤ i → xs ≡ map (λ j. cleaned_base rule read j) (range_with_len 0 i) → xs ≡ cleaned rule read
+pub cleaned-all : (rule : CountingRule) (read : Read) (i : ℕ) (xs : List ℕ) → i ≤ length read.bases → length read.bases ≤ i
+    → xs ≡ map (λ j. cleaned_base rule read j) (range_with_len 0 i) → xs ≡ cleaned rule read
 unfolding cleaned
 cleaned-all rule read i xs most least e = e ∙ ap (λ n. map (λ j. cleaned_base rule read j) (range_with_len 0 n)) (omega (arith, most, least))
 
 -- ---- the words of a cleaned read
 
 -- a base is usable in the piece where it is usable in the read
-usable-cleaned : (rule : CountingRule) (read : Read) (j : ℕ) → j < length read.bases → is_usable rule (read_of (cleaned rule read) None) j ≡ is_usable rule read j
+usable-cleaned : (rule : CountingRule) (read : Read) (j : ℕ) → j < length read.bases
+    → is_usable rule (read_of (cleaned rule read) None) j ≡ is_usable rule read j
 unfolding is_usable is_base
 usable-cleaned rule read j h =
     ap (λ b. is_base (to_ascii_uppercase b) && true) (get_or-cleaned rule read j h)
@@ -91,14 +103,19 @@ usable-cleaned rule read j h =
     (λ e. ap (λ b. is_base (to_ascii_uppercase b) && true) (cond-false _ (to_ascii_uppercase (get_or read.bases j 0)) unusable e) ∙ sym e)
     (cases_Bool (is_usable rule read j))
 
-all_usable-cleaned : (rule : CountingRule) (read : Read) (k p : ℕ) → p + k ≤ length read.bases → list_all (λ j. is_usable rule (read_of (cleaned rule read) None) j) (range_with_len p k) ≡ list_all (λ j. is_usable rule read j) (range_with_len p k)
+all_usable-cleaned : (rule : CountingRule) (read : Read) (k p : ℕ) → p + k ≤ length read.bases
+    → list_all (λ j. is_usable rule (read_of (cleaned rule read) None) j) (range_with_len p k)
+    ≡ list_all (λ j. is_usable rule read j) (range_with_len p k)
 all_usable-cleaned rule read zero p h = refl
 all_usable-cleaned rule read (suc k) p h =
-    ap (λ b. b && list_all (λ j. is_usable rule (read_of (cleaned rule read) None) j) (range_with_len (p + 1) k)) (usable-cleaned rule read p (omega (arith, h)))
+    ap (λ b. b && list_all (λ j. is_usable rule (read_of (cleaned rule read) None) j) (range_with_len (p + 1) k))
+    (usable-cleaned rule read p (omega (arith, h)))
     ∙ ap (λ b. is_usable rule read p && b) (all_usable-cleaned rule read k (p + 1) (omega (arith, h)))
 
 -- where all bases are usable, the piece has the letters of the read in upper case
-letters-cleaned : (rule : CountingRule) (read : Read) (k p : ℕ) → p + k ≤ length read.bases → list_all (λ j. is_usable rule read j) (range_with_len p k) ≡ true → map to_ascii_uppercase (take k (drop p (cleaned rule read))) ≡ map to_ascii_uppercase (take k (drop p read.bases))
+letters-cleaned : (rule : CountingRule) (read : Read) (k p : ℕ) → p + k ≤ length read.bases
+    → list_all (λ j. is_usable rule read j) (range_with_len p k) ≡ true
+    → map to_ascii_uppercase (take k (drop p (cleaned rule read))) ≡ map to_ascii_uppercase (take k (drop p read.bases))
 unfolding is_usable
 letters-cleaned rule read zero p h all = refl
 letters-cleaned rule read (suc k) p h all =
@@ -117,12 +134,17 @@ pub word_at-cleaned : (rule : CountingRule) (read : Read) (p : ℕ) → word_at 
 unfolding word_at
 word_at-cleaned rule read p =
     ⊎_elim
-    (λ h. sym (cond-false _ (Some (map to_ascii_uppercase (take rule.k (drop p read.bases)))) None (and_left _ (list_all (λ j. is_usable rule read j) (range_with_len p rule.k)) (lt-leb (p + rule.k) (length read.bases) h))
-    ∙ sym (cond-false _ (Some (map to_ascii_uppercase (take rule.k (drop p (cleaned rule read))))) None (and_left _ (list_all (λ j. is_usable rule (read_of (cleaned rule read) None) j) (range_with_len p rule.k))
+    (λ h. sym (cond-false _ (Some (map to_ascii_uppercase (take rule.k (drop p read.bases)))) None
+    (and_left _ (list_all (λ j. is_usable rule read j) (range_with_len p rule.k)) (lt-leb (p + rule.k) (length read.bases) h))
+    ∙ sym (cond-false _ (Some (map to_ascii_uppercase (take rule.k (drop p (cleaned rule read))))) None
+    (and_left _ (list_all (λ j. is_usable rule (read_of (cleaned rule read) None) j) (range_with_len p rule.k))
     (lt-leb (p + rule.k) (length (cleaned rule read)) (let long = length-cleaned rule read in omega (arith, h, long)))))))
-    (λ h. ap (λ n. cond (leb (p + rule.k) n && list_all (λ j. is_usable rule (read_of (cleaned rule read) None) j) (range_with_len p rule.k)) (Some (map to_ascii_uppercase (take rule.k (drop p (cleaned rule read))))) None) (length-cleaned rule read)
-    ∙ ap (λ b. cond (leb (p + rule.k) (length read.bases) && b) (Some (map to_ascii_uppercase (take rule.k (drop p (cleaned rule read))))) None) (all_usable-cleaned rule read rule.k p h)
-    ∙ where_true (leb (p + rule.k) (length read.bases)) (list_all (λ j. is_usable rule read j) (range_with_len p rule.k)) _ _ (λ e. letters-cleaned rule read rule.k p h e))
+    (λ h. ap (λ n. cond (leb (p + rule.k) n && list_all (λ j. is_usable rule (read_of (cleaned rule read) None) j) (range_with_len p rule.k))
+    (Some (map to_ascii_uppercase (take rule.k (drop p (cleaned rule read))))) None) (length-cleaned rule read)
+    ∙ ap (λ b. cond (leb (p + rule.k) (length read.bases) && b) (Some (map to_ascii_uppercase (take rule.k (drop p (cleaned rule read))))) None)
+    (all_usable-cleaned rule read rule.k p h)
+    ∙ where_true (leb (p + rule.k) (length read.bases)) (list_all (λ j. is_usable rule read j) (range_with_len p rule.k)) _ _
+    (λ e. letters-cleaned rule read rule.k p h e))
     (cases_lt (length read.bases) (p + rule.k))
   where
     where_true : (a b : Bool) (v w : List ℕ) → (b ≡ true → v ≡ w) → cond (a && b) (Some v) None ≡ cond (a && b) (Some w) None
@@ -139,40 +161,51 @@ form_at-cleaned rule read p = ap (option_map (form rule.both)) (word_at-cleaned 
 pub are_piece_bytes-letters : (bases : List ℕ) → are_piece_bytes (map cleaned_letter bases) ≡ true
 unfolding is_base
 are_piece_bytes-letters bases =
-    list_all-map-all _ cleaned_letter (λ byte. cond_both (is_base (to_ascii_uppercase byte)) (to_ascii_uppercase byte) unusable (λ b. (is_base b || eqb b unusable) ≡ true)
+    list_all-map-all _ cleaned_letter (λ byte. cond_both (is_base (to_ascii_uppercase byte)) (to_ascii_uppercase byte) unusable
+    (λ b. (is_base b || eqb b unusable) ≡ true)
     (λ h. or_left (is_base (to_ascii_uppercase byte)) _ h) (λ _. refl)) bases
 
-pub clean-none : {E : Type 0} (rule : CountingRule) (read : Read) (bases : List ℕ) (r : Result (List ℕ) E) → bases ≡ read.bases → None ≡ read.quals → IfOk r (λ piece. piece ≡ map cleaned_letter bases) → IfOk r (λ piece. piece ≡ cleaned rule read)
-clean-none rule read bases (Ok piece) e none h = h ∙ cleaned-none rule bases ∙ ap (λ xs. cleaned rule (read_of xs None)) e ∙ ap (λ o. cleaned rule (read_of read.bases o)) none
+pub clean-none : {E : Type 0} (rule : CountingRule) (read : Read) (bases : List ℕ) (r : Result (List ℕ) E) → bases ≡ read.bases → None ≡ read.quals
+    → IfOk r (λ piece. piece ≡ map cleaned_letter bases) → IfOk r (λ piece. piece ≡ cleaned rule read)
+clean-none rule read bases (Ok piece) e none h =
+    h ∙ cleaned-none rule bases ∙ ap (λ xs. cleaned rule (read_of xs None)) e ∙ ap (λ o. cleaned rule (read_of read.bases o)) none
 clean-none rule read bases (Err x) e none h = tt
 
-pub clean-some : {E : Type 0} (rule : CountingRule) (read : Read) (bases quals : List ℕ) (r : Result (List ℕ) E) → bases ≡ read.bases → Some quals ≡ read.quals → IfOk r (λ piece. piece ≡ cleaned rule (read_of bases (Some quals))) → IfOk r (λ piece. piece ≡ cleaned rule read)
-clean-some rule read bases quals (Ok piece) e some h = h ∙ ap (λ xs. cleaned rule (read_of xs (Some quals))) e ∙ ap (λ o. cleaned rule (read_of read.bases o)) some
+pub clean-some : {E : Type 0} (rule : CountingRule) (read : Read) (bases quals : List ℕ) (r : Result (List ℕ) E) → bases ≡ read.bases
+    → Some quals ≡ read.quals → IfOk r (λ piece. piece ≡ cleaned rule (read_of bases (Some quals))) → IfOk r (λ piece. piece ≡ cleaned rule read)
+clean-some rule read bases quals (Ok piece) e some h =
+    h ∙ ap (λ xs. cleaned rule (read_of xs (Some quals))) e ∙ ap (λ o. cleaned rule (read_of read.bases o)) some
 clean-some rule read bases quals (Err x) e some h = tt
 
-pub clean-length : {E : Type 0} (rule : CountingRule) (read : Read) (r : Result (List ℕ) E) → IfOk r (λ piece. piece ≡ cleaned rule read) → IfOk r (λ piece. length piece ≡ length read.bases)
+pub clean-length : {E : Type 0} (rule : CountingRule) (read : Read) (r : Result (List ℕ) E) → IfOk r (λ piece. piece ≡ cleaned rule read)
+    → IfOk r (λ piece. length piece ≡ length read.bases)
 clean-length rule read (Ok piece) h = ap length h ∙ length-cleaned rule read
 clean-length rule read (Err x) h = tt
 
 -- a read that has qualities has one for each base
 pub quals-long : (read : Read) (quals : List ℕ) → IsRead read → Some quals ≡ read.quals → length quals ≡ length read.bases
-quals-long read quals lawful e = eqb-true _ _ (and_parts (eqb (length quals) (length read.bases)) _ (ap (has_quality_each read.bases) e ∙ lawful.quals)).0
+quals-long read quals lawful e =
+    eqb-true _ _ (and_parts (eqb (length quals) (length read.bases)) _ (ap (has_quality_each read.bases) e ∙ lawful.quals)).0
 
 -- ---- the words and the occurrences of a cleaned read
 
 pub words_in-cleaned : (rule : CountingRule) (read : Read) → words_in rule (read_of (cleaned rule read) None) ≡ words_in rule read
 unfolding words_in
 words_in-cleaned rule read =
-    ap (λ n. filter_map (λ p. option_map number (form_at rule (read_of (cleaned rule read) None) p)) (range_with_len 0 (position_count rule.k n))) (length-cleaned rule read)
+    ap (λ n. filter_map (λ p. option_map number (form_at rule (read_of (cleaned rule read) None) p)) (range_with_len 0 (position_count rule.k n)))
+    (length-cleaned rule read)
     ∙ (λ i. filter_map (λ p. option_map number (form_at-cleaned rule read p i)) (positions rule read))
 
-pub occurrences_in-cleaned : (rule : CountingRule) (read : Read) (word : List ℕ) → occurrences_in rule (read_of (cleaned rule read) None) word ≡ occurrences_in rule read word
+pub occurrences_in-cleaned : (rule : CountingRule) (read : Read) (word : List ℕ)
+    → occurrences_in rule (read_of (cleaned rule read) None) word ≡ occurrences_in rule read word
 unfolding occurrences_in
 occurrences_in-cleaned rule read word =
-    ap (λ n. count_by (λ p. counts_under rule (read_of (cleaned rule read) None) word p) (range_with_len 0 (position_count rule.k n))) (length-cleaned rule read)
+    ap (λ n. count_by (λ p. counts_under rule (read_of (cleaned rule read) None) word p) (range_with_len 0 (position_count rule.k n)))
+    (length-cleaned rule read)
     ∙ (λ i. count_by (λ p. option_map_or (λ found. bytes_eq found word) (form_at-cleaned rule read p i) false) (positions rule read))
 
-pub occurrences-cleaned : (rule : CountingRule) (reads : List Read) (word : List ℕ) → occurrences rule (as_reads (map (λ read. cleaned rule read) reads)) word ≡ occurrences rule reads word
+pub occurrences-cleaned : (rule : CountingRule) (reads : List Read) (word : List ℕ)
+    → occurrences rule (as_reads (map (λ read. cleaned rule read) reads)) word ≡ occurrences rule reads word
 unfolding occurrences
 occurrences-cleaned rule [] word = refl
 occurrences-cleaned rule (read ∷ reads) word =
@@ -181,7 +214,8 @@ occurrences-cleaned rule (read ∷ reads) word =
     ∙ ap (λ n. occurrences_in rule read word + n) (occurrences-cleaned rule reads word)
     ∙ sym (sum_by-cons (λ r. occurrences_in rule r word) read reads)
 
-pub words_of-cleaned : (rule : CountingRule) (reads : List Read) → words_of rule (as_reads (map (λ read. cleaned rule read) reads)) ≡ words_of rule reads
+pub words_of-cleaned : (rule : CountingRule) (reads : List Read)
+    → words_of rule (as_reads (map (λ read. cleaned rule read) reads)) ≡ words_of rule reads
 unfolding words_of
 words_of-cleaned rule [] = refl
 words_of-cleaned rule (read ∷ reads) =
@@ -189,18 +223,6 @@ words_of-cleaned rule (read ∷ reads) =
     ∙ ap (λ xs. words_in rule read ++ xs) (words_of-cleaned rule reads)
 
 -- ---- a part of a piece
-
-list_all-drop : {X : Type 0} (p : X → Bool) (n : ℕ) (xs : List X) → list_all p xs ≡ true → list_all p (drop n xs) ≡ true
-list_all-drop p zero xs h = h
-list_all-drop p (suc n) [] h = refl
-list_all-drop p (suc n) (x ∷ xs) h = list_all-drop p n xs (and_parts (p x) (list_all p xs) h).1
-
-list_all-take : {X : Type 0} (p : X → Bool) (n : ℕ) (xs : List X) → list_all p xs ≡ true → list_all p (take n xs) ≡ true
-list_all-take p zero xs h = refl
-list_all-take p (suc n) [] h = refl
-list_all-take p (suc n) (x ∷ xs) h =
-    let parts = and_parts (p x) (list_all p xs) h in
-    and_from (p x) _ parts.0 (list_all-take p n xs parts.1)
 
 pub are_piece_bytes-part : (bytes : List ℕ) (from to : ℕ) → are_piece_bytes bytes ≡ true → are_piece_bytes (take (to - from) (drop from bytes)) ≡ true
 are_piece_bytes-part bytes from to h = list_all-take _ (to - from) (drop from bytes) (list_all-drop _ from bytes h)

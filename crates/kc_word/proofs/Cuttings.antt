@@ -1,8 +1,8 @@
 -- What a cutting holds: batch by batch the windows of the pieces, each once and in order.
 use Rattle.std.proofs.Common.{◌≡◌, ℕ, zero, suc, ◌+◌, ◌-◌, ◌*◌, ◌/◌, ◌<◌, ◌≤◌, min, ⊎_elim, ◌⊎◌, inl, inr, Bool, false, cond, List, [], ◌∷◌, ◌++◌, length, get_or, take, drop, None, filter_map, sum_by, count_by, refl, ap, sym, ◌∙◌, arith, le-div_iff_mul-le, div-add-mod', mod-lt}
 use Rattle.std.proofs.lemmas.Bool.{cases_lt, cond-true, cond-false, lt-ltb, le-ltb}
-use Rattle.std.proofs.lemmas.List.{length-append, length-take, length-drop, length-take-le, take-take, drop-drop, drop-take, take_all, take-append-drop, drop_all, same_lists, get_or-take, get_or-drop, append-nil, take_min, map-id}
-use Rattle.std.proofs.lemmas.List.FromFn.{length-map-range_with_len, get_or-map-range_with_len, map-range_with_len_more}
+use Rattle.std.proofs.lemmas.List.{length-append, length-take, length-drop, length-take-le, take-take, drop-drop, drop-take, take_all, take-append-drop, drop_all, same_lists, get_or-take, get_or-drop, append-nil, take_min}
+use Rattle.std.proofs.lemmas.List.FromFn.{length-map-range_with_len, get_or-map-range_with_len}
 use Rattle.std.proofs.lemmas.List.Elements.{filter_map-append}
 use Rattle.std.proofs.lemmas.List.Concat.{flat_map-append}
 use Rattle.std.proofs.lemmas.List.Folds.{flat_map-map, fold-map}
@@ -15,38 +15,10 @@ use Rattle.kc_word.specs.Rule.{CountingRule}
 use Rattle.kc_word.specs.Occurrences.{position_count, counts_under, occurrences_in, occurrences, words_of}
 use Rattle.kc_word.specs.Cutting.{as_reads, NumberedPieces, stretch, position_total, batch_count, batch_of, cutting}
 use Rattle.kc_word.proofs.Stretches.{stretches_from, stretches-are}
-use Rattle.kc_word.proofs.Tallies.{length-filter_map}
+use Rattle.kc_base.proofs.Lists.{take-append, drop-append, length-filter_map, flat_map-range_more}
 use Rattle.kc_word.proofs.Windows.{word_of, windows, words_in-windows, window_form, form_at-window_form}
 
 -- ---- joined lists, cut
-
-take-append : {X : Type 0} (n : ℕ) (xs ys : List X) → take n (xs ++ ys) ≡ take n xs ++ take (n - length xs) ys
-take-append zero xs ys = ap (λ m. take m ys) zeros
-  where
-    zeros : 0 ≡ 0 - length xs
-    zeros = omega arith
-take-append (suc n) [] ys = ap (λ m. take m ys) same
-  where
-    same : suc n ≡ suc n - 0
-    same = omega arith
-take-append (suc n) (x ∷ xs) ys = ap (λ zs. x ∷ zs) (take-append n xs ys) ∙ ap (λ m. x ∷ (take n xs ++ take m ys)) same
-  where
-    same : n - length xs ≡ suc n - suc (length xs)
-    same = omega arith
-
-drop-append : {X : Type 0} (n : ℕ) (xs ys : List X) → drop n (xs ++ ys) ≡ drop n xs ++ drop (n - length xs) ys
-drop-append zero xs ys = ap (λ m. xs ++ drop m ys) zeros
-  where
-    zeros : 0 ≡ 0 - length xs
-    zeros = omega arith
-drop-append (suc n) [] ys = ap (λ m. drop m ys) same
-  where
-    same : suc n ≡ suc n - 0
-    same = omega arith
-drop-append (suc n) (x ∷ xs) ys = drop-append n xs ys ∙ ap (λ m. drop n xs ++ drop m ys) same
-  where
-    same : n - length xs ≡ suc n - suc (length xs)
-    same = omega arith
 
 -- the part from low to before high
 pub cut : {X : Type 0} → ℕ → ℕ → List X → List X
@@ -163,11 +135,6 @@ take-cut : {X : Type 0} (low high : ℕ) (xs : List X) → low ≤ high → take
 unfolding cut
 take-cut low high xs h = ap (λ ys. ys ++ drop low (take high xs)) (sym (take-take low high xs h)) ∙ take-append-drop low (take high xs)
 
-flat_map-range-more : {X : Type 0} (f : ℕ → List X) (n : ℕ) → flat_map f (range_with_len 0 (n + 1)) ≡ flat_map f (range_with_len 0 n) ++ f n
-flat_map-range-more f n =
-    ap (flat_map f) (sym (map-id (range_with_len 0 (n + 1))) ∙ map-range_with_len_more (λ j. j) 0 n n (omega arith) ∙ ap (λ xs. xs ++ n ∷ []) (map-id (range_with_len 0 n)))
-    ∙ flat_map-append f (range_with_len 0 n) (n ∷ []) ∙ ap (λ xs. flat_map f (range_with_len 0 n) ++ xs) (append-nil (f n))
-
 batches-windows : (k size n : ℕ) (pieces : List (List ℕ)) → 1 ≤ k → flat_map (λ i. flat_map (λ part. windows k part) (batch_of k size pieces i).pieces) (range_with_len 0 n) ≡ take (n * size) (flat_map (λ piece. windows k piece) pieces)
 batches-windows k size zero pieces some = ap (λ m. take m (flat_map (λ piece. windows k piece) pieces)) none
   where
@@ -175,7 +142,7 @@ batches-windows k size zero pieces some = ap (λ m. take m (flat_map (λ piece. 
     none = omega arith
 batches-windows k size (suc n) pieces some =
     ap (λ m. flat_map (λ i. flat_map (λ part. windows k part) (batch_of k size pieces i).pieces) (range_with_len 0 m)) next
-    ∙ flat_map-range-more (λ i. flat_map (λ part. windows k part) (batch_of k size pieces i).pieces) n
+    ∙ flat_map-range_more (λ i. flat_map (λ part. windows k part) (batch_of k size pieces i).pieces) n
     ∙ ap (λ xs. xs ++ flat_map (λ part. windows k part) (batch_of k size pieces n).pieces) (batches-windows k size n pieces some)
     ∙ ap (λ xs. take (n * size) (flat_map (λ piece. windows k piece) pieces) ++ xs) (batch-windows k size n pieces some)
     ∙ take-cut (n * size) ((n + 1) * size) (flat_map (λ piece. windows k piece) pieces) (omega arith)

@@ -7,11 +7,10 @@ pub mod Windows
 pub mod Rolling
 pub mod Cleaning
 pub mod Counting
-pub mod Tallies
+pub mod WordCounts
 pub mod Looking
-pub mod Rows
 pub mod Stretches
 pub mod Cuttings
 pub mod Taking
 pub mod Batching
-mod Worked
+pub mod Sameness

@@ -5,7 +5,7 @@ use Rattle.std.proofs.lemmas.Bool.{cases_Bool, cond-true, cond-false, and_from}
 use Rattle.std.proofs.lemmas.List.{take_all, length-map, length-take-le, map_more, get_or-map}
 use Rattle.std.proofs.lemmas.List.Sums.{AllPass-from_list_all}
 use Rattle.std.specs.Char.{to_ascii_uppercase}
-use Rattle.kc_word.specs.Base.{is_base, are_bases, code}
+use Rattle.kc_word.specs.Letter.{is_base, are_bases, code}
 use Rattle.kc_word.specs.Word.{number, text}
 use Rattle.kc_word.proofs.WordLemmas.{code-lt, number-nil, number-lt, number_push-base, list_all-append, text-number}
 

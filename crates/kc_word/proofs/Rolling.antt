@@ -9,7 +9,7 @@ use Rattle.std.proofs.lemmas.Int.Digits.{number_push, number_lt}
 use Rattle.std.specs.Int.Digits.{number_from_digits, number_from_digits_after, AllBelowBase}
 use Rattle.std.specs.List.{list_all, prefix_len, suffix_len}
 use Rattle.std.specs.Char.{to_ascii_uppercase}
-use Rattle.kc_word.specs.Base.{is_base, are_bases, code, complement}
+use Rattle.kc_word.specs.Letter.{is_base, are_bases, code, complement}
 use Rattle.kc_word.specs.Cutting.{unusable}
 use Rattle.kc_word.specs.Word.{number, reverse_complement, form}
 use Rattle.kc_word.proofs.WordLemmas.{code-lt, code-complement, number-canonical, map-reverse}
@@ -26,7 +26,9 @@ other_digit byte = 3 - digit_of byte
 
 digit_of-lt : (byte : ℕ) → digit_of byte < 4
 unfolding digit_of
-digit_of-lt byte = cond_both (is_base (to_ascii_uppercase byte)) (code (to_ascii_uppercase byte)) 0 (λ n. n < 4) (λ _. code-lt (to_ascii_uppercase byte)) (λ _. lit< tt)
+digit_of-lt byte =
+    cond_both (is_base (to_ascii_uppercase byte)) (code (to_ascii_uppercase byte)) 0 (λ n. n < 4) (λ _. code-lt (to_ascii_uppercase byte))
+    (λ _. lit< tt)
 
 other_digit-lt : (byte : ℕ) → other_digit byte < 4
 unfolding other_digit
@@ -62,27 +64,36 @@ number_of_map-lt f small xs = subst (λ n. number_from_digits 4 (map f xs) < 4 ^
 
 -- ---- a window that moves by one byte
 
-forward-moved : (x b k : ℕ) (window : List ℕ) → length window ≡ k → (number_from_digits 4 (map digit_of (x ∷ window)) * 4 + digit_of b) % 4 ^ suc k ≡ number_from_digits 4 (map digit_of (window ++ b ∷ []))
+forward-moved : (x b k : ℕ) (window : List ℕ) → length window ≡ k
+    → (number_from_digits 4 (map digit_of (x ∷ window)) * 4 + digit_of b) % 4 ^ suc k ≡ number_from_digits 4 (map digit_of (window ++ b ∷ []))
 forward-moved x b k window e =
-    let cons = number-cons (digit_of x) (map digit_of window) ∙ ap (λ n. digit_of x * 4 ^ n + number_from_digits 4 (map digit_of window)) (length-map window digit_of ∙ e) in
+    let cons = number-cons (digit_of x) (map digit_of window)
+    ∙ ap (λ n. digit_of x * 4 ^ n + number_from_digits 4 (map digit_of window)) (length-map window digit_of ∙ e) in
     let push = ap (number_from_digits 4) (map_push digit_of window b) ∙ number_push 4 (map digit_of window) (digit_of b) in
-    let small : number_from_digits 4 (map digit_of window) < 4 ^ k = subst (λ n. number_from_digits 4 (map digit_of window) < 4 ^ n) e (number_of_map-lt digit_of digit_of-lt window) in
+    let small : number_from_digits 4 (map digit_of window) < 4 ^ k =
+    subst (λ n. number_from_digits 4 (map digit_of window) < 4 ^ n) e (number_of_map-lt digit_of digit_of-lt window) in
     let last = digit_of-lt b in
     let power = pow-suc 4 k in
     let high : digit_of x * 4 ^ suc k ≡ digit_of x * (4 ^ k * 4) = ap (λ m. digit_of x * m) (pow-suc 4 k) in
-    let whole : number_from_digits 4 (map digit_of (x ∷ window)) * 4 + digit_of b ≡ digit_of x * 4 ^ suc k + (number_from_digits 4 (map digit_of window) * 4 + digit_of b) = omega (arith, cons, high) in
+    let whole : number_from_digits 4 (map digit_of (x ∷ window)) * 4 + digit_of b
+    ≡ digit_of x * 4 ^ suc k + (number_from_digits 4 (map digit_of window) * 4 + digit_of b) = omega (arith, cons, high) in
     ap (λ n. n % 4 ^ suc k) whole
     ∙ mod-mul-add (digit_of x) (4 ^ suc k) (number_from_digits 4 (map digit_of window) * 4 + digit_of b) (omega (arith, small, last, power))
     ∙ sym push
 
-backward-moved : (x b k : ℕ) (window : List ℕ) → length window ≡ k → number_from_digits 4 (reverse (map other_digit (x ∷ window))) / 4 + other_digit b * 4 ^ k ≡ number_from_digits 4 (reverse (map other_digit (window ++ b ∷ [])))
+backward-moved : (x b k : ℕ) (window : List ℕ) → length window ≡ k
+    → number_from_digits 4 (reverse (map other_digit (x ∷ window))) / 4 + other_digit b * 4 ^ k
+    ≡ number_from_digits 4 (reverse (map other_digit (window ++ b ∷ [])))
 backward-moved x b k window e =
     let rest : List ℕ = reverse (map other_digit window) in
-    let push = ap (number_from_digits 4) (reverse-append (other_digit x ∷ []) (map other_digit window)) ∙ number_push 4 (reverse (map other_digit window)) (other_digit x) in
+    let push = ap (number_from_digits 4) (reverse-append (other_digit x ∷ []) (map other_digit window))
+    ∙ number_push 4 (reverse (map other_digit window)) (other_digit x) in
     let small = other_digit-lt x in
     let long : length (reverse (map other_digit window)) ≡ k = length-reverse (map other_digit window) ∙ length-map window other_digit ∙ e in
-    let cons = ap (λ xs. number_from_digits 4 (reverse xs)) (map_push other_digit window b) ∙ ap (number_from_digits 4) (reverse-append (map other_digit window) (other_digit b ∷ []))
-    ∙ number-cons (other_digit b) (reverse (map other_digit window)) ∙ ap (λ n. other_digit b * 4 ^ n + number_from_digits 4 (reverse (map other_digit window))) long in
+    let cons = ap (λ xs. number_from_digits 4 (reverse xs)) (map_push other_digit window b)
+    ∙ ap (number_from_digits 4) (reverse-append (map other_digit window) (other_digit b ∷ []))
+    ∙ number-cons (other_digit b) (reverse (map other_digit window))
+    ∙ ap (λ n. other_digit b * 4 ^ n + number_from_digits 4 (reverse (map other_digit window))) long in
     omega (arith, push, small, cons)
 
 last_window_push : (k : ℕ) (bytes : List ℕ) (byte : ℕ) → 1 ≤ k → last_window k (bytes ++ byte ∷ []) ≡ drop 1 (last_window k bytes) ++ byte ∷ []
@@ -119,7 +130,9 @@ run_of-none k =
     ∙ get_or-replicate-any (length (replicate k unusable) - 1 - 0)))
   where
     get_or-replicate-any : (i : ℕ) → get_or (replicate k unusable) i unusable ≡ unusable
-    get_or-replicate-any i = ⊎_elim (λ h. get_or-replicate k i unusable unusable h) (λ h. get_or_past (replicate k unusable) i unusable (let long = length-replicate k unusable in omega (arith, long, h))) (cases_lt i k)
+    get_or-replicate-any i =
+        ⊎_elim (λ h. get_or-replicate k i unusable unusable h)
+        (λ h. get_or_past (replicate k unusable) i unusable (let long = length-replicate k unusable in omega (arith, long, h))) (cases_lt i k)
 
 pub run_of-le : (k : ℕ) (bytes : List ℕ) → run_of k bytes ≤ k + length bytes
 unfolding run_of
@@ -135,17 +148,22 @@ prefix-covers p zero xs h = le-leb 0 (prefix_len p xs) (omega arith)
 prefix-covers p (suc k) [] h = absurd (omega (arith, h))
 prefix-covers p (suc k) (x ∷ xs) h =
     ⊎_elim
-    (λ e. ap (leb (suc k)) (cond-true (p x) (1 + prefix_len p xs) 0 e) ∙ shifted k (prefix_len p xs) ∙ prefix-covers p k xs (omega (arith, h)) ∙ sym (ap (λ b. b && list_all p (take k xs)) e))
-    (λ e. ap (leb (suc k)) (cond-false (p x) (1 + prefix_len p xs) 0 e) ∙ lt-leb (suc k) 0 (omega arith) ∙ sym (ap (λ b. b && list_all p (take k xs)) e))
+    (λ e. ap (leb (suc k)) (cond-true (p x) (1 + prefix_len p xs) 0 e) ∙ shifted k (prefix_len p xs) ∙ prefix-covers p k xs (omega (arith, h))
+    ∙ sym (ap (λ b. b && list_all p (take k xs)) e))
+    (λ e. ap (leb (suc k)) (cond-false (p x) (1 + prefix_len p xs) 0 e) ∙ lt-leb (suc k) 0 (omega arith)
+    ∙ sym (ap (λ b. b && list_all p (take k xs)) e))
     (cases_Bool (p x))
   where
     shifted : (m n : ℕ) → leb (suc m) (1 + n) ≡ leb m n
-    shifted m n = ⊎_elim (λ l. lt-leb (suc m) (1 + n) (omega (arith, l)) ∙ sym (lt-leb m n l)) (λ l. le-leb (suc m) (1 + n) (omega (arith, l)) ∙ sym (le-leb m n l)) (cases_lt n m)
+    shifted m n =
+        ⊎_elim (λ l. lt-leb (suc m) (1 + n) (omega (arith, l)) ∙ sym (lt-leb m n l))
+        (λ l. le-leb (suc m) (1 + n) (omega (arith, l)) ∙ sym (le-leb m n l)) (cases_lt n m)
 
 list_all-reverse : {X : Type 0} (p : X → Bool) (xs : List X) → list_all p (reverse xs) ≡ list_all p xs
 list_all-reverse p [] = refl
 list_all-reverse p (x ∷ xs) =
-    ap (list_all p) (reverse-append (x ∷ []) xs) ∙ list_all-append p (reverse xs) (x ∷ []) ∙ ap (λ b. b && (p x && true)) (list_all-reverse p xs) ∙ swapped (list_all p xs) (p x)
+    ap (list_all p) (reverse-append (x ∷ []) xs) ∙ list_all-append p (reverse xs) (x ∷ []) ∙ ap (λ b. b && (p x && true)) (list_all-reverse p xs)
+    ∙ swapped (list_all p xs) (p x)
   where
     swapped : (a b : Bool) → (a && (b && true)) ≡ (b && a)
     swapped true true = refl
@@ -162,8 +180,10 @@ take-reverse k n xs e =
 run_of-covers : (k : ℕ) (bytes : List ℕ) → leb k (run_of k bytes) ≡ are_bases (map to_ascii_uppercase (last_window k bytes))
 unfolding run_of last_window
 run_of-covers k bytes =
-    let whole : length (replicate k unusable ++ bytes) ≡ k + length bytes = length-append (replicate k unusable) bytes ∙ ap (λ n. n + length bytes) (length-replicate k unusable) in
-    prefix-covers is_letter k (reverse (replicate k unusable ++ bytes)) (let turned = length-reverse (replicate k unusable ++ bytes) in omega (arith, turned, whole))
+    let whole : length (replicate k unusable ++ bytes) ≡ k + length bytes =
+    length-append (replicate k unusable) bytes ∙ ap (λ n. n + length bytes) (length-replicate k unusable) in
+    prefix-covers is_letter k (reverse (replicate k unusable ++ bytes))
+    (let turned = length-reverse (replicate k unusable ++ bytes) in omega (arith, turned, whole))
     ∙ ap (list_all is_letter) (take-reverse k (length bytes) (replicate k unusable ++ bytes) whole)
     ∙ list_all-reverse is_letter (drop (length bytes) (replicate k unusable ++ bytes))
     ∙ sym (list_all-map is_base to_ascii_uppercase (drop (length bytes) (replicate k unusable ++ bytes)))
@@ -175,9 +195,11 @@ unfolding digit_of
 codes-window [] h = refl
 codes-window (x ∷ xs) h =
     let parts = and_parts (is_letter x) (list_all is_letter xs) h in
-    ap (λ n. n ∷ map code (map to_ascii_uppercase xs)) (sym (cond-true _ (code (to_ascii_uppercase x)) 0 parts.0)) ∙ ap (λ ns. digit_of x ∷ ns) (codes-window xs parts.1)
+    ap (λ n. n ∷ map code (map to_ascii_uppercase xs)) (sym (cond-true _ (code (to_ascii_uppercase x)) 0 parts.0))
+    ∙ ap (λ ns. digit_of x ∷ ns) (codes-window xs parts.1)
 
-others-window : (window : List ℕ) → list_all is_letter window ≡ true → map code (map complement (map to_ascii_uppercase window)) ≡ map other_digit window
+others-window : (window : List ℕ) → list_all is_letter window ≡ true
+    → map code (map complement (map to_ascii_uppercase window)) ≡ map other_digit window
 unfolding other_digit digit_of
 others-window [] h = refl
 others-window (x ∷ xs) h =
@@ -187,14 +209,17 @@ others-window (x ∷ xs) h =
     let this : code (complement (to_ascii_uppercase x)) ≡ other_digit x = omega (arith, three, digit) in
     ap (λ n. n ∷ map code (map complement (map to_ascii_uppercase xs))) this ∙ ap (λ ns. other_digit x ∷ ns) (others-window xs parts.1)
 
-number-window : (window : List ℕ) → are_bases (map to_ascii_uppercase window) ≡ true → number (map to_ascii_uppercase window) ≡ number_from_digits 4 (map digit_of window)
+number-window : (window : List ℕ) → are_bases (map to_ascii_uppercase window) ≡ true
+    → number (map to_ascii_uppercase window) ≡ number_from_digits 4 (map digit_of window)
 unfolding number
 number-window window h = ap (number_from_digits 4) (codes-window window (sym (list_all-map is_base to_ascii_uppercase window) ∙ h))
 
-number-other_window : (window : List ℕ) → are_bases (map to_ascii_uppercase window) ≡ true → number (reverse_complement (map to_ascii_uppercase window)) ≡ number_from_digits 4 (reverse (map other_digit window))
+number-other_window : (window : List ℕ) → are_bases (map to_ascii_uppercase window) ≡ true
+    → number (reverse_complement (map to_ascii_uppercase window)) ≡ number_from_digits 4 (reverse (map other_digit window))
 unfolding number reverse_complement
 number-other_window window h =
-    ap (number_from_digits 4) (map-reverse code (map complement (map to_ascii_uppercase window)) ∙ ap reverse (others-window window (sym (list_all-map is_base to_ascii_uppercase window) ∙ h)))
+    ap (number_from_digits 4) (map-reverse code (map complement (map to_ascii_uppercase window))
+    ∙ ap reverse (others-window window (sym (list_all-map is_base to_ascii_uppercase window) ∙ h)))
 
 -- ---- the state of the roll
 
@@ -211,14 +236,18 @@ last_window-none k = append-nil (replicate k unusable)
 digits-none : (k : ℕ) → number_from_digits 4 (map digit_of (replicate k unusable)) ≡ 0
 unfolding digit_of is_base
 digits-none zero = refl
-digits-none (suc k) = number-cons 0 (map digit_of (replicate k unusable)) ∙ ap (λ n. 0 * 4 ^ length (map digit_of (replicate k unusable)) + n) (digits-none k) ∙ omega arith
+digits-none (suc k) =
+    number-cons 0 (map digit_of (replicate k unusable)) ∙ ap (λ n. 0 * 4 ^ length (map digit_of (replicate k unusable)) + n) (digits-none k)
+    ∙ omega arith
 
 others-none : (k : ℕ) → number_from_digits 4 (reverse (map other_digit (replicate k unusable))) + 1 ≡ 4 ^ k
 unfolding other_digit digit_of is_base
 others-none zero = refl
 others-none (suc k) =
-    let push : number_from_digits 4 (reverse (map other_digit (replicate (suc k) unusable))) ≡ number_from_digits 4 (reverse (map other_digit (replicate k unusable))) * 4 + 3 =
-    ap (number_from_digits 4) (reverse-append (3 ∷ []) (map other_digit (replicate k unusable))) ∙ number_push 4 (reverse (map other_digit (replicate k unusable))) 3 in
+    let push : number_from_digits 4 (reverse (map other_digit (replicate (suc k) unusable)))
+    ≡ number_from_digits 4 (reverse (map other_digit (replicate k unusable))) * 4 + 3 =
+    ap (number_from_digits 4) (reverse-append (3 ∷ []) (map other_digit (replicate k unusable)))
+    ∙ number_push 4 (reverse (map other_digit (replicate k unusable))) 3 in
     let before = others-none k in
     let power = pow-suc 4 k in
     omega (arith, push, before, power)
@@ -234,41 +263,64 @@ IsRolled-none k backward e = record {
   run_is = sym (run_of-none k);
 }
 
--- one byte more
-pub IsRolled-more : (k : ℕ) (seen : List ℕ) (byte c forward backward run more : ℕ) → 1 ≤ k → c ≡ cond (is_base (to_ascii_uppercase byte)) (code (to_ascii_uppercase byte)) 4 → (c < 4 → more ≡ run + 1) → (4 ≤ c → more ≡ 0)
-    → IsRolled k seen forward backward run → IsRolled k (seen ++ byte ∷ []) ((forward * 4 + bit_and c 3) % 4 ^ k) (backward / 4 + (3 - bit_and c 3) * 4 ^ (k - 1)) more
+-- one byte more: its code, and the two numbers and the run before it and behind it
+pub record RollStep (k : ℕ) : Type 0 where
+  pub byte : ℕ
+  pub found : ℕ
+  pub forward : ℕ
+  pub backward : ℕ
+  pub run : ℕ
+  pub next_forward : ℕ
+  pub next_backward : ℕ
+  pub next_run : ℕ
+  pub found_is : found ≡ cond (is_base (to_ascii_uppercase byte)) (code (to_ascii_uppercase byte)) 4
+  pub forward_is : next_forward ≡ (forward * 4 + bit_and found 3) % 4 ^ k
+  pub backward_is : next_backward ≡ backward / 4 + (3 - bit_and found 3) * 4 ^ (k - 1)
+  pub grows : found < 4 → next_run ≡ run + 1
+  pub breaks : 4 ≤ found → next_run ≡ 0
+
+pub IsRolled-more : (k : ℕ) (seen : List ℕ) (s : RollStep k) → 1 ≤ k → IsRolled k seen s.forward s.backward s.run
+    → IsRolled k (seen ++ s.byte ∷ []) s.next_forward s.next_backward s.next_run
 unfolding other_digit
-IsRolled-more k seen byte c forward backward run more some e longer stops rolled =
-    let window : List ℕ = last_window k seen in
+IsRolled-more k seen s some rolled =
+    let first : ℕ = get_or (last_window k seen) 0 0 in
     let long = length-last_window k seen in
-    let split : last_window k seen ≡ get_or (last_window k seen) 0 0 ∷ drop 1 (last_window k seen) = drop_more (last_window k seen) 0 0 (omega (arith, long, some)) in
+    let split : last_window k seen ≡ first ∷ drop 1 (last_window k seen) = drop_more (last_window k seen) 0 0 (omega (arith, long, some)) in
     let rest : length (drop 1 (last_window k seen)) ≡ k - 1 = length-drop 1 (last_window k seen) ∙ ap (λ n. n - 1) long in
-    let digit = digit_of-masked byte c e in
-    let next = last_window_push k seen byte some in
+    let digit = digit_of-masked s.byte s.found s.found_is in
+    let next = last_window_push k seen s.byte some in
     let whole : suc (k - 1) ≡ k = omega (arith, some) in
     record {
       forward_is =
-          ap (λ n. (n * 4 + bit_and c 3) % 4 ^ k) (rolled.forward_is ∙ ap (λ w. number_from_digits 4 (map digit_of w)) split)
-          ∙ ap (λ d. (number_from_digits 4 (map digit_of (get_or (last_window k seen) 0 0 ∷ drop 1 (last_window k seen))) * 4 + d) % 4 ^ k) digit
-          ∙ ap (λ m. (number_from_digits 4 (map digit_of (get_or (last_window k seen) 0 0 ∷ drop 1 (last_window k seen))) * 4 + digit_of byte) % 4 ^ m) (sym whole)
-          ∙ forward-moved (get_or (last_window k seen) 0 0) byte (k - 1) (drop 1 (last_window k seen)) rest
+          s.forward_is
+          ∙ ap (λ n. (n * 4 + bit_and s.found 3) % 4 ^ k) (rolled.forward_is ∙ ap (λ w. number_from_digits 4 (map digit_of w)) split)
+          ∙ ap (λ d. (number_from_digits 4 (map digit_of (first ∷ drop 1 (last_window k seen))) * 4 + d) % 4 ^ k) digit
+          ∙ ap (λ m. (number_from_digits 4 (map digit_of (first ∷ drop 1 (last_window k seen))) * 4 + digit_of s.byte) % 4 ^ m) (sym whole)
+          ∙ forward-moved first s.byte (k - 1) (drop 1 (last_window k seen)) rest
           ∙ ap (λ w. number_from_digits 4 (map digit_of w)) (sym next);
       backward_is =
-          ap (λ n. n / 4 + (3 - bit_and c 3) * 4 ^ (k - 1)) (rolled.backward_is ∙ ap (λ w. number_from_digits 4 (reverse (map other_digit w))) split)
-          ∙ ap (λ d. number_from_digits 4 (reverse (map other_digit (get_or (last_window k seen) 0 0 ∷ drop 1 (last_window k seen)))) / 4 + (3 - d) * 4 ^ (k - 1)) digit
-          ∙ backward-moved (get_or (last_window k seen) 0 0) byte (k - 1) (drop 1 (last_window k seen)) rest
+          s.backward_is
+          ∙ ap (λ n. n / 4 + (3 - bit_and s.found 3) * 4 ^ (k - 1))
+          (rolled.backward_is ∙ ap (λ w. number_from_digits 4 (reverse (map other_digit w))) split)
+          ∙ ap (λ d. number_from_digits 4 (reverse (map other_digit (first ∷ drop 1 (last_window k seen)))) / 4 + (3 - d) * 4 ^ (k - 1)) digit
+          ∙ backward-moved first s.byte (k - 1) (drop 1 (last_window k seen)) rest
           ∙ ap (λ w. number_from_digits 4 (reverse (map other_digit w))) (sym next);
       run_is =
           ⊎_elim
-          (λ h. longer (let small = code-lt (to_ascii_uppercase byte) in let value : c ≡ code (to_ascii_uppercase byte) = e ∙ cond-true _ _ _ h in omega (arith, small, value))
-          ∙ ap (λ n. n + 1) rolled.run_is ∙ add_comm (run_of k seen) 1 ∙ sym (run_of_push k seen byte ∙ cond-true (is_letter byte) (1 + run_of k seen) 0 h))
-          (λ h. stops (let value : c ≡ 4 = e ∙ cond-false _ _ _ h in omega (arith, value)) ∙ sym (run_of_push k seen byte ∙ cond-false (is_letter byte) (1 + run_of k seen) 0 h))
-          (cases_Bool (is_letter byte));
+          (λ h. s.grows (let small = code-lt (to_ascii_uppercase s.byte) in
+          let value : s.found ≡ code (to_ascii_uppercase s.byte) = s.found_is ∙ cond-true _ _ _ h in omega (arith, small, value))
+          ∙ ap (λ n. n + 1) rolled.run_is ∙ add_comm (run_of k seen) 1
+          ∙ sym (run_of_push k seen s.byte ∙ cond-true (is_letter s.byte) (1 + run_of k seen) 0 h))
+          (λ h. s.breaks (let value : s.found ≡ 4 = s.found_is ∙ cond-false _ _ _ h in omega (arith, value))
+          ∙ sym (run_of_push k seen s.byte ∙ cond-false (is_letter s.byte) (1 + run_of k seen) 0 h))
+          (cases_Bool (is_letter s.byte));
     }
 
 pub IsRolled-forward-lt : (k : ℕ) (seen : List ℕ) (forward backward run : ℕ) → IsRolled k seen forward backward run → forward < 4 ^ k
 IsRolled-forward-lt k seen forward backward run rolled =
-    let small : number_from_digits 4 (map digit_of (last_window k seen)) < 4 ^ k = subst (λ n. number_from_digits 4 (map digit_of (last_window k seen)) < 4 ^ n) (length-last_window k seen) (number_of_map-lt digit_of digit_of-lt (last_window k seen)) in
+    let small : number_from_digits 4 (map digit_of (last_window k seen)) < 4 ^ k =
+    subst (λ n. number_from_digits 4 (map digit_of (last_window k seen)) < 4 ^ n) (length-last_window k seen)
+    (number_of_map-lt digit_of digit_of-lt (last_window k seen)) in
     let value = rolled.forward_is in
     omega (arith, small, value)
 
@@ -279,28 +331,39 @@ IsRolled-run-le k seen forward backward run rolled =
     omega (arith, most, value)
 
 -- where the run covers a window, the word of the last window is the one that both numbers give
-pub word_of-rolled : (k : ℕ) (both : Bool) (seen : List ℕ) (forward backward run : ℕ) → IsRolled k seen forward backward run → k ≤ run → word_of both (last_window k seen) ≡ Some (cond both (min backward forward) forward)
+pub word_of-rolled : (k : ℕ) (both : Bool) (seen : List ℕ) (forward backward run : ℕ) → IsRolled k seen forward backward run → k ≤ run
+    → word_of both (last_window k seen) ≡ Some (cond both (min backward forward) forward)
 unfolding word_of form
 word_of-rolled k both seen forward backward run rolled h =
-    let bases : are_bases (map to_ascii_uppercase (last_window k seen)) ≡ true = sym (run_of-covers k seen) ∙ ap (leb k) (sym rolled.run_is) ∙ le-leb k run h in
+    let bases : are_bases (map to_ascii_uppercase (last_window k seen)) ≡ true =
+    sym (run_of-covers k seen) ∙ ap (leb k) (sym rolled.run_is) ∙ le-leb k run h in
     cond-true _ (Some (number (form both (map to_ascii_uppercase (last_window k seen))))) None bases ∙ ap Some (numbers both bases)
   where
-    numbers : (b : Bool) → are_bases (map to_ascii_uppercase (last_window k seen)) ≡ true → number (form b (map to_ascii_uppercase (last_window k seen))) ≡ cond b (min backward forward) forward
+    numbers : (b : Bool) → are_bases (map to_ascii_uppercase (last_window k seen)) ≡ true
+        → number (form b (map to_ascii_uppercase (last_window k seen))) ≡ cond b (min backward forward) forward
     numbers true bases =
-        let this : number (map to_ascii_uppercase (last_window k seen)) ≡ forward = number-window (last_window k seen) bases ∙ sym rolled.forward_is in
-        let other : number (reverse_complement (map to_ascii_uppercase (last_window k seen))) ≡ backward = number-other_window (last_window k seen) bases ∙ sym rolled.backward_is in
-        number-canonical (map to_ascii_uppercase (last_window k seen)) bases ∙ ap (λ n. min n (number (map to_ascii_uppercase (last_window k seen)))) other ∙ ap (min backward) this
+        let this : number (map to_ascii_uppercase (last_window k seen)) ≡ forward =
+        number-window (last_window k seen) bases ∙ sym rolled.forward_is in
+        let other : number (reverse_complement (map to_ascii_uppercase (last_window k seen))) ≡ backward =
+        number-other_window (last_window k seen) bases ∙ sym rolled.backward_is in
+        number-canonical (map to_ascii_uppercase (last_window k seen)) bases
+        ∙ ap (λ n. min n (number (map to_ascii_uppercase (last_window k seen)))) other ∙ ap (min backward) this
     numbers false bases = number-window (last_window k seen) bases ∙ sym rolled.forward_is
 
-pub word_of-broken : (k : ℕ) (both : Bool) (seen : List ℕ) (forward backward run : ℕ) → IsRolled k seen forward backward run → run < k → word_of both (last_window k seen) ≡ None
+pub word_of-broken : (k : ℕ) (both : Bool) (seen : List ℕ) (forward backward run : ℕ) → IsRolled k seen forward backward run → run < k
+    → word_of both (last_window k seen) ≡ None
 unfolding word_of
 word_of-broken k both seen forward backward run rolled h =
-    cond-false _ (Some (number (form both (map to_ascii_uppercase (last_window k seen))))) None (sym (run_of-covers k seen) ∙ ap (leb k) (sym rolled.run_is) ∙ lt-leb k run h)
+    cond-false _ (Some (number (form both (map to_ascii_uppercase (last_window k seen))))) None
+    (sym (run_of-covers k seen) ∙ ap (leb k) (sym rolled.run_is) ∙ lt-leb k run h)
 
 pub IsRolled-backward-lt : (k : ℕ) (seen : List ℕ) (forward backward run : ℕ) → IsRolled k seen forward backward run → backward < 4 ^ k
 IsRolled-backward-lt k seen forward backward run rolled =
     let long : length (reverse (last_window k seen)) ≡ k = length-reverse (last_window k seen) ∙ length-last_window k seen in
-    let small : number_from_digits 4 (map other_digit (reverse (last_window k seen))) < 4 ^ k = subst (λ n. number_from_digits 4 (map other_digit (reverse (last_window k seen))) < 4 ^ n) long (number_of_map-lt other_digit other_digit-lt (reverse (last_window k seen))) in
-    let turned : number_from_digits 4 (map other_digit (reverse (last_window k seen))) ≡ number_from_digits 4 (reverse (map other_digit (last_window k seen))) = ap (number_from_digits 4) (map-reverse other_digit (last_window k seen)) in
+    let small : number_from_digits 4 (map other_digit (reverse (last_window k seen))) < 4 ^ k =
+    subst (λ n. number_from_digits 4 (map other_digit (reverse (last_window k seen))) < 4 ^ n) long
+    (number_of_map-lt other_digit other_digit-lt (reverse (last_window k seen))) in
+    let turned : number_from_digits 4 (map other_digit (reverse (last_window k seen)))
+    ≡ number_from_digits 4 (reverse (map other_digit (last_window k seen))) = ap (number_from_digits 4) (map-reverse other_digit (last_window k seen)) in
     let value = rolled.backward_is in
     omega (arith, small, turned, value)

@@ -5,7 +5,7 @@ use Rattle.std.proofs.lemmas.List.{drop_more, drop_all, take_all, append-nil, ge
 use Rattle.std.proofs.lemmas.List.Sums.{sum_by-cons, sum_by_more, sum_by_more_le}
 use Rattle.kc_word.specs.Occurrences.{position_count}
 use Rattle.kc_word.specs.Cutting.{stretch, stretches, position_total}
-use Rattle.kc_word.specs.Place.{number_at, IsPlace}
+use Rattle.kc_word.specs.Cursor.{position_number, IsCursor}
 use Rattle.kc_word.proofs.Stretches.{stretches_from, stretches-are}
 
 stretch-empty : (k : ℕ) (piece : List ℕ) (p q : ℕ) → q ≤ p → stretch k piece p q ≡ []
@@ -13,13 +13,15 @@ unfolding stretch
 stretch-empty k piece p q h = cond-false _ (slice_range piece p (q + k - 1) ∷ []) [] (le-ltb p q h)
 
 -- what lies before the first number is passed over
-pub stretches-skip : (k low high first index : ℕ) (pieces : List (List ℕ)) → first + position_total k (take index pieces) ≤ low → stretches_from k low high first pieces ≡ stretches_from k low high (first + position_total k (take index pieces)) (drop index pieces)
+pub stretches-skip : (k low high first index : ℕ) (pieces : List (List ℕ)) → first + position_total k (take index pieces) ≤ low
+    → stretches_from k low high first pieces ≡ stretches_from k low high (first + position_total k (take index pieces)) (drop index pieces)
 unfolding stretches_from
 stretches-skip k low high first zero pieces h = ap (λ n. stretches_from k low high n pieces) (omega arith)
 stretches-skip k low high first (suc index) [] h = refl
 stretches-skip k low high first (suc index) (piece ∷ pieces) h =
     let sum = sum_by-cons (λ p. position_count k (length p)) piece (take index pieces) in
-    ap (λ xs. xs ++ stretches_from k low high (first + position_count k (length piece)) pieces) (stretch-empty k piece (low - first) (min (position_count k (length piece)) (high - first)) (omega (arith, h, sum)))
+    ap (λ xs. xs ++ stretches_from k low high (first + position_count k (length piece)) pieces)
+    (stretch-empty k piece (low - first) (min (position_count k (length piece)) (high - first)) (omega (arith, h, sum)))
     ∙ stretches-skip k low high (first + position_count k (length piece)) index pieces (omega (arith, h, sum))
     ∙ ap (λ n. stretches_from k low high n (drop index pieces)) (omega (arith, sum))
 
@@ -28,7 +30,8 @@ stretches-late : (k low high first : ℕ) (pieces : List (List ℕ)) → high �
 unfolding stretches_from
 stretches-late k low high first [] h = refl
 stretches-late k low high first (piece ∷ pieces) h =
-    ap (λ xs. xs ++ stretches_from k low high (first + position_count k (length piece)) pieces) (stretch-empty k piece (low - first) (min (position_count k (length piece)) (high - first)) (omega (arith, h)))
+    ap (λ xs. xs ++ stretches_from k low high (first + position_count k (length piece)) pieces)
+    (stretch-empty k piece (low - first) (min (position_count k (length piece)) (high - first)) (omega (arith, h)))
     ∙ stretches-late k low high (first + position_count k (length piece)) pieces (omega (arith, h))
 
 -- from one number to itself nothing is taken
@@ -36,18 +39,25 @@ stretches-none : (k low high first : ℕ) (pieces : List (List ℕ)) → high �
 unfolding stretches_from
 stretches-none k low high first [] h = refl
 stretches-none k low high first (piece ∷ pieces) h =
-    ap (λ xs. xs ++ stretches_from k low high (first + position_count k (length piece)) pieces) (stretch-empty k piece (low - first) (min (position_count k (length piece)) (high - first)) (omega (arith, h)))
+    ap (λ xs. xs ++ stretches_from k low high (first + position_count k (length piece)) pieces)
+    (stretch-empty k piece (low - first) (min (position_count k (length piece)) (high - first)) (omega (arith, h)))
     ∙ stretches-none k low high (first + position_count k (length piece)) pieces h
 
 -- before the first piece it is the same where the taking begins
-stretches-early : (k low other high first : ℕ) (pieces : List (List ℕ)) → low ≤ first → other ≤ first → stretches_from k low high first pieces ≡ stretches_from k other high first pieces
+stretches-early : (k low other high first : ℕ) (pieces : List (List ℕ)) → low ≤ first → other ≤ first
+    → stretches_from k low high first pieces ≡ stretches_from k other high first pieces
 unfolding stretches_from
 stretches-early k low other high first [] h g = refl
 stretches-early k low other high first (piece ∷ pieces) h g =
-    ap (λ n. stretch k piece n (min (position_count k (length piece)) (high - first)) ++ stretches_from k low high (first + position_count k (length piece)) pieces) (omega (arith, h, g))
-    ∙ ap (λ xs. stretch k piece (other - first) (min (position_count k (length piece)) (high - first)) ++ xs) (stretches-early k low other high (first + position_count k (length piece)) pieces (omega (arith, h)) (omega (arith, g)))
+    ap (λ n. stretch k piece n (min (position_count k (length piece)) (high - first))
+    ++ stretches_from k low high (first + position_count k (length piece)) pieces) (omega (arith, h, g))
+    ∙ ap (λ xs. stretch k piece (other - first) (min (position_count k (length piece)) (high - first)) ++ xs)
+    (stretches-early k low other high (first + position_count k (length piece)) pieces (omega (arith, h)) (omega (arith, g)))
 
-stretches-cons : (k low high first : ℕ) (piece : List ℕ) (pieces : List (List ℕ)) → stretches_from k low high first (piece ∷ pieces) ≡ stretch k piece (low - first) (min (position_count k (length piece)) (high - first)) ++ stretches_from k low high (first + position_count k (length piece)) pieces
+stretches-cons : (k low high first : ℕ) (piece : List ℕ) (pieces : List (List ℕ))
+    → stretches_from k low high first (piece ∷ pieces)
+    ≡ stretch k piece (low - first) (min (position_count k (length piece)) (high - first))
+    ++ stretches_from k low high (first + position_count k (length piece)) pieces
 unfolding stretches_from
 stretches-cons k low high first piece pieces = refl
 
@@ -55,141 +65,220 @@ pub stretches-nil : (k low high first : ℕ) → stretches_from k low high first
 unfolding stretches_from
 stretches-nil k low high first = refl
 
--- the taking of the positions from low to before high, come to a place, with room for more
+-- the taking of the positions from low to before high, come to a cursor, with room for more
 pub record IsTaking (k low high : ℕ) (pieces : List (List ℕ)) (index position room : ℕ) (parts : List (List ℕ)) : Type 0 where
-  pub place : IsPlace k pieces index position
-  pub number : number_at k pieces index position + room ≡ high
-  pub taken : parts ++ stretches_from k (number_at k pieces index position) high (position_total k (take index pieces)) (drop index pieces) ≡ stretches_from k low high 0 pieces
+  pub cursor : IsCursor k pieces index position
+  pub number : position_number k pieces index position + room ≡ high
+  pub taken : parts ++ stretches_from k (position_number k pieces index position) high (position_total k (take index pieces)) (drop index pieces)
+      ≡ stretches_from k low high 0 pieces
 
-pub IsTaking-none : (k size index position : ℕ) (pieces : List (List ℕ)) → IsPlace k pieces index position → IsTaking k (number_at k pieces index position) (number_at k pieces index position + size) pieces index position size []
-IsTaking-none k size index position pieces place = record {
-  place = place;
+pub IsTaking-none : (k size index position : ℕ) (pieces : List (List ℕ)) → IsCursor k pieces index position
+    → IsTaking k (position_number k pieces index position) (position_number k pieces index position + size) pieces index position size []
+IsTaking-none k size index position pieces cursor = record {
+  cursor = cursor;
   number = refl;
-  taken = sym (stretches-skip k (number_at k pieces index position) (number_at k pieces index position + size) 0 index pieces (omega arith)
-      ∙ ap (λ n. stretches_from k (number_at k pieces index position) (number_at k pieces index position + size) n (drop index pieces)) (omega arith));
+  taken =
+      sym (stretches-skip k (position_number k pieces index position) (position_number k pieces index position + size) 0 index pieces (omega arith)
+      ∙ ap (λ n. stretches_from k (position_number k pieces index position) (position_number k pieces index position + size) n (drop index pieces))
+      (omega arith));
 }
 
 -- what one piece gives: the stretch from the position on, as far as there is room
 pub given : ℕ → List ℕ → ℕ → ℕ → List (List ℕ)
 given k piece position taken = stretch k piece position (position + taken)
 
-pub given-some : (k : ℕ) (piece : List ℕ) (position taken : ℕ) → 0 < taken → given k piece position taken ≡ slice_range piece position (position + taken + k - 1) ∷ []
+given-some : (k : ℕ) (piece : List ℕ) (position taken : ℕ) → 0 < taken
+    → given k piece position taken ≡ slice_range piece position (position + taken + k - 1) ∷ []
 unfolding given stretch
-given-some k piece position taken h = cond-true _ (slice_range piece position (position + taken + k - 1) ∷ []) [] (lt-ltb position (position + taken) (omega (arith, h)))
+given-some k piece position taken h =
+    cond-true _ (slice_range piece position (position + taken + k - 1) ∷ []) [] (lt-ltb position (position + taken) (omega (arith, h)))
 
-pub given-none : (k : ℕ) (piece : List ℕ) (position taken : ℕ) → taken ≤ 0 → given k piece position taken ≡ []
+given-none : (k : ℕ) (piece : List ℕ) (position taken : ℕ) → taken ≤ 0 → given k piece position taken ≡ []
 unfolding given
 given-none k piece position taken h = stretch-empty k piece position (position + taken) (omega (arith, h))
 
--- the piece that the place stands in, with what it gives, and the rest
-taken-split : (k high : ℕ) (pieces : List (List ℕ)) (index position room taken : ℕ) → index < length pieces → number_at k pieces index position + room ≡ high → position ≤ position_count k (length (get_or pieces index [])) → taken ≡ min room (position_count k (length (get_or pieces index [])) - position)
-    → stretches_from k (number_at k pieces index position) high (position_total k (take index pieces)) (drop index pieces)
-    ≡ given k (get_or pieces index []) position taken ++ stretches_from k (number_at k pieces index position) high (position_total k (take index pieces) + position_count k (length (get_or pieces index []))) (drop (index + 1) pieces)
+-- how the parts grow: where positions of the piece are taken, the part that holds them is pushed, which ends `bases` - 1 bytes
+-- behind the last of them, and else nothing
+pub record PartStep (k : ℕ) (pieces : List (List ℕ)) : Type 0 where
+  pub index : ℕ
+  pub position : ℕ
+  pub taken : ℕ
+  pub bases : ℕ
+  pub piece : List ℕ
+  pub parts : List (List ℕ)
+  pub next_parts : List (List ℕ)
+  pub bases_are : bases ≡ k
+  pub piece_is : piece ≡ get_or pieces index []
+  pub pushed : ((0 < taken) × (next_parts ≡ parts ++ slice_range piece position (position + taken + bases - 1) ∷ []))
+      ⊎ ((taken ≤ 0) × (next_parts ≡ parts))
+
+-- what stands behind the step are the parts before it and what the piece gives
+pub given-more : (k : ℕ) (pieces : List (List ℕ)) (s : PartStep k pieces)
+    → s.next_parts ≡ s.parts ++ given k (get_or pieces s.index []) s.position s.taken
+given-more k pieces s =
+    ⊎_elim
+    (λ p. p.1 ∙ ap (λ n. s.parts ++ slice_range s.piece s.position (s.position + s.taken + n - 1) ∷ []) s.bases_are
+    ∙ ap (λ xs. s.parts ++ slice_range xs s.position (s.position + s.taken + k - 1) ∷ []) s.piece_is
+    ∙ ap (λ xs. s.parts ++ xs) (sym (given-some k (get_or pieces s.index []) s.position s.taken p.0)))
+    (λ p. p.1 ∙ sym (append-nil s.parts) ∙ ap (λ xs. s.parts ++ xs) (sym (given-none k (get_or pieces s.index []) s.position s.taken p.0)))
+    s.pushed
+
+-- one piece more: of its `count` positions, `taken` are taken from `position` on. It is used up, or there is no more room
+pub record TakingStep (k : ℕ) (pieces : List (List ℕ)) : Type 0 where
+  pub index : ℕ
+  pub position : ℕ
+  pub room : ℕ
+  pub count : ℕ
+  pub taken : ℕ
+  pub next_index : ℕ
+  pub next_position : ℕ
+  pub parts : List (List ℕ)
+  pub next_parts : List (List ℕ)
+  pub within : index < length pieces
+  pub count_is : count ≡ position_count k (length (get_or pieces index []))
+  pub taken_is : taken ≡ min room (count - position)
+  pub parts_are : next_parts ≡ parts ++ given k (get_or pieces index []) position taken
+  pub moved : ((position + taken ≡ count) × (next_index ≡ index + 1) × (next_position ≡ 0))
+      ⊎ ((position + taken ≡ count → ⊥) × (next_index ≡ index) × (next_position ≡ position + taken))
+
+-- the piece that the cursor stands in, with what it gives, and the rest
+taken-split : (k high : ℕ) (pieces : List (List ℕ)) (s : TakingStep k pieces) → position_number k pieces s.index s.position + s.room ≡ high
+    → s.position ≤ position_count k (length (get_or pieces s.index []))
+    → stretches_from k (position_number k pieces s.index s.position) high (position_total k (take s.index pieces)) (drop s.index pieces)
+    ≡ given k (get_or pieces s.index []) s.position s.taken ++ stretches_from k (position_number k pieces s.index s.position) high
+    (position_total k (take s.index pieces) + position_count k (length (get_or pieces s.index []))) (drop (s.index + 1) pieces)
 unfolding given
-taken-split k high pieces index position room taken h number inside e =
-    let low : ℕ = number_at k pieces index position in
-    let first : ℕ = position_total k (take index pieces) in
-    let piece : List ℕ = get_or pieces index [] in
-    ap (stretches_from k (number_at k pieces index position) high (position_total k (take index pieces))) (drop_more pieces index [] h)
-    ∙ stretches-cons k (number_at k pieces index position) high (position_total k (take index pieces)) (get_or pieces index []) (drop (index + 1) pieces)
-    ∙ ap (λ n. stretch k (get_or pieces index []) n (min (position_count k (length (get_or pieces index []))) (high - position_total k (take index pieces)))
-    ++ stretches_from k (number_at k pieces index position) high (position_total k (take index pieces) + position_count k (length (get_or pieces index []))) (drop (index + 1) pieces)) from
-    ∙ ap (λ n. stretch k (get_or pieces index []) position n ++ stretches_from k (number_at k pieces index position) high (position_total k (take index pieces) + position_count k (length (get_or pieces index []))) (drop (index + 1) pieces)) to
+taken-split k high pieces s number inside =
+    ap (stretches_from k low high first) (drop_more pieces s.index [] s.within)
+    ∙ stretches-cons k low high first piece later
+    ∙ ap (λ n. stretch k piece n (min count (high - first)) ++ stretches_from k low high (first + count) later) from
+    ∙ ap (λ n. stretch k piece s.position n ++ stretches_from k low high (first + count) later) to
   where
-    from : number_at k pieces index position - position_total k (take index pieces) ≡ position
+    low : ℕ
+    low = position_number k pieces s.index s.position
+
+    first : ℕ
+    first = position_total k (take s.index pieces)
+
+    piece : List ℕ
+    piece = get_or pieces s.index []
+
+    later : List (List ℕ)
+    later = drop (s.index + 1) pieces
+
+    count : ℕ
+    count = position_count k (length (get_or pieces s.index []))
+
+    from : low - first ≡ s.position
     from = omega arith
 
-    to : min (position_count k (length (get_or pieces index []))) (high - position_total k (take index pieces)) ≡ position + taken
-    to = omega (arith, number, inside, e)
+    to : min count (high - first) ≡ s.position + s.taken
+    to =
+        let least : s.taken ≡ min s.room (count - s.position) = s.taken_is ∙ ap (λ n. min s.room (n - s.position)) s.count_is in
+        omega (arith, number, inside, least)
 
--- one piece more: it is used up, or there is no more room
-pub IsTaking-more : (k low high : ℕ) (pieces : List (List ℕ)) (index position room count taken index' position' : ℕ) (parts parts' : List (List ℕ)) → 1 ≤ k → index < length pieces → count ≡ position_count k (length (get_or pieces index [])) → taken ≡ min room (count - position)
-    → parts' ≡ parts ++ given k (get_or pieces index []) position taken
-    → ((position + taken ≡ count) × (index' ≡ index + 1) × (position' ≡ 0)) ⊎ ((position + taken ≡ count → ⊥) × (index' ≡ index) × (position' ≡ position + taken))
-    → IsTaking k low high pieces index position room parts → IsTaking k low high pieces index' position' (room - taken) parts'
-IsTaking-more k low high pieces index position room count taken index' position' parts parts' some h is_count is_taken is_parts moved taking =
-    ⊎_elim (λ m. used m) (λ m. full m) moved
+pub IsTaking-more : (k low high : ℕ) (pieces : List (List ℕ)) → 1 ≤ k → (s : TakingStep k pieces)
+    → IsTaking k low high pieces s.index s.position s.room s.parts
+    → IsTaking k low high pieces s.next_index s.next_position (s.room - s.taken) s.next_parts
+IsTaking-more k low high pieces some s taking =
+    ⊎_elim (λ m. used m) (λ m. full m) s.moved
   where
-    piece : List ℕ
-    piece = get_or pieces index []
+    from : ℕ
+    from = position_number k pieces s.index s.position
 
-    inside : position ≤ count
-    inside = let fits = taking.place.inside in omega (arith, fits, is_count)
+    first : ℕ
+    first = position_total k (take s.index pieces)
 
-    least : taken ≡ min room (position_count k (length (get_or pieces index [])) - position)
-    least = is_taken ∙ ap (λ n. min room (n - position)) is_count
+    size : ℕ
+    size = position_count k (length (get_or pieces s.index []))
 
-    split : parts' ++ stretches_from k (number_at k pieces index position) high (position_total k (take index pieces) + position_count k (length (get_or pieces index []))) (drop (index + 1) pieces) ≡ stretches_from k low high 0 pieces
+    later : List (List ℕ)
+    later = drop (s.index + 1) pieces
+
+    inside : s.position ≤ s.count
+    inside = let fits = taking.cursor.inside in omega (arith, fits, s.count_is)
+
+    split : s.next_parts ++ stretches_from k from high (first + size) later ≡ stretches_from k low high 0 pieces
     split =
-        ap (λ xs. xs ++ stretches_from k (number_at k pieces index position) high (position_total k (take index pieces) + position_count k (length (get_or pieces index []))) (drop (index + 1) pieces)) is_parts
-        ∙ append_assoc parts (given k (get_or pieces index []) position taken) (stretches_from k (number_at k pieces index position) high (position_total k (take index pieces) + position_count k (length (get_or pieces index []))) (drop (index + 1) pieces))
-        ∙ ap (λ xs. parts ++ xs) (sym (taken-split k high pieces index position room taken h taking.number taking.place.inside least))
+        ap (λ xs. xs ++ stretches_from k from high (first + size) later) s.parts_are
+        ∙ append_assoc s.parts (given k (get_or pieces s.index []) s.position s.taken) (stretches_from k from high (first + size) later)
+        ∙ ap (λ xs. s.parts ++ xs) (sym (taken-split k high pieces s taking.number taking.cursor.inside))
         ∙ taking.taken
 
-    total : position_total k (take (index + 1) pieces) ≡ position_total k (take index pieces) + position_count k (length (get_or pieces index []))
-    total = sum_by_more (λ p. position_count k (length p)) pieces index [] h
+    total : position_total k (take (s.index + 1) pieces) ≡ first + size
+    total = sum_by_more (λ p. position_count k (length p)) pieces s.index [] s.within
 
-    used : (position + taken ≡ count) × (index' ≡ index + 1) × (position' ≡ 0) → IsTaking k low high pieces index' position' (room - taken) parts'
+    stands_at : (i p : ℕ) → s.next_index ≡ i → s.next_position ≡ p → IsTaking k low high pieces i p (s.room - s.taken) s.next_parts
+        → IsTaking k low high pieces s.next_index s.next_position (s.room - s.taken) s.next_parts
+    stands_at i p index_is position_is goes =
+        subst (λ j. IsTaking k low high pieces j s.next_position (s.room - s.taken) s.next_parts) (sym index_is)
+        (subst (λ q. IsTaking k low high pieces i q (s.room - s.taken) s.next_parts) (sym position_is) goes)
+
+    used : (s.position + s.taken ≡ s.count) × (s.next_index ≡ s.index + 1) × (s.next_position ≡ 0)
+        → IsTaking k low high pieces s.next_index s.next_position (s.room - s.taken) s.next_parts
     used m =
-        let next : number_at k pieces (index + 1) 0 ≡ number_at k pieces index position + taken = (let all = m.0 in omega (arith, total, all, is_count)) in
-        let goes : IsTaking k low high pieces (index + 1) 0 (room - taken) parts' = record {
-          place = record { within = omega (arith, h); inside = omega arith };
-          number = (let number = taking.number in omega (arith, next, number, is_taken));
-          taken =
-              ap (λ n. parts' ++ stretches_from k (number_at k pieces (index + 1) 0) high n (drop (index + 1) pieces)) total
-              ∙ ap (λ xs. parts' ++ xs) (stretches-early k (number_at k pieces (index + 1) 0) (number_at k pieces index position) high (position_total k (take index pieces) + position_count k (length (get_or pieces index []))) (drop (index + 1) pieces)
-              (omega (arith, total)) (omega (arith, inside, is_count)))
-              ∙ split;
-        } in
-        subst (λ i. IsTaking k low high pieces i position' (room - taken) parts') (sym m.1) (subst (λ p. IsTaking k low high pieces (index + 1) p (room - taken) parts') (sym m.2) goes)
-
-    full : (position + taken ≡ count → ⊥) × (index' ≡ index) × (position' ≡ position + taken) → IsTaking k low high pieces index' position' (room - taken) parts'
-    full m =
-        let differ : position + taken ≡ count → ⊥ = m.0 in
-        let spent : taken ≡ room = omega (arith, differ, is_taken, inside) in
+        let all : s.position + s.taken ≡ s.count = m.0 in
+        let next : position_number k pieces (s.index + 1) 0 ≡ from + s.taken = omega (arith, total, all, s.count_is) in
         let number = taking.number in
-        let next : number_at k pieces index (position + taken) ≡ high = omega (arith, number, spent) in
-        let goes : IsTaking k low high pieces index (position + taken) (room - taken) parts' = record {
-          place = record { within = taking.place.within; inside = omega (arith, is_taken, inside, is_count) };
+        stands_at (s.index + 1) 0 m.1 m.2 (record {
+          cursor = record { within = omega (arith, s.within); inside = omega arith };
+          number = omega (arith, next, number, s.taken_is);
+          taken =
+              ap (λ n. s.next_parts ++ stretches_from k (position_number k pieces (s.index + 1) 0) high n later) total
+              ∙ ap (λ xs. s.next_parts ++ xs) (stretches-early k (position_number k pieces (s.index + 1) 0) from high (first + size) later
+              (omega (arith, total)) (omega (arith, inside, s.count_is)))
+              ∙ split;
+        })
+
+    full : (s.position + s.taken ≡ s.count → ⊥) × (s.next_index ≡ s.index) × (s.next_position ≡ s.position + s.taken)
+        → IsTaking k low high pieces s.next_index s.next_position (s.room - s.taken) s.next_parts
+    full m =
+        let differ : s.position + s.taken ≡ s.count → ⊥ = m.0 in
+        let spent : s.taken ≡ s.room = omega (arith, differ, s.taken_is, inside) in
+        let number = taking.number in
+        let next : position_number k pieces s.index (s.position + s.taken) ≡ high = omega (arith, number, spent) in
+        stands_at s.index (s.position + s.taken) m.1 m.2 (record {
+          cursor = record { within = taking.cursor.within; inside = omega (arith, s.taken_is, inside, s.count_is) };
           number = omega (arith, next, spent);
           taken =
-              ap (λ xs. parts' ++ xs)
-              (stretches-none k (number_at k pieces index (position + taken)) high (position_total k (take index pieces)) (drop index pieces) (omega (arith, next))
-              ∙ sym (stretches-late k (number_at k pieces index position) high (position_total k (take index pieces) + position_count k (length (get_or pieces index []))) (drop (index + 1) pieces) (omega (arith, number, spent, differ, is_taken, inside, is_count))))
+              ap (λ xs. s.next_parts ++ xs)
+              (stretches-none k (position_number k pieces s.index (s.position + s.taken)) high first (drop s.index pieces) (omega (arith, next))
+              ∙ sym (stretches-late k from high (first + size) later (omega (arith, number, spent, differ, s.taken_is, inside, s.count_is))))
               ∙ split;
-        } in
-        subst (λ i. IsTaking k low high pieces i position' (room - taken) parts') (sym m.1) (subst (λ p. IsTaking k low high pieces index p (room - taken) parts') (sym m.2) goes)
+        })
 
-number_at-le : (k : ℕ) (pieces : List (List ℕ)) (index position : ℕ) → 1 ≤ k → IsPlace k pieces index position → number_at k pieces index position ≤ position_total k pieces
-number_at-le k pieces index position some place =
-    let inside = place.inside in
+position_number-le : (k : ℕ) (pieces : List (List ℕ)) (index position : ℕ) → 1 ≤ k → IsCursor k pieces index position
+    → position_number k pieces index position ≤ position_total k pieces
+position_number-le k pieces index position some cursor =
+    let inside = cursor.inside in
     ⊎_elim
     (λ h. let most = sum_by_more_le (λ p. position_count k (length p)) pieces index [] h in omega (arith, most, inside))
-    (λ h. let none = ap (λ p. position_count k (length p)) (get_or_past pieces index [] h) in let whole = ap (position_total k) (take_all index pieces h) in omega (arith, inside, none, whole, some))
+    (λ h. let none = ap (λ p. position_count k (length p)) (get_or_past pieces index [] h) in
+    let whole = ap (position_total k) (take_all index pieces h) in
+    omega (arith, inside, none, whole, some))
     (cases_lt index (length pieces))
 
 -- when there is no more room, or no more piece
 pub record IsTaken (k low high : ℕ) (pieces : List (List ℕ)) (index position : ℕ) (parts : List (List ℕ)) : Type 0 where
   pub parts_are : parts ≡ stretches k low high pieces
-  pub moved : number_at k pieces index position ≡ min high (position_total k pieces)
+  pub moved : position_number k pieces index position ≡ min high (position_total k pieces)
 
-pub IsTaking-all : (k low high : ℕ) (pieces : List (List ℕ)) (index position room : ℕ) (parts : List (List ℕ)) → 1 ≤ k → (room ≤ 0) ⊎ (length pieces ≤ index) → IsTaking k low high pieces index position room parts → IsTaken k low high pieces index position parts
-IsTaking-all k low high pieces index position room parts some ends taking =
+pub IsTaking-all : {index position room : ℕ} {parts : List (List ℕ)} (k low high : ℕ) (pieces : List (List ℕ)) → 1 ≤ k
+    → (room ≤ 0) ⊎ (length pieces ≤ index) → IsTaking k low high pieces index position room parts → IsTaken k low high pieces index position parts
+IsTaking-all {index} {position} {room} {parts} k low high pieces some ends taking =
+    let from : ℕ = position_number k pieces index position in
+    let first : ℕ = position_total k (take index pieces) in
     let number = taking.number in
-    let most = number_at-le k pieces index position some taking.place in
+    let most = position_number-le k pieces index position some taking.cursor in
     record {
       parts_are =
           sym (append-nil parts)
           ∙ ⊎_elim
-          (λ h. ap (λ xs. parts ++ xs) (sym (stretches-none k (number_at k pieces index position) high (position_total k (take index pieces)) (drop index pieces) (omega (arith, number, h)))))
-          (λ h. ap (λ xs. parts ++ xs) (sym (ap (stretches_from k (number_at k pieces index position) high (position_total k (take index pieces))) (drop_all index pieces h) ∙ stretches-nil k (number_at k pieces index position) high (position_total k (take index pieces)))))
+          (λ h. ap (λ xs. parts ++ xs) (sym (stretches-none k from high first (drop index pieces) (omega (arith, number, h)))))
+          (λ h. ap (λ xs. parts ++ xs) (sym (ap (stretches_from k from high first) (drop_all index pieces h) ∙ stretches-nil k from high first)))
           ends
           ∙ taking.taken ∙ sym (stretches-are k low high pieces);
       moved =
-          ⊎_elim (λ h. omega (arith, number, h, most)) (λ h. let whole = ap (position_total k) (take_all index pieces h) in omega (arith, number, most, whole)) ends;
+          ⊎_elim (λ h. omega (arith, number, h, most))
+          (λ h. let whole = ap (position_total k) (take_all index pieces h) in omega (arith, number, most, whole)) ends;
     }
-
--- the part that the code takes, where g is k and the piece is the one at the place
-pub part-taken : (g k : ℕ) (piece other : List ℕ) (position taken : ℕ) → g ≡ k → piece ≡ other → slice_range piece position (position + taken + g - 1) ≡ slice_range other position (position + taken + k - 1)
-part-taken g k piece other position taken same here =
-    ap (λ n. slice_range piece position (position + taken + n - 1)) same ∙ ap (λ xs. slice_range xs position (position + taken + k - 1)) here

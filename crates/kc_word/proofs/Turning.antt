@@ -14,10 +14,10 @@ reversed-high : (k n a i : ℕ) → bit_at (reverse_bits_onto k n a) (k + i) ≡
 unfolding reverse_bits_onto
 reversed-high zero n a i = ap (bit_at a) (omega arith)
 reversed-high (suc k) n a i =
-    ap (bit_at (reverse_bits_onto k (n / 2) (a * 2 + n % 2))) place ∙ reversed-high k (n / 2) (a * 2 + n % 2) (suc i) ∙ bit_at-suc (a * 2 + n % 2) i ∙ ap (λ m. bit_at m i) half
+    ap (bit_at (reverse_bits_onto k (n / 2) (a * 2 + n % 2))) index ∙ reversed-high k (n / 2) (a * 2 + n % 2) (suc i) ∙ bit_at-suc (a * 2 + n % 2) i ∙ ap (λ m. bit_at m i) half
   where
-    place : suc k + i ≡ k + suc i
-    place = omega arith
+    index : suc k + i ≡ k + suc i
+    index = omega arith
 
     half : (a * 2 + n % 2) / 2 ≡ a
     half = omega arith
@@ -26,10 +26,10 @@ reversed-low : (k n a i j : ℕ) → i + suc j ≡ k → bit_at (reverse_bits_on
 unfolding reverse_bits_onto
 reversed-low zero n a i j e = absurd (omega (arith, e))
 reversed-low (suc k) n a i zero e =
-    ap (bit_at (reverse_bits_onto k (n / 2) (a * 2 + n % 2))) place ∙ reversed-high k (n / 2) (a * 2 + n % 2) 0 ∙ bit_at_lowest (a * 2 + n % 2) ∙ even ∙ sym (bit_at_lowest n)
+    ap (bit_at (reverse_bits_onto k (n / 2) (a * 2 + n % 2))) index ∙ reversed-high k (n / 2) (a * 2 + n % 2) 0 ∙ bit_at_lowest (a * 2 + n % 2) ∙ even ∙ sym (bit_at_lowest n)
   where
-    place : i ≡ k + 0
-    place = omega (arith, e)
+    index : i ≡ k + 0
+    index = omega (arith, e)
 
     even : (a * 2 + n % 2) % 2 ≡ n % 2
     even = omega arith
@@ -54,7 +54,7 @@ digit-bits n j =
     let high : n / 2 ^ (2 * j) / 2 ^ 1 ≡ n / 2 ^ (2 * j + 1) = shr-shr n (2 * j) 1 in
     omega (arith, low, high)
 
--- ---- the bits of each base change places
+-- ---- the bits of each base are exchanged
 
 -- the lower bit of each base
 abbrev low_bits : ℕ
@@ -72,7 +72,7 @@ bit_at-double n i = bit_at-suc (n * 2) i ∙ ap (λ m. bit_at m i) half
     half : n * 2 / 2 ≡ n
     half = omega arith
 
--- the two bits of each base, in each other's place
+-- the two bits of each base, exchanged
 pub swapped_pairs : ℕ → ℕ
 swapped_pairs n = bit_or (bit_and (n / 2) low_bits) (bit_and n low_bits * 2)
 
@@ -82,12 +82,12 @@ bit_at-swapped_odd n j h =
     let joined = bit_at_or (bit_and (n / 2) low_bits) (bit_and n low_bits * 2) (2 * j + 1) in
     let first = bit_at_and (n / 2) low_bits (2 * j + 1) in
     let none = bit_at-low_bits-odd j h in
-    let place : bit_at (bit_and n low_bits * 2) (2 * j + 1) ≡ bit_at (bit_and n low_bits * 2) (suc (2 * j)) = ap (bit_at (bit_and n low_bits * 2)) (omega arith) in
+    let index : bit_at (bit_and n low_bits * 2) (2 * j + 1) ≡ bit_at (bit_and n low_bits * 2) (suc (2 * j)) = ap (bit_at (bit_and n low_bits * 2)) (omega arith) in
     let moved = bit_at-double (bit_and n low_bits) (2 * j) in
     let second = bit_at_and n low_bits (2 * j) in
     let one = bit_at-low_bits-even j h in
     let small = bit_at-lt n (2 * j) in
-    omega (arith, joined, first, none, place, moved, second, one, small)
+    omega (arith, joined, first, none, index, moved, second, one, small)
 
 bit_at-swapped_even : (n j : ℕ) → j < 32 → bit_at (swapped_pairs n) (2 * j) ≡ bit_at n (2 * j + 1)
 unfolding swapped_pairs
@@ -95,20 +95,20 @@ bit_at-swapped_even n j h =
     let joined = bit_at_or (bit_and (n / 2) low_bits) (bit_and n low_bits * 2) (2 * j) in
     let first = bit_at_and (n / 2) low_bits (2 * j) in
     let one = bit_at-low_bits-even j h in
-    let place : bit_at n (2 * j + 1) ≡ bit_at n (suc (2 * j)) = ap (bit_at n) (omega arith) in
+    let index : bit_at n (2 * j + 1) ≡ bit_at n (suc (2 * j)) = ap (bit_at n) (omega arith) in
     let moved = bit_at-suc n (2 * j) in
     let none = moved_in n j h in
     let small = bit_at-lt n (2 * j + 1) in
-    omega (arith, joined, first, one, place, moved, none, small)
+    omega (arith, joined, first, one, index, moved, none, small)
   where
     moved_in : (m i : ℕ) → i < 32 → bit_at (bit_and m low_bits * 2) (2 * i) ≡ 0
     moved_in m zero l = bit_at_lowest (bit_and m low_bits * 2) ∙ omega arith
     moved_in m (suc i) l =
-        let place : bit_at (bit_and m low_bits * 2) (2 * suc i) ≡ bit_at (bit_and m low_bits * 2) (suc (2 * i + 1)) = ap (bit_at (bit_and m low_bits * 2)) (omega arith) in
+        let index : bit_at (bit_and m low_bits * 2) (2 * suc i) ≡ bit_at (bit_and m low_bits * 2) (suc (2 * i + 1)) = ap (bit_at (bit_and m low_bits * 2)) (omega arith) in
         let double = bit_at-double (bit_and m low_bits) (2 * i + 1) in
         let both = bit_at_and m low_bits (2 * i + 1) in
         let odd = bit_at-low_bits-odd i (omega (arith, l)) in
-        omega (arith, place, double, both, odd)
+        omega (arith, index, double, both, odd)
 
 -- digit j of the turned number is 3 less the digit that stands as far from the other end
 digit-swapped : (n j i : ℕ) → n < 2 ^ 64 → j + suc i ≡ 32 → digit (swapped_pairs (backwards n)) j ≡ 3 - digit n i

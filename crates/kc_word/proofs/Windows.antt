@@ -7,7 +7,8 @@ use Rattle.std.proofs.lemmas.List.Elements.{filter_map-append}
 use Rattle.std.specs.List.{list_all, range_with_len, cons_option}
 use Rattle.std.specs.Char.{to_ascii_uppercase}
 use Rattle.kc_fastx.specs.Reads.{read_of}
-use Rattle.kc_word.specs.Base.{is_base, are_bases}
+use Rattle.kc_base.proofs.Lists.{filter_map-map, filter_map-one}
+use Rattle.kc_word.specs.Letter.{is_base, are_bases}
 use Rattle.kc_word.specs.Word.{number, form}
 use Rattle.kc_word.specs.Rule.{CountingRule}
 use Rattle.kc_word.specs.Cutting.{unusable}
@@ -32,17 +33,6 @@ filter_map-range : {X : Type 0} (f g : ℕ → Option X) (a n : ℕ) → ((p : �
 filter_map-range f g a zero same = refl
 filter_map-range f g a (suc n) same =
     ap (λ o. cons_option o (filter_map f (range_with_len (a + 1) n))) (same a (omega arith)) ∙ ap (cons_option (g a)) (filter_map-range f g (a + 1) n (λ p h. same p (omega (arith, h))))
-
-filter_map-map : {X Y Z : Type 0} (f : Y → Option Z) (h : X → Y) (xs : List X) → filter_map f (map h xs) ≡ filter_map (λ x. f (h x)) xs
-filter_map-map f h [] = refl
-filter_map-map f h (x ∷ xs) = ap (cons_option (f (h x))) (filter_map-map f h xs)
-
-filter_map-one : {X Y : Type 0} (f : X → Option Y) (x : X) → filter_map f (x ∷ []) ≡ option_to_list (f x)
-filter_map-one f x = by (f x)
-  where
-    by : {Y : Type 0} (o : Option Y) → cons_option o [] ≡ option_to_list o
-    by None = refl
-    by (Some y) = refl
 
 -- ---- the words of a piece are those of its windows
 

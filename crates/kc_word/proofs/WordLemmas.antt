@@ -11,7 +11,7 @@ use Rattle.std.specs.declared.cmp.Ordering.{Ordering}
 use Rattle.std.specs.declared.cmp.Ordering.TheVariants.{Less, Equal, Greater}
 use Rattle.std.specs.Cmp.{nat_cmp_is}
 use Rattle.std.specs.Cmp.Lexicographic.{slice_cmp}
-use Rattle.kc_word.specs.Base.{adenine, cytosine, guanine, thymine, is_base, are_bases, code, base, complement}
+use Rattle.kc_word.specs.Letter.{adenine, cytosine, guanine, thymine, is_base, are_bases, code, base, complement}
 use Rattle.kc_word.specs.Word.{number, text, reverse_complement, canonical, form}
 
 -- ---- bases and codes

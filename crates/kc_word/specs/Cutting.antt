@@ -1,12 +1,14 @@
 -- Cleaned pieces, and how they are cut into numbered batches of as many positions each.
 -- Source: this project's own; a batch is what one worker counts at a time.
-use Rattle.std.specs.Prelude.{◌≡◌, ℕ, Bool, ◌+◌, ◌-◌, ◌*◌, ◌/◌, ◌==◌, ◌&&◌, ◌||◌, nat_lt, min, List, [], ◌∷◌, ◌++◌, length, map, take, slice_range, slice_index, slice_index_or, None, if◌then◌else◌, sum_by}
+use Rattle.std.specs.Prelude.{◌≡◌, ℕ, Bool, ◌+◌, ◌-◌, ◌*◌, ◌/◌, ◌==◌, ◌&&◌, ◌||◌, nat_lt, min, List, [], ◌∷◌}
+use Rattle.std.specs.Prelude.{length, map, take, slice_range, slice_index, slice_index_or, None, if◌then◌else◌}
+use Rattle.std.specs.Prelude.{sum_by}
 use Rattle.std.specs.List.{range_with_len, list_all, flat_map}
 use Rattle.std.specs.Cmp.Lexicographic.{pointwise}
 use Rattle.std.specs.Str.{bytes_eq}
 use Rattle.std.specs.Char.{to_ascii_uppercase}
 use Rattle.kc_fastx.specs.Reads.{Read, read_of}
-use Rattle.kc_word.specs.Base.{is_base}
+use Rattle.kc_word.specs.Letter.{is_base}
 use Rattle.kc_word.specs.Rule.{CountingRule}
 use Rattle.kc_word.specs.Occurrences.{is_usable, position_count, occurrences, words_of}
 
@@ -42,7 +44,8 @@ pub record NumberedPieces : Type 0 where
   pub number : ℕ
   pub pieces : List (List ℕ)
 
--- the positions from p to before q of a piece, as one piece: the bytes from p to the end of the last word. Nothing where there is no position
+-- the positions from p to before q of a piece, as one piece: the bytes from p to the end of the last word. Nothing
+-- where there is no position
 unfoldable pub stretch : ℕ → List ℕ → ℕ → ℕ → List (List ℕ)
 stretch k piece p q = if nat_lt p q then slice_range piece p (q + k - 1) ∷ [] else []
 
@@ -50,11 +53,13 @@ stretch k piece p q = if nat_lt p q then slice_range piece p (q + k - 1) ∷ [] 
 abbrev pub position_total : ℕ → List (List ℕ) → ℕ
 position_total k pieces = sum_by (λ piece. position_count k (length piece)) pieces
 
--- The positions of all pieces are numbered in order: the number of the first position of piece j is how many positions the pieces before it have.
+-- The positions of all pieces are numbered in order: the number of the first position of piece j is how many
+-- positions the pieces before it have.
 abbrev pub first_position : ℕ → List (List ℕ) → ℕ → ℕ
 first_position k pieces j = position_total k (take j pieces)
 
--- the stretch of a piece whose first position has the number `first`: its positions with numbers from `low` to before `high`
+-- the stretch of a piece whose first position has the number `first`: its positions with numbers from `low` to
+-- before `high`
 abbrev pub stretch_of : ℕ → ℕ → ℕ → List ℕ → ℕ → List (List ℕ)
 stretch_of k low high piece first =
     stretch k piece (low - first) (min (position_count k (length piece)) (high - first))
@@ -62,7 +67,8 @@ stretch_of k low high piece first =
 -- the stretches of all pieces
 unfoldable pub stretches : ℕ → ℕ → ℕ → List (List ℕ) → List (List ℕ)
 stretches k low high pieces =
-    flat_map (λ j. stretch_of k low high (slice_index_or pieces j []) (first_position k pieces j)) (range_with_len 0 (length pieces))
+    flat_map (λ j. stretch_of k low high (slice_index_or pieces j []) (first_position k pieces j))
+    (range_with_len 0 (length pieces))
 
 -- how many batches of `size` positions there are, of which the last may have fewer
 abbrev pub batch_count : ℕ → ℕ → List (List ℕ) → ℕ
@@ -78,11 +84,13 @@ cutting k size pieces = map (λ i. batch_of k size pieces i) (range_with_len 0 (
 
 -- in the batches together each word occurs as often as in the pieces
 abbrev pub KeepsOccurrences : ℕ → List (List ℕ) → List NumberedPieces → Type 0
-KeepsOccurrences k pieces batches = (rule : CountingRule) (word : List ℕ) → rule.k ≡ k → sum_by (λ batch. occurrences rule (as_reads batch.pieces) word) batches ≡ occurrences rule (as_reads pieces) word
+KeepsOccurrences k pieces batches = (rule : CountingRule) (word : List ℕ) → rule.k ≡ k
+    → sum_by (λ batch. occurrences rule (as_reads batch.pieces) word) batches ≡ occurrences rule (as_reads pieces) word
 
 -- the words of the batches, one batch after another, are the words of the pieces
 abbrev pub KeepsWords : ℕ → List (List ℕ) → List NumberedPieces → Type 0
-KeepsWords k pieces batches = (rule : CountingRule) → rule.k ≡ k → flat_map (λ batch. words_of rule (as_reads batch.pieces)) batches ≡ words_of rule (as_reads pieces)
+KeepsWords k pieces batches = (rule : CountingRule) → rule.k ≡ k
+    → flat_map (λ batch. words_of rule (as_reads batch.pieces)) batches ≡ words_of rule (as_reads pieces)
 
 -- whether two pieces have the same bytes, and two batches the same number and pieces
 abbrev pub is_same_piece : List ℕ → List ℕ → Bool

@@ -1,10 +1,9 @@
-pub mod Base
+pub mod Letter
 pub mod Word
 pub mod Rule
 pub mod Occurrences
-pub mod Tally
 pub mod Cutting
 pub mod Laws
-pub mod Place
+pub mod Cursor
 pub mod Sameness
 pub mod Shared

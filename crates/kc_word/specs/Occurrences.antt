@@ -1,12 +1,13 @@
 -- Where a word stands in reads, and how often.
 -- Source: the k-mers of a read and their counts, Marçais and Kingsford 2011; usable bases, the Jellyfish user guide.
-use Rattle.std.specs.Prelude.{ℕ, Bool, true, false, ◌+◌, ◌-◌, ◌&&◌, nat_le, List, length, map, take, drop, slice_index, Option, None, Some, if◌then◌else◌, sum_by, count_by}
+use Rattle.std.specs.Prelude.{ℕ, Bool, true, false, ◌+◌, ◌-◌, ◌&&◌, nat_le, List, length, map, take, drop}
+use Rattle.std.specs.Prelude.{slice_index, Option, None, Some, if◌then◌else◌, sum_by, count_by}
 use Rattle.std.specs.List.{list_all, filter_map, flat_map, range_with_len}
 use Rattle.std.specs.Option.{option_map, option_map_or}
 use Rattle.std.specs.Char.{to_ascii_uppercase}
 use Rattle.std.specs.Str.{bytes_eq}
 use Rattle.kc_fastx.specs.Reads.{Read}
-use Rattle.kc_word.specs.Base.{is_base}
+use Rattle.kc_word.specs.Letter.{is_base}
 use Rattle.kc_word.specs.Word.{number, form}
 use Rattle.kc_word.specs.Rule.{CountingRule}
 

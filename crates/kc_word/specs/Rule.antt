@@ -7,3 +7,7 @@ pub record CountingRule : Type 0 where
   pub k : ℕ
   pub both : Bool
   pub floor : ℕ
+
+-- words of k bases, of bases of every quality
+abbrev pub counting_all : ℕ → Bool → CountingRule
+counting_all k both = record { k = k; both = both; floor = 33 }

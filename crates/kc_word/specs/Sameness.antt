@@ -1,26 +1,13 @@
--- Pieces and batches are equal where they are the same.
-use Rattle.std.proofs.Common.{◌≡◌, eqb, refl, ap, eqb-true, eq-eqb, Decides}
-use Rattle.std.proofs.lemmas.Bool.{and_parts, and_from}
-use Rattle.std.proofs.lemmas.Slice.Eq.{bytes_eq-Decides, slice_eq-Decides}
-use Rattle.std.specs.Cmp.{IsEquivalence, IsPartialEquivalence, partial_equiv_from_equiv, nat_eq_equiv, on_equiv, and_equiv}
-use Rattle.std.specs.Cmp.Lexicographic.{pointwise, nat_list_eq_equiv, lists_equiv}
-use Rattle.std.specs.Str.{bytes_eq}
+-- The laws of the equality of batches. They are proofs, and stand in specs/ since an `impl` may name only what stands there.
+use Rattle.std.specs.Cmp.{IsEquivalence, IsPartialEquivalence, partial_equiv_from_equiv, nat_eq_equiv, on_equiv}
+use Rattle.std.specs.Cmp.{and_equiv}
+use Rattle.std.specs.Cmp.Lexicographic.{nat_list_eq_equiv, lists_equiv}
 use Rattle.kc_word.specs.Cutting.{NumberedPieces, is_same_batch}
 
 pub is_same_batch-IsEquivalence : IsEquivalence is_same_batch
-is_same_batch-IsEquivalence = and_equiv (on_equiv (λ (b : NumberedPieces). b.number) nat_eq_equiv) (on_equiv (λ (b : NumberedPieces). b.pieces) (lists_equiv nat_list_eq_equiv))
+is_same_batch-IsEquivalence =
+    and_equiv (on_equiv (λ (b : NumberedPieces). b.number) nat_eq_equiv)
+    (on_equiv (λ (b : NumberedPieces). b.pieces) (lists_equiv nat_list_eq_equiv))
 
 pub is_same_batch-laws : IsPartialEquivalence is_same_batch
 is_same_batch-laws = partial_equiv_from_equiv is_same_batch-IsEquivalence
-
--- batches are equal where their numbers and pieces are
-pub is_same_batch-Decides : (batch other : NumberedPieces) → Decides (is_same_batch batch other) (batch ≡ other)
-is_same_batch-Decides batch other =
-    let pieces = slice_eq-Decides bytes_eq-Decides batch.pieces other.pieces (pointwise bytes_eq batch.pieces other.pieces) refl in (
-      λ h.
-          let parts = and_parts (eqb batch.number other.number) (pointwise bytes_eq batch.pieces other.pieces) h in
-          let number : batch.number ≡ other.number = eqb-true batch.number other.number parts.0 in
-          let same : batch.pieces ≡ other.pieces = pieces.0 parts.1 in
-          λ i. record { number = number i; pieces = same i },
-      λ e. and_from _ _ (eq-eqb batch.number other.number (ap (λ b. b.number) e)) (pieces.1 (ap (λ b. b.pieces) e)),
-    )

@@ -4,7 +4,7 @@ use Rattle.std.specs.Prelude.{ℕ, zero, suc, Bool, ◌/◌, ◌%◌, List, [], 
 use Rattle.std.specs.Ordering.{nat_cmp, is_lt}
 use Rattle.std.specs.Cmp.Lexicographic.{slice_cmp}
 use Rattle.std.specs.Int.Digits.{number_from_digits}
-use Rattle.kc_word.specs.Base.{code, base, complement}
+use Rattle.kc_word.specs.Letter.{code, base, complement}
 
 -- the number whose digits in base 4 are the codes of the bases, the first base highest
 unfoldable pub number : List ℕ → ℕ

@@ -2,7 +2,7 @@
 ghost use Rattle.std.specs.Prelude.{◌≡◌, ℕ, ◌+◌, ◌^◌, ◌<◌, ◌≤◌, List, length, min, IfOk, OnOk};
 ghost use Rattle.kc_word.specs.Cutting.{stretches, position_total, cutting, KeepsOccurrences, KeepsWords};
 ghost use Rattle.kc_word.specs.Shared.{values};
-ghost use Rattle.kc_word.specs.Place.{number_at, IsPlace};
+ghost use Rattle.kc_word.specs.Cursor.{position_number, IsCursor};
 
 use crate::k::K;
 use crate::piece::Piece;
@@ -77,7 +77,7 @@ pub fn cut(
     ensures words { IfOk result (λ batches. KeepsWords k pieces.items (values batches.items)) }
 {
     let mut batches = Vec::new(alloc);
-    let mut next = Place {
+    let mut next = Cursor {
         piece: 0,
         position: 0,
     };
@@ -96,30 +96,31 @@ pub fn cut(
     Ok(batches)
 }
 
-// A place among the positions of pieces: a position of the piece at an index. Behind the last piece
-// stands position 0.
+// How far the cutting has come: at a position of the piece at an index. Behind the last piece stands
+// position 0.
 #[derive(Drop)]
-struct Place {
+struct Cursor {
     piece: usize,
     position: usize,
 }
 
-// The stretches that have the next `size` positions, or all that are left, from a place on; the place
-// moves behind them.
+// The stretches that have the next `size` positions, or all that are left, from the cursor on; the
+// cursor moves behind them.
 fn take_positions(
     alloc: Global,
     pieces: &[Piece],
     k: K,
     size: u64,
-    next: &mut Place,
+    next: &mut Cursor,
 ) -> Result<Vec<Piece>, AllocError>
-    requires place { IsPlace k pieces.now next.old.piece next.old.position }
+    requires cursor { IsCursor k pieces.now next.old.piece next.old.position }
     ensures some { 1 ≤ k }
-    ensures place { OnOk result (IsPlace k pieces.now next.new.piece next.new.position) }
-    ensures taken { IfOk result (λ parts. let low = number_at k pieces.now next.old.piece next.old.position in
+    ensures cursor { OnOk result (IsCursor k pieces.now next.new.piece next.new.position) }
+    ensures taken { IfOk result (λ parts. let low = position_number k pieces.now next.old.piece next.old.position in
         parts.items ≡ stretches k low (low + size) pieces.now) }
-    ensures moved { OnOk result (let low = number_at k pieces.now next.old.piece next.old.position in
-        number_at k pieces.now next.new.piece next.new.position ≡ min (low + size) (position_total k pieces.now)) }
+    ensures moved { OnOk result (let low = position_number k pieces.now next.old.piece next.old.position in
+        position_number k pieces.now next.new.piece next.new.position
+        ≡ min (low + size) (position_total k pieces.now)) }
 {
     let bases = k.get() as usize;
     let mut parts = Vec::new(alloc);

@@ -1,3 +1,4 @@
+//! The length of a word.
 ghost use Rattle.std.specs.Prelude.{◌≡◌, ◌≤◌, SomeIff};
 
 use std::marker::Model;

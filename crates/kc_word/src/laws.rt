@@ -1,5 +1,14 @@
-//! Laws of words, occurrences and tallies. Each is the contract of a function that does nothing.
-ghost use Rattle.kc_word.specs.Laws.{NumberOfText, PackedText, OrderOfTexts, ReversedTwice, OneCanonicalForm, OneTally, JoinedOccurrences, JoinedTally, TallyTotal, BoundedTally, CountedWords, CuttingWords, CuttingOccurrences, CuttingNumbers, CuttingPositions, BatchPositions, PositionsWithinBytes, CleanedLength, WordsAreBelow, WordsAreForms, WordsAreFew, CleanedWords};
+//! Laws of words, occurrences and cuttings. Each is the contract of a function that does nothing.
+ghost use Rattle.std.specs.Prelude.{◌≡◌, [], ◌∷◌, Some, None, true, false, codes};
+ghost use Rattle.kc_fastx.specs.Reads.{read_of};
+ghost use Rattle.kc_word.specs.Word.{number, text, reverse_complement, canonical};
+ghost use Rattle.kc_word.specs.Rule.{counting_all};
+ghost use Rattle.kc_word.specs.Occurrences.{occurrences, words_in};
+ghost use Rattle.kc_word.specs.Cutting.{cleaned, cutting};
+ghost use Rattle.kc_word.specs.Laws.{NumberOfText, PackedText, OrderOfTexts, ReversedTwice, OneCanonicalForm};
+ghost use Rattle.kc_word.specs.Laws.{JoinedOccurrences, CountedWords, CuttingWords, CuttingOccurrences};
+ghost use Rattle.kc_word.specs.Laws.{CuttingNumbers, CuttingPositions, BatchPositions, PositionsWithinBytes};
+ghost use Rattle.kc_word.specs.Laws.{CleanedLength, WordsAreBelow, WordsAreForms, WordsAreFew, CleanedWords};
 
 /// A number below 4^k is the number of its text.
 pub fn number_of_text()
@@ -26,29 +35,9 @@ pub fn one_canonical_form()
     ensures { OneCanonicalForm }
 {}
 
-/// The tally of given reads is one finite map.
-pub fn one_tally()
-    ensures { OneTally }
-{}
-
 /// In reads that are joined each word occurs as often as in both parts together.
 pub fn joined_occurrences()
     ensures { JoinedOccurrences }
-{}
-
-/// The tally of reads that are joined is the sum of the tallies of both parts.
-pub fn joined_tally()
-    ensures { JoinedTally }
-{}
-
-/// The counts of a tally add up to the number of all words.
-pub fn tally_total()
-    ensures { TallyTotal }
-{}
-
-/// The counts of a tally are together at most as many as the bases of the reads.
-pub fn bounded_tally()
-    ensures { BoundedTally }
 {}
 
 /// A word occurs as often as its number stands among the words of the reads.
@@ -66,7 +55,7 @@ pub fn cutting_occurrences()
     ensures { CuttingOccurrences }
 {}
 
-/// The batch at place i of a cutting is batch i.
+/// At index i of a cutting stands batch i.
 pub fn cutting_numbers()
     ensures { CuttingNumbers }
 {}
@@ -98,4 +87,25 @@ pub fn words_of_reads()
     ensures forms { WordsAreForms }
     ensures few { WordsAreFew }
     ensures cleaned { CleanedWords }
+{}
+
+/// Worked rows of the definitions.
+pub fn worked_rows()
+    ensures text { text 3 44 ≡ codes "GTA" }
+    ensures number { number (codes "GTA") ≡ 44 }
+    ensures greatest { number (codes "TTTTTTTTTTTTTTTTTTTTTTTTTTTTTTT") ≡ 4_611_686_018_427_387_903 }
+    ensures other_strand { reverse_complement (codes "GTA") ≡ codes "TAC" }
+    ensures canonical { canonical (codes "CGT") ≡ codes "ACG" }
+    ensures words { words_in (counting_all 3 false) (read_of (codes "ACGTA") None) ≡ 6 ∷ 27 ∷ 44 ∷ [] }
+    ensures both_strands { words_in (counting_all 3 true) (read_of (codes "ACGTA") None) ≡ 6 ∷ 6 ∷ 44 ∷ [] }
+    ensures broken { words_in (counting_all 3 false) (read_of (codes "ACNGT") None) ≡ [] }
+    ensures low_quality { words_in (record { k = 2; both = false; floor = 35 })
+        (read_of (codes "ACGT") (Some (codes "II!I"))) ≡ 1 ∷ [] }
+    ensures piece { cleaned (record { k = 2; both = false; floor = 35 })
+        (read_of (codes "acgtn") (Some (codes "II!II"))) ≡ codes "ACNTN" }
+    ensures palindrome { occurrences (counting_all 4 true) (read_of (codes "ACGT") None ∷ []) (codes "ACGT") ≡ 1 }
+    ensures cutting { cutting 3 2 (codes "ACGTA" ∷ codes "AC" ∷ codes "NGTN" ∷ [])
+        ≡ record { number = 0; pieces = codes "ACGT" ∷ [] }
+        ∷ record { number = 1; pieces = codes "GTA" ∷ codes "NGT" ∷ [] }
+        ∷ record { number = 2; pieces = codes "GTN" ∷ [] } ∷ [] }
 {}

@@ -1,7 +1,7 @@
 //! The letters of the four bases and their codes.
 ghost use Rattle.std.specs.Prelude.{◌≡◌, ◌<◌, if◌then◌else◌};
 ghost use Rattle.std.specs.Char.{to_ascii_uppercase};
-ghost use Rattle.kc_word.specs.Base.{is_base, code, base};
+ghost use Rattle.kc_word.specs.Letter.{is_base, code, base};
 ghost use Rattle.kc_word.specs.Cutting.{cleaned_letter};
 
 /// What stands in a piece for a base that is not usable.

@@ -1,5 +1,22 @@
-//! Words of length k over DNA, their numbers and their forms; reads cleaned into pieces, and pieces
-//! cut into numbered batches.
+//! DNA k-mers (words of length k): their numbers and forms, where they stand in reads, and how reads are made ready
+//! to be counted in parts.
+//!
+//! A `Rule` says how words are counted: their length `K`, one strand or both, and the least quality of a base. A
+//! `Word` is a word as a number, two bits a base; `pack` and `text` go between it and its letters, `canonical`
+//! gives the form under which it counts where both strands do. `clean` makes a `Piece` of a read, `cut` makes
+//! numbered batches of pieces, of as many positions each, and `words` gives the words of a batch. `laws` says what
+//! holds of all of this, and `slow` counts straight from the definitions.
+//!
+//! ```ignore
+//! let rule = Rule::new(k, true, b'!');
+//! let mut pieces = Vec::new(alloc);
+//! for read in &reads {
+//!     pieces.push(clean(alloc, read, &rule)?)?;
+//! }
+//! for batch in &cut(alloc, pieces, k, 65_536)? {
+//!     let words = words(alloc, batch, &rule)?;
+//! }
+//! ```
 #![tactic(auto)]
 
 mod batch;

@@ -1,5 +1,6 @@
 //! Reads cleaned into pieces.
-ghost use Rattle.std.specs.Prelude.{◌≡◌, ◌+◌, ◌^◌, ◌<◌, ◌↔◌, length, slice_index, slice_range, ◌≤◌, map, Some, IfOk, IsTrue};
+ghost use Rattle.std.specs.Prelude.{◌≡◌, ◌+◌, ◌^◌, ◌<◌, ◌↔◌, length, slice_index, slice_range, ◌≤◌, map, Some, IfOk};
+ghost use Rattle.std.specs.Prelude.{IsTrue};
 ghost use Rattle.kc_fastx.specs.Reads.{read_of};
 ghost use Rattle.kc_word.specs.Occurrences.{position_count};
 ghost use Rattle.kc_word.specs.Cutting.{cleaned, cleaned_letter, is_piece_byte};
@@ -44,7 +45,7 @@ impl Piece {
         self.bytes.is_empty()
     }
 
-    /// The byte at place `i`. Condition: `i` is below the length.
+    /// The byte at index `i`. Condition: `i` is below the length.
     pub fn base(&self, i: u64) -> u8
         requires { i < length self.now }
         ensures value { result ≡ slice_index self.now i }
@@ -100,7 +101,7 @@ impl Eq for Piece {
     ghost laws = { nat_list_eq_equiv };
 }
 
-/// The piece of a read: each usable base in upper case at its place, and `N` at every other place.
+/// The piece of a read: each usable base in upper case, and `N` for every other one.
 pub fn clean(alloc: Global, read: &SeqRead, rule: &Rule) -> Result<Piece, AllocError>
     ensures cleaned { IfOk result (λ piece. piece ≡ cleaned rule.now read.now) }
     ensures long { IfOk result (λ piece. length piece ≡ length read.now.bases) }
@@ -134,8 +135,8 @@ fn clean_by_quality(
 {
     let floor = rule.floor();
     let mut cleaned = Vec::with_capacity(alloc, bases.len())?;
-    for (place, base) in bases.iter().enumerate() {
-        let letter = if quals[place] >= floor {
+    for (i, base) in bases.iter().enumerate() {
+        let letter = if quals[i] >= floor {
             cleaned_letter(*base)
         } else {
             UNUSABLE

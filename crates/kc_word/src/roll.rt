@@ -1,5 +1,6 @@
 //! The words of pieces, rolled along their bytes.
-ghost use Rattle.std.specs.Prelude.{◌≡◌, ◌^◌, ◌<◌, ◌≤◌, ◌++◌, None, IfOk, OnOk, All, length};
+ghost use Rattle.std.specs.Prelude.{◌≡◌, ◌^◌, ◌<◌, ◌≤◌, ◌++◌, [], None, IfOk, OnOk, All, length, min};
+ghost use Rattle.std.specs.Vec.{vec_capacity};
 ghost use Rattle.kc_fastx.specs.Reads.{read_of};
 ghost use Rattle.kc_word.specs.Occurrences.{words_in, words_of};
 ghost use Rattle.kc_word.specs.Cutting.{as_reads, position_total};
@@ -31,15 +32,25 @@ pub fn words(alloc: Global, batch: &Batch, rule: &Rule) -> Result<Vec<u64>, Allo
     ensures below { IfOk result (λ words. All (λ word. word < 4 ^ rule.now.k) words.items) }
     ensures short { IfOk result (λ words. length words.items ≤ position_total rule.now.k batch.now.pieces) }
 {
-    let mut words = Vec::with_capacity(alloc, position_count(batch.pieces(), rule.k()))?;
+    let mut words = room_for_words(alloc, batch.pieces(), rule.k())?;
     for part in batch.pieces() {
         push_words(part.bytes(), *rule, &mut words)?;
     }
     Ok(words)
 }
 
+// No words yet, with room for as many as the pieces have positions.
+fn room_for_words(alloc: Global, pieces: &[Piece], k: K) -> Result<Vec<u64>, AllocError>
+    ensures empty { IfOk result (λ room. room.items ≡ []) }
+    ensures bounded { IfOk result (λ room. vec_capacity room ≤ position_total k pieces.now) }
+{
+    Vec::with_capacity(alloc, position_count(pieces, k))
+}
+
 // how many positions the pieces have, or the greatest `usize` where there are more
-fn position_count(pieces: &[Piece], k: K) -> usize {
+fn position_count(pieces: &[Piece], k: K) -> usize
+    ensures { result ≡ min (position_total k pieces.now) usize.MAX }
+{
     let mut count = 0usize;
     for piece in pieces {
         count = count.saturating_add(piece.position_count(k));

@@ -1,3 +1,4 @@
+//! The rule of a count.
 ghost use Rattle.std.specs.Prelude.{◌≡◌, ◌≤◌};
 
 use crate::k::K;

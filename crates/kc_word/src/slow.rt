@@ -1,35 +1,18 @@
-//! A plain and slow count, straight from the definitions: each number below 4^k is looked for at each
-//! position of each read. It is there to compute small examples.
+//! A plain and slow count, straight from the definitions: a word is looked for at each position of each
+//! read. It is there to compute small examples.
 ghost use Rattle.std.specs.Prelude.{◌≡◌, ◌+◌, ◌^◌, ◌<◌, ◌≤◌, length, sum_by, Some, None, SomeIff, IfOk, IfSome, IfNone};
+ghost use Rattle.kc_fastx.specs.Reads.{base_count};
 ghost use Rattle.kc_word.specs.Word.{text};
 ghost use Rattle.kc_word.specs.Occurrences.{is_usable, form_at, counts_under, occurrences_in, occurrences};
-ghost use Rattle.kc_word.specs.Tally.{IsTally};
 
 use crate::letter::{NO_BASE, code_of};
 use crate::rule::Rule;
 use crate::word::{Word, canonical, pack};
 use kc_fastx::SeqRead;
-use std::alloc::{AllocError, Global};
-
-/// The tally of the reads: each word that occurs and its occurrences, in the order of the words.
-/// Condition: the reads have fewer than 2^64 bases, which `base_count` tells.
-pub fn tally(alloc: Global, reads: &[SeqRead], rule: &Rule) -> Result<Vec<(u64, u64)>, AllocError>
-    requires { sum_by (λ read. length read.bases) reads.now < 2 ^ 64 }
-    ensures { IfOk result (λ rows. IsTally rule.now reads.now rows.items) }
-{
-    let mut rows = Vec::new(alloc);
-    for number in 0..1u64 << (2 * rule.k().get()) {
-        let count = occurrences(reads, rule, Word(number));
-        if count > 0 {
-            rows.push((number, count))?;
-        }
-    }
-    Ok(rows)
-}
 
 /// How many bases the reads have, where they are fewer than 2^64.
 pub fn base_count(reads: &[SeqRead]) -> Option<u64>
-    ensures { let bases = sum_by (λ read. length read.bases) reads.now in
+    ensures { let bases = base_count reads.now in
         SomeIff result (bases < 2 ^ 64) bases }
 {
     let mut count = 0u64;
@@ -43,7 +26,7 @@ pub fn base_count(reads: &[SeqRead]) -> Option<u64>
 /// than 2^64 bases.
 pub fn occurrences(reads: &[SeqRead], rule: &Rule, word: Word) -> u64
     requires below { word.0 < 4 ^ rule.now.k }
-    requires fits { sum_by (λ read. length read.bases) reads.now < 2 ^ 64 }
+    requires fits { base_count reads.now < 2 ^ 64 }
     ensures { result ≡ occurrences rule.now reads.now (text rule.now.k word.0) }
 {
     let mut count = 0u64;
@@ -93,8 +76,8 @@ fn form_at(read: &SeqRead, rule: &Rule, position: usize) -> Option<Word>
         return None;
     }
     let end = position + count;
-    for place in position..end {
-        if !is_usable(read, rule, place) {
+    for i in position..end {
+        if !is_usable(read, rule, i) {
             return None;
         }
     }
@@ -108,13 +91,13 @@ fn form_at(read: &SeqRead, rule: &Rule, position: usize) -> Option<Word>
 }
 
 // whether the base is one of ACGTacgt and its quality, where it has one, reaches the floor
-fn is_usable(read: &SeqRead, rule: &Rule, place: usize) -> bool
-    requires { place < length read.now.bases }
-    ensures { result ≡ is_usable rule.now read.now place }
+fn is_usable(read: &SeqRead, rule: &Rule, i: usize) -> bool
+    requires { i < length read.now.bases }
+    ensures { result ≡ is_usable rule.now read.now i }
 {
-    let known = code_of(read.bases()[place]) != NO_BASE;
+    let known = code_of(read.bases()[i]) != NO_BASE;
     match read.quals() {
         None => known,
-        Some(quals) => known && quals[place] >= rule.floor(),
+        Some(quals) => known && quals[i] >= rule.floor(),
     }
 }

@@ -1,4 +1,4 @@
-// Worked rows of words, pieces, batches and tallies.
+// Worked rows of words, pieces and batches.
 use crate::{
     Batch, K, Piece, Rule, Word, canonical, clean, cut, pack, read_words, reverse_complement, slow,
     text, words,
@@ -170,6 +170,24 @@ fn batches_of_each_size(rt: HostRuntime) -> Result<(), Fail> {
     Ok(())
 }
 
+// A batch may be asked for longer words than those that it was cut for: its pieces then have fewer positions.
+#[test]
+fn words_of_another_length(rt: HostRuntime) -> Result<(), Fail> {
+    let rule = rule_of(3, false)?;
+    let longer = rule_of(5, false)?;
+    let pieces = pieces_of(rt.alloc(), &[b"ACGTACG", b"ACG"], &rule)?;
+    let batches = cut(rt.alloc(), pieces, rule.k(), 4)?;
+    let rows: [(&[u8], &[u64]); 2] = [(b"ACGTAC|", &[108, 433]), (b"ACG|ACG|", &[])];
+    assert_eq!(rt; batches.len(), 2);
+    for (i, batch) in batches.iter().enumerate() {
+        assert!(rt; i < 2);
+        let (want, found) = rows[i];
+        assert_eq!(rt; shown(rt.alloc(), batch)?.as_slice(), want);
+        assert_eq!(rt; words(rt.alloc(), batch, &longer)?.as_slice(), found);
+    }
+    Ok(())
+}
+
 #[test]
 fn batches_by_value(rt: HostRuntime) -> Result<(), Fail> {
     let rule = rule_of(3, false)?;
@@ -256,18 +274,17 @@ fn words_of_reads(rt: HostRuntime) -> Result<(), Fail> {
 }
 
 #[test]
-fn tallies(rt: HostRuntime) -> Result<(), Fail> {
-    let rows: [(&[&[u8]], u32, bool, &[(u64, u64)]); 7] = [
-        (&[b"ACGTA"], 3, false, &[(6, 1), (27, 1), (44, 1)]),
-        (&[b"ACGTA"], 3, true, &[(6, 2), (44, 1)]),
-        (&[b"ACGT", b"", b"ac"], 2, false, &[(1, 2), (6, 1), (11, 1)]),
-        (&[b"ACNGT"], 2, false, &[(1, 1), (11, 1)]),
-        (&[b"ACGT"], 4, true, &[(27, 1)]),
-        (&[b"AACGT"], 1, true, &[(0, 3), (1, 2)]),
-        (&[b"AAAAAAAAAA"], 3, false, &[(0, 8)]),
+fn counted_slowly(rt: HostRuntime) -> Result<(), Fail> {
+    let rows: [(&[&[u8]], bool, &[u8], u64); 6] = [
+        (&[b"ACGTA"], false, b"acg", 1),
+        (&[b"ACGTA"], true, b"acg", 2),
+        (&[b"ACGT", b"", b"ac"], false, b"ac", 2),
+        (&[b"ACNGT"], false, b"CG", 0),
+        (&[b"ACGT"], true, b"ACGT", 1),
+        (&[b"AAAAAAAAAA"], false, b"AAA", 8),
     ];
-    for (texts, k, both, want) in rows {
-        let rule = rule_of(k, both)?;
+    for (texts, both, word, want) in rows {
+        let rule = rule_of(word.len() as u32, both)?;
         let mut reads = Vec::new(rt.alloc());
         for bases in texts {
             reads.push(read_of(rt.alloc(), bases, None)?)?;
@@ -275,8 +292,10 @@ fn tallies(rt: HostRuntime) -> Result<(), Fail> {
         let Some(_) = slow::base_count(&reads) else {
             return Err(Fail::from("too many bases"));
         };
-        let found = slow::tally(rt.alloc(), &reads, &rule)?;
-        assert_eq!(rt; found.as_slice(), want);
+        let Some(word) = pack(word, rule.k()) else {
+            return Err(Fail::from("no word"));
+        };
+        assert_eq!(rt; slow::occurrences(&reads, &rule, word), want);
     }
     Ok(())
 }

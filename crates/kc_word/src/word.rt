@@ -1,7 +1,7 @@
 //! Words as numbers: the first base in the highest two bits.
 ghost use Rattle.std.specs.Prelude.{◌≡◌, ◌+◌, ◌^◌, ◌<◌, ◌↔◌, ◌++◌, IsSome, IfSome, IsTrue, length, map, drop};
 ghost use Rattle.std.specs.Char.{to_ascii_uppercase};
-ghost use Rattle.kc_word.specs.Base.{are_bases};
+ghost use Rattle.kc_word.specs.Letter.{are_bases};
 ghost use Rattle.kc_word.specs.Word.{text, reverse_complement, canonical};
 
 use crate::k::K;
@@ -39,8 +39,8 @@ pub fn text(word: Word, k: K, letters: &mut [u8; 31])
     ensures { letters.new ≡ text k word.0 ++ drop k letters.old }
 {
     let count = k.get() as usize;
-    for place in 0..count {
-        letters[place] = base_of((word.0 >> (2 * (count - 1 - place))) & 3);
+    for i in 0..count {
+        letters[i] = base_of((word.0 >> (2 * (count - 1 - i))) & 3);
     }
 }
 
@@ -51,7 +51,7 @@ pub fn reverse_complement(word: Word, k: K) -> Word
     ensures below { result.0 < 4 ^ k }
     ensures read_back { text k result.0 ≡ reverse_complement (text k word.0) }
 {
-    // complemented and read backwards bit by bit; then the two bits of each base change places
+    // complemented and read backwards bit by bit; then the two bits of each base are exchanged
     let backwards = (!word.0).reverse_bits();
     let turned = ((backwards >> 1) & LOW_BITS) | ((backwards & LOW_BITS) << 1);
     Word(turned >> (64 - 2 * k.get()))

@@ -13,13 +13,31 @@ returns-in_err-put_row g c =
 
 pub loop-row-preserved : goal.loop-row-preserved
 loop-row-preserved g c =
-    next_row _ _ _ c.args.tally.now.k c.args.dump.now c.args.tally.now.rows c.rows-row-items.result.now c.loop-row.row-index c.loop-row.block c.put_row.new.block
-    (record { word = 0; count = 0 }) c.loop-row-test.true c.loop-row.invariant (rw c.k.ensures at c.in_ok-put_row.ensures.ok)
+    let seen = g.W.Sink.seen in
+    let k = c.args.tally.now.k in
+    let dump = c.args.dump.now in
+    next_row k dump c.rows-row-items.result.now (record {
+      start = seen c.args.writer.now;
+      now = seen c.loop-row.writer;
+      next = seen c.put_row.new.writer;
+      text = dump_text k dump c.args.tally.now.rows;
+      block = c.loop-row.block;
+      next_block = c.put_row.new.block;
+      index = c.loop-row.row-index;
+      no_row = record { word = 0; count = 0 };
+      within = c.loop-row-test.true;
+      pending = c.loop-row.invariant;
+      moved = rw c.k.ensures at c.in_ok-put_row.ensures.ok;
+    })
 
 pub returns : goal.returns
 returns g c =
+    let seen = g.W.Sink.seen in
     let k = c.args.tally.now.k in
-    let ended : dump_text k c.args.dump.now (drop c.loop-row.row-index c.rows-row-items.result.now) ≡ [] = ap (dump_text k c.args.dump.now) (drop_all _ _ c.loop-row-test.false) in
+    let dump = c.args.dump.now in
+    let text = dump_text k dump c.args.tally.now.rows in
+    let later = drop c.loop-row.row-index c.rows-row-items.result.now in
+    let ended : dump_text k dump later ≡ [] = ap (dump_text k dump) (drop_all _ _ c.loop-row-test.false) in
     last _ _ _ _ c.loop-row.block c.write_out.result
-    (subst (λ v. Pending (g.W.Sink.seen c.args.writer.now) (g.W.Sink.seen c.loop-row.writer) (dump_text k c.args.dump.now c.args.tally.now.rows) (c.loop-row.block ++ v)) ended c.loop-row.invariant)
+    (subst (λ v. Pending (seen c.args.writer.now) (seen c.loop-row.writer) text (c.loop-row.block ++ v)) ended c.loop-row.invariant)
     (rw c.as_slice.ensures at c.write_out.ensures)

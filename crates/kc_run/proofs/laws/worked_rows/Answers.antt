@@ -2,11 +2,13 @@ use Rattle.std.proofs.Common.{◌≡◌, ◌<◌, ◌≤◌, ℕ, zero, suc, Lis
 use Rattle.std.proofs.lemmas.List.Elements.{All-nil, All-cons}
 use Rattle.std.proofs.lemmas.List.Sorted.{sum_by-IsPermutation, length_permutation}
 use mathlib.Core.Option.{some, some-ne-none, some-injective}
+use Rattle.std.specs.Prelude.{sum_by}
+use Rattle.std.specs.List.{flat_map}
 use lib.ListN.{get_elem?}
 use Rattle.kc_run.specs.declared.tickets.View.{View}
 use Rattle.kc_run.specs.Tickets.{numbers_below, AreNumbersBelow}
 use Rattle.kc_run.specs.WholeDraws.{numbers_past, Fits}
-use Rattle.kc_run.specs.Laws.{seat_view}
+use Rattle.kc_run.specs.Laws.{TwoKeepRule, seat_view}
 use Rattle.kc_run.proofs.laws.worked_rows.Goals as goal
 
 -- one swap makes the numbers below four of what the seats drew
@@ -34,23 +36,30 @@ drew_two number past less few = record {
 first_cell : {next : ℕ} (n : ℕ) → ◌≡◌ {A = List ℕ} (n ∷ 2 ∷ 2 ∷ []) (next ∷ 2 ∷ 2 ∷ []) → next ≡ n
 first_cell n is = sym (ap (λ (cells : List ℕ). get_or cells 0 0) is)
 
+abbrev AllFit : List View → Type 0
+AllFit views = (k : ℕ) (view : View) → get_elem? views k ≡ some view → Fits 2 view
+
+keeps : (next : ℕ) (views : List View) → sum_by (λ view. view.weight) views ≡ 2
+    → AreNumbersBelow next (flat_map (λ view. view.drawn) views) → AllFit views → TwoKeepRule next views
+keeps next views shared_out each_once fits = (
+  next,
+  refl,
+  record {
+    small = omega arith;
+    few_seats = omega arith;
+    shared_out = shared_out;
+    each_once = each_once;
+    fits = fits;
+  },
+)
+
 pub returns-clause-numbers : goal.returns-clause-numbers
 unfolding numbers_below
 returns-clause-numbers c = refl
 
 pub returns-clause-start : goal.returns-clause-start
 unfolding numbers_below
-returns-clause-start c = (
-  0,
-  refl,
-  record {
-    small = omega arith;
-    few_seats = omega arith;
-    shared_out = refl;
-    each_once = record { moves = []; below = tt; is = refl };
-    fits = only;
-  },
-)
+returns-clause-start c = keeps 0 (seat_view 2 [] ∷ []) refl (record { moves = []; below = tt; is = refl }) only
   where
     fresh : Fits 2 (seat_view 2 [])
     fresh = record {
@@ -60,36 +69,22 @@ returns-clause-start c = (
       spent = λ light. absurd (omega arith);
     }
 
-    only : (k : ℕ) (view : View) → get_elem? (seat_view 2 [] ∷ []) k ≡ some view → Fits 2 view
+    only : AllFit (seat_view 2 [] ∷ [])
     only zero view at = subst (Fits 2) (some-injective (seat_view 2 []) view at) fresh
     only (suc k) view at = absurd (some-ne-none view (sym at))
 
 pub returns-clause-in_turn : goal.returns-clause-in_turn
-returns-clause-in_turn c = (
-  4,
-  refl,
-  record {
-    small = omega arith;
-    few_seats = omega arith;
-    shared_out = refl;
-    each_once = four;
-    fits = two_views (seat_view 1 (0 ∷ 2 ∷ [])) (seat_view 1 (1 ∷ 3 ∷ []))
-        (drew_two 0 2 (omega arith) (omega arith)) (drew_two 1 3 (omega arith) (omega arith));
-  },
-)
+returns-clause-in_turn c =
+    let one = drew_two 0 2 (omega arith) (omega arith) in
+    let other = drew_two 1 3 (omega arith) (omega arith) in
+    let first = seat_view 1 (0 ∷ 2 ∷ []) in
+    let second = seat_view 1 (1 ∷ 3 ∷ []) in
+    keeps 4 (first ∷ second ∷ []) refl four (two_views first second one other)
 
 pub returns-clause-back : goal.returns-clause-back
-returns-clause-back c = (
-  4,
-  refl,
-  record {
-    small = omega arith;
-    few_seats = omega arith;
-    shared_out = refl;
-    each_once = four;
-    fits = two_views (seat_view 2 (0 ∷ 2 ∷ 1 ∷ 3 ∷ [])) (seat_view 0 []) both spent;
-  },
-)
+returns-clause-back c =
+    let first = seat_view 2 (0 ∷ 2 ∷ 1 ∷ 3 ∷ []) in
+    keeps 4 (first ∷ seat_view 0 [] ∷ []) refl four (two_views first (seat_view 0 []) both spent)
   where
     both : Fits 2 (seat_view 2 (0 ∷ 2 ∷ 1 ∷ 3 ∷ []))
     both = record {

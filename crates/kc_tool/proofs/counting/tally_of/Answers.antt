@@ -1,4 +1,4 @@
-use Rattle.std.proofs.Common.{◌≤◌, arith}
+use Rattle.std.proofs.Common.{arith}
 use Rattle.kc_tool.proofs.counting.tally_of.Goals as goal
 
 pub of_rows-requires : goal.of_rows-requires

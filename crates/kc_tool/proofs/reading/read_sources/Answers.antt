@@ -13,7 +13,7 @@ loop-source-init g c =
 
 pub returns-in-Err-clause-fault : goal.returns-in-Err-clause-fault
 returns-in-Err-clause-fault g c =
-    refused g.R.Source.seen c.args.sources.items (into_iter_items c.next.new.self) c.in-Some.source c.read_all.new.reader c.loop-source.all.items c.loop-source.left c.loop-source.number c.in-Err.fault
+    refused g.R.Source.seen c.in-Some.source c.read_all.new.reader c.in-Err.fault
     (rw c.in-Some.ensures.steps.0 at c.loop-source.invariant.so_far) c.in-Err.ensures.fault
 
 pub loop-source-preserved : goal.loop-source-preserved
@@ -21,7 +21,7 @@ loop-source-preserved g c =
     let shorter : length (into_iter_items c.loop-source.source-iterator) ≡ length (into_iter_items c.next.new.self) + 1 = length-front _ _ c.in-Some.source c.in-Some.ensures.steps.0 in
     record {
       so_far = rw c.in_ok-append.ensures.items
-          (one_more g.R.Source.seen c.args.sources.items (into_iter_items c.next.new.self) c.in-Some.source c.read_all.new.reader c.loop-source.all.items c.in-Ok.answer.0.items c.loop-source.left c.loop-source.number c.in-Ok.answer.1
+          (one_more g.R.Source.seen c.in-Some.source c.read_all.new.reader c.in-Ok.answer.0.items c.in-Ok.answer.1
           (rw c.in-Some.ensures.steps.0 at c.loop-source.invariant.so_far) c.in-Ok.ensures.reads c.in-Ok.ensures.bases);
       few = omega (arith, shorter, c.loop-source.invariant.few);
     }

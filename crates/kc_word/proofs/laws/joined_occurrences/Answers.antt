@@ -1,4 +1,4 @@
-use Rattle.kc_word.proofs.Tallies.{occurrences-append}
+use Rattle.kc_word.proofs.WordCounts.{occurrences-append}
 use Rattle.kc_word.proofs.laws.joined_occurrences.Goals as goal
 
 pub returns : goal.returns

@@ -1,5 +1,5 @@
 use Rattle.std.proofs.Common.{ap, ◌∙◌}
-use Rattle.kc_word.specs.Base.{are_bases}
+use Rattle.kc_word.specs.Letter.{are_bases}
 use Rattle.kc_word.specs.Word.{text}
 use Rattle.kc_word.proofs.WordLemmas.{upper-bases, are_bases-text, same_from_text}
 use Rattle.kc_word.proofs.laws.packed_text.Goals as goal

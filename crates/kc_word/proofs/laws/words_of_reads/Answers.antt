@@ -1,5 +1,5 @@
 use Rattle.kc_word.proofs.Cleaning.{words_of-cleaned}
-use Rattle.kc_word.proofs.Tallies.{All-words_of, All-forms, length-words_of}
+use Rattle.kc_word.proofs.WordCounts.{All-words_of, All-forms, length-words_of}
 use Rattle.kc_word.proofs.laws.words_of_reads.Goals as goal
 
 pub returns-clause-below : goal.returns-clause-below

@@ -1,5 +1,5 @@
 use Rattle.std.proofs.Common.{refl}
-use Rattle.kc_word.specs.Base.{base}
+use Rattle.kc_word.specs.Letter.{base}
 use Rattle.kc_word.proofs.TableLemmas.{table_at}
 use Rattle.kc_word.proofs.letter.base_of.Goals as goal
 

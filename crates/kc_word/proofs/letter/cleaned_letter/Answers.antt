@@ -1,5 +1,5 @@
 use Rattle.std.proofs.Common.{refl}
-use Rattle.kc_word.specs.Base.{is_base}
+use Rattle.kc_word.specs.Letter.{is_base}
 use Rattle.kc_word.specs.Cutting.{cleaned_letter}
 use Rattle.kc_word.proofs.TableLemmas.{table_at}
 use Rattle.kc_word.proofs.letter.cleaned_letter.Goals as goal

@@ -1,6 +1,6 @@
 use Rattle.std.proofs.Common.{cond, refl}
 use Rattle.std.specs.Char.{to_ascii_uppercase}
-use Rattle.kc_word.specs.Base.{is_base, code}
+use Rattle.kc_word.specs.Letter.{is_base, code}
 use Rattle.kc_word.proofs.TableLemmas.{table_at}
 use Rattle.kc_word.proofs.letter.code_of.Goals as goal
 

@@ -1,7 +1,7 @@
 use Rattle.std.proofs.Common.{◌++◌, ◌<◌, ◌^◌, All, length, arith, subst, ap, sym, ◌∙◌, None}
 use Rattle.kc_fastx.specs.Reads.{read_of}
 use Rattle.kc_word.specs.Occurrences.{words_in}
-use Rattle.kc_word.proofs.Tallies.{All-words_in, length-words_in}
+use Rattle.kc_word.proofs.WordCounts.{All-words_in, length-words_in}
 use Rattle.kc_word.proofs.Cleaning.{words_in-cleaned}
 use Rattle.kc_word.proofs.roll.read_words.Goals as goal
 

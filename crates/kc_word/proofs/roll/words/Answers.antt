@@ -5,20 +5,29 @@ use Rattle.kc_word.specs.Occurrences.{words_in, words_of}
 use Rattle.kc_word.specs.Cutting.{as_reads}
 use Rattle.kc_word.proofs.Counting.{words_of-none, words_of-more}
 use Rattle.kc_word.proofs.Cuttings.{length-words_of-pieces}
-use Rattle.kc_word.proofs.Tallies.{All-words_of}
+use Rattle.kc_word.proofs.WordCounts.{All-words_of}
 use Rattle.kc_word.proofs.roll.words.Goals as goal
 
 pub loop-part-init : goal.loop-part-init
-loop-part-init c = c.in_ok-words.ensures.items ∙ sym (words_of-none c.args.rule.now)
+loop-part-init c = c.in_ok-words.ensures.empty ∙ sym (words_of-none c.args.rule.now)
 
 pub loop-part-preserved : goal.loop-part-preserved
 loop-part-preserved c =
-    words_of-more c.args.rule.now c.pieces-part-items.result.now c.loop-part.part-index c.part-item.result c.loop-part.words.items c.push_words.new.words.items (omega arith) c.part-item.is c.loop-part.invariant
-    (c.in_ok-push_words.ensures.words ∙ ap (λ bytes. c.loop-part.words.items ++ words_in c.args.rule.now (read_of bytes None)) c.bytes.ensures)
+    words_of-more c.args.rule.now c.pieces-part-items.result.now (record {
+      index = c.loop-part.part-index;
+      piece = c.part-item.result;
+      words = c.loop-part.words.items;
+      next_words = c.push_words.new.words.items;
+      within = omega arith;
+      piece_is = c.part-item.is;
+      pushed =
+          c.in_ok-push_words.ensures.words ∙ ap (λ bytes. c.loop-part.words.items ++ words_in c.args.rule.now (read_of bytes None)) c.bytes.ensures;
+    }) c.loop-part.invariant
 
 pub returns-clause-below : goal.returns-clause-below
 returns-clause-below c =
-    subst (λ (xs : List ℕ). All (λ n. n < 4 ^ c.args.rule.now.k) xs) (sym c.loop-part.invariant) (All-words_of c.args.rule.now (as_reads (take c.loop-part.part-index c.pieces-part-items.result.now)))
+    subst (λ (xs : List ℕ). All (λ n. n < 4 ^ c.args.rule.now.k) xs) (sym c.loop-part.invariant)
+    (All-words_of c.args.rule.now (as_reads (take c.loop-part.part-index c.pieces-part-items.result.now)))
 
 pub returns-clause-short : goal.returns-clause-short
 returns-clause-short c =

@@ -4,12 +4,30 @@ use Rattle.kc_word.proofs.slow.is_usable.Goals as goal
 
 pub returns-in-None : goal.returns-in-None
 returns-in-None c =
-    usable-none c.args.rule.now c.args.read.now c.bases.result.now c.args.place c.code_of-known.result c.bases.ensures.value (sym (ap option_copied c.in-None.is) ∙ c.quals.ensures.value) c.code_of-known.ensures
+    usable-none c.args.rule.now c.args.read.now (record {
+      bases = c.bases.result.now;
+      index = c.args.i;
+      found = c.code_of-known.result;
+      bases_are = c.bases.ensures.value;
+      found_is = c.code_of-known.ensures;
+    }) (sym (ap option_copied c.in-None.is) ∙ c.quals.ensures.value)
 
 pub returns-then-known : goal.returns-then-known
 returns-then-known c =
-    usable-known c.args.rule.now c.args.read.now c.bases.result.now c.in-Some.quals.now c.args.place c.code_of-known.result c.floor.result c.bases.ensures.value (sym (ap option_copied c.in-Some.is) ∙ c.quals.ensures.value) c.code_of-known.ensures c.floor.ensures.value c.if-known.true
+    usable-known c.args.rule.now c.args.read.now (record {
+      bases = c.bases.result.now;
+      index = c.args.i;
+      found = c.code_of-known.result;
+      bases_are = c.bases.ensures.value;
+      found_is = c.code_of-known.ensures;
+    }) c.in-Some.quals.now c.floor.result (sym (ap option_copied c.in-Some.is) ∙ c.quals.ensures.value) c.floor.ensures.value c.if-known.true
 
 pub returns-else-known : goal.returns-else-known
 returns-else-known c =
-    usable-unknown c.args.rule.now c.args.read.now c.bases.result.now c.in-Some.quals.now c.args.place c.code_of-known.result c.bases.ensures.value (sym (ap option_copied c.in-Some.is) ∙ c.quals.ensures.value) c.code_of-known.ensures c.if-known.false
+    usable-unknown c.args.rule.now c.args.read.now (record {
+      bases = c.bases.result.now;
+      index = c.args.i;
+      found = c.code_of-known.result;
+      bases_are = c.bases.ensures.value;
+      found_is = c.code_of-known.ensures;
+    }) c.in-Some.quals.now (sym (ap option_copied c.in-Some.is) ∙ c.quals.ensures.value) c.if-known.false

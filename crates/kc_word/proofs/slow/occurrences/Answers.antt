@@ -1,6 +1,4 @@
-use Rattle.std.proofs.Common.{ap, ◌∙◌, arith, length, subst, ◌≤◌}
-use Rattle.kc_fastx.specs.Reads.{Read}
-use Rattle.kc_word.specs.Occurrences.{occurrences_in}
+use Rattle.std.proofs.Common.{arith}
 use Rattle.kc_word.specs.Word.{text}
 use Rattle.kc_word.proofs.Looking.{IsSummedTo-none, IsSummedTo-more}
 use Rattle.kc_word.proofs.slow.occurrences.Goals as goal
@@ -10,6 +8,12 @@ loop-read-init c = IsSummedTo-none c.args.rule.now (text c.args.rule.now.k c.arg
 
 pub loop-read-preserved : goal.loop-read-preserved
 loop-read-preserved c =
-    IsSummedTo-more c.args.rule.now c.args.reads.now (text c.args.rule.now.k c.args.word.0) c.loop-read.read-index c.loop-read.count c.occurrences_in-count.result c.read-item.result (omega arith)
-    (c.occurrences_in-count.ensures.value ∙ ap (λ (r : Read). occurrences_in c.args.rule.now r (text c.args.rule.now.k c.args.word.0)) c.read-item.is)
-    (subst (λ (r : Read). c.occurrences_in-count.result ≤ length r.bases) c.read-item.is c.occurrences_in-count.ensures.most) c.loop-read.invariant
+    IsSummedTo-more c.args.rule.now c.args.reads.now (text c.args.rule.now.k c.args.word.0) (record {
+      index = c.loop-read.read-index;
+      read = c.read-item.result;
+      count = c.occurrences_in-count.result;
+      within = omega arith;
+      read_is = c.read-item.is;
+      count_is = c.occurrences_in-count.ensures.value;
+      most = c.occurrences_in-count.ensures.most;
+    }) c.loop-read.count c.loop-read.invariant

@@ -1,4 +1,4 @@
-use Rattle.std.proofs.Common.{◌≡◌, ◌<◌, ◌≤◌, length, sym, subst, arith}
+use Rattle.std.proofs.Common.{subst, arith}
 use Rattle.kc_hash.specs.Matrix.{AreBelow}
 use Rattle.kc_hash.proofs.matrix.Matrix.tables.Goals as goal
 

@@ -1,8 +1,9 @@
 use Rattle.std.proofs.Common.{◌<◌, ◌^◌, ◌∙◌, refl, sym, subst}
 use Rattle.kc_table.specs.Counts.{IsStored}
-use Rattle.kc_table.specs.QuotientTable.{counts_in, IsShutOut, IsCrowded, MayBeTooSmall}
+use Rattle.kc_table.specs.QuotientTable.{counts_in, IsShutOut, IsCrowded}
 use Rattle.kc_table.proofs.KeyCounts.{readied_stored, readied_new}
-use Rattle.kc_table.proofs.SlotSteps.{get_found, get_free, get_out, small_by_out, crowded_by_out, taken_out, not_shut_found, not_shut_free, not_stored}
+use Rattle.kc_table.proofs.Resizing.{small_by_out}
+use Rattle.kc_table.proofs.SlotSteps.{get_found, get_free, get_out, crowded_by_out, taken_out, not_shut_found, not_shut_free, not_stored}
 use Rattle.kc_table.proofs.quotient.QuotientTableCounts.ready.Goals as goal
 
 pub grown-requires-clause-new : goal.grown-requires-clause-new
@@ -10,7 +11,8 @@ grown-requires-clause-new c = get_out c.self.inside.slots.slots.items c.self.ins
 
 pub grown-requires-clause-tight : goal.grown-requires-clause-tight
 grown-requires-clause-tight c =
-    small_by_out _ _ c.args.key _ c.self.inside.slots.slots.items c.self.inside.slots.sound refl refl refl (subst (λ t. c.args.key < 2 ^ t.bits) (sym c.self.view_is) c.requires) c.in-Crowded.ensures.0
+    small_by_out _ _ c.args.key _ c.self.inside.slots (record { same_bits = refl; same_log = refl; same_counts = refl })
+    (subst (λ t. c.args.key < 2 ^ t.bits) (sym c.self.view_is) c.requires) c.in-Crowded.ensures.0
 
 pub returns-in-Found-clause-stored : goal.returns-in-Found-clause-stored
 returns-in-Found-clause-stored c =

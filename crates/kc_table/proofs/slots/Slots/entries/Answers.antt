@@ -1,8 +1,8 @@
-use Rattle.std.proofs.Common.{◌≡◌, ◌<◌, ◌≤◌, ◌∙◌, sym, ap, length, arith, rules, Some}
+use Rattle.std.proofs.Common.{◌≡◌, ◌<◌, ◌≤◌, ◌∙◌, sym, ap, length, arith, rules, Some, ℕ, List, [], ◌∷◌, ◌++◌}
 use Rattle.kc_table.specs.QuotientTable.{Holds}
 use Rattle.kc_table.specs.Slot.{contents_of}
 use Rattle.kc_table.proofs.SlotSteps.{slot_read_empty, slot_read_held, length-contents_from}
-use Rattle.kc_table.proofs.Contents.{counted_in-empty, counted_in-zero, counted_in-push, counted_in-all}
+use Rattle.kc_table.proofs.Contents.{counted_in-empty, counted_in-zero, counted_in-some, counted_in-all}
 use Rattle.kc_table.proofs.slots.Slots.entries.Goals as goal
 
 pub loop-index-preserved-then-slot-eq0 : goal.loop-index-preserved-then-slot-eq0
@@ -20,7 +20,7 @@ loop-index-preserved c =
     let below : c.loop-index.index < length c.args.self.now.slots.items = search rules in
     let held : Holds (contents_of c.args.self.now.log c.args.self.now.slots.items) c.loop-index.index c.key_at.result c.index-slot.result.now.count =
     slot_read_held _ _ _ _ below c.index-slot.ensures c.if-slot-eq0.false ∙ ap (λ k. Some (Some (k, c.index-slot.result.now.count))) (sym c.key_at.ensures.key) in
-    counted_in-push _ c.loop-index.index _ _ _ _ c.loop-index.invariant c.in_ok-push.ensures.items held c.if-slot-eq0-2.false
+    c.in_ok-push.ensures.items ∙ ap (λ (es : List (ℕ × ℕ)). es ++ (c.key_at.result, c.index-slot.result.now.count) ∷ []) c.loop-index.invariant ∙ sym (counted_in-some _ c.loop-index.index _ _ held c.if-slot-eq0-2.false)
 
 pub returns : goal.returns
 returns c =

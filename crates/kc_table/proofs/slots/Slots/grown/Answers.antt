@@ -1,8 +1,8 @@
-use Rattle.std.proofs.Common.{ℕ, ◌≡◌, ◌+◌, ◌<◌, ◌≤◌, subst, arith, rules, inl, inr}
+use Rattle.std.proofs.Common.{◌≡◌, subst, arith, rules, inl, inr}
 use Rattle.std.proofs.lemmas.Bool.{cases_lt}
 use Rattle.kc_table.specs.QuotientTable.{MayBeTooSmall}
 use Rattle.kc_table.specs.Slot.{counts_of}
-use Rattle.kc_table.proofs.SlotSteps.{small_by_out}
+use Rattle.kc_table.proofs.Resizing.{small_by_out}
 use Rattle.kc_table.proofs.slots.Slots.grown.Goals as goal
 
 pub loop-log-preserved : goal.loop-log-preserved
@@ -15,7 +15,7 @@ loop-log-preserved c =
       | inl before ↦ c.loop-log.invariant l from before
       | inr past ↦ let here : c.loop-log.log ≡ l = omega arith in
           subst (λ n. MayBeTooSmall c.args.self.now.bits n counts c.args.key) here
-          (small_by_out _ _ c.args.key counts c.in-Some.table.slots.items c.in-Some.table.sound bits log same c.requires.in_range (c.take.ensures.out (search rules)))
+          (small_by_out _ _ c.args.key counts c.in-Some.table (record { same_bits = bits; same_log = log; same_counts = same }) c.requires.in_range (c.take.ensures.out (search rules)))
     ]
 
 pub loop-log-preserved-in_default-resized : goal.loop-log-preserved-in_default-resized

@@ -1,7 +1,7 @@
 use Rattle.std.proofs.Common.{arith, rules, ◌≡◌, ◌≢◌, ◌∙◌, ◌+◌, ◌-◌, ◌<◌, ◌≤◌, ◌^◌, ◌/◌, ◌*◌, ◌%◌, bit_and, pow_mono}
 use Rattle.kc_table.specs.Reprobing.{triangle, reprobe_of}
 use Rattle.kc_table.specs.Slot.{tag_at}
-use Rattle.kc_table.proofs.SlotSteps.{key_read}
+use Rattle.kc_table.proofs.Resizing.{key_read}
 use Rattle.kc_table.proofs.ReprobingSteps.{steps_back-le}
 use Rattle.kc_table.proofs.slots.Slots.key_at.Goals as goal
 
@@ -23,16 +23,16 @@ overflow_add-home c =
 pub overflow_add-result : goal.overflow_add-result
 overflow_add-result c =
     let mask : c.len-mask.result - 1 ≡ 2 ^ c.args.self.now.log - 1 = search rules in
-    let read = key_read c.args.self.now.slots.items c.args.self.now.sound c.args.index c.args.tag _ c.requires.tag c.requires.some mask in
+    let read = key_read c.args.self.now c.args.index c.args.tag _ c.requires.tag c.requires.some mask in
     let fits : c.args.tag / 64 * 2 ^ c.args.self.now.log % 2 ^ 64 + bit_and (c.args.index + (c.len-mask.result - 1) * triangle (reprobe_of c.args.tag)) (c.len-mask.result - 1) < 2 ^ 64 = read.fits in
     search rules
 
 pub returns-clause-key : goal.returns-clause-key
 returns-clause-key c =
     let mask : c.len-mask.result - 1 ≡ 2 ^ c.args.self.now.log - 1 = search rules in
-    (key_read c.args.self.now.slots.items c.args.self.now.sound c.args.index c.args.tag _ c.requires.tag c.requires.some mask).is
+    (key_read c.args.self.now c.args.index c.args.tag _ c.requires.tag c.requires.some mask).is
 
 pub returns-clause-in_range : goal.returns-clause-in_range
 returns-clause-in_range c =
     let mask : c.len-mask.result - 1 ≡ 2 ^ c.args.self.now.log - 1 = search rules in
-    (key_read c.args.self.now.slots.items c.args.self.now.sound c.args.index c.args.tag _ c.requires.tag c.requires.some mask).in_range
+    (key_read c.args.self.now c.args.index c.args.tag _ c.requires.tag c.requires.some mask).in_range

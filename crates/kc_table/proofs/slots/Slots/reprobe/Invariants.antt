@@ -1,5 +1,5 @@
 use Rattle.kc_table.specs.Slot.{tag_at}
-use Rattle.kc_table.proofs.ReprobingSteps.{Walk, IsWalked}
+use Rattle.kc_table.proofs.ReprobingSteps.{IsWalked}
 use Rattle.kc_table.proofs.slots.Slots.reprobe.Given as goal
 
 abbrev pub invariant-loop-i : goal.invariant-loop-i

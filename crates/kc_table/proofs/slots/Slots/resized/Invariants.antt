@@ -1,5 +1,5 @@
-use Rattle.kc_table.proofs.SlotSteps.{IsCarried}
+use Rattle.kc_table.proofs.Resizing.{IsCarried}
 use Rattle.kc_table.proofs.slots.Slots.resized.Given as goal
 
-abbrev pub invariant-loop-index : goal.invariant-loop-index
-invariant-loop-index l = IsCarried l.self.bits l.self.log l.log l.table.bits l.table.log l.index l.self.slots.items l.table.slots.items
+abbrev pub invariant-loop-old_index : goal.invariant-loop-old_index
+invariant-loop-old_index l = IsCarried l.self l.table l.log l.old_index

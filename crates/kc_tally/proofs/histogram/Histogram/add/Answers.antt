@@ -9,8 +9,16 @@ overflow_add-index_mut c =
     let fits : P c.self.inside.bins.items c.other.inside.bins.items =
     subst (λ old. P old c.other.inside.bins.items) (sym c.self.view_is) (subst (P c.args.self.now) (sym c.other.view_is) c.requires) in
     let sum : c.index_mut.result.now + c.index.result.now < 2 ^ 64 =
-    joined-fits c.loop-i.i c.index_mut.result.now c.index.result.now c.self.inside.bins.items c.other.inside.bins.items c.loop-i.self-inside.bins.items
-    fits c.self.invariant c.other.invariant (omega arith) c.loop-i.invariant c.index_mut.ensures.value c.index.ensures in
+    joined-fits c.self.inside.bins.items c.other.inside.bins.items c.loop-i.self-inside.bins.items (record {
+      index = c.loop-i.i;
+      size = c.index_mut.result.now;
+      other_size = c.index.result.now;
+      within = omega arith;
+      long = c.self.invariant;
+      others_long = c.other.invariant;
+      size_is = c.index_mut.ensures.value;
+      other_size_is = c.index.ensures;
+    }) fits c.loop-i.invariant in
     omega (arith, sum)
 
 pub returns : goal.returns

@@ -1,0 +1,5 @@
+pub mod Views
+pub mod Steps
+pub mod Sharing
+pub mod Comparing
+pub mod Rows

@@ -1,0 +1,5 @@
+pub mod Entries
+pub mod Share
+pub mod Sheet
+pub mod Rule
+pub mod Laws

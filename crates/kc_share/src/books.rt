@@ -1,0 +1,18 @@
+//! The name of one sheet.
+ghost use Rattle.atomic_table.specs.Seated.{TableId};
+
+use std::marker::Brand;
+
+/// The name of one sheet: of the table of its word. What belongs to a sheet carries its name by a type parameter, so
+/// that nothing of another sheet is taken for it. Whoever opens a sheet takes `Brand`, and picks the sheet's own table.
+pub trait Books {
+    ghost use Rattle.atomic_table.specs.Seated.{TableId};
+
+    ghost table: { TableId };
+}
+
+impl Books for Brand {
+    ghost use Rattle.kc_share.specs.Sheet.{no_table};
+
+    ghost table = { no_table };
+}

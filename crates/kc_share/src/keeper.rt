@@ -1,0 +1,57 @@
+//! What stands behind a stripe's lock, beside the stripe.
+ghost use Rattle.std.specs.Prelude.{◌≡◌, ◌<◌, []};
+ghost use Rattle.kc_share.specs.Share.{kept_stripe};
+ghost use Rattle.kc_share.specs.Rule.{keeper_view};
+
+use crate::books::Books;
+use crate::rule::Seat;
+use std::marker::{Model, PhantomData};
+
+/// The right to keep a stripe's journal, which belongs behind the stripe's lock. What a contract sees of it is the
+/// stripe's number, and the journal: all that was ever booked into the stripe. The journal has no bytes.
+#[derive(Drop)]
+pub struct Keeper<N: Books> {
+    pub(crate) seat: Seat,
+    pub(crate) stripe: u32,
+    name: PhantomData<N>,
+}
+
+impl<N: Books> Model for Keeper<N> {
+    ghost use Rattle.std.specs.Prelude.{◌≡◌, ◌<◌, []};
+    ghost use Rattle.kc_share.specs.declared.entry.KeptStripe.{KeptStripe};
+    ghost use Rattle.kc_share.specs.Share.{first_kept};
+    ghost use Rattle.kc_share.specs.Rule.{keeper_view};
+
+    ghost Value = { KeptStripe };
+
+    ghost view = { λ k. first_kept k.seat.me.0.kept };
+
+    ghost invariant = { λ k.
+        (k.seat.table_id ≡ N.table)
+        × (k.seat.me ≡ (keeper_view (first_kept k.seat.me.0.kept), []))
+        × (k.stripe ≡ (first_kept k.seat.me.0.kept).stripe)
+        × (k.stripe < 64) };
+}
+
+impl<N: Books> Keeper<N> {
+    // The keeper of a stripe in which nothing was booked.
+    pub(crate) fn of(seat: Seat, stripe: u32) -> Keeper<N>
+        requires table { seat.table_id ≡ N.table }
+        requires view { seat.me ≡ (keeper_view (kept_stripe stripe []), []) }
+        requires stripe { stripe < 64 }
+        ensures { result ≡ kept_stripe stripe [] }
+    {
+        Keeper {
+            seat,
+            stripe,
+            name: PhantomData,
+        }
+    }
+
+    /// The number of the stripe.
+    pub fn stripe(&self) -> u32
+        ensures { result ≡ self.now.stripe }
+    {
+        self.stripe
+    }
+}

@@ -1,0 +1,19 @@
+//! Facts that callers go on with. The functions do nothing when they run.
+ghost use Rattle.kc_share.specs.Laws.{AddsUp, SameInSomeOrder, AmongIsThere};
+
+/// Shows what a sheet's rule says in numbers: the words and the entries that were booked into a stripe are those kept
+/// for it, and each batch was booked as often as it is kept.
+pub fn sheets_add_up()
+    ensures { AddsUp }
+{}
+
+/// Shows that the same entries, each as often, are the same list in some order: so what a whole share booked into a
+/// stripe is the stripe's journal, reordered.
+pub fn same_in_some_order()
+    ensures { SameInSomeOrder }
+{}
+
+/// Shows that entries which are among others stand there: so what was booked with a share stands in the journal.
+pub fn among_is_there()
+    ensures { AmongIsThere }
+{}

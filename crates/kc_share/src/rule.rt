@@ -1,0 +1,98 @@
+//! The rule of a sheet, and its steps.
+ghost use Rattle.std.specs.Prelude.{ℕ};
+
+use crate::entry::{Entry, Plan, View};
+use atomic_table::{Join, Play, Split, Table, TableRule};
+use std::alloc::Global;
+use std::marker::{Brand, PhantomData};
+
+/// The rule of the word and of all views.
+pub(crate) struct SheetRule;
+
+impl TableRule<(), View, Plan> for SheetRule {
+    ghost use Rattle.kc_share.specs.Rule.{IsState, first_view};
+
+    ghost holds = { IsState };
+
+    ghost first = { first_view };
+}
+
+/// One part goes.
+pub(crate) struct OnePart;
+
+impl Split<View> for OnePart {
+    ghost use Rattle.kc_share.specs.Rule.{view_less_part, part_view};
+
+    ghost left = { view_less_part };
+
+    ghost right = { part_view };
+}
+
+/// The first of the kept stripes goes.
+pub(crate) struct FirstKept;
+
+impl Split<View> for FirstKept {
+    ghost use Rattle.kc_share.specs.Rule.{view_without_first, first_kept_view};
+
+    ghost left = { view_without_first };
+
+    ghost right = { first_kept_view };
+}
+
+/// All goes.
+pub(crate) struct Whole;
+
+impl Split<View> for Whole {
+    ghost use Rattle.kc_share.specs.Rule.{blank_view};
+
+    ghost left = { λ view. blank_view };
+
+    ghost right = { λ view. view };
+}
+
+/// One view gets what both had.
+pub(crate) struct Together;
+
+impl Join<View> for Together {
+    ghost use Rattle.kc_share.specs.Rule.{joined_view, blank_view};
+
+    ghost both = { joined_view };
+
+    ghost spent = { blank_view };
+}
+
+/// A load that tells what is known.
+pub(crate) struct Look;
+
+impl Play<(), View> for Look {
+    ghost use Rattle.kc_share.specs.Rule.{IsLook};
+
+    ghost then = { IsLook };
+}
+
+/// The entry of one booking.
+pub(crate) trait Event {
+    ghost use Rattle.kc_share.specs.declared.entry.Entry.{Entry};
+
+    ghost entry: { Entry };
+}
+
+impl Event for Brand {
+    ghost use Rattle.std.specs.Prelude.{[]};
+
+    ghost entry = { record { batch = record { number = 0; pieces = [] }; words = 0 } };
+}
+
+/// A load at which an entry is booked.
+pub(crate) struct Book<E: Event>(PhantomData<E>);
+
+impl<E: Event> Play<(), View> for Book<E> {
+    ghost use Rattle.kc_share.specs.Rule.{IsBooking};
+
+    ghost then = { IsBooking E.entry };
+}
+
+/// The right to take steps, with a view.
+pub(crate) type Seat = atomic_table::Seat<(), View>;
+
+pub(crate) type SheetTable = Table<(), View, Plan, SheetRule, Global>;

@@ -1,0 +1,83 @@
+//! What is booked with a share.
+ghost use Rattle.std.specs.Prelude.{◌≡◌, ◌<◌, ◌≤◌, []};
+ghost use Rattle.kc_share.specs.Share.{share_of, word_total_in, entry_total_in};
+
+use crate::books::Books;
+use crate::rule::Seat;
+use std::marker::{Model, PhantomData};
+
+/// How many stripes there are at most.
+pub(crate) const MOST: usize = 64;
+
+/// The right to book, with a number of the sheet's parts, and how much was booked with it in each stripe. What a
+/// contract sees of it is a `ShareSeen`: the plan of its sheet, its parts, and the list of all that was booked with it.
+/// That list has no bytes.
+#[derive(Drop)]
+pub struct Share<N: Books> {
+    pub(crate) seat: Seat,
+    pub(crate) parts: u64,
+    pub(crate) words: [u64; 64],
+    pub(crate) entries: [u64; 64],
+    pub(crate) name: PhantomData<N>,
+}
+
+impl<N: Books> Model for Share<N> {
+    ghost use Rattle.std.specs.Prelude.{◌≡◌, ◌<◌, ◌≤◌, []};
+    ghost use Rattle.kc_share.specs.Share.{ShareSeen, share_of, word_total_in, entry_total_in, AreNumbersOf};
+
+    ghost Value = { ShareSeen };
+
+    ghost view = { λ s. share_of s.seat.me.0.plan s.seat.me.0.parts s.seat.me.0.booked };
+
+    ghost invariant = { λ s.
+        (s.seat.table_id ≡ N.table)
+        × (s.seat.me.1 ≡ [])
+        × (s.seat.me.0.kept ≡ [])
+        × (s.parts ≡ s.seat.me.0.parts)
+        × (0 < s.parts)
+        × (s.seat.me.0.plan.stripes ≤ 64)
+        × AreNumbersOf (λ stripe. word_total_in stripe s.seat.me.0.booked) s.words
+        × AreNumbersOf (λ stripe. entry_total_in stripe s.seat.me.0.booked) s.entries };
+}
+
+impl<N: Books> Share<N> {
+    // A share that has booked nothing.
+    pub(crate) fn of(seat: Seat, parts: u64) -> Share<N>
+        requires table { seat.table_id ≡ N.table }
+        requires view { (seat.me.0.parts ≡ parts) × (seat.me.0.booked ≡ []) × (seat.me.0.kept ≡ []) × (seat.me.1 ≡ []) }
+        requires parts { 0 < parts }
+        requires stripes { seat.me.0.plan.stripes ≤ 64 }
+        ensures { result ≡ share_of seat.me.0.plan parts [] }
+    {
+        Share {
+            seat,
+            parts,
+            words: [0; 64],
+            entries: [0; 64],
+            name: PhantomData,
+        }
+    }
+
+    /// How many of the parts it has.
+    pub fn parts(&self) -> u64
+        ensures { result ≡ self.now.parts }
+    {
+        self.parts
+    }
+
+    /// How many words it booked into a stripe. The stripe's number is below the number of stripes.
+    pub fn words(&self, stripe: u32) -> u64
+        requires { stripe < self.now.plan.stripes }
+        ensures { result ≡ word_total_in stripe self.now.booked }
+    {
+        self.words[stripe as usize]
+    }
+
+    /// How many batches it booked into a stripe. The stripe's number is below the number of stripes.
+    pub fn entries(&self, stripe: u32) -> u64
+        requires { stripe < self.now.plan.stripes }
+        ensures { result ≡ entry_total_in stripe self.now.booked }
+    {
+        self.entries[stripe as usize]
+    }
+}

@@ -1,0 +1,36 @@
+-- A table of counts, with the histogram and the sum of its counts.
+use Rattle.std.specs.Prelude.{◌≡◌, ℕ, ◌<◌, ◌≤◌, ◌^◌, ◌↔◌, List, length, map, take, fold, sum, slice_index}
+use Rattle.std.specs.List.{range_with_len}
+use Rattle.kc_table.specs.Counts.{KeyCounts, count_at, readied}
+use Rattle.kc_tally.specs.Histogram.{bins_of}
+
+-- a table, the sizes of the bins of its counts, and their sum
+pub record TableSeen (C : Type 0) : Type 0 where
+  pub table : C
+  pub bins : List ℕ
+  pub total : ℕ
+
+-- the counts of all keys of so many bits, 0 for those that are not stored
+abbrev pub counts_of : ℕ → KeyCounts → List ℕ
+counts_of bits counts = map (λ key. count_at counts key) (range_with_len 0 (2 ^ bits))
+
+-- bins and total are those of the table's counts
+pub record IsCounted (bits : ℕ) (counts : KeyCounts) (bins : List ℕ) (total : ℕ) : Type 0 where
+  pub bits_at_most : bits ≤ 62
+  pub bins_are : bins ≡ bins_of (counts_of bits counts)
+  pub total_is : total ≡ sum (counts_of bits counts)
+  pub total_at_most : total ≤ 2 ^ 62
+
+-- the keys have as many bits as before, and what may be refused as full is what might be before
+pub record KeepsLimits {C : Type 0} (bits : C → ℕ) (full : C → KeyCounts → ℕ → Type 0) (old new : C) : Type 0 where
+  pub same_bits : bits new ≡ bits old
+  pub same_limits : (counts : KeyCounts) (key : ℕ) → full new counts key ↔ full old counts key
+
+-- the keys stored, one after another
+abbrev pub all_readied : KeyCounts → List ℕ → KeyCounts
+all_readied counts keys = fold readied counts keys
+
+-- one of the keys may be refused, with the earlier ones stored
+abbrev pub SomeMayBeFull : (KeyCounts → ℕ → Type 0) → KeyCounts → List ℕ → Type 0
+SomeMayBeFull may_be_full counts keys =
+    (i : ℕ) × (i < length keys) × may_be_full (all_readied counts (take i keys)) (slice_index keys i)

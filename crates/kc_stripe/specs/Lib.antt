@@ -1,0 +1,5 @@
+pub mod Setup
+pub mod Cut
+pub mod Counted
+pub mod Stripe
+pub mod Faults
