@@ -30,7 +30,10 @@ pub use arguments::options;
 pub use fault_lines::write_fault;
 pub use faults::{OptionName, ToolFault};
 pub use kc_io::{Sink, ToVec, ToWrite};
-pub use kc_report::{Dump, write_dump};
+pub use kc_report::{
+    Dump, GREATEST_HIGH, ReportFault, query, read_table, write_dump, write_histo, write_stats,
+    write_table,
+};
 pub use kc_tally::{Row, Tally};
 pub use kc_word::K;
 pub use reporting::count_reads;
