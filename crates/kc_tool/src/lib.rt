@@ -4,6 +4,9 @@
 //! line, counts and answers the exit status; `run` does the same over streams that the caller keeps. A refusal is a
 //! `ToolFault`, and `write_fault` writes its line.
 //!
+//! `write_dump`, `write_histo`, `write_stats` and `write_table` write a `Tally`, and `query` the counts of some words;
+//! `read_table` reads what `write_table` writes.
+//!
 //! ```text
 //! let k = K::new(3).ok_or("a length")?;
 //! let options = Options::new(k, Dump::in_columns());
