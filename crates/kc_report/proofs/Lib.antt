@@ -1,3 +1,13 @@
 pub mod CountLemmas
 pub mod DumpLemmas
+pub mod TableLemmas
+pub mod TableLines
+pub mod TableFronts
+pub mod TableAnswers
+pub mod TableSearch
+pub mod LineLemmas
+pub mod FieldLemmas
+pub mod NextRowLemmas
+pub mod TableReadingLemmas
+pub mod QueryLemmas
 pub mod HistoLemmas

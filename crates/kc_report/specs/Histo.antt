@@ -35,3 +35,4 @@ abbrev pub WritesUnlessMemory : {A : Type 0} → Written → Written → Result 
 WritesUnlessMemory old new (Ok done) text = HasWritten old new text
 WritesUnlessMemory old new (Err Write) text = HasBegun old new text
 WritesUnlessMemory old new (Err Memory) text = new ≡ old
+WritesUnlessMemory old new (Err fault) text = ⊥

@@ -113,10 +113,10 @@ fn is_shown(dump: &Dump, row: Row) -> bool
 }
 
 // The most letters of a word: the greatest length that a `K` can be.
-const WORD_SIZE: usize = 31;
+pub(crate) const WORD_SIZE: usize = 31;
 
 // The most bytes that a row takes. Beside the word and the count, a layout has at most three bytes of its own.
-const ROW_SIZE: usize = WORD_SIZE + NUMBER_SIZE + 3;
+pub(crate) const ROW_SIZE: usize = WORD_SIZE + NUMBER_SIZE + 3;
 
 // A row, at the end of the block.
 fn push_row(block: &mut Block, k: K, dump: &Dump, row: Row)
@@ -132,7 +132,7 @@ fn push_row(block: &mut Block, k: K, dump: &Dump, row: Row)
 }
 
 // A row in columns, at the end of the block.
-fn push_columns(block: &mut Block, k: K, tab: bool, row: Row)
+pub(crate) fn push_columns(block: &mut Block, k: K, tab: bool, row: Row)
     requires room { length block.old + ROW_SIZE ≤ BLOCK_SIZE }
     requires below { row.word < 4 ^ k }
     ensures { block.new ≡ block.old ++ row_in_columns k tab row }
@@ -161,7 +161,7 @@ fn push_lines(block: &mut Block, k: K, row: Row)
 }
 
 // The letters of a word, at the end of the block.
-fn push_word(block: &mut Block, k: K, word: Word)
+pub(crate) fn push_word(block: &mut Block, k: K, word: Word)
     requires room { length block.old + WORD_SIZE ≤ BLOCK_SIZE }
     requires below { word.0 < 4 ^ k }
     ensures pushed { block.new ≡ block.old ++ text k word.0 }

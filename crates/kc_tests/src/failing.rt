@@ -258,6 +258,25 @@ fn lines_of_source_faults(rt: HostRuntime) -> Result<(), Fail> {
     Ok(())
 }
 
+// So has each fault of a table and of a query.
+#[test]
+fn lines_of_table_and_query_faults(rt: HostRuntime) -> Result<(), Fail> {
+    let rows: [(ToolFault, &str); 6] = [
+        (ToolFault::BadHeader, "41: bad header"),
+        (ToolFault::BadRow(1), "42: bad row, line 1"),
+        (ToolFault::BadEnd, "43: bad end"),
+        (ToolFault::TableTooLong, "44: table too long"),
+        (ToolFault::TableRead, "45: table read failed"),
+        (ToolFault::BadWord(20), "52: bad word 20"),
+    ];
+    for (fault, text) in rows {
+        let line = line_of(&rt, fault)?;
+        let wanted = format!(in rt.alloc(); "kcount: {text}\n")?;
+        assert_eq!(rt; line.as_slice(), wanted.as_bytes());
+    }
+    Ok(())
+}
+
 // So has each other fault.
 #[test]
 fn lines_of_other_faults(rt: HostRuntime) -> Result<(), Fail> {

@@ -12,7 +12,18 @@ use Rattle.kc_tool.specs.Command.{kcount_app}
 use Rattle.kc_tool.specs.Running.{AskForHelp, AskToCount, AreTaken, CarriesOut, CountsSo, FailsSo, IsHelp, IsTold, ShowsSo}
 use Rattle.kc_io.specs.Sinks.{Written, Writes}
 use Rattle.kc_tool.specs.declared.faults.ToolFault.{ToolFault}
-use Rattle.kc_tool.specs.declared.faults.ToolFault.TheVariants.{Fastx, Memory, BadOption, Write}
+use Rattle.kc_tool.specs.declared.faults.ToolFault.TheVariants.{
+  Fastx,
+  BadHeader,
+  BadRow,
+  BadEnd,
+  TableTooLong,
+  TableRead,
+  Memory,
+  BadOption,
+  BadWord,
+  Write,
+}
 use Rattle.kc_tool.specs.declared.running.Ending.{Ending}
 use Rattle.kc_tool.specs.declared.running.Ending.TheVariants.{Fault, Refused}
 use Rattle.kc_tool.proofs.CommandLemmas.{names_count}
@@ -53,7 +64,13 @@ module _ {S : Type 0} (seen : S → Seen) (input : S) (arguments : List Text) wh
   shown error old new (Err (Fault Write)) h s = (s.0, inl (asks_for_help arguments error h s.1), s.2)
   shown error old new (Err (Fault Memory)) h s = s
   shown error old new (Err (Fault (Fastx number fault))) h s = absurd s
+  shown error old new (Err (Fault BadHeader)) h s = absurd s
+  shown error old new (Err (Fault (BadRow line))) h s = absurd s
+  shown error old new (Err (Fault BadEnd)) h s = absurd s
+  shown error old new (Err (Fault TableTooLong)) h s = absurd s
+  shown error old new (Err (Fault TableRead)) h s = absurd s
   shown error old new (Err (Fault (BadOption name))) h s = absurd s
+  shown error old new (Err (Fault (BadWord number))) h s = absurd s
   shown error old new (Err (Refused text)) h s = (
     record {
       reason = kind_of error;
@@ -71,6 +88,12 @@ module _ {S : Type 0} (seen : S → Seen) (input : S) (arguments : List Text) wh
   count_failed rows old new Memory a s = s.0
   count_failed rows old new (BadOption name) a s = (s.0, rows, a, s.1)
   count_failed rows old new (Fastx number fault) a s = (s.0, rows, a, s.1)
+  count_failed rows old new BadHeader a s = absurd s.1
+  count_failed rows old new (BadRow line) a s = absurd s.1
+  count_failed rows old new BadEnd a s = absurd s.1
+  count_failed rows old new TableTooLong a s = absurd s.1
+  count_failed rows old new TableRead a s = absurd s.1
+  count_failed rows old new (BadWord number) a s = absurd s.1
 
 -- a text went to the errors, whether all of it could be written or not
 pub told : {A E : Type 0} (old new : Written) (r : Result A E) (text : List ℕ) → Writes old new r text → IsTold old new text

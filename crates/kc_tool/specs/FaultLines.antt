@@ -5,7 +5,18 @@ use Rattle.kc_fastx.specs.declared.FastxFault.TheVariants as fastx
 use Rattle.kc_tool.specs.declared.faults.OptionName.{OptionName}
 use Rattle.kc_tool.specs.declared.faults.OptionName.TheVariants.{MerLen, MinQualChar, Batch, Print}
 use Rattle.kc_tool.specs.declared.faults.ToolFault.{ToolFault}
-use Rattle.kc_tool.specs.declared.faults.ToolFault.TheVariants.{Fastx, Memory, BadOption, Write}
+use Rattle.kc_tool.specs.declared.faults.ToolFault.TheVariants.{
+  Fastx,
+  BadHeader,
+  BadRow,
+  BadEnd,
+  TableTooLong,
+  TableRead,
+  Memory,
+  BadOption,
+  BadWord,
+  Write,
+}
 
 -- the long name of an option
 abbrev pub option_text : OptionName → List ℕ
@@ -36,8 +47,14 @@ reader_text source fastx.Memory = codes "8: no memory"
 -- what a refusal says, behind `kcount: `
 abbrev pub fault_text : ToolFault → List ℕ
 fault_text (Fastx source fault) = reader_text source fault
+fault_text BadHeader = codes "41: bad header"
+fault_text (BadRow line) = codes "42: bad row, line " ++ decimal line
+fault_text BadEnd = codes "43: bad end"
+fault_text TableTooLong = codes "44: table too long"
+fault_text TableRead = codes "45: table read failed"
 fault_text Memory = codes "46: no memory"
 fault_text (BadOption name) = codes "51: bad option " ++ option_text name
+fault_text (BadWord number) = codes "52: bad word " ++ decimal number
 fault_text Write = codes "53: write failed"
 
 -- the line of a refusal

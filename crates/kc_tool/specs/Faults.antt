@@ -2,9 +2,24 @@
 use Rattle.kc_report.specs.declared.faults.ReportFault.{ReportFault}
 use Rattle.kc_report.specs.declared.faults.ReportFault.TheVariants as report
 use Rattle.kc_tool.specs.declared.faults.ToolFault.{ToolFault}
-use Rattle.kc_tool.specs.declared.faults.ToolFault.TheVariants.{Memory, Write}
+use Rattle.kc_tool.specs.declared.faults.ToolFault.TheVariants.{
+  BadHeader,
+  BadRow,
+  BadEnd,
+  TableTooLong,
+  TableRead,
+  Memory,
+  BadWord,
+  Write,
+}
 
--- the fault that says why a report could not be written
+-- the fault that says why a report could not be written, or a table not be read
 abbrev pub report_fault : ReportFault → ToolFault
-report_fault report.Write = Write
+report_fault report.BadHeader = BadHeader
+report_fault (report.BadRow line) = BadRow line
+report_fault report.BadEnd = BadEnd
+report_fault report.TableTooLong = TableTooLong
+report_fault report.TableRead = TableRead
 report_fault report.Memory = Memory
+report_fault (report.BadWord number) = BadWord number
+report_fault report.Write = Write

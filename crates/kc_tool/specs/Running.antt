@@ -66,7 +66,7 @@ FailsWith seen input options (BadOption name) = first_bad options ≡ Some name
 FailsWith seen input options (Fastx number fault) =
     (settings : Settings) × AsksFor options settings × FailsAt seen (input ∷ []) number fault
 FailsWith seen input options Memory = ⊤
-FailsWith seen input options Write = ⊥
+FailsWith seen input options _ = ⊥
 
 -- a fault of the program, and what it leaves of the output: a beginning of the answer where writing failed, and else
 -- nothing was written

@@ -1,5 +1,5 @@
 //! The line that a refusal prints.
-ghost use Rattle.std.specs.Prelude.{◌≡◌, ◌≤◌, ◌+◌, ◌++◌, length, IfErr};
+ghost use Rattle.std.specs.Prelude.{◌≡◌, ◌≤◌, ◌+◌, ◌++◌, decimal, length, IfErr};
 ghost use Rattle.kc_io.specs.Sinks.{Writes};
 ghost use Rattle.kc_tool.specs.declared.faults.ToolFault.TheVariants.{Write};
 ghost use Rattle.kc_tool.specs.FaultLines.{fault_line, fault_text, reader_text, in_source, at_line};
@@ -33,13 +33,30 @@ fn push_fault(line: &mut Block, fault: &ToolFault)
 {
     match fault {
         ToolFault::Fastx { source, fault } => push_reader_fault(line, *source, *fault),
+        ToolFault::BadHeader => line.push(b"41: bad header"),
+        ToolFault::BadRow(at) => push_numbered(line, b"42: bad row, line ", *at),
+        ToolFault::BadEnd => line.push(b"43: bad end"),
+        ToolFault::TableTooLong => line.push(b"44: table too long"),
+        ToolFault::TableRead => line.push(b"45: table read failed"),
         ToolFault::Memory => line.push(b"46: no memory"),
         ToolFault::BadOption(name) => {
             line.push(b"51: bad option ");
             line.push(name.text().as_bytes());
         }
+        ToolFault::BadWord(number) => push_numbered(line, b"52: bad word ", *number),
         ToolFault::Write => line.push(b"53: write failed"),
     }
+}
+
+// A refusal that ends with a number, at the end of the line.
+fn push_numbered(line: &mut Block, what: &[u8], number: u64)
+    requires room { length line.old ≤ 100 }
+    requires brief { length what.now ≤ 20 }
+    ensures pushed { line.new ≡ line.old ++ (what.now ++ decimal number) }
+    ensures short { length line.new ≤ length line.old + 100 }
+{
+    line.push(what);
+    line.push_number(number);
 }
 
 // What a refusal of the readers says, at the end of the line.

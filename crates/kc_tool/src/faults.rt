@@ -34,12 +34,30 @@ pub enum ToolFault {
         /// What is wrong with it.
         fault: FastxFault,
     },
+    /// The first line of a table is no header.
+    #[error("bad header")]
+    BadHeader,
+    /// This line of a table, numbered from 1, is no row in its place.
+    #[error("bad row, line {0}")]
+    BadRow(u64),
+    /// A table has no end line, or a wrong one, or goes on behind it.
+    #[error("bad end")]
+    BadEnd,
+    /// The source of a table gave more bytes than its limit.
+    #[error("table too long")]
+    TableTooLong,
+    /// The source of a table failed.
+    #[error("table read failed")]
+    TableRead,
     /// A growth was refused.
     #[error("no memory")]
     Memory,
     /// An option has a value outside its limits.
     #[error("bad option")]
     BadOption(OptionName),
+    /// This asked word, numbered from 1, is no word of the tally's length.
+    #[error("bad word {0}")]
+    BadWord(u64),
     /// The writer failed, or took no byte.
     #[error("write failed")]
     Write,
@@ -88,8 +106,14 @@ impl From<ReportFault> for ToolFault {
 
     fn from(fault: ReportFault) -> ToolFault {
         match fault {
-            ReportFault::Write => ToolFault::Write,
+            ReportFault::BadHeader => ToolFault::BadHeader,
+            ReportFault::BadRow(line) => ToolFault::BadRow(line),
+            ReportFault::BadEnd => ToolFault::BadEnd,
+            ReportFault::TableTooLong => ToolFault::TableTooLong,
+            ReportFault::TableRead => ToolFault::TableRead,
             ReportFault::Memory => ToolFault::Memory,
+            ReportFault::BadWord(number) => ToolFault::BadWord(number),
+            ReportFault::Write => ToolFault::Write,
         }
     }
 }

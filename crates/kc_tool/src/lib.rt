@@ -4,6 +4,9 @@
 //! line, counts and answers the exit status; `run` does the same over streams that the caller keeps. A refusal is a
 //! `ToolFault`, and `write_fault` writes its line.
 //!
+//! `write_dump`, `write_histo`, `write_stats` and `write_table` write a `Tally`, and `query` the counts of some words;
+//! `read_table` reads what `write_table` writes.
+//!
 //! ```text
 //! let k = K::new(3).ok_or("a length")?;
 //! let options = Options::new(k, Dump::in_columns());
@@ -30,7 +33,10 @@ pub use arguments::options;
 pub use fault_lines::write_fault;
 pub use faults::{OptionName, ToolFault};
 pub use kc_io::{Sink, ToVec, ToWrite};
-pub use kc_report::{Dump, write_dump};
+pub use kc_report::{
+    Dump, GREATEST_HIGH, ReportFault, query, read_table, write_dump, write_histo, write_stats,
+    write_table,
+};
 pub use kc_tally::{Row, Tally};
 pub use kc_word::K;
 pub use reporting::count_reads;

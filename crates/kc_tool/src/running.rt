@@ -129,7 +129,7 @@ fn status_of(fault: &ToolFault) -> u8
 {
     match fault {
         ToolFault::BadOption(_) => REFUSED,
-        ToolFault::Fastx { .. } | ToolFault::Memory | ToolFault::Write => FAULT,
+        _ => FAULT,
     }
 }
 

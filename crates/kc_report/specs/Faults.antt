@@ -1,0 +1,17 @@
+-- The faults of a source, and what a contract says of a fault: source, our formats page ("Refusals and their lines").
+use Rattle.std.specs.Prelude.{⊤}
+use Rattle.kc_io.specs.declared.taking.TakeFault.{TakeFault}
+use Rattle.kc_io.specs.declared.taking.TakeFault.TheVariants as taking
+use Rattle.kc_report.specs.declared.faults.ReportFault.{ReportFault}
+use Rattle.kc_report.specs.declared.faults.ReportFault.TheVariants.{TableTooLong, TableRead, Memory}
+
+-- the fault that says why the bytes of a source could not be taken
+abbrev pub taking_fault : TakeFault → ReportFault
+taking_fault taking.TooLong = TableTooLong
+taking_fault taking.Read = TableRead
+taking_fault taking.Memory = Memory
+
+-- memory was refused, of which nothing more is said, or the fault is one that `Is` tells
+abbrev pub UnlessMemory : (ReportFault → Type 0) → ReportFault → Type 0
+UnlessMemory Is Memory = ⊤
+UnlessMemory Is fault = Is fault
