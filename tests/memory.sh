@@ -49,7 +49,7 @@ refuse_growths "$work/reads.fq"
 refused_test() {
     REFUSE=$3 LD_PRELOAD="$work/refuse.so" "$here/../crates/$1/out/$1_tests" "$2" > "$work/said" 2>&1
 }
-for crate in kc_run kc_table; do
+for crate in kc_run kc_table kc_stripe; do
     (cd "$here/../crates/$crate" && rt test) > "$work/log" 2>&1 || { cat "$work/log"; exit 1; }
 done
 
@@ -69,3 +69,17 @@ for n in $(seq 1 40); do
     refused_test kc_table "$test" "$n" || { echo "kc_table, growth $n:"; cat "$work/said"; exit 1; }
 done
 echo "memory: 40 growths of a table refused in turn, and its numbers stay"
+
+# A stripe that is refused memory while a batch is booked is as it was, and books the batch when there is memory. Where a growth
+# outside the booking is refused, the test ends.
+test=tests::a_refused_growth_leaves_the_stripe
+held=0
+for n in $(seq 1 74); do
+    if refused_test kc_stripe "$test" "$n"; then
+        held=$((held + 1))
+    else
+        grep -qE 'Alloc(Error|Failed)' "$work/said" || { echo "kc_stripe, growth $n:"; cat "$work/said"; exit 1; }
+    fi
+done
+[ "$held" -gt 0 ] || { echo "kc_stripe: no growth of a booking was refused"; exit 1; }
+echo "memory: $held growths of bookings refused in turn, and the stripe stays"
