@@ -3,7 +3,7 @@ PREFIX ?= /usr/local
 DESTDIR ?=
 CRATE ?=
 
-.PHONY: build demo check edits memory test bench figures install clean help
+.PHONY: build demo check edits memory options examples test bench figures install clean help
 
 build: ## proves the program and everything below it, and builds it as bin/kcount
 	cd crates/kcount && rt run -- --version > /dev/null
@@ -21,8 +21,14 @@ edits: ## tries one crate's must-fail edits: make edits CRATE=kc_word (none: all
 memory: build ## refuses each growth of memory in turn
 	tests/memory.sh
 
-# Before the gate the growths are refused, which the gate can't do.
-test: memory ## the gate: every proof from nothing, the edits that must fail, the tests and the program's stored run
+options: build ## compares the options of the man page and the completions with the help
+	tests/options.sh
+
+examples: build ## runs the examples of README.md and docs/USING.md as they are written
+	tests/examples.sh
+
+# Before the gate the growths are refused, the man page is compared and the examples are run, which the gate can't do.
+test: memory options examples ## the gate: every proof from nothing, the edits that must fail, the tests and the program's stored run
 	rt ci
 
 bench: build ## runs the benchmarks and prints the table of docs/STATUS.md
@@ -31,8 +37,12 @@ bench: build ## runs the benchmarks and prints the table of docs/STATUS.md
 figures: ## prints how large each crate is, as docs/STATUS.md has it
 	@tools/figures.sh
 
-install: build ## installs bin/kcount under PREFIX
+install: build ## installs bin/kcount, its man page and its completions under PREFIX
 	install -D bin/kcount $(DESTDIR)$(PREFIX)/bin/kcount
+	install -D -m 644 share/kcount.1 $(DESTDIR)$(PREFIX)/share/man/man1/kcount.1
+	install -D -m 644 share/kcount.bash $(DESTDIR)$(PREFIX)/share/bash-completion/completions/kcount
+	install -D -m 644 share/_kcount $(DESTDIR)$(PREFIX)/share/zsh/site-functions/_kcount
+	install -D -m 644 share/kcount.fish $(DESTDIR)$(PREFIX)/share/fish/vendor_completions.d/kcount.fish
 
 clean: ## removes what was built
 	rm -rf bin crates/*/out

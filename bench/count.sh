@@ -1,49 +1,72 @@
 #!/bin/bash
-# The whole command against Jellyfish and KMC on the same reads. The reads are seeded random bases, BASES of them (50 million),
-# FASTA in lines of 70 and the same as one line; words of 21 bases, one thread, the whole dump sorted by words. The dumps of
-# kcount and Jellyfish are compared. It needs bin/kcount. The peers are Debian's:
-#   apt-get install jellyfish kmc
-# One that is missing is left out.
+# The whole command against Jellyfish and KMC on the same reads in one run: wall time, processor time and peak memory.
+#   bench/count.sh [GENOME_BASES [LENGTH_OF_WORDS]]       4,900,000 and 21
+# The reads are seeded FASTQ of 100 bases, 20 over each base of the genome, with one wrong base in a hundred; both strands count, and the
+# words are written sorted to a file. Jellyfish is `count`, `dump -c` and `sort`; KMC is `kmc` and its sorted `dump`. The dumps of all
+# three are compared. With the histogram, KMC's is `kmc_tools transform histogram`.
+#   THREADS     numbers of threads ("1 4")
+#   COVERAGE    reads over each base (20)
+#   REPORTS     "dump histo"
+#   OPTIONS     more options of kcount, as "--stripes 64"
+# It needs bin/kcount. The peers are Debian's (apt-get install jellyfish kmc time); one that is missing is left out.
 . "$(dirname "$0")/lib.sh"
-bases=${BASES:-50000000}
-k=21
+genome=${1:-4900000}
+k=${2:-21}
 kcount=$top/bin/kcount
 [ -x "$kcount" ] || fail "no bin/kcount: run make build first"
+command -v /usr/bin/time > "$work/which" || fail "no /usr/bin/time: apt-get install time"
+"${CC:-cc}" -O2 -o "$work/reads" "$bench/reads.c"
+reads=$work/reads.fq
+"$work/reads" "$genome" "${COVERAGE:-20}" 100 10 1 > "$reads"
 
-awk -v n="$bases" -v lines="$work/lines.fa" -v line="$work/line.fa" 'BEGIN {
-    srand(1); print ">reads" > lines; print ">reads" > line
-    while (n > 0) {
-        s = ""; m = n < 70 ? n : 70
-        for (i = 0; i < m; i++) s = s substr("ACGT", int(rand() * 4) + 1, 1)
-        print s > lines; printf "%s", s > line; n -= m
-    }
-    print "" > line
-}'
-
-ours() { "$kcount" count -m $k --print dump --column < "$1" > "$work/ours.txt"; }
+# what a tool does with so many threads
+kcount_dump() { "$kcount" count -m $k -C -t "$1" ${OPTIONS:-} --print dump --column -o "$work/kcount.txt" "$reads"; }
+kcount_histo() { "$kcount" count -m $k -C -t "$1" ${OPTIONS:-} --print histo -o "$work/kcount.histo" "$reads"; }
 jellyfish_dump() {
-    jellyfish count -m $k -s 100M -t 1 -o "$work/mers.jf" "$1"
-    jellyfish dump -c "$work/mers.jf" | sort > "$work/jellyfish.txt"
+    jellyfish count -m $k -C -s 100M -t "$1" -o "$work/mers.jf" "$reads"
+    jellyfish dump -c "$work/mers.jf" | sort --parallel="$1" > "$work/jellyfish.txt"
+}
+kmc_count() {
+    rm -rf "$work/kmc.tmp"
+    mkdir "$work/kmc.tmp"
+    kmc -k$k -ci1 -cs1000000000 -t"$1" -m12 -fq "$reads" "$work/kmc.db" "$work/kmc.tmp"
 }
 kmc_dump() {
-    rm -rf "$work/kmc.tmp"; mkdir "$work/kmc.tmp"
-    kmc -k$k -b -ci1 -cs1000000 -t1 -sm -m2 -fm "$1" "$work/kmc.db" "$work/kmc.tmp" > "$work/kmc.log" 2>&1
-    kmc_tools -t1 transform "$work/kmc.db" dump -s "$work/kmc.txt" >> "$work/kmc.log" 2>&1
+    kmc_count "$1"
+    kmc_tools -t"$1" transform "$work/kmc.db" dump -s "$work/kmc.txt"
+}
+kmc_histo() {
+    kmc_count "$1"
+    kmc_tools -t"$1" transform "$work/kmc.db" histogram "$work/kmc.histo"
+}
+export kcount k reads work OPTIONS
+export -f kcount_dump kcount_histo jellyfish_dump kmc_count kmc_dump kmc_histo
+
+# measured TOOL REPORT THREADS: the run with the least wall time, as "WALL PROCESSOR PEAK" in seconds and KB
+measured() {
+    local _
+    for _ in $(seq "$rounds"); do
+        /usr/bin/time -f '%e %U %S %M' -o "$work/time" bash -c "set -e; $1_$2 $3" > "$work/$1.log" 2>&1 || fail "$1 failed: $(tail -n 3 "$work/$1.log")"
+        cat "$work/time"
+    done | sort -n | awk 'NR == 1 { print $1, $2 + $3, $4 }'
 }
 
-for kind in lines line; do
-    file=$work/$kind.fa
-    what="$bases bases $([ $kind = lines ] && echo "in lines of 70" || echo "in one line")"
-    time_of "$kind" rattle ours "$file"
-    row "$kind" "the whole command on $what" ms
-    for peer in jellyfish kmc; do
-        command -v $peer > "$work/which" || continue
-        time_of "$kind" plain ${peer}_dump "$file"
-        row "$kind" "against $peer" ms
-        rm "$work/times.plain"
+echo "| Report | Threads | Tool | Wall | Processor | Peak | kcount's wall to it |"
+echo "|---|---|---|---|---|---|---|"
+for report in ${REPORTS:-dump histo}; do
+    for threads in ${THREADS:-1 4}; do
+        ours=
+        for tool in kcount jellyfish kmc; do
+            declare -F ${tool}_$report > "$work/which" || continue
+            [ $tool = kcount ] || command -v $tool > "$work/which" || continue
+            read -r wall processor peak <<< "$(measured $tool "$report" "$threads")"
+            [ $tool != kcount ] || ours=$wall
+            awk -v report="$report" -v threads="$threads" -v tool=$tool -v wall="$wall" -v processor="$processor" -v peak="$peak" -v ours="$ours" 'BEGIN {
+                printf "| %s | %s | %s | %.2f s | %.2f s | %.0f MB | %s |\n", report, threads, tool, wall, processor, peak / 1024,
+                    tool == "kcount" ? "" : sprintf("%.2f", ours / wall) }'
+        done
     done
-    if [ -e "$work/jellyfish.txt" ]; then
-        cmp -s "$work/ours.txt" "$work/jellyfish.txt" || fail "the dumps of kcount and Jellyfish differ"
-    fi
-    rm -f "$file" "$work/jellyfish.txt"
+done
+for peer in jellyfish kmc; do
+    [ ! -e "$work/$peer.txt" ] || tr '\t' ' ' < "$work/$peer.txt" | cmp -s - "$work/kcount.txt" || fail "the dumps of kcount and $peer differ"
 done

@@ -59,7 +59,7 @@ typedef struct {
 
 // The keys of each stripe: words, their codes in place, room for each stripe's keys, the keys.
 static __attribute__((noinline)) void cut_up(const struct batch *batch, const uint64_t *columns, int stripe_bits, Cut *cuts) {
-    static struct tables tables;
+    static _Thread_local struct tables tables;
     uint64_t low = (1ull << stripe_bits) - 1;
     uint64_t *found = malloc(batch->positions * sizeof *found);
     size_t n = words(batch, K, found);
@@ -80,7 +80,7 @@ static __attribute__((noinline)) void book(Stripe *stripe, const Cut *cut) {
     for (size_t i = 0; i < cut->length; i++) {
         uint64_t place, tag;
         if (probe(&stripe->table, cut->keys[i], &place, &tag) != FOUND) exit(3);
-        uint64_t count = ++stripe->table.rows[place].count;
+        uint64_t count = add_one(&stripe->table, place);
         if (count > LAST_BIN) continue;
         if (count > 1) stripe->bins[count - 1]--;
         stripe->bins[count]++;

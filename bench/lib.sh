@@ -94,7 +94,7 @@ time_of() {
 }
 
 # row KEY WHAT UNIT [COUNT]: a line of the table, by the least time of both programs, over COUNT items. The unit is ms, us or
-# ns. Where a side has no time of that key, nothing stands there.
+# ns, or MB of a number of KB. Where a side has no time of that key, nothing stands there.
 row() {
     touch "$work/times.rattle" "$work/times.plain"
     awk -v key="$1" -v what="$2" -v unit="$3" -v count="${4:-1}" -v script="$script" '
@@ -107,7 +107,7 @@ row() {
         }
         function shown(side,    scale) {
             if (!(side in least)) return ""
-            scale = unit == "ms" ? 1e6 : unit == "us" ? 1e3 : 1
+            scale = unit == "ms" ? 1e6 : unit == "us" || unit == "MB" ? 1e3 : 1
             time = least[side] / scale / count
             return sprintf(time < 100 ? "%.2f %s" : "%.0f %s", time, unit == "us" ? "µs" : unit)
         }

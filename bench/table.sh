@@ -11,3 +11,9 @@ row ready16 "ready of $keys keys, from 2^16 slots" ms
 row add16 "add of them" ms
 row ready25 "ready of them, from 2^25 slots" ms
 row add25 "add of them" ms
+# The slots' words are all the memory of a table as long as no count has outgrown its word. Where it doubles was checked by the
+# last size.
+awk -v script="$script" '
+    $1 == "doubled" { before = 8 * 2 ^ $3 / $4; log_then = $3 }
+    END { printf "| `%s` | bytes a stored key, before the doubling of 2^%d slots and after | | %.1f, %.1f | |\n", script, log_then, before, 2 * before }
+' "$work/times.plain"

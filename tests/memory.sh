@@ -2,8 +2,8 @@
 # Refuses each growth in turn, and looks at what is answered:
 #   tests/memory.sh
 # Each run of the program, over FASTA and over FASTQ, either does without that growth and writes the whole dump, or writes
-# nothing, says on standard error that there is no memory, and ends with status 1. Tickets and a growing table are asked the
-# same by a test of their crates. It needs bin/kcount, a C compiler and the toolchain.
+# nothing, says on standard error that there is no memory, and ends with status 1. Tickets, a growing table, a stripe and a
+# gathering are asked the same by a test of their crates. It needs bin/kcount, a C compiler and the toolchain.
 set -euo pipefail
 here=$(cd "$(dirname "$0")" && pwd)
 kcount=$here/../bin/kcount
@@ -30,14 +30,14 @@ refuse_growths() {
         else
             [ "$status" = 1 ] || { echo "growth $n refused: status $status"; cat "$work/said"; exit 1; }
             [ ! -s "$work/got" ] || { echo "growth $n refused: something was written"; exit 1; }
-            grep -qxE 'kcount: (8|46): no memory|Error: .*' "$work/said" || { echo "growth $n refused: $(cat "$work/said")"; exit 1; }
+            grep -qxE 'kcount: (8|34|46): no memory|kcount: 33: no thread for worker [0-9]+|Error: .*' "$work/said" || { echo "growth $n refused: $(cat "$work/said")"; exit 1; }
             cat "$work/said" >> "$work/answers"
             refused=$((refused + 1))
             passed=0
         fi
     done
     [ "$refused" -gt 0 ] && [ "$passed" -ge 20 ] || { echo "no growth was refused, or there is no end of them"; exit 1; }
-    for number in 8 46; do
+    for number in 8 34 46; do
         grep -q "^kcount: $number:" "$work/answers" || { echo "no growth was answered $number"; exit 1; }
     done
     echo "memory: $refused growths refused in turn, each answered as such (${1##*.})"
@@ -49,9 +49,19 @@ refuse_growths "$work/reads.fq"
 refused_test() {
     REFUSE=$3 LD_PRELOAD="$work/refuse.so" "$here/../crates/$1/out/$1_tests" "$2" > "$work/said" 2>&1
 }
-for crate in kc_run kc_table kc_stripe; do
+for crate in kc_report kc_run kc_table kc_stripe kc_gather; do
     (cd "$here/../crates/$crate" && rt test) > "$work/log" 2>&1 || { cat "$work/log"; exit 1; }
 done
+
+# A table is read with all its growths or not at all, and so is a histogram written: else nothing was.
+test=stream_tests::memory_or_the_report
+refused=0
+until refused_test kc_report "$test" $((refused + 1)); do
+    refused=$((refused + 1))
+    grep -q AllocError "$work/said" && [ "$refused" -lt 100 ] || { echo "kc_report, growth $refused:"; cat "$work/said"; exit 1; }
+done
+[ "$refused" -gt 5 ] || { echo "kc_report: too few growths were refused"; exit 1; }
+echo "memory: $refused growths of a table's reading and a histogram refused in turn, then both are done"
 
 # Tickets are made with all their growths or not at all.
 test=tests::as_many_seats_as_numbers_are_answered
@@ -70,16 +80,40 @@ for n in $(seq 1 40); do
 done
 echo "memory: 40 growths of a table refused in turn, and its numbers stay"
 
-# A stripe that is refused memory while a batch is booked is as it was, and books the batch when there is memory. Where a growth
-# outside the booking is refused, the test ends.
-test=tests::a_refused_growth_leaves_the_stripe
-held=0
-for n in $(seq 1 74); do
-    if refused_test kc_stripe "$test" "$n"; then
-        held=$((held + 1))
+# A stripe that is refused memory while a batch is booked is as it was, and books the batch when there is memory; so is a share
+# that books or looks a word up. Where a growth outside of that is refused, the test ends.
+booked_again() {
+    local test=refused_tests::$1 held=0 n
+    for n in $(seq 1 "$2"); do
+        if refused_test kc_stripe "$test" "$n"; then
+            held=$((held + 1))
+        else
+            grep -qE 'Alloc(Error|Failed)' "$work/said" || { echo "kc_stripe, growth $n:"; cat "$work/said"; exit 1; }
+        fi
+    done
+    [ "$held" -gt 0 ] || { echo "kc_stripe, $1: no growth of a booking was refused"; exit 1; }
+    echo "memory: $held growths refused in turn, and $3"
+}
+booked_again a_refused_growth_leaves_the_stripe 74 "the stripe stays"
+booked_again a_refused_growth_leaves_the_share 39 "the share stays"
+
+# Gathering answers 34 and no tally where memory is refused, and the same tally where it does without, as without a thread.
+# Where a growth outside the gathering is refused, the test ends.
+test=tests::a_refused_growth_gives_no_tally
+answered=0
+passed=0
+for n in $(seq 1 2000); do
+    if refused_test kc_gather "$test" "$n"; then
+        passed=$((passed + 1))
+        [ "$passed" -lt 20 ] || break
     else
-        grep -qE 'Alloc(Error|Failed)' "$work/said" || { echo "kc_stripe, growth $n:"; cat "$work/said"; exit 1; }
+        passed=0
+        if grep -q 'answered 34' "$work/said"; then
+            answered=$((answered + 1))
+        else
+            grep -qE 'Alloc(Error|Failed)|^error: Memory$' "$work/said" || { echo "kc_gather, growth $n:"; cat "$work/said"; exit 1; }
+        fi
     fi
 done
-[ "$held" -gt 0 ] || { echo "kc_stripe: no growth of a booking was refused"; exit 1; }
-echo "memory: $held growths of bookings refused in turn, and the stripe stays"
+[ "$answered" -gt 0 ] && [ "$passed" -ge 20 ] || { echo "kc_gather: no growth of a gathering was refused, or there is no end of them"; exit 1; }
+echo "memory: $answered growths of gatherings refused in turn, each answered 34"

@@ -20,7 +20,7 @@ int main(int argc, char **argv) {
         Stripe *stripes = calloc(count, sizeof *stripes);
         Cut *cuts = malloc(count * sizeof *cuts);
         for (int i = 0; i < count; i++)
-            if (!empty(&stripes[i].table, 10, 36)) return 2;
+            if (!empty(&stripes[i].table, BITS - stripe_bits, 10, 36)) return 2;
         uint64_t cutting = 0, booking = 0, sum = 0, total = 0, once = 0;
         for (size_t b = 0; b < batch_count; b++) {
             uint64_t start = nanoseconds();
@@ -35,7 +35,7 @@ int main(int argc, char **argv) {
         for (int i = 0; i < count; i++) {
             total += stripes[i].total;
             once += stripes[i].bins[1];
-            free(stripes[i].table.rows);
+            discard(&stripes[i].table);
         }
         free(stripes);
         free(cuts);

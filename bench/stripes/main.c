@@ -64,7 +64,7 @@ int main(int argc, char **argv) {
     cuts = malloc(batch_count * sizeof *cuts);
     for (size_t b = 0; b < batch_count; b++) cut_up(&batches[b], columns, STRIPE_BITS, cuts[b]);
     for (int i = 0; i < STRIPES; i++)
-        if (pthread_mutex_init(&stripes[i].lock, 0) || !empty(&stripes[i].stripe.table, 10, 36)) return 2;
+        if (pthread_mutex_init(&stripes[i].lock, 0) || !empty(&stripes[i].stripe.table, BITS - STRIPE_BITS, 10, 36)) return 2;
     uint64_t start = nanoseconds();
     if (threads == 0) book_alone();
     else book_shared();

@@ -1,5 +1,6 @@
 pub mod Distinct
 pub mod Lists
+pub mod Numbers
 pub mod Permutations
 pub mod Sums
 pub mod Walks

@@ -10,9 +10,10 @@ use Rattle.std.proofs.lemmas.Bool.{cases_lt, cases_eq, ne_eqb, le-ltb}
 use Rattle.std.proofs.lemmas.Bool.Decides.{eqb_tells}
 use Rattle.std.proofs.lemmas.Option.{get_or_from_slice_get, slice_get-get_or, slice_get_within}
 use Rattle.std.proofs.lemmas.List.{length-map, length-set, length-replicate, get_or-map, get_or-set_same, get_or-set_other, get_or-replicate, get_or_default, get_or_past, take_more, take_all, map_push}
-use Rattle.std.proofs.lemmas.List.Elements.{All-push, All-nil, Contains-push, Contains-push_cases, Contains-append_left}
+use Rattle.std.proofs.lemmas.List.Elements.{All-push, All-nil, All-map, Contains-push, Contains-push_cases, Contains-append_left}
 use Rattle.std.proofs.lemmas.List.Sums.{sum_by-cons, sum_by_more}
 use Rattle.kc_base.proofs.Distinct.{head_apart}
+use Rattle.kc_base.proofs.Numbers.{none_left_out}
 use Rattle.kc_base.proofs.Lists.{Contains-cons_cases, All-range}
 use Rattle.kc_base.proofs.Sums.{sum_by-same, sum_by-map, sum_by-zeros, sum_by-swap, sum_by-one_place, sum_by-range_more}
 use Rattle.kc_base.proofs.Permutations.{WeighTheSame}
@@ -39,19 +40,16 @@ is_given-past batches batch same past is = (
 )
 
 -- the same for shared batches
-pub given_at : (batches : List (Arc Batch Global)) (shared : Arc Batch Global) (number index : ℕ) (there : NumberedPieces) → index ≡ number → index < length batches
-    → shared ≡ get_or batches index shared → there ≡ shared.value → slice_get (values batches) number ≡ Some there
-given_at batches shared number index there same within is value =
-    let long = length-map batches (λ (b : Arc Batch Global). b.value) in
-    slice_get-get_or (values batches) number there (omega (arith, long, within, same))
-    ∙ ap Some (ap (λ n. get_or (values batches) n there) (sym same) ∙ get_or-map (λ (b : Arc Batch Global). b.value) batches index shared there within
-    ∙ ap (λ (b : Arc Batch Global). b.value) (sym is) ∙ sym value)
-
 pub values-item : (batches : List (Arc Batch Global)) (shared : Arc Batch Global) (index : ℕ) (there : NumberedPieces) → index < length batches
     → shared ≡ get_or batches index shared → there ≡ shared.value → (index < length (values batches)) × (there ≡ get_or (values batches) index there)
 values-item batches shared index there within is value =
     let long = length-map batches (λ (b : Arc Batch Global). b.value) in
     (omega (arith, long, within), sym (get_or-map (λ (b : Arc Batch Global). b.value) batches index shared there within ∙ ap (λ (b : Arc Batch Global). b.value) (sym is) ∙ sym value))
+
+pub given_at : (batches : List NumberedPieces) (number index : ℕ) (there : NumberedPieces) → index ≡ number → (index < length batches) × (there ≡ get_or batches index there)
+    → slice_get batches number ≡ Some there
+given_at batches number index there same (within, is) =
+    slice_get-get_or batches number there (omega (arith, within, same)) ∙ ap Some (ap (λ n. get_or batches n there) (sym same) ∙ sym is)
 
 pub given_past : (batches : List (Arc Batch Global)) (batch : NumberedPieces) (number : ℕ) → number ≡ batch.number → length batches ≤ number
     → IsTrue (ltb number (length batches)) ↔ IsGiven (values batches) batch
@@ -89,9 +87,9 @@ booked-more journal i batch within is =
     ap numbers_of (take_more journal i batch within) ∙ map_push (λ (b : NumberedPieces). b.number) (take i journal) (get_or journal i batch)
     ∙ ap (λ (b : NumberedPieces). numbers_of (take i journal) ++ b.number ∷ []) (sym is)
 
-pub IsMarkedTo-more : (batches journal : List NumberedPieces) (marks : List Bool) (i : ℕ) (batch : NumberedPieces) → i < length journal → batch ≡ get_or journal i batch
+pub IsMarkedTo-more : (batches journal : List NumberedPieces) (marks : List Bool) (i : ℕ) (batch : NumberedPieces) → (i < length journal) × (batch ≡ get_or journal i batch)
     → IsGiven batches batch → IsMarkedTo batches journal marks i → IsMarkedTo batches journal (set marks batch.number true) (i + 1)
-IsMarkedTo-more batches journal marks i batch within is given before = record {
+IsMarkedTo-more batches journal marks i batch (within, is) given before = record {
   one_each = length-set marks batch.number true ∙ before.one_each;
   given = subst (All (IsGiven batches)) (sym (take_more journal i batch within))
       (All-push (IsGiven batches) (take i journal) (get_or journal i batch) before.given (subst (IsGiven batches) is given));
@@ -210,6 +208,15 @@ least_missing batches journal marks n one_each are found before = record {
 pub all_numbers : (batches journal : List NumberedPieces) (marks : List Bool) → length marks ≡ length batches → AreMarksOf batches journal marks
     → ((m : ℕ) → m < length marks → get_or marks m false ≡ true) → HasAllNumbers batches journal
 all_numbers batches journal marks one_each are each n within = (are n within).0 (each n (omega (arith, one_each, within)))
+
+-- a journal of given batches that has as many entries as there are batches lacks none
+pub none_missing : (batches journal : List NumberedPieces) (n : ℕ) → IsDistinct nat_eq (numbers_of journal) → All (IsGiven batches) journal → length journal ≡ length batches
+    → ¬ IsLeastMissing batches journal n
+none_missing batches journal n distinct given many lacking =
+    let below : All (λ number. number < length batches) (numbers_of journal) =
+    All-map (λ number. number < length batches) (λ (batch : NumberedPieces). batch.number) journal (λ k d within.
+    slice_get_within batches (get_or journal k d).number (get_or journal k d) (given k d within)) in
+    lacking.missing (none_left_out (length batches) (numbers_of journal) distinct below (length-map journal (λ (batch : NumberedPieces). batch.number) ∙ many) n lacking.given)
 
 -- the same for shared batches, and what is seen of them
 pub marks_of : (batches : List (Arc Batch Global)) (seen journal : List NumberedPieces) (items marks : List Bool) → seen ≡ journal → marks ≡ items

@@ -1,5 +1,6 @@
 pub mod Logs
 pub mod Journals
 pub mod Rows
+pub mod PartLemmas
 pub mod Stripes
 pub mod Tallies

@@ -1,6 +1,7 @@
 -- Rows that are dealt out among stripes, joined and sorted.
-use Rattle.std.proofs.Common.{◌≡◌, ◌≢◌, ℕ, ◌+◌, ◌<◌, ◌≤◌, ⊎_elim, false, cond, eqb, nat_eq, List, [], ◌∷◌, ◌++◌, length, get_or, map, take, sum_by, All, Contains, refl, ap, sym, ◌∙◌, subst, arith}
+use Rattle.std.proofs.Common.{◌≡◌, ◌≢◌, ℕ, ◌+◌, ◌^◌, ◌<◌, ◌≤◌, ⊎_elim, false, cond, eqb, nat_eq, List, [], ◌∷◌, ◌++◌, length, get_or, map, take, sum_by, All, Contains, refl, ap, sym, ◌∙◌, subst, arith}
 use Rattle.std.specs.List.{IsDistinct}
+use Rattle.std.specs.List.Sorted.{IsPermutation}
 use Rattle.std.proofs.lemmas.Bool.{cases_eq, eq-eqb, ne_eqb, cond-true, cond-false}
 use Rattle.std.proofs.lemmas.Bool.Decides.{eqb_tells}
 use Rattle.std.proofs.lemmas.Nat.{pow_pos}
@@ -9,8 +10,9 @@ use Rattle.std.proofs.lemmas.Option.{get_or_from_slice_get}
 use Rattle.std.proofs.lemmas.List.{map-append, get_or_default, get_or-take, get_or_push, take_all, take-take, take-append-le, length-take, length_push}
 use Rattle.std.proofs.lemmas.List.Elements.{All-head, All-tail, All-append, All-nil, All-map, All-from_recursion, recursion_from_All}
 use Rattle.std.proofs.lemmas.List.Sums.{sum_by-cons, sum_by-append}
-use Rattle.std.proofs.lemmas.Map.Keys.{IsDistinct-tail, IsDistinct-head, IsDistinct-cons}
-use Rattle.kc_base.proofs.Distinct.{head_apart}
+use Rattle.std.proofs.lemmas.List.Sorted.{All-permutation, sum_by-IsPermutation, IsPermutation-map}
+use Rattle.std.proofs.lemmas.Map.Keys.{IsDistinct-tail, IsDistinct-head, IsDistinct-cons, IsDistinct-IsPermutation}
+use Rattle.kc_base.proofs.Distinct.{head_apart, equal_flips}
 use Rattle.kc_base.proofs.Lists.{Contains-map}
 use Rattle.kc_base.proofs.Sums.{sum_by-zeros, sum_by-flat_map}
 use Rattle.kc_word.specs.Word.{text}
@@ -70,6 +72,22 @@ IsDistinct-append (x ∷ xs) ys first second apart =
     (IsDistinct-append xs ys (IsDistinct-tail nat_eq x xs first) second (All-tail (λ z. All (λ y. z ≢ y) ys) x xs apart))
 
 -- ---- stripes from the last one on
+
+pub distinct-permuted : (rows others : List Row) → IsPermutation rows others → IsDistinct nat_eq (words_in_rows rows) → IsDistinct nat_eq (words_in_rows others)
+distinct-permuted rows others same distinct =
+    IsDistinct-IsPermutation nat_eq (equal_flips nat_eq eqb_tells) (words_in_rows rows) (words_in_rows others) (IsPermutation-map (λ (row : Row). row.word) rows others same) distinct
+
+-- their order is none of it
+pub AreRowsFrom-permuted : (setup : StripeSetup) (batches : List NumberedPieces) (n : ℕ) (rows others : List Row) → IsPermutation rows others
+    → AreRowsFrom setup batches n rows → AreRowsFrom setup batches n others
+AreRowsFrom-permuted setup batches n rows others same from = record {
+  once = distinct-permuted rows others same from.once;
+  words = All-permutation (λ (row : Row). (row.word < word_count setup) × (n ≤ stripe_of setup row.word)) rows others same from.words;
+  present = All-permutation (λ (row : Row). 1 ≤ row.count) rows others same from.present;
+  counts_are = λ word below past.
+      count_of-sum others word (distinct-permuted rows others same from.once) ∙ sum_by-IsPermutation (weight_of word) rows others same
+      ∙ sym (count_of-sum rows word from.once) ∙ from.counts_are word below past;
+}
 
 pub AreRowsFrom-none : (setup : StripeSetup) (batches : List NumberedPieces) (n : ℕ) → n ≡ stripe_count setup → AreRowsFrom setup batches n []
 unfolding IsDistinct
@@ -144,41 +162,52 @@ rows-whole setup batches i stripe rows distinct whole are =
         ∙ sym (as_sum batches word)
 
 -- stripes are taken from the last one on: these are left, and the rows of the others are taken
-pub record IsTakenTo {C : Type 0} (whole left : List (StripeState C)) (rows : List Row) : Type 0 where
+pub record IsTakenTo {C : Type 0} (setup : StripeSetup) (whole left : List (StripeState C)) (rows : List Row) : Type 0 where
   pub left_are : left ≡ take (length left) whole
-  pub rows_are : (setup : StripeSetup) (batches : List NumberedPieces) → length whole ≡ stripe_count setup → AreWholeBefore setup batches whole (length whole)
+  pub rows_are : (batches : List NumberedPieces) → length whole ≡ stripe_count setup → AreWholeBefore setup batches whole (length whole)
       → AreRowsFrom setup batches (length left) rows
 
-pub IsTakenTo-none : {C : Type 0} {whole : List (StripeState C)} {rows : List Row} → rows ≡ [] → IsTakenTo whole whole rows
-IsTakenTo-none {C} {whole} {rows} none = record {
+pub IsTakenTo-none : {C : Type 0} {setup : StripeSetup} {whole : List (StripeState C)} {rows : List Row} → rows ≡ [] → IsTakenTo setup whole whole rows
+IsTakenTo-none {C} {setup} {whole} {rows} none = record {
   left_are = sym (take_all (length whole) whole (omega arith));
-  rows_are = λ setup batches as_many are. subst (AreRowsFrom setup batches (length whole)) (sym none) (AreRowsFrom-none setup batches (length whole) as_many);
+  rows_are = λ batches as_many are. subst (AreRowsFrom setup batches (length whole)) (sym none) (AreRowsFrom-none setup batches (length whole) as_many);
 }
 
-pub IsTakenTo-more : {C : Type 0} {whole old new : List (StripeState C)} {rows part more : List Row} (stripe : StripeState C) → old ≡ new ++ stripe ∷ [] → more ≡ rows ++ part
-    → IsDistinct nat_eq (numbers_of stripe.journal) → AreStripeRows stripe.setup stripe.number stripe.journal part
-    → IsTakenTo whole old rows → IsTakenTo whole new more
-IsTakenTo-more {C} {whole} {old} {new} {rows} {part} {more} stripe last joined distinct part_are before = record {
-  left_are =
-      sym (take_all (length new) new (omega arith)) ∙ sym (take-append-le (length new) new (stripe ∷ []) (omega arith)) ∙ ap (take (length new)) (sym last ∙ before.left_are)
-      ∙ take-take (length new) (length old) whole (omega (arith, one_more));
-  rows_are = λ setup batches as_many are.
-      let (found, there, whole_there) = are (length new) (inside) in
-      let same : found ≡ stripe = sym (get_or_from_slice_get whole (length new) found stripe there) ∙ at in
-      subst (AreRowsFrom setup batches (length new)) (sym joined)
-      (AreRowsFrom-more setup batches (length new) rows part
-      (subst (λ n. AreRowsFrom setup batches n rows) one_more (before.rows_are setup batches as_many are))
-      (rows-whole setup batches (length new) stripe part distinct (subst (IsWhole setup batches (length new)) same whole_there) part_are));
-}
-  where
-    one_more : length old ≡ length new + 1
-    one_more = ap length last ∙ length_push new stripe
+-- the last stripe that is left stands at its place among all
+module _ {C : Type 0} {setup : StripeSetup} {whole old : List (StripeState C)} {rows : List Row} (new : List (StripeState C)) (stripe : StripeState C) (last : old ≡ new ++ stripe ∷ []) (before : IsTakenTo setup whole old rows) where
+  one_more : length old ≡ length new + 1
+  one_more = ap length last ∙ length_push new stripe
 
-    inside : length new < length whole
-    inside = let kept = ap length before.left_are in let taken = length-take (length old) whole in omega (arith, one_more, kept, taken)
+  inside : length new < length whole
+  inside = let kept = ap length before.left_are in let taken = length-take (length old) whole in omega (arith, one_more, kept, taken)
 
-    at : get_or whole (length new) stripe ≡ stripe
-    at =
-        sym (get_or-take (length old) whole (length new) stripe (omega (arith, one_more)))
-        ∙ ap (λ xs. get_or xs (length new) stripe) (sym before.left_are ∙ last)
-        ∙ get_or_push new stripe stripe (length new) refl
+  at : get_or whole (length new) stripe ≡ stripe
+  at =
+      sym (get_or-take (length old) whole (length new) stripe (omega (arith, one_more)))
+      ∙ ap (λ xs. get_or xs (length new) stripe) (sym before.left_are ∙ last)
+      ∙ get_or_push new stripe stripe (length new) refl
+
+  pub last-setup : All (λ s. s.setup ≡ setup) whole → stripe.setup ≡ setup
+  last-setup all = sym (ap (λ (s : StripeState C). s.setup) at) ∙ all (length new) stripe inside
+
+  pub IsTakenTo-more : {part more : List Row} → IsPermutation (rows ++ part) more → IsDistinct nat_eq (numbers_of stripe.journal)
+      → AreStripeRows stripe.setup stripe.number stripe.journal part → IsTakenTo setup whole new more
+  IsTakenTo-more {part} {more} joined distinct part_are = record {
+    left_are =
+        sym (take_all (length new) new (omega arith)) ∙ sym (take-append-le (length new) new (stripe ∷ []) (omega arith)) ∙ ap (take (length new)) (sym last ∙ before.left_are)
+        ∙ take-take (length new) (length old) whole (omega (arith, one_more));
+    rows_are = λ batches as_many are.
+        let (found, there, whole_there) = are (length new) (inside) in
+        let same : found ≡ stripe = sym (get_or_from_slice_get whole (length new) found stripe there) ∙ at in
+        AreRowsFrom-permuted setup batches (length new) (rows ++ part) more joined
+        (AreRowsFrom-more setup batches (length new) rows part
+        (subst (λ n. AreRowsFrom setup batches n rows) one_more (before.rows_are batches as_many are))
+        (rows-whole setup batches (length new) stripe part distinct (subst (IsWhole setup batches (length new)) same whole_there) part_are));
+  }
+
+-- the words of its rows are words of the count
+pub row-words : {setup own : StripeSetup} {number words : ℕ} {journal : List NumberedPieces} {rows : List Row} → AreStripeRows own number journal rows → own ≡ setup
+    → words ≡ 4 ^ setup.rule.k → All (λ row. row.word < words) rows
+row-words {setup} {own} {number} {words} {journal} {rows} are same whole k d within =
+    let below : (get_or rows k d).word < word_count setup = subst (λ s. (get_or rows k d).word < word_count s) same (are.words k d within).0 in
+    omega (arith, below, whole)

@@ -1,5 +1,5 @@
 -- The tally that the rows of all stripes are when they are sorted.
-use Rattle.std.proofs.Common.{◌≡◌, ◌^◌, ◌<◌, ◌≤◌, eqb, nat_eq, List, [], ◌∷◌, length, get_or, refl, ap, sym, ◌∙◌, arith}
+use Rattle.std.proofs.Common.{◌≡◌, ◌^◌, ◌<◌, ◌≤◌, eqb, nat_eq, List, [], ◌∷◌, length, get_or, refl, ap, sym, subst, ◌∙◌, arith}
 use Rattle.std.specs.List.{IsDistinct}
 use Rattle.std.specs.List.Sorted.{IsPermutation, IsNonDecreasingBy, IsStrictlyIncreasing}
 use Rattle.std.proofs.lemmas.Bool.{eq-eqb, cond-true}
@@ -8,9 +8,9 @@ use Rattle.std.proofs.lemmas.List.{length-map, get_or-map, get_or_default, lengt
 use Rattle.std.proofs.lemmas.List.Concat.{flat_map-append}
 use Rattle.std.proofs.lemmas.List.Elements.{All-contains}
 use Rattle.std.proofs.lemmas.List.Sums.{sum_by-cons}
-use Rattle.std.proofs.lemmas.List.Sorted.{All-permutation, sum_by-IsPermutation, IsPermutation-map}
-use Rattle.std.proofs.lemmas.Map.Keys.{IsDistinct-IsPermutation, IsStrictlyIncreasing-from_distinct}
-use Rattle.kc_base.proofs.Distinct.{equal_flips, Contains-from_times}
+use Rattle.std.proofs.lemmas.List.Sorted.{All-permutation, sum_by-IsPermutation}
+use Rattle.std.proofs.lemmas.Map.Keys.{IsStrictlyIncreasing-from_distinct}
+use Rattle.kc_base.proofs.Distinct.{Contains-from_times}
 use Rattle.kc_base.proofs.Sums.{term-le-sum_by}
 use Rattle.kc_word.specs.Word.{text, form}
 use Rattle.kc_word.specs.Occurrences.{words_in, words_of}
@@ -18,16 +18,12 @@ use Rattle.kc_word.specs.Cutting.{NumberedPieces, as_reads, position_total}
 use Rattle.kc_word.proofs.Cuttings.{length-words_of-pieces}
 use Rattle.kc_word.proofs.WordCounts.{times-words_of, All-forms}
 use Rattle.kc_tally.specs.declared.row.Row.{Row}
-use Rattle.kc_tally.specs.Tally.{row_of, AreRows, IsTally}
+use Rattle.kc_tally.specs.Tally.{TallySeen, row_of, AreRows, IsTally, IsTallyOf}
 use Rattle.kc_tally.proofs.Tallies.{tally_total}
 use Rattle.kc_stripe.specs.Setup.{StripeSetup, word_count, stripe_of}
 use Rattle.kc_stripe.specs.Stripe.{reads_in}
 use Rattle.kc_gather.specs.Gathering.{AreRowsFrom, position_sum}
-use Rattle.kc_gather.proofs.Rows.{words_in_rows, weight_of, count_of-sum}
-
-distinct-sorted : (rows sorted : List Row) → IsPermutation rows sorted → IsDistinct nat_eq (words_in_rows rows) → IsDistinct nat_eq (words_in_rows sorted)
-distinct-sorted rows sorted same distinct =
-    IsDistinct-IsPermutation nat_eq (equal_flips nat_eq eqb_tells) (words_in_rows rows) (words_in_rows sorted) (IsPermutation-map (λ (row : Row). row.word) rows sorted same) distinct
+use Rattle.kc_gather.proofs.Rows.{words_in_rows, weight_of, count_of-sum, distinct-permuted}
 
 rising-sorted : (sorted : List Row) → IsNonDecreasingBy (λ row. row.word) sorted → IsDistinct nat_eq (words_in_rows sorted) → IsStrictlyIncreasing (words_in_rows sorted)
 rising-sorted sorted up distinct =
@@ -56,7 +52,7 @@ IsTally-sorted setup batches rows sorted from same up = record {
 }
   where
     distinct : IsDistinct nat_eq (words_in_rows sorted)
-    distinct = distinct-sorted rows sorted same from.once
+    distinct = distinct-permuted rows sorted same from.once
 
 -- the batches have at most as many words as positions
 few_words : (setup : StripeSetup) (batches : List NumberedPieces) → length (words_of setup.rule (reads_in batches)) ≤ position_sum setup.rule.k batches
@@ -81,7 +77,7 @@ AreRows-sorted setup batches rows sorted few from same up = record {
       let present = tally.ordered.present k d within in
       let term = term-le-sum_by (weight_of row.word) sorted row (k, within, get_or_default sorted k row d within) in
       let weight : weight_of row.word row ≡ row.count = cond-true (eqb row.word row.word) row.count 0 (eq-eqb row.word row.word refl) in
-      let counted = sym (count_of-sum sorted row.word (distinct-sorted rows sorted same from.once)) ∙ tally.counts row.word below ∙ sym (times-words_of setup.rule (reads_in batches) row.word below) in
+      let counted = sym (count_of-sum sorted row.word (distinct-permuted rows sorted same from.once)) ∙ tally.counts row.word below ∙ sym (times-words_of setup.rule (reads_in batches) row.word below) in
       All-contains (λ n. form setup.rule.both (text setup.rule.k n) ≡ text setup.rule.k n) (words_of setup.rule (reads_in batches)) row.word (All-forms setup.rule (reads_in batches))
       (Contains-from_times nat_eq eqb_tells row.word (words_of setup.rule (reads_in batches)) (omega (arith, present, term, weight, counted)));
   small = let total = tally_total setup.rule (reads_in batches) sorted tally in let words = few_words setup batches in omega (arith, total, words, few);
@@ -89,3 +85,12 @@ AreRows-sorted setup batches rows sorted few from same up = record {
   where
     tally : IsTally setup.rule (reads_in batches) sorted
     tally = IsTally-sorted setup batches rows sorted from same up
+
+-- and a `Tally` of these rows is the tally
+pub IsTallyOf-sorted : (setup : StripeSetup) (batches : List NumberedPieces) (sorted : List Row) (tally : TallySeen) → tally ≡ record { k = setup.rule.k; both = setup.rule.both; rows = sorted }
+    → IsTally setup.rule (reads_in batches) sorted → IsTallyOf setup.rule (reads_in batches) tally
+IsTallyOf-sorted setup batches sorted tally is of = record {
+  k = ap (λ (t : TallySeen). t.k) is;
+  both = ap (λ (t : TallySeen). t.both) is;
+  rows = subst (IsTally setup.rule (reads_in batches)) (sym (ap (λ (t : TallySeen). t.rows) is)) of;
+}

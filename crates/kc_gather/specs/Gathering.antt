@@ -28,6 +28,10 @@ pub record IsLeastMissing (batches journal : List NumberedPieces) (n : ℕ) : Ty
 abbrev pub HasAllNumbers : List NumberedPieces → List NumberedPieces → Type 0
 HasAllNumbers batches journal = (n : ℕ) → n < length batches → IsBooked journal n
 
+-- at this index stands such a stripe
+abbrev pub StandsThere : {C : Type 0} → List (StripeState C) → ℕ → (StripeState C → Type 0) → Type 0
+StandsThere {C} stripes i Is = (stripe : StripeState C) × (slice_get stripes i ≡ Some stripe) × Is stripe
+
 module _ {C : Type 0} (setup : StripeSetup) (batches : List NumberedPieces) where
   -- the stripe is that of index i in a count of the given batches: it has this setup and the number i, and each batch
   -- in its journal is the one that is given under its number
@@ -46,10 +50,6 @@ module _ {C : Type 0} (setup : StripeSetup) (batches : List NumberedPieces) wher
   IsStripeRefusal i stripe (Foreign at) = (at ≡ i) × ¬ IsOwn i stripe
   IsStripeRefusal i stripe (Missing at n) = (at ≡ i) × IsOwn i stripe × IsLeastMissing batches stripe.journal n
   IsStripeRefusal i stripe Memory = Unit
-
-  -- at this index stands such a stripe
-  abbrev pub StandsThere : List (StripeState C) → ℕ → (StripeState C → Type 0) → Type 0
-  StandsThere stripes i Is = (stripe : StripeState C) × (slice_get stripes i ≡ Some stripe) × Is stripe
 
   -- the journals of the first n stripes hold exactly the given batches
   abbrev pub AreWholeBefore : List (StripeState C) → ℕ → Type 0

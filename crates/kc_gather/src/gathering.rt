@@ -1,24 +1,27 @@
 //! The tally that is gathered from the stripes of a count.
-ghost use Rattle.std.specs.Prelude.{◌≡◌, ℕ, ◌<◌, ◌≤◌, ◌^◌, List, length, IfOk, OnOk, IfErr};
+ghost use Rattle.std.specs.Prelude.{◌≡◌, ◌≢◌, ℕ, ◌<◌, ◌≤◌, ◌^◌, List, length, All, IfOk, OnOk, IfErr};
 ghost use Rattle.kc_word.specs.Shared.{values};
 ghost use Rattle.kc_word.specs.Cutting.{NumberedPieces};
-ghost use Rattle.kc_tally.specs.Tally.{IsTallyOf};
-ghost use Rattle.kc_stripe.specs.Setup.{StripeSetup, stripe_count};
+ghost use Rattle.kc_tally.specs.Tally.{AreRows, IsTallyOf};
+ghost use Rattle.kc_stripe.specs.Setup.{stripe_count};
 ghost use Rattle.kc_stripe.specs.Stripe.{reads_in};
 ghost use Rattle.kc_gather.specs.Gathering.{position_sum, IsWhole, AreWholeBefore, AreRowsFrom};
-ghost use Rattle.kc_gather.specs.Gathering.{IsRefusal, IsStripeRefusal};
+ghost use Rattle.kc_gather.specs.Gathering.{IsRefusal, IsStripeRefusal, StandsThere};
 
 use crate::fault::GatherFault;
 use crate::journal::{booked_marks, first_unset};
+use crate::parts::Parts;
 use kc_stripe::{Setup, Stripe};
 use kc_table::Counts;
-use kc_tally::{Row, Tally};
+use kc_tally::Tally;
 use kc_word::Batch;
 use std::alloc::{AllocError, Global};
 use std::sync::Arc;
+use std::thread::Threads;
 
 /// The tally of the batches, gathered from the stripes in which they were booked. It is refused unless each stripe is
-/// that of its index and its journal holds exactly the given batches, whichever stripe counted what.
+/// that of its index and its journal holds exactly the given batches, whichever stripe counted what. No batch is
+/// missing in a journal that has as many entries as there are batches.
 ///
 /// Conditions: as many stripes as the setup says; the batches have together at most 2^62 positions.
 pub fn gather<C: Counts + Drop>(
@@ -32,12 +35,55 @@ pub fn gather<C: Counts + Drop>(
     ensures whole { OnOk result (AreWholeBefore setup.now (values batches.now) stripes.items (length stripes.items)) }
     ensures tally { IfOk result (IsTallyOf setup.now.rule (reads_in (values batches.now))) }
     ensures refused { IfErr result (IsRefusal setup.now (values batches.now) stripes.items) }
+    ensures counted { (index batch : ℕ) → result ≡ Err (GatherFault.Missing index batch)
+        → StandsThere stripes.items index (λ stripe. length stripe.journal ≢ length batches.now) }
+{
+    let mut parts = parted_rows(alloc, stripes, batches, setup)?;
+    parts.sort();
+    Ok(tally_of(alloc, parts, setup)?)
+}
+
+/// What `gather` answers. The rows are sorted by at most so many threads.
+///
+/// Conditions: those of `gather`, and at least one thread.
+pub fn gather_in_parallel<C: Counts + Drop, H: Threads + Sync>(
+    rt: &H,
+    alloc: Global,
+    threads: u32,
+    stripes: Vec<Stripe<C>>,
+    batches: &[Arc<Batch>],
+    setup: &Setup,
+) -> Result<Tally, GatherFault>
+    requires threads { 1 ≤ threads }
+    requires one_each { length stripes.items ≡ stripe_count setup.now }
+    requires few { position_sum setup.now.rule.k (values batches.now) ≤ 2 ^ 62 }
+    ensures whole { OnOk result (AreWholeBefore setup.now (values batches.now) stripes.items (length stripes.items)) }
+    ensures tally { IfOk result (IsTallyOf setup.now.rule (reads_in (values batches.now))) }
+    ensures refused { IfErr result (IsRefusal setup.now (values batches.now) stripes.items) }
+    ensures counted { (index batch : ℕ) → result ≡ Err (GatherFault.Missing index batch)
+        → StandsThere stripes.items index (λ stripe. length stripe.journal ≢ length batches.now) }
+{
+    let mut parts = parted_rows(alloc, stripes, batches, setup)?;
+    parts.sort_in_parallel(rt, threads);
+    Ok(tally_of(alloc, parts, setup)?)
+}
+
+// The rows of the stripes, where each stripe's journal holds exactly the given batches.
+fn parted_rows<C: Counts + Drop>(
+    alloc: Global,
+    stripes: Vec<Stripe<C>>,
+    batches: &[Arc<Batch>],
+    setup: &Setup,
+) -> Result<Parts, GatherFault>
+    requires { length stripes.items ≡ stripe_count setup.now }
+    ensures whole { OnOk result (AreWholeBefore setup.now (values batches.now) stripes.items (length stripes.items)) }
+    ensures rows { IfOk result (λ parts. AreRowsFrom setup.now (values batches.now) 0 parts.rows) }
+    ensures refused { IfErr result (IsRefusal setup.now (values batches.now) stripes.items) }
+    ensures counted { (index batch : ℕ) → result ≡ Err (GatherFault.Missing index batch)
+        → StandsThere stripes.items index (λ stripe. length stripe.journal ≢ length batches.now) }
 {
     check_stripes(alloc, &stripes, batches, setup)?;
-    let mut rows = take_rows(alloc, stripes)?;
-    rows.sort_unstable_by_key(|row| row.word);
-    let rule = setup.rule();
-    Ok(Tally::of_rows(alloc, rule.k(), rule.both(), rows)?)
+    Ok(take_rows(alloc, stripes, setup)?)
 }
 
 // Whether the journal of each stripe holds exactly the given batches.
@@ -50,6 +96,8 @@ fn check_stripes<C: Counts>(
     requires { length stripes.now ≡ stripe_count setup.now }
     ensures whole { OnOk result (AreWholeBefore setup.now (values batches.now) stripes.now (length stripes.now)) }
     ensures refused { IfErr result (IsRefusal setup.now (values batches.now) stripes.now) }
+    ensures counted { (index batch : ℕ) → result ≡ Err (GatherFault.Missing index batch)
+        → StandsThere stripes.now index (λ stripe. length stripe.journal ≢ length batches.now) }
 {
     for i in 0..setup.stripes() {
         check_stripe(alloc, i, &stripes[i as usize], batches, setup)?;
@@ -67,10 +115,14 @@ fn check_stripe<C: Counts>(
 ) -> Result<(), GatherFault>
     ensures whole { OnOk result (IsWhole setup.now (values batches.now) index stripe.now) }
     ensures refused { IfErr result (IsStripeRefusal setup.now (values batches.now) index stripe.now) }
+    ensures counted { (at batch : ℕ) → result ≡ Err (GatherFault.Missing at batch)
+        → length stripe.now.journal ≢ length batches.now }
 {
     if stripe.setup() != setup || stripe.number() != index {
         return Err(GatherFault::Foreign(index));
     }
+    // what is known of the journal
+    stripe.is_lawful();
     let Some(marks) = booked_marks(alloc, stripe.journal(), batches)? else {
         return Err(GatherFault::Foreign(index));
     };
@@ -80,21 +132,35 @@ fn check_stripe<C: Counts>(
     }
 }
 
-// The rows of all stripes, in any order. Each stripe is freed as soon as its rows are taken.
+// The rows of all stripes. Each stripe is freed as soon as its rows are taken.
 fn take_rows<C: Counts + Drop>(
     alloc: Global,
     mut stripes: Vec<Stripe<C>>,
-) -> Result<Vec<Row>, AllocError>
-    ensures { IfOk result (λ rows. (setup : StripeSetup) (batches : List NumberedPieces)
-        → length stripes.items ≡ stripe_count setup
-        → AreWholeBefore setup batches stripes.items (length stripes.items)
-        → AreRowsFrom setup batches 0 rows.items) }
+    setup: &Setup,
+) -> Result<Parts, AllocError>
+    requires { All (λ stripe. stripe.setup ≡ setup.now) stripes.items }
+    ensures { IfOk result (λ parts. (batches : List NumberedPieces)
+        → length stripes.items ≡ stripe_count setup.now
+        → AreWholeBefore setup.now batches stripes.items (length stripes.items)
+        → AreRowsFrom setup.now batches 0 parts.rows) }
 {
-    let mut rows = Vec::new(alloc);
+    let mut parts = Parts::new(alloc, setup.rule().k())?;
     while let Some(stripe) = stripes.pop() {
         // what is known of the journal
         stripe.is_lawful();
-        rows.append(&mut stripe.rows(alloc)?)?;
+        let rows = stripe.rows(alloc)?;
+        drop(stripe);
+        parts.add_all(&rows)?;
     }
-    Ok(rows)
+    Ok(parts)
+}
+
+// The tally of these rows, which are sorted.
+fn tally_of(alloc: Global, parts: Parts, setup: &Setup) -> Result<Tally, AllocError>
+    requires { AreRows setup.now.rule.k setup.now.rule.both parts.rows }
+    ensures { IfOk result (λ tally.
+        tally ≡ record { k = setup.now.rule.k; both = setup.now.rule.both; rows = parts.rows }) }
+{
+    let rule = setup.rule();
+    Tally::of_rows(alloc, rule.k(), rule.both(), parts.into_rows(alloc)?)
 }

@@ -5,10 +5,11 @@
 mod fault;
 mod gathering;
 mod journal;
+mod parts;
 mod tables;
 
 pub use fault::GatherFault;
-pub use gathering::gather;
+pub use gathering::{gather, gather_in_parallel};
 pub use tables::{plain_tables, quotient_tables};
 
 #[cfg(test)]

@@ -3,7 +3,7 @@ ghost use Rattle.std.specs.Prelude.{◌≡◌, ◌≤◌, ◌^◌, IfOk};
 ghost use Rattle.kc_word.specs.Shared.{values};
 ghost use Rattle.kc_gather.specs.Gathering.{position_sum};
 
-use crate::{GatherFault, gather, plain_tables, quotient_tables};
+use crate::{GatherFault, gather, gather_in_parallel, plain_tables, quotient_tables};
 use kc_fastx::SeqRead;
 use kc_hash::{Hash, Matrix};
 use kc_stripe::{Setup, Stripe, cut_up};
@@ -11,8 +11,10 @@ use kc_table::{Counts, PlainCounts};
 use kc_tally::{Row, Tally};
 use kc_word::{Batch, K, Rule, clean, cut, laws};
 use std::alloc::Global;
+use std::process::Abort;
 use std::sync::Arc;
 use std::test::Fail;
+use std::thread::Threads;
 
 // Words of k bases on one strand, in so many stripes, by a hash that leaves them as they are.
 fn setup_of(k: u32, stripes: u32) -> Option<Setup> {
@@ -107,8 +109,24 @@ fn stripe_of(
     Ok(stripe)
 }
 
-// What gathering these stripes answers, where the batches of the read are given.
-fn gathered(
+// A stripe of each number in which the batches were booked.
+fn stripes_of(
+    alloc: Global,
+    setup: &Setup,
+    batches: &[Arc<Batch>],
+) -> Result<Vec<Stripe<PlainCounts>>, Fail> {
+    let mut stripes = Vec::new(alloc);
+    for number in 0..setup.stripes() {
+        stripes.push(stripe_of(alloc, setup, number, batches)?)?;
+    }
+    Ok(stripes)
+}
+
+// What gathering these stripes answers, where the batches of the read are given: by so many threads, or, if there are
+// none, by `gather`.
+fn gathered<H: Threads + Sync>(
+    rt: &H,
+    threads: u32,
     alloc: Global,
     setup: &Setup,
     stripes: Vec<Stripe<PlainCounts>>,
@@ -119,7 +137,25 @@ fn gathered(
     if stripes.len() != setup.stripes() as usize {
         return Err(Fail::from("other stripes"));
     }
-    Ok(gather(alloc, stripes, &batches, setup))
+    Ok(if threads == 0 {
+        gather(alloc, stripes, &batches, setup)
+    } else {
+        gather_in_parallel(rt, alloc, threads, stripes, &batches, setup)
+    })
+}
+
+// The tally has these rows and no others.
+fn assert_rows(rt: &impl Abort, tally: &Tally, want: &[(u64, u64)]) {
+    assert_eq!(rt; tally.rows().len(), want.len());
+    for (row, (word, count)) in tally.rows().iter().zip(want) {
+        assert_eq!(rt;
+            *row,
+            Row {
+                word: *word,
+                count: *count
+            }
+        );
+    }
 }
 
 #[test]
@@ -134,7 +170,7 @@ fn a_stripe_that_lacks_a_batch_or_has_another(rt: HostRuntime) -> Result<(), Fai
     for (bases, fault) in rows {
         let mut stripes = Vec::new(alloc);
         stripes.push(stripe_of(alloc, &setup, 0, &booked)?)?;
-        let Err(found) = gathered(alloc, &setup, stripes, bases, 2)? else {
+        let Err(found) = gathered(&rt, 0, alloc, &setup, stripes, bases, 2)? else {
             return Err(Fail::from("a tally"));
         };
         assert!(rt; found == fault);
@@ -145,20 +181,63 @@ fn a_stripe_that_lacks_a_batch_or_has_another(rt: HostRuntime) -> Result<(), Fai
 #[test]
 fn the_tally_of_all_stripes(rt: HostRuntime) -> Result<(), Fail> {
     let alloc = rt.alloc();
-    for (count, size) in [(1, 1), (4, 2), (4, 7), (64, 1)] {
+    for (count, size, threads) in [(1, 1, 0), (4, 2, 1), (4, 7, 0), (64, 1, 3)] {
         let setup = setup_of(3, count).ok_or("no setup")?;
         let batches = batches_of(alloc, &setup, b"ACGTANACG", size)?;
-        let mut stripes = Vec::new(alloc);
-        for number in 0..count {
-            stripes.push(stripe_of(alloc, &setup, number, &batches)?)?;
-        }
-        let Ok(tally) = gathered(alloc, &setup, stripes, b"ACGTANACG", size)? else {
+        let stripes = stripes_of(alloc, &setup, &batches)?;
+        let Ok(tally) = gathered(&rt, threads, alloc, &setup, stripes, b"ACGTANACG", size)? else {
             return Err(Fail::from("no tally"));
         };
-        let want = [(6, 2), (27, 1), (44, 1)];
-        assert_eq!(rt; tally.rows().len(), want.len());
-        for (row, (word, count)) in tally.rows().iter().zip(want) {
-            assert_eq!(rt; *row, Row { word, count });
+        assert_rows(&rt, &tally, &[(6, 2), (27, 1), (44, 1)]);
+    }
+    Ok(())
+}
+
+#[test]
+fn several_words_in_a_part(rt: HostRuntime) -> Result<(), Fail> {
+    let alloc = rt.alloc();
+    let setup = setup_of(5, 2).ok_or("no setup")?;
+    let bases = b"TTTTTAAAAAC";
+    let batches = batches_of(alloc, &setup, bases, 3)?;
+    for threads in [0, 1, 2, 64] {
+        let stripes = stripes_of(alloc, &setup, &batches)?;
+        let Ok(tally) = gathered(&rt, threads, alloc, &setup, stripes, bases, 3)? else {
+            return Err(Fail::from("no tally"));
+        };
+        // AAAAA, AAAAC, TAAAA, TTAAA, TTTAA, TTTTA, TTTTT
+        assert_rows(
+            &rt,
+            &tally,
+            &[
+                (0, 1),
+                (1, 1),
+                (768, 1),
+                (960, 1),
+                (1008, 1),
+                (1020, 1),
+                (1023, 1),
+            ],
+        );
+    }
+    Ok(())
+}
+
+// Run with each growth refused in turn, by `make memory`: no other fault is answered, and no other tally.
+#[test]
+fn a_refused_growth_gives_no_tally(rt: HostRuntime) -> Result<(), Fail> {
+    let alloc = rt.alloc();
+    let setup = setup_of(3, 2).ok_or("no setup")?;
+    let bases = b"AAACAAC";
+    for threads in [0, 2] {
+        let batches = batches_of(alloc, &setup, bases, 2)?;
+        assert_eq!(rt; batches.len(), 3);
+        let stripes = stripes_of(alloc, &setup, &batches)?;
+        match gathered(&rt, threads, alloc, &setup, stripes, bases, 2)? {
+            Ok(tally) => assert_rows(&rt, &tally, &[(0, 1), (1, 2), (4, 1), (16, 1)]),
+            Err(fault) => {
+                assert_eq!(rt; fault, GatherFault::Memory);
+                return Err(Fail::from("answered 34"));
+            }
         }
     }
     Ok(())

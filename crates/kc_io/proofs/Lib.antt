@@ -1,3 +1,4 @@
+pub mod IntakesLemmas
 pub mod KnownBytesLemmas
 pub mod SinksLemmas
 pub mod TakingLemmas

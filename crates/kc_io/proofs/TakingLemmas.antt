@@ -1,27 +1,16 @@
 -- The bytes that were taken of a source so far, and what one read more makes of them.
 use Rattle.std.proofs.Common.{◌≡◌, ℕ, ◌+◌, ◌<◌, ◌≤◌, false, true, List, [], ◌∷◌, ◌++◌, length, take, refl, sym, ap, subst, ◌∙◌, arith, append_assoc, append-nil, length-append, rules}
-use Rattle.std.specs.Prelude.{All, Ok, Err, if◌then◌else◌}
+use Rattle.std.specs.Prelude.{Ok, Err, if◌then◌else◌}
 use Rattle.std.specs.Io.KnownBytes.{Consumes, Keeps, IsAtEnd}
 use Rattle.std.proofs.lemmas.Bool.Decides.{nat_tests}
 use Rattle.std.proofs.lemmas.List.Elements.{All-nil, All-append}
 use Rattle.kc_io.specs.declared.failures.Failed.{Failed}
+use Rattle.kc_io.specs.declared.taking.TakeFault.{TakeFault}
 use Rattle.kc_io.specs.declared.taking.TakeFault.TheVariants.{TooLong, Read, Memory}
 use Rattle.kc_io.specs.History.{is_end, after}
 use Rattle.kc_io.specs.Sources.{Seen}
-use Rattle.kc_io.specs.Taking.{Takes, TakesAll, TakingFails}
+use Rattle.kc_io.specs.Taking.{Takes, TakenSoFar, TakesAll, TakingFails}
 use Rattle.kc_io.proofs.KnownBytesLemmas.{consumes_nothing, consumes_both, consumes_kept}
-
--- these bytes were taken so far, at most `limit`, by reads that gave at least one each
-pub record TakenSoFar (old now : Seen) (limit : ℕ) (bytes : List ℕ) : Type 0 where
-  pub consumed : Consumes old.left now.left bytes
-  pub given : now.history.bytes ≡ old.history.bytes ++ bytes
-  pub ends : now.history.ends ≡ old.history.ends
-  pub failures : now.history.failures ≡ old.history.failures
-  pub rooms : List ℕ
-  pub asked : now.history.asked ≡ old.history.asked ++ rooms
-  pub with_room : All (λ room. 0 < room) rooms
-  pub few : length rooms ≤ length bytes
-  pub within : length bytes ≤ limit
 
 -- what one read did
 pub record ReadOnce (now next : Seen) (bytes ended : List ℕ) (failed : ℕ) : Type 0 where
@@ -159,3 +148,49 @@ taken_in_vain {old} {now} {limit} {xs} so_far = (
   },
   so_far.within,
 )
+
+-- ---- a taking, and then another with the room that the first left
+
+pub taken_then_takes : {old mid new : Seen} {limit room failed : ℕ} {xs ys ended : List ℕ} → TakenSoFar old mid limit xs → Takes mid new room ys ended failed
+    → length xs + room ≡ limit → Takes old new limit (xs ++ ys) ended failed
+taken_then_takes {old} {mid} {new} {limit} {room} {failed} {xs} {ys} {ended} before takes fits = record {
+  consumed = consumes_both old.left mid.left new.left xs ys before.consumed takes.consumed;
+  given = takes.given ∙ ap (λ v. v ++ ys) before.given ∙ append_assoc old.history.bytes xs ys;
+  ends = takes.ends ∙ ap (λ v. v ++ ended) before.ends;
+  failures = omega (arith, takes.failures, before.failures);
+  rooms = before.rooms ++ takes.rooms;
+  asked = takes.asked ∙ ap (λ v. v ++ takes.rooms) before.asked ∙ append_assoc old.history.asked before.rooms takes.rooms;
+  with_room = All-append (λ room. 0 < room) before.rooms takes.rooms before.with_room takes.with_room;
+  few = omega (arith, before.few, takes.few, length-append before.rooms takes.rooms);
+}
+
+pub taken_then_taken : {old mid new : Seen} {limit room : ℕ} {xs ys : List ℕ} → TakenSoFar old mid limit xs → TakenSoFar mid new room ys
+    → length xs + room ≡ limit → TakenSoFar old new limit (xs ++ ys)
+taken_then_taken {old} {mid} {new} {limit} {room} {xs} {ys} before more fits = record {
+  consumed = consumes_both old.left mid.left new.left xs ys before.consumed more.consumed;
+  given = more.given ∙ ap (λ v. v ++ ys) before.given ∙ append_assoc old.history.bytes xs ys;
+  ends = more.ends ∙ before.ends;
+  failures = more.failures ∙ before.failures;
+  rooms = before.rooms ++ more.rooms;
+  asked = more.asked ∙ ap (λ v. v ++ more.rooms) before.asked ∙ append_assoc old.history.asked before.rooms more.rooms;
+  with_room = All-append (λ room. 0 < room) before.rooms more.rooms before.with_room more.with_room;
+  few = omega (arith, before.few, more.few, length-append before.rooms more.rooms, length-append xs ys);
+  within = omega (arith, more.within, length-append xs ys);
+}
+
+pub taken_then_all : {old mid new : Seen} {limit room : ℕ} {xs ys : List ℕ} → TakenSoFar old mid limit xs → TakesAll mid new room ys
+    → length xs + room ≡ limit → TakesAll old new limit (xs ++ ys)
+taken_then_all {old} {mid} {new} {limit} {room} {xs} {ys} before all fits = record {
+  taken = taken_then_takes before all.taken fits;
+  at_end = all.at_end;
+  within = let within = all.within in omega (arith, within, length-append xs ys);
+}
+
+pub taken_then_fails : {old mid : Seen} {limit : ℕ} {xs : List ℕ} (new : Seen) (room : ℕ) (why : TakeFault) → TakenSoFar old mid limit xs
+    → TakingFails mid new room why → length xs + room ≡ limit → TakingFails old new limit why
+taken_then_fails {old} {mid} {limit} {xs} new room TooLong before fails fits =
+    let over = fails.2 in (xs ++ fails.0, taken_then_takes before fails.1 fits, omega (arith, over, fits, length-append xs fails.0))
+taken_then_fails {old} {mid} {limit} {xs} new room Read before fails fits =
+    let within = fails.2 in (xs ++ fails.0, taken_then_takes before fails.1 fits, omega (arith, within, fits, length-append xs fails.0))
+taken_then_fails {old} {mid} {limit} {xs} new room Memory before fails fits =
+    let within = fails.2 in (xs ++ fails.0, taken_then_takes before fails.1 fits, omega (arith, within, fits, length-append xs fails.0))

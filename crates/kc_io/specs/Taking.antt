@@ -17,6 +17,18 @@ pub record Takes (old new : Seen) (limit : ℕ) (bytes ended : List ℕ) (failed
   pub with_room : All (λ room. 0 < room) rooms
   pub few : length rooms ≤ limit + 1
 
+-- these bytes were taken so far, at most `limit`, by reads that gave at least one each
+pub record TakenSoFar (old now : Seen) (limit : ℕ) (bytes : List ℕ) : Type 0 where
+  pub consumed : Consumes old.left now.left bytes
+  pub given : now.history.bytes ≡ old.history.bytes ++ bytes
+  pub ends : now.history.ends ≡ old.history.ends
+  pub failures : now.history.failures ≡ old.history.failures
+  pub rooms : List ℕ
+  pub asked : now.history.asked ≡ old.history.asked ++ rooms
+  pub with_room : All (λ room. 0 < room) rooms
+  pub few : length rooms ≤ length bytes
+  pub within : length bytes ≤ limit
+
 -- all bytes were taken, at most `limit`, up to an end that was told behind them, and no read failed
 pub record TakesAll (old new : Seen) (limit : ℕ) (bytes : List ℕ) : Type 0 where
   pub taken : Takes old new limit bytes (length new.history.bytes ∷ []) 0

@@ -16,6 +16,7 @@
 
 mod failures;
 mod histories;
+mod intakes;
 mod recorded;
 mod sinks;
 mod sources;
@@ -26,6 +27,7 @@ mod writing;
 
 pub use failures::Failed;
 pub use histories::Heard;
+pub use intakes::Intake;
 pub use sinks::{Sink, ToVec, ToWrite};
 pub use sources::{FromBytes, FromRead, Source};
 pub use taking::{TakeFault, take_all};

@@ -24,6 +24,13 @@ pub enum TakeFault {
 // How many bytes are asked of a source at a time.
 const BLOCK_SIZE: usize = 65_536;
 
+// Bytes to read into.
+pub(crate) fn new_block(alloc: Global) -> Result<Vec<u8>, AllocError>
+    ensures { IfOk result (λ block. length block.items ≡ 65536) }
+{
+    vec![in alloc; 0u8; BLOCK_SIZE]
+}
+
 /// Takes all bytes of the source.
 ///
 /// # Errors
@@ -33,7 +40,7 @@ pub fn take_all<S: Source>(alloc: Global, source: &mut S, limit: u64) -> Result<
     ensures taken { IfOk result (λ bytes. TakesAll (S.seen source.old) (S.seen source.new) limit bytes.items) }
     ensures fault { IfErr result (TakingFails (S.seen source.old) (S.seen source.new) limit) }
 {
-    let mut block = vec![in alloc; 0u8; BLOCK_SIZE]?;
+    let mut block = new_block(alloc)?;
     take_by_blocks(alloc, source, limit, block.as_mut_slice())
 }
 

@@ -1,7 +1,7 @@
 //! Streams that give and take bytes slowly, are interrupted, and fail.
 use crate::{
-    Failed, FromBytes, FromRead, Sink, Source, TakeFault, ToVec, ToWrite, take_all, write_all,
-    write_out,
+    Failed, FromBytes, FromRead, Intake, Sink, Source, TakeFault, ToVec, ToWrite, take_all,
+    write_all, write_out,
 };
 use std::alloc::{AllocError, Global};
 use std::io;
@@ -115,6 +115,46 @@ fn every_failed_read(rt: HostRuntime) {
         take_slowly(rt.alloc(), 0, 7).err(),
         Some(TakeFault::TooLong)
     );
+}
+
+#[test]
+fn bytes_used_as_they_come(rt: HostRuntime) -> Result<(), Fail> {
+    let slow = Slow {
+        left: b"ACGTACGT",
+        is_ready: false,
+        fails_with: usize::MAX,
+    };
+    let mut source = FromRead::new(slow);
+    let mut intake = Intake::new(rt.alloc(), 8)?;
+    for _ in 0..3 {
+        assert_eq!(rt; intake.fill(&mut source), Ok(true));
+    }
+    assert_eq!(rt; intake.as_slice(), b"ACG".as_slice());
+    if intake.as_slice().len() < 2 {
+        return Err(Fail::from("bytes are missing"));
+    }
+    intake.use_up(2);
+    assert_eq!(rt; intake.as_slice(), b"G".as_slice());
+    assert_eq!(rt; intake.fill(&mut source), Ok(true));
+    assert_eq!(rt; intake.as_slice(), b"GT".as_slice());
+    assert_eq!(rt; intake.skip_rest(&mut source), Ok(4));
+    let mut full = Intake::new(rt.alloc(), 0)?;
+    assert_eq!(rt; full.fill(&mut source), Ok(false));
+    assert_eq!(rt; full.skip_rest(&mut source), Ok(0));
+    Ok(())
+}
+
+#[test]
+fn an_intake_has_room_for_its_limit(rt: HostRuntime) -> Result<(), Fail> {
+    let mut few = Intake::new(rt.alloc(), 4)?;
+    let fault = few.fill(&mut FromBytes::new(b"ACGTA")).err();
+    assert_eq!(rt; fault, Some(TakeFault::TooLong));
+    let enough = Intake::new(rt.alloc(), 5)?;
+    assert_eq!(rt; enough.skip_rest(&mut FromBytes::new(b"ACGTA")), Ok(5));
+    let few = Intake::new(rt.alloc(), 4)?;
+    let fault = few.skip_rest(&mut FromBytes::new(b"ACGTA")).err();
+    assert_eq!(rt; fault, Some(TakeFault::TooLong));
+    Ok(())
 }
 
 #[test]

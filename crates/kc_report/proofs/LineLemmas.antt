@@ -1,21 +1,107 @@
--- The first line of some bytes.
-use Rattle.std.proofs.Common.{◌≡◌, ℕ, zero, suc, ◌+◌, ◌<◌, ◌≤◌, true, eqb, List, [], ◌∷◌, ◌++◌, length, get_or, take, ◌∙◌, ap, arith, eq-eqb}
+-- The first line of some bytes, of which a front was searched before.
+use Rattle.std.proofs.Common.{◌≡◌, ℕ, zero, suc, ◌+◌, ◌<◌, ◌≤◌, true, false, Bool, eqb, ◌-◌, List, [], ◌∷◌, ◌++◌}
+use Rattle.std.proofs.Common.{length, get_or, take, drop, refl, sym, subst, ◌∙◌, ap, arith, append_assoc, eq-eqb}
+use Rattle.std.specs.Prelude.{IsTrue, Ok}
+use Rattle.std.proofs.Math.Seq.{take-add}
 use Rattle.std.proofs.lemmas.Bool.{eqb-true}
-use Rattle.std.proofs.lemmas.List.{take_more}
+use Rattle.std.proofs.lemmas.List.{take_more, take-append-drop, take-append-le, length-append, length-drop, take_all}
+use Rattle.kc_io.specs.Sources.{Seen}
+use Rattle.kc_io.specs.Taking.{TakesAll}
+use Rattle.kc_io.specs.Intakes.{Unread, Filled, Fills}
+use Rattle.kc_io.proofs.IntakesLemmas.{filled_both, filled_end}
 use Rattle.kc_report.specs.Bytes.{line_feed}
 use Rattle.kc_report.specs.Lines.{Without, IsLine}
+use Rattle.kc_report.specs.Table.{ended}
+use Rattle.kc_report.specs.TableReading.{HasLine}
+use Rattle.kc_report.proofs.TableLines.{Without-append}
 
-without_take : (bytes : List ℕ) (k : ℕ) → ((j : ℕ) → 0 ≤ j → j < k → ¬ (eqb (get_or bytes j 0) line_feed ≡ true)) → Without line_feed (take k bytes)
+-- no line feed stands below the index
+abbrev pub NoneBelow : List ℕ → ℕ → Type 0
+NoneBelow bytes k = (j : ℕ) → 0 ≤ j → j < k → ¬ (eqb (get_or bytes j 0) line_feed ≡ true)
+
+without_take : (bytes : List ℕ) (k : ℕ) → NoneBelow bytes k → Without line_feed (take k bytes)
 without_take bytes zero none = tt
 without_take [] (suc k) none = tt
-without_take (b ∷ bytes) (suc k) none =
-    (λ e. none 0 (omega arith) (omega arith) (eq-eqb b line_feed e), without_take bytes k (λ j low h. none (suc j) (omega arith) (omega (arith, h))))
+without_take (b ∷ bytes) (suc k) none = (
+  λ e. none 0 (omega arith) (omega arith) (eq-eqb b line_feed e),
+  without_take bytes k
+      (λ j low h. none (suc j) (omega arith) (omega (arith, h))),
+)
 
 -- the first line feed, at index k, ends the first line
-pub line_at : (bytes : List ℕ) (k : ℕ) → k < length bytes → eqb (get_or bytes k 0) line_feed ≡ true
-    → ((j : ℕ) → 0 ≤ j → j < k → ¬ (eqb (get_or bytes j 0) line_feed ≡ true)) → IsLine (take (k + 1) bytes)
+line_at : (bytes : List ℕ) (k : ℕ) → k < length bytes → eqb (get_or bytes k 0) line_feed ≡ true → NoneBelow bytes k
+    → IsLine (take (k + 1) bytes)
 line_at bytes k below is none = record {
   bytes = take k bytes;
   whole = take_more bytes k 0 below ∙ ap (λ b. take k bytes ++ b ∷ []) (eqb-true (get_or bytes k 0) line_feed is);
   one = without_take bytes k none;
 }
+
+-- the first line feed behind a front without one
+pub line_found : (bytes : List ℕ) (searched k : ℕ) → Without line_feed (take searched bytes)
+    → k < length (drop searched bytes) → eqb (get_or (drop searched bytes) k 0) line_feed ≡ true
+    → NoneBelow (drop searched bytes) k → IsLine (take (searched + k + 1) bytes)
+line_found bytes searched k front below is none =
+    let line = line_at (drop searched bytes) k below is none in
+    let count : searched + k + 1 ≡ searched + (k + 1) = omega arith in
+    record {
+      bytes = take searched bytes ++ line.bytes;
+      whole = ap (λ m. take m bytes) count ∙ take-add searched (k + 1) bytes
+          ∙ ap (λ v. take searched bytes ++ v) line.whole
+          ∙ sym (append_assoc (take searched bytes) line.bytes (line_feed ∷ []));
+      one = Without-append line_feed (take searched bytes) line.bytes front line.one;
+    }
+
+-- no line feed stands behind such a front
+pub none_found : (bytes : List ℕ) (searched : ℕ) → Without line_feed (take searched bytes)
+    → NoneBelow (drop searched bytes) (length (drop searched bytes)) → Without line_feed bytes
+none_found bytes searched front none =
+    let rest = drop searched bytes in
+    let later : Without line_feed rest = subst (λ v. Without line_feed v) (take_all (length rest) rest (omega arith))
+    (without_take rest (length rest) none) in
+    subst (λ v. Without line_feed v) (take-append-drop searched bytes)
+    (Without-append line_feed (take searched bytes) rest front later)
+
+no_stop : (line rest : List ℕ) → ¬ Without line_feed (ended line ++ rest)
+no_stop [] rest p = p.0 refl
+no_stop (c ∷ line) rest p = no_stop line rest p.1
+
+pub no_line : (bytes : List ℕ) → Without line_feed bytes → ¬ HasLine bytes
+no_line bytes none has = no_stop has.0 has.1.0 (subst (λ v. Without line_feed v) has.1.1 none)
+
+-- what was searched stays so when more comes behind it
+filled_searched_front : {old new : Seen} {before after : Unread} → Filled old new before after
+    → Without line_feed before.bytes → Without line_feed (take (length before.bytes) after.bytes)
+filled_searched_front {old} {new} {before} {after} f none =
+    let front : take (length before.bytes) after.bytes ≡ before.bytes =
+    ap (take (length before.bytes)) f.behind ∙ take-append-le (length before.bytes) before.bytes f.more (omega arith)
+    ∙ take_all (length before.bytes) before.bytes (omega arith) in
+    subst (λ v. Without line_feed v) (sym front) none
+
+-- more came, behind unread bytes that were searched in vain
+pub filled_searched : {old mid new : Seen} {first before after : Unread} (came : Bool) → Filled old mid first before
+    → Without line_feed before.bytes → came ≡ true → Fills mid new before after (Ok came)
+    → Filled old new first after × (length before.bytes ≤ length after.bytes)
+    × Without line_feed (take (length before.bytes) after.bytes)
+filled_searched true so_far none is fills = let longer =
+    fills.1 in (filled_both so_far fills.0, omega (arith, longer), filled_searched_front fills.0 none)
+filled_searched false so_far none is fills = absurd (let wrong : false ≡ true = is in cc)
+
+-- nothing more came
+pub ended_searched : {old mid new : Seen} {first before : Unread} (after : Unread) (came : Bool)
+    → Filled old mid first before → Without line_feed before.bytes → came ≡ false
+    → Fills mid new before after (Ok came)
+    → (more : List ℕ) × TakesAll old new first.room more × (¬ HasLine (first.bytes ++ more))
+ended_searched after true so_far none is fills = absurd (let wrong : true ≡ false = is in cc)
+ended_searched after false so_far none is fills =
+    (so_far.more, filled_end so_far fills.0, subst (λ v. ¬ HasLine v) so_far.behind (no_line _ none))
+
+-- Whether the first `count` of so many bytes are all, and nothing more came. Where there are others, they aren't.
+pub others_left : (bytes more : List ℕ) (count long : ℕ) (is : Bool) → long ≡ length bytes → (long - count ≡ 0 → ⊥)
+    → is ≡ eqb (long - count) 0
+    → (IsTrue is → drop count bytes ++ more ≡ []) × (drop count bytes ++ more ≡ [] → IsTrue is)
+others_left bytes more count long is whole others told = (
+  λ yes. absurd (others (eqb-true (long - count) 0 (sym told ∙ yes))),
+  λ none. let rest = ap length none in let parts = length-append (drop count bytes) more in let dropped =
+      length-drop count bytes in absurd (others (omega (arith, rest, parts, dropped, whole))),
+)

@@ -9,31 +9,44 @@ use Rattle.kc_report.specs.TableReading.{MayFollow}
 use Rattle.kc_report.specs.TableRows.{RisesTo}
 use Rattle.kc_report.proofs.TableFronts.{AreRows-last, AreRows-push}
 use Rattle.kc_report.proofs.FieldLemmas.{one_row, never}
+use Rattle.kc_report.proofs.TableLines.{Fits}
 
-pub follower_fits : (t : TallySeen) (row : Row) → MayFollow t row → (row.word < 4 ^ t.k) × (row.count < 2 ^ 64)
-follower_fits t row follows = let l = AreRows-last t.k t.both t.rows row follows in let small = l.small in (l.word, omega (arith, small))
+pub follower_fits : (t : TallySeen) (row : Row) → MayFollow t row → Fits t.k row
+follower_fits t row follows =
+    let l = AreRows-last t.k t.both t.rows row follows in
+    let small = l.small in
+    record { word = l.word; count = omega (arith, small) }
+
+-- the line says this row
+pub record Says (k : ℕ) (line : List ℕ) (row : Row) : Type 0 where
+  pub fits : Fits k row
+  pub is : line ≡ row_in_columns k false row
 
 -- A line that is no row that may come next is no such row.
-pub no_other_row : (t u : TallySeen) (found row : Row) (line : List ℕ) (answer : Bool) → t ≡ u → found.word < 4 ^ t.k → found.count < 2 ^ 64
-    → line ≡ row_in_columns t.k false found → (MayFollow u found → IsTrue answer) → answer ≡ false → MayFollow u row → line ≡ row_in_columns u.k false row → ⊥
-no_other_row t u found row line answer view below small e told refused follows f =
-    let k = ap (λ (t : TallySeen). t.k) view in
-    let fits = follower_fits u row follows in
-    let same = one_row u.k found row line (subst (λ k. found.word < 4 ^ k) k below) fits.0 small fits.1 (subst (λ k. line ≡ row_in_columns k false found) k e) f in
-    never (sym refused ∙ told (subst (λ row. MayFollow u row) (sym same) follows))
+pub no_other_row : {line : List ℕ} {found : Row} (t u : TallySeen) → t ≡ u → Says t.k line found → ¬ MayFollow u found
+    → (row : Row) → MayFollow u row → line ≡ row_in_columns u.k false row → ⊥
+no_other_row {line} {found} t u view says refused row follows f =
+    let here = subst (λ k. Says k line found) (ap (λ (t : TallySeen). t.k) view) says in
+    let same = one_row u.k found row line here.fits (follower_fits u row follows) here.is f in
+    refused (subst (λ row. MayFollow u row) (sym same) follows)
 
-pub no_line : (t u : TallySeen) (row : Row) (line : List ℕ) → t ≡ u
-    → ((row : Row) → row.word < 4 ^ t.k → row.count < 2 ^ 64 → line ≡ row_in_columns t.k false row → ⊥) → MayFollow u row → line ≡ row_in_columns u.k false row → ⊥
-no_line t u row line view none follows e =
+pub no_line : (t u : TallySeen) (line : List ℕ) → t ≡ u
+    → ((row : Row) → row.word < 4 ^ t.k → row.count < 2 ^ 64 → line ≡ row_in_columns t.k false row → ⊥)
+    → (row : Row) → MayFollow u row → line ≡ row_in_columns u.k false row → ⊥
+no_line t u line view none row follows e =
     let k = sym (ap (λ (t : TallySeen). t.k) view) in
     let fits = follower_fits u row follows in
-    none row (subst (λ k. row.word < 4 ^ k) k fits.0) fits.1 (subst (λ k. line ≡ row_in_columns k false row) k e)
+    none row (subst (λ k. row.word < 4 ^ k) k fits.word) fits.count (subst (λ k. line ≡ row_in_columns k false row) k e)
 
 -- ---- the test
 
 pub no_rise : (u : TallySeen) (row : Row) (rises : Bool) → (RisesTo u.rows row.word → IsTrue rises) → rises ≡ false
     → (IsTrue false → MayFollow u row) × (MayFollow u row → IsTrue false)
-no_rise u row rises told refused = (λ h. absurd (never h), λ follows. sym refused ∙ told (AreRows-last u.k u.both u.rows row follows).above)
+no_rise u row rises told refused = (
+  λ h. absurd (never h),
+  λ follows. sym refused
+      ∙ told (AreRows-last u.k u.both u.rows row follows).above,
+)
 
 -- what the code knows of the rows so far and of the form of the next one
 pub record Tested (t : TallySeen) (row : Row) (total : ℕ) (formed : Bool) : Type 0 where
@@ -42,12 +55,21 @@ pub record Tested (t : TallySeen) (row : Row) (total : ℕ) (formed : Bool) : Ty
   pub to : IsTrue formed → form t.both (text t.k row.word) ≡ text t.k row.word
   pub from : form t.both (text t.k row.word) ≡ text t.k row.word → IsTrue formed
 
-pub may_come : (t u : TallySeen) (row : Row) (total : ℕ) (formed : Bool) → t ≡ u → Tested t row total formed → row.word < 4 ^ u.k → RisesTo u.rows row.word
-    → 1 ≤ row.count → row.count ≤ 2 ^ 62 - total → (IsTrue formed → MayFollow u row) × (MayFollow u row → IsTrue formed)
-may_come t u row total formed view tested_ below rises some fits =
+pub may_come : {t u : TallySeen} {row : Row} {total : ℕ} {formed : Bool} → t ≡ u → Tested t row total formed
+    → row.word < 4 ^ u.k → RisesTo u.rows row.word → 1 ≤ row.count → row.count ≤ 2 ^ 62 - total
+    → (IsTrue formed → MayFollow u row) × (MayFollow u row → IsTrue formed)
+may_come {t} {u} {row} {total} {formed} view tested_ below rises some fits =
     let tested = subst (λ t. Tested t row total formed) view tested_ in
     let sum = tested.sum in
     let most = tested.rows.small in (
-      λ is. AreRows-push u.k u.both u.rows row tested.rows (record { word = below; count = some; formed = tested.to is; small = omega (arith, sum, most, fits); above = rises }),
+      λ is. AreRows-push u.k u.both u.rows row tested.rows
+          (record {
+            word = below;
+            count = some;
+            formed = tested.to is;
+            small = omega (arith, sum, most, fits);
+            above =
+                rises;
+          }),
       λ follows. tested.from (AreRows-last u.k u.both u.rows row follows).formed,
     )

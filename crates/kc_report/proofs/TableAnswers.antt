@@ -1,66 +1,90 @@
 -- Bytes have one answer as a table text.
-use Rattle.std.proofs.Common.{◌≡◌, ℕ, ◌+◌, ◌^◌, ◌<◌, ◌≤◌, Bool, false, List, [], ◌∷◌, ◌++◌, length, drop, refl, sym, ◌∙◌, ap, subst, append_assoc, append-nil, arith, inl, inr, ◌⊎◌}
+use Rattle.std.proofs.Common.{◌≡◌, ℕ, ◌+◌, ◌≤◌, Bool, false, List, [], ◌∷◌, ◌++◌, length, drop, refl, sym}
+use Rattle.std.proofs.Common.{◌∙◌, ap, subst, append_assoc, append-nil, arith, inl, inr, ◌⊎◌}
 use Rattle.std.specs.Prelude.{codes, Result, Ok, Err}
 use Rattle.kc_tally.specs.declared.row.Row.{Row}
 use Rattle.kc_tally.specs.Tally.{AreRows, TallySeen, total_of}
 use Rattle.kc_report.specs.declared.faults.ReportFault.{ReportFault}
-use Rattle.kc_report.specs.declared.faults.ReportFault.TheVariants.{BadHeader, BadRow, BadEnd, Write, TableTooLong, TableRead, BadWord, Memory}
+use Rattle.kc_report.specs.declared.faults.ReportFault.TheVariants.{BadHeader, BadRow, BadEnd, Write, TableTooLong}
+use Rattle.kc_report.specs.declared.faults.ReportFault.TheVariants.{TableRead, BadWord, Memory}
 use Rattle.kc_report.specs.Dumping.{row_in_columns}
 use Rattle.kc_report.specs.Table.{header_line, end_line, ended, rows_text, end_text, table_text}
 use Rattle.kc_report.specs.TableReading.{BeginsWith, HasLine, IsTable, ReadsTo, HasBadHeader, IsTableOf}
-use Rattle.kc_report.proofs.TableLines.{row_line, first_line, same_row, same_header, row-no_end, Without-row, Without-header}
+use Rattle.kc_report.proofs.TableLines.{row_line, first_line, Fits, same_row, same_header, row-no_end, Without-row}
+use Rattle.kc_report.proofs.TableLines.{Without-header}
 use Rattle.kc_report.proofs.TableFronts.{AreRows-front, AreRows-last}
 
 -- no row that may come next stands at the front of the rest
 abbrev pub Stops : ℕ → Bool → List Row → List ℕ → Type 0
-Stops k both rows rest = (row : Row) → AreRows k both (rows ++ row ∷ []) → ¬ BeginsWith rest (row_in_columns k false row)
+Stops k both rows rest = (row : Row) → AreRows k both (rows ++ row ∷ [])
+    → ¬ BeginsWith rest (row_in_columns k false row)
 
--- the count of the row that comes last is small
-count_fits : (k : ℕ) (both : Bool) (rows : List Row) (row : Row) → AreRows k both (rows ++ row ∷ []) → row.count < 2 ^ 64
-count_fits k both rows row r = let l = (AreRows-last k both rows row r).small in omega (arith, l)
+-- the row that comes last is small
+last_fits : (k : ℕ) (both : Bool) (rows : List Row) (row : Row) → AreRows k both (rows ++ row ∷ []) → Fits k row
+last_fits k both rows row r = let l = AreRows-last k both rows row r in let small =
+    l.small in record { word = l.word; count = omega (arith, small) }
 
-word_fits : (k : ℕ) (both : Bool) (rows : List Row) (row : Row) → AreRows k both (rows ++ row ∷ []) → row.word < 4 ^ k
-word_fits k both rows row r = (AreRows-last k both rows row r).word
+next_of : (k : ℕ) (both : Bool) (rows : List Row) (row : Row) (more : List Row) → AreRows k both (rows ++ row ∷ more)
+    → AreRows k both (rows ++ row ∷ [])
+next_of k both rows row more r = AreRows-front k both (rows ++ row ∷ []) more
+    (subst (AreRows k both) (sym (append_assoc rows (row ∷ []) more)) r)
 
-next_of : (k : ℕ) (both : Bool) (rows : List Row) (row : Row) (more : List Row) → AreRows k both (rows ++ row ∷ more) → AreRows k both (rows ++ row ∷ [])
-next_of k both rows row more r = AreRows-front k both (rows ++ row ∷ []) more (subst (AreRows k both) (sym (append_assoc rows (row ∷ []) more)) r)
+-- a way to read rows behind others, as far as it goes
+pub record Way (k : ℕ) (both : Bool) (before rows : List Row) (rest : List ℕ) : Type 0 where
+  pub lawful : AreRows k both (before ++ rows)
+  pub stops : Stops k both (before ++ rows) rest
+
+-- one row of it was read
+passed : {k : ℕ} {both : Bool} {before more : List Row} {rest : List ℕ} (row : Row)
+    → Way k both before (row ∷ more) rest → Way k both (before ++ row ∷ []) more rest
+passed {k} {both} {before} {more} {rest} row w =
+    let whole : before ++ row ∷ more ≡ (before ++ row ∷ []) ++ more = sym (append_assoc before (row ∷ []) more) in
+    record { lawful = subst (AreRows k both) whole w.lawful; stops = subst (λ v. Stops k both v rest) whole w.stops }
+
+-- where a way stops, no row goes on
+stopped : {k : ℕ} {both : Bool} {before : List Row} {rest : List ℕ} (row : Row) (more : List Row)
+    → Way k both before [] rest → AreRows k both (before ++ row ∷ more)
+    → ¬ BeginsWith rest (row_in_columns k false row)
+stopped {k} {both} {before} {rest} row more w lawful =
+    let none : before ++ [] ≡ before = append-nil before in
+    w.stops row (subst (λ v. AreRows k both (v ++ row ∷ [])) (sym none) (next_of k both before row more lawful))
 
 -- Two ways to read rows from the front of bytes, both as far as it goes, are one.
-pub agree : (k : ℕ) (both : Bool) (before rows others : List Row) (r s : List ℕ) → AreRows k both (before ++ rows) → AreRows k both (before ++ others)
-    → Stops k both (before ++ rows) r → Stops k both (before ++ others) s → rows_text k rows ++ r ≡ rows_text k others ++ s → (rows ≡ others) × (r ≡ s)
-agree k both before [] [] r s a b p q e = (refl, e)
-agree k both before [] (g ∷ gs) r s a b p q e =
-    let next = next_of k both before g gs b in
-    let none : before ++ [] ≡ before = append-nil before in
-    absurd (p g (subst (λ v. AreRows k both (v ++ g ∷ [])) (sym none) next) (rows_text k gs ++ s, e ∙ append_assoc (row_in_columns k false g) (rows_text k gs) s))
-agree k both before (f ∷ fs) [] r s a b p q e =
-    let next = next_of k both before f fs a in
-    let none : before ++ [] ≡ before = append-nil before in
-    absurd (q f (subst (λ v. AreRows k both (v ++ f ∷ [])) (sym none) next) (rows_text k fs ++ r, sym e ∙ append_assoc (row_in_columns k false f) (rows_text k fs) r))
-agree k both before (f ∷ fs) (g ∷ gs) r s a b p q e =
-    let f_next = next_of k both before f fs a in
-    let g_next = next_of k both before g gs b in
-    let f_small = count_fits k both before f f_next in
-    let g_small = count_fits k both before g g_next in
-    let lines = first_line (row_line k f) (row_line k g) (rows_text k fs ++ r) (rows_text k gs ++ s) (Without-row k f f_small) (Without-row k g g_small)
-    (sym (append_assoc (row_in_columns k false f) (rows_text k fs) r) ∙ e ∙ append_assoc (row_in_columns k false g) (rows_text k gs) s) in
-    let same : f ≡ g = same_row k f g (word_fits k both before f f_next) (word_fits k both before g g_next) f_small g_small lines.0 in
-    let f_whole : before ++ f ∷ fs ≡ (before ++ f ∷ []) ++ fs = sym (append_assoc before (f ∷ []) fs) in
-    let g_whole : before ++ g ∷ gs ≡ (before ++ f ∷ []) ++ gs = ap (λ v. before ++ v ∷ gs) (sym same) ∙ sym (append_assoc before (f ∷ []) gs) in
-    let more = agree k both (before ++ f ∷ []) fs gs r s (subst (AreRows k both) f_whole a) (subst (AreRows k both) g_whole b)
-    (subst (λ v. Stops k both v r) f_whole p) (subst (λ v. Stops k both v s) g_whole q) lines.1 in
+pub agree : {k : ℕ} {both : Bool} {before : List Row} (rows others : List Row) (r s : List ℕ)
+    → Way k both before rows r → Way k both before others s → rows_text k rows ++ r ≡ rows_text k others ++ s
+    → (rows ≡ others) × (r ≡ s)
+agree {k} {both} {before} [] [] r s p q e = (refl, e)
+agree {k} {both} {before} [] (g ∷ gs) r s p q e =
+    absurd (stopped g gs p q.lawful
+    (rows_text k gs ++ s, e ∙ append_assoc (row_in_columns k false g) (rows_text k gs) s))
+agree {k} {both} {before} (f ∷ fs) [] r s p q e =
+    absurd (stopped f fs q p.lawful
+    (rows_text k fs ++ r, sym e ∙ append_assoc (row_in_columns k false f) (rows_text k fs) r))
+agree {k} {both} {before} (f ∷ fs) (g ∷ gs) r s p q e =
+    let f_fits = last_fits k both before f (next_of k both before f fs p.lawful) in
+    let g_fits = last_fits k both before g (next_of k both before g gs q.lawful) in
+    let lines = first_line (row_line k f) (row_line k g) (rows_text k fs ++ r) (rows_text k gs ++ s)
+    (Without-row k f f_fits.count) (Without-row k g g_fits.count)
+    (sym (append_assoc (row_in_columns k false f) (rows_text k fs) r) ∙ e
+    ∙ append_assoc (row_in_columns k false g) (rows_text k gs) s) in
+    let same : f ≡ g = same_row k f g f_fits g_fits lines.0 in
+    let q_here : Way k both (before ++ f ∷ []) gs s = subst (λ v. Way k both (before ++ v ∷ []) gs s) (sym same)
+    (passed g q) in
+    let more = agree fs gs r s (passed f p) q_here lines.1 in
     (λ i. same i ∷ more.0 i, more.1)
 
 -- ---- where the reading ends
 
 -- `END` stops the rows, and so does the end of the lines
-pub stops_at_end : (k : ℕ) (both : Bool) (rows : List Row) (rest : List ℕ) → 1 ≤ k → BeginsWith rest (codes "END") → Stops k both rows rest
+pub stops_at_end : (k : ℕ) (both : Bool) (rows : List Row) (rest : List ℕ) → 1 ≤ k → BeginsWith rest (codes "END")
+    → Stops k both rows rest
 stops_at_end k both rows rest some begins row next at = row-no_end k row at.0 begins.0 some (sym at.1 ∙ begins.1)
 
 pub row_has_line : (k : ℕ) (row : Row) (rest : List ℕ) → BeginsWith rest (row_in_columns k false row) → HasLine rest
 row_has_line k row rest at = (row_line k row, at)
 
-pub stops_without_line : (k : ℕ) (both : Bool) (rows : List Row) (rest : List ℕ) → ¬ HasLine rest → Stops k both rows rest
+pub stops_without_line : (k : ℕ) (both : Bool) (rows : List Row) (rest : List ℕ) → ¬ HasLine rest
+    → Stops k both rows rest
 stops_without_line k both rows rest none row next at = none (row_has_line k row rest at)
 
 pub end_begins : (rows : List Row) (rest : List ℕ) → rest ≡ end_text rows → BeginsWith rest (codes "END")
@@ -74,19 +98,23 @@ abbrev pub IsDone : TallySeen → List ℕ → Result TallySeen ReportFault → 
 IsDone front rest answer = (answer ≡ Ok front) × (rest ≡ end_text front.rows)
 
 abbrev pub EndsBadly : TallySeen → List ℕ → Result TallySeen ReportFault → Type 0
-EndsBadly front rest answer = (answer ≡ Err BadEnd) × ((¬ HasLine rest) ⊎ BeginsWith rest (codes "END")) × (¬ (rest ≡ end_text front.rows))
+EndsBadly front rest answer = (answer ≡ Err BadEnd) × ((¬ HasLine rest) ⊎ BeginsWith rest (codes "END")) ×
+    (¬ (rest ≡ end_text front.rows))
 
 abbrev pub GoesOnBadly : TallySeen → List ℕ → Result TallySeen ReportFault → Type 0
-GoesOnBadly front rest answer = (answer ≡ Err (BadRow (length front.rows + 2))) × HasLine rest × (¬ BeginsWith rest (codes "END"))
+GoesOnBadly front rest answer = (answer ≡ Err (BadRow (length front.rows + 2))) × HasLine rest ×
+    (¬ BeginsWith rest (codes "END"))
 
 abbrev pub Outcome : TallySeen → List ℕ → Result TallySeen ReportFault → Type 0
 Outcome front rest answer = IsDone front rest answer ⊎ (EndsBadly front rest answer ⊎ GoesOnBadly front rest answer)
 
-neither : (rest : List ℕ) → (¬ HasLine rest) ⊎ BeginsWith rest (codes "END") → HasLine rest → ¬ BeginsWith rest (codes "END") → ⊥
+neither : (rest : List ℕ) → (¬ HasLine rest) ⊎ BeginsWith rest (codes "END") → HasLine rest
+    → ¬ BeginsWith rest (codes "END") → ⊥
 neither rest (inl none) line begins = none line
 neither rest (inr is) line begins = begins is
 
-one_outcome : (front : TallySeen) (rest : List ℕ) (one other : Result TallySeen ReportFault) → Outcome front rest one → Outcome front rest other → one ≡ other
+one_outcome : (front : TallySeen) (rest : List ℕ) (one other : Result TallySeen ReportFault) → Outcome front rest one
+    → Outcome front rest other → one ≡ other
 one_outcome front rest one other (inl p) (inl q) = p.0 ∙ sym q.0
 one_outcome front rest one other (inl p) (inr (inl q)) = absurd (q.2 p.1)
 one_outcome front rest one other (inl p) (inr (inr q)) = absurd (q.2 (end_begins front.rows rest p.1))
@@ -108,7 +136,8 @@ pub record ReadsOut (bytes : List ℕ) (answer : Result TallySeen ReportFault) :
 abbrev pub Reading : List ℕ → Result TallySeen ReportFault → Type 0
 Reading bytes answer = (HasBadHeader bytes × (answer ≡ Err BadHeader)) ⊎ ReadsOut bytes answer
 
-stops_badly : (k : ℕ) (both : Bool) (rows : List Row) (rest : List ℕ) → 1 ≤ k → (¬ HasLine rest) ⊎ BeginsWith rest (codes "END") → Stops k both rows rest
+stops_badly : (k : ℕ) (both : Bool) (rows : List Row) (rest : List ℕ) → 1 ≤ k
+    → (¬ HasLine rest) ⊎ BeginsWith rest (codes "END") → Stops k both rows rest
 stops_badly k both rows rest some (inl none) = stops_without_line k both rows rest none
 stops_badly k both rows rest some (inr is) = stops_at_end k both rows rest some is
 
@@ -117,7 +146,8 @@ reading bytes (Ok tally) h = inr (record {
   front = tally;
   rest = end_text tally.rows;
   reads = record { lawful = h.lawful; split = h.whole };
-  stops = stops_at_end tally.k tally.both tally.rows (end_text tally.rows) h.lawful.some (end_begins tally.rows (end_text tally.rows) refl);
+  stops = stops_at_end tally.k tally.both tally.rows (end_text tally.rows) h.lawful.some
+      (end_begins tally.rows (end_text tally.rows) refl);
   outcome = inl (refl, refl);
 })
 reading bytes (Err BadHeader) h = inl (h, refl)
@@ -144,32 +174,44 @@ reading bytes (Err Memory) h = absurd h
 -- the front begins with its header
 pub front_begins : (bytes : List ℕ) (front : TallySeen) (rest : List ℕ) → ReadsTo bytes front rest
     → bytes ≡ ended (header_line front.k front.both) ++ (rows_text front.k front.rows ++ rest)
-front_begins bytes front rest r = r.split ∙ append_assoc (ended (header_line front.k front.both)) (rows_text front.k front.rows) rest
+front_begins bytes front rest r = r.split ∙ append_assoc (ended (header_line front.k front.both))
+    (rows_text front.k front.rows) rest
 
-same_front : (bytes : List ℕ) (f g : TallySeen) (r s : List ℕ) → ReadsTo bytes f r → ReadsTo bytes g s → Stops f.k f.both f.rows r → Stops g.k g.both g.rows s
-    → (f ≡ g) × (r ≡ s)
-same_front bytes f g r s p q f_stops g_stops =
-    let lines = first_line (header_line f.k f.both) (header_line g.k g.both) (rows_text f.k f.rows ++ r) (rows_text g.k g.rows ++ s)
-    (Without-header f.k f.both p.lawful.most) (Without-header g.k g.both q.lawful.most) (sym (front_begins bytes f r p) ∙ front_begins bytes g s q) in
+same_front : {bytes : List ℕ} {f g : TallySeen} {r s : List ℕ} → ReadsTo bytes f r → ReadsTo bytes g s
+    → Stops f.k f.both f.rows r → Stops g.k g.both g.rows s → (f ≡ g) × (r ≡ s)
+same_front {bytes} {f} {g} {r} {s} p q f_stops g_stops =
+    let lines = first_line (header_line f.k f.both) (header_line g.k g.both) (rows_text f.k f.rows ++ r)
+    (rows_text g.k g.rows ++ s)
+    (Without-header f.k f.both p.lawful.most) (Without-header g.k g.both q.lawful.most)
+    (sym (front_begins bytes f r p) ∙ front_begins bytes g s q) in
     let heads = same_header f.k g.k f.both g.both p.lawful.most q.lawful.most lines.0 in
-    let g_rows : AreRows f.k f.both g.rows = subst (λ k. AreRows k f.both g.rows) (sym heads.0) (subst (λ both. AreRows g.k both g.rows) (sym heads.1) q.lawful.rows) in
-    let g_none : Stops f.k f.both g.rows s = subst (λ k. Stops k f.both g.rows s) (sym heads.0) (subst (λ both. Stops g.k both g.rows s) (sym heads.1) g_stops) in
-    let rests : rows_text f.k f.rows ++ r ≡ rows_text f.k g.rows ++ s = lines.1 ∙ ap (λ k. rows_text k g.rows ++ s) (sym heads.0) in
-    let both = agree f.k f.both [] f.rows g.rows r s p.lawful.rows g_rows f_stops g_none rests in
+    let g_rows : AreRows f.k f.both g.rows = subst (λ k. AreRows k f.both g.rows) (sym heads.0)
+    (subst (λ both. AreRows g.k both g.rows) (sym heads.1) q.lawful.rows) in
+    let g_none : Stops f.k f.both g.rows s = subst (λ k. Stops k f.both g.rows s) (sym heads.0)
+    (subst (λ both. Stops g.k both g.rows s) (sym heads.1) g_stops) in
+    let rests : rows_text f.k f.rows ++ r ≡ rows_text f.k g.rows ++ s = lines.1
+    ∙ ap (λ k. rows_text k g.rows ++ s) (sym heads.0) in
+    let both = agree {before = []} f.rows g.rows r s (record { lawful = p.lawful.rows; stops = f_stops })
+    (record { lawful = g_rows; stops = g_none }) rests in
     (λ i. record { k = heads.0 i; both = heads.1 i; rows = both.0 i }, both.1)
 
-one_reading : (bytes : List ℕ) (one other : Result TallySeen ReportFault) → Reading bytes one → Reading bytes other → one ≡ other
+one_reading : (bytes : List ℕ) (one other : Result TallySeen ReportFault) → Reading bytes one → Reading bytes other
+    → one ≡ other
 one_reading bytes one other (inl p) (inl q) = p.1 ∙ sym q.1
 one_reading bytes one other (inl p) (inr q) =
-    absurd (p.0 q.front.k q.front.both q.reads.lawful.some q.reads.lawful.most (rows_text q.front.k q.front.rows ++ q.rest, front_begins bytes q.front q.rest q.reads))
+    absurd (p.0 q.front.k q.front.both q.reads.lawful.some q.reads.lawful.most
+    (rows_text q.front.k q.front.rows ++ q.rest, front_begins bytes q.front q.rest q.reads))
 one_reading bytes one other (inr p) (inl q) =
-    absurd (q.0 p.front.k p.front.both p.reads.lawful.some p.reads.lawful.most (rows_text p.front.k p.front.rows ++ p.rest, front_begins bytes p.front p.rest p.reads))
+    absurd (q.0 p.front.k p.front.both p.reads.lawful.some p.reads.lawful.most
+    (rows_text p.front.k p.front.rows ++ p.rest, front_begins bytes p.front p.rest p.reads))
 one_reading bytes one other (inr p) (inr q) =
-    let same = same_front bytes p.front q.front p.rest q.rest p.reads q.reads p.stops q.stops in
-    let here = subst (λ rest. Outcome p.front rest other) (sym same.1) (subst (λ front. Outcome front q.rest other) (sym same.0) q.outcome) in
+    let same = same_front p.reads q.reads p.stops q.stops in
+    let here = subst (λ rest. Outcome p.front rest other) (sym same.1)
+    (subst (λ front. Outcome front q.rest other) (sym same.0) q.outcome) in
     one_outcome p.front p.rest one other p.outcome here
 
-pub one_answer : (bytes : List ℕ) (one other : Result TallySeen ReportFault) → IsTableOf bytes one → IsTableOf bytes other → one ≡ other
+pub one_answer : (bytes : List ℕ) (one other : Result TallySeen ReportFault) → IsTableOf bytes one
+    → IsTableOf bytes other → one ≡ other
 one_answer bytes one other p q = one_reading bytes one other (reading bytes one p) (reading bytes other q)
 
 -- ---- spellings
@@ -177,8 +219,10 @@ one_answer bytes one other p q = one_reading bytes one other (reading bytes one 
 pub table_of_text : (tally : TallySeen) → IsTable tally → IsTableOf (table_text tally) (Ok tally)
 table_of_text tally lawful = record { lawful = lawful; whole = refl }
 
-pub same_tally : (tally other : TallySeen) → IsTable tally → IsTable other → table_text tally ≡ table_text other → tally ≡ other
+pub same_tally : (tally other : TallySeen) → IsTable tally → IsTable other → table_text tally ≡ table_text other
+    → tally ≡ other
 same_tally tally other p q e =
     let same : ◌≡◌ {A = Result TallySeen ReportFault} (Ok tally) (Ok other) =
-    one_answer (table_text other) (Ok tally) (Ok other) (subst (λ bytes. IsTableOf bytes (Ok tally)) e (table_of_text tally p)) (table_of_text other q) in
+    one_answer (table_text other) (Ok tally) (Ok other)
+    (subst (λ bytes. IsTableOf bytes (Ok tally)) e (table_of_text tally p)) (table_of_text other q) in
     cc

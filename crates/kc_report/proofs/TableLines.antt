@@ -81,13 +81,17 @@ Without-row k row small =
     let number : Without line_feed (space ∷ decimal row.count) = (λ e. omega (arith, e), Without-decimal line_feed row.count (omega arith) small) in
     Without-append line_feed (text k row.word) (space ∷ decimal row.count) (Without-text line_feed k row.word (omega arith)) number
 
-pub same_row : (k : ℕ) (row other : Row) → row.word < 4 ^ k → other.word < 4 ^ k → row.count < 2 ^ 64 → other.count < 2 ^ 64
-    → row_line k row ≡ row_line k other → row ≡ other
-same_row k row other below below_ small small_ e =
+-- the word and the count of a row are such as a line can say
+pub record Fits (k : ℕ) (row : Row) : Type 0 where
+  pub word : row.word < 4 ^ k
+  pub count : row.count < 2 ^ 64
+
+pub same_row : (k : ℕ) (row other : Row) → Fits k row → Fits k other → row_line k row ≡ row_line k other → row ≡ other
+same_row k row other fits fits_ e =
     let parts = first_stop space (text k row.word) (text k other.word) (decimal row.count) (decimal other.count)
     (Without-text space k row.word (omega arith)) (Without-text space k other.word (omega arith)) e in
-    let word : row.word ≡ other.word = same_from_text k row.word other.word below below_ parts.0 in
-    let count : row.count ≡ other.count = decimal_injective row.count other.count small small_ parts.1 in
+    let word : row.word ≡ other.word = same_from_text k row.word other.word fits.word fits_.word parts.0 in
+    let count : row.count ≡ other.count = decimal_injective row.count other.count fits.count fits_.count parts.1 in
     λ i. record { word = word i; count = count i }
 
 -- a row doesn't begin as the end does

@@ -1,65 +1,55 @@
--- A table text, line by line.
-use Rattle.std.proofs.Common.{◌≡◌, ℕ, ◌+◌, ◌≤◌, Bool, true, false, eqb, List, [], ◌∷◌, ◌++◌, length, get_or, drop, take, sym, ◌∙◌, ap, subst, append_assoc, arith, inl, inr}
+-- A table text, line by line, as it is taken of a source.
+use Rattle.std.proofs.Common.{◌≡◌, ℕ, ◌+◌, ◌<◌, ◌≤◌, Bool, true, false, eqb, List, [], ◌∷◌, ◌++◌, length, get_or}
+use Rattle.std.proofs.Common.{drop, take, refl, sym, ◌∙◌, ap, subst, append_assoc, append-nil, length-append, arith}
+use Rattle.std.proofs.Common.{inl, inr, ◌⊎◌}
 use Rattle.std.specs.Prelude.{codes, IsTrue}
 use Rattle.std.specs.Cmp.Lexicographic.{pointwise}
 use Rattle.std.proofs.lemmas.Bool.Decides.{Decides-eqb}
+use Rattle.std.proofs.lemmas.List.{take-append-drop, length-take-le, length-drop}
 use Rattle.std.proofs.lemmas.Slice.Eq.{starts_is}
 use Rattle.kc_io.specs.declared.taking.TakeFault.{TakeFault}
 use Rattle.kc_io.specs.declared.taking.TakeFault.TheVariants as taking
 use Rattle.kc_io.specs.Sources.{Seen}
 use Rattle.kc_io.specs.Taking.{TakesAll, TakingFails}
+use Rattle.kc_io.specs.Intakes.{Unread, Filled}
+use Rattle.kc_io.proofs.IntakesLemmas.{Used, used_none, used_filled, used_up, used_all, used_fails, used_in_vain}
 use Rattle.kc_tally.specs.declared.row.Row.{Row}
-use Rattle.kc_tally.specs.Tally.{TallySeen}
-use Rattle.kc_report.specs.declared.faults.ReportFault.{ReportFault}
-use Rattle.kc_report.specs.declared.faults.ReportFault.TheVariants.{BadHeader, BadRow, BadEnd, Write, TableTooLong, TableRead, BadWord, Memory}
+use Rattle.kc_tally.specs.Tally.{TallySeen, total_of}
+use Rattle.kc_report.specs.declared.faults.ReportFault.TheVariants.{BadHeader, BadRow, BadEnd, Memory}
 use Rattle.kc_report.specs.Bytes.{line_feed}
 use Rattle.kc_report.specs.Dumping.{row_in_columns}
-use Rattle.kc_report.specs.Faults.{taking_fault, UnlessMemory}
+use Rattle.kc_report.specs.Faults.{taking_fault}
 use Rattle.kc_report.specs.Lines.{Without, IsLine}
-use Rattle.kc_report.specs.Table.{header_line, ended, front_text, end_text}
-use Rattle.kc_report.specs.TableReading.{BeginsWith, HasLine, ReadsTo, MayFollow, HasBadHeader, HasBadRow, HasBadEnd, HasTable, HasTableFault, RefusesTable}
+use Rattle.kc_report.specs.Table.{header_line, end_line, ended, front_text, end_text}
+use Rattle.kc_report.specs.TableReading.{BeginsWith, HasLine, IsTable, ReadsTo, MayFollow}
+use Rattle.kc_report.specs.TableReading.{GivesTable, RefusesTable}
 use Rattle.kc_report.proofs.FieldLemmas.{never}
 use Rattle.kc_report.proofs.NextRowLemmas.{follower_fits}
 use Rattle.kc_report.proofs.TableAnswers.{end_has_line}
-use Rattle.kc_report.proofs.TableLines.{row_line, first_line, Without-row, Without-header}
-use Rattle.kc_report.proofs.TableSearch.{one_more, no_row_yet}
+use Rattle.kc_report.proofs.TableFronts.{AreRows-none, length-le_total}
+use Rattle.kc_report.proofs.TableLines.{row_line, first_line, Without-row, Without-header, Without-end}
+use Rattle.kc_report.proofs.TableSearch.{front_push}
+
+-- ---- one line of the bytes
 
 -- the first line of the bytes, and what comes behind it
 pub record Splits (bytes line rest : List ℕ) : Type 0 where
   pub split : bytes ≡ line ++ rest
   pub one : IsLine line
 
-pub line_is : (bytes line rest l r : List ℕ) → Splits bytes line rest → Without line_feed l → bytes ≡ ended l ++ r → line ≡ ended l
-line_is bytes line rest l r s free e =
-    let same = first_line s.one.bytes l rest r s.one.one free (ap (λ v. v ++ rest) (sym s.one.whole) ∙ sym s.split ∙ e) in
+line_is : {bytes line rest : List ℕ} (l r : List ℕ) → Splits bytes line rest → Without line_feed l
+    → bytes ≡ ended l ++ r → line ≡ ended l
+line_is {bytes} {line} {rest} l r s free e =
+    let same = first_line s.one.bytes l rest r s.one.one free (ap (λ v. v ++ rest) (sym s.one.whole) ∙ sym s.split
+    ∙ e) in
     s.one.whole ∙ ap ended same.0
 
-pub has_line : (bytes line rest : List ℕ) → Splits bytes line rest → HasLine bytes
-has_line bytes line rest s = (s.one.bytes, (rest, s.split ∙ ap (λ v. v ++ rest) s.one.whole))
-
--- ---- the header
-
-pub no_line-no_header : (bytes : List ℕ) → ¬ HasLine bytes → HasBadHeader bytes
-no_line-no_header bytes none k both some most at = none (header_line k both, at)
-
-pub other_line-no_header : (bytes line rest : List ℕ) → Splits bytes line rest
-    → ((k : ℕ) (both : Bool) → 1 ≤ k → k ≤ 31 → line ≡ ended (header_line k both) → ⊥) → HasBadHeader bytes
-other_line-no_header bytes line rest s none k both some most at =
-    none k both some most (line_is bytes line rest (header_line k both) at.0 s (Without-header k both most) at.1)
-
-pub begins_with_header : (bytes line rest : List ℕ) (k : ℕ) (both : Bool) → Splits bytes line rest → 1 ≤ k → k ≤ 31 → line ≡ ended (header_line k both)
-    → ReadsTo bytes (record { k = k; both = both; rows = [] }) rest
-begins_with_header bytes line rest k both s some most e = no_row_yet bytes k both rest some most (s.split ∙ ap (λ v. v ++ rest) e)
-
--- ---- rows
-
-pub with_row : (bytes left line rest : List ℕ) (front after : TallySeen) (row : Row) → ReadsTo bytes front left → Splits left line rest
-    → MayFollow front row → line ≡ row_in_columns front.k false row → after ≡ record front { rows = front.rows ++ row ∷ [] } → ReadsTo bytes after rest
-with_row bytes left line rest front after row reads s follows e pushed =
-    subst (λ v. ReadsTo bytes v rest) (sym pushed) (one_more bytes front row left rest reads follows (s.split ∙ ap (λ v. v ++ rest) e))
+has_line : {bytes line rest : List ℕ} → Splits bytes line rest → HasLine bytes
+has_line {bytes} {line} {rest} s = (s.one.bytes, (rest, s.split ∙ ap (λ v. v ++ rest) s.one.whole))
 
 -- a line that begins with `END` as far as it goes
-end_of_line : (t rest more : List ℕ) → ended t ++ rest ≡ codes "END" ++ more → (tail : List ℕ) × (ended t ≡ codes "END" ++ tail)
+end_of_line : (t rest more : List ℕ) → ended t ++ rest ≡ codes "END" ++ more
+    → (tail : List ℕ) × (ended t ≡ codes "END" ++ tail)
 end_of_line [] rest more e = absurd (omega (arith, ap (λ (l : List ℕ). get_or l 0 0) e))
 end_of_line (a ∷ []) rest more e = absurd (omega (arith, ap (λ (l : List ℕ). get_or l 1 0) e))
 end_of_line (a ∷ (b ∷ [])) rest more e = absurd (omega (arith, ap (λ (l : List ℕ). get_or l 2 0) e))
@@ -69,63 +59,265 @@ end_of_line (a ∷ (b ∷ (c ∷ t))) rest more e =
     let third : c ≡ 68 = ap (λ (l : List ℕ). get_or l 2 0) e in
     (ended t, λ i. first i ∷ second i ∷ third i ∷ ended t)
 
-pub no_end : (left line rest : List ℕ) (is : Bool) → Splits left line rest → is ≡ pointwise eqb (codes "END") (take 3 line) → is ≡ false → ¬ BeginsWith left (codes "END")
-no_end left line rest is s told refused at =
+-- what the code tests of a line
+abbrev pub BeginsAsEnd : List ℕ → Bool → Type 0
+BeginsAsEnd line is = is ≡ pointwise eqb (codes "END") (take 3 line)
+
+no_end : {left line rest : List ℕ} (is : Bool) → Splits left line rest → BeginsAsEnd line is → is ≡ false
+    → ¬ BeginsWith left (codes "END")
+no_end {left} {line} {rest} is s told refused at =
     let tail = end_of_line s.one.bytes rest at.0 (ap (λ v. v ++ rest) (sym s.one.whole) ∙ sym s.split ∙ at.1) in
     never (sym refused ∙ (starts_is Decides-eqb line (codes "END") is told).1 tail.0 (s.one.whole ∙ tail.1))
 
-pub begins_with_end : (left line rest : List ℕ) (is : Bool) → Splits left line rest → is ≡ pointwise eqb (codes "END") (take 3 line) → is ≡ true → BeginsWith left (codes "END")
-begins_with_end left line rest is s told taken =
-    (drop 3 line ++ rest, s.split ∙ ap (λ v. v ++ rest) ((starts_is Decides-eqb line (codes "END") is told).0 taken) ∙ append_assoc (codes "END") (drop 3 line) rest)
+begins_with_end : {left line rest : List ℕ} (is : Bool) → Splits left line rest → BeginsAsEnd line is → is ≡ true
+    → BeginsWith left (codes "END")
+begins_with_end {left} {line} {rest} is s told taken = (
+  drop 3 line ++ rest,
+  s.split ∙ ap (λ v. v ++ rest) ((starts_is Decides-eqb line (codes "END") is told).0 taken)
+      ∙ append_assoc (codes "END") (drop 3 line) rest,
+)
 
-pub bad_row : (bytes left line rest : List ℕ) (front : TallySeen) (number : ℕ) (is : Bool) → ReadsTo bytes front left → Splits left line rest
-    → is ≡ pointwise eqb (codes "END") (take 3 line) → is ≡ false
-    → ((row : Row) → MayFollow front row → line ≡ row_in_columns front.k false row → ⊥) → number ≡ length front.rows + 2 → HasBadRow bytes number
-bad_row bytes left line rest front number is reads s told refused none counted = record {
-  front = front;
-  rest = left;
-  reads = reads;
-  line = has_line left line rest s;
-  no_end = no_end left line rest is s told refused;
-  no_row = λ row follows at. none row follows (line_is left line rest (row_line front.k row) at.0 s (Without-row front.k row (follower_fits front row follows).1) at.1);
-  counted = counted;
+-- ---- one line of what was taken
+
+-- the header and the rows of a tally
+abbrev pub front_of : TallySeen → List ℕ
+front_of front = front_text front.k front.both front.rows
+
+-- the header and these rows were taken and used, and nothing else
+pub record Reached (old now : Seen) (limit : ℕ) (front : TallySeen) (unread : Unread) : Type 0 where
+  pub lawful : IsTable front
+  pub used : Used old now limit (front_of front) unread
+
+-- a line stands in front of the unread bytes, and has so many
+pub record InFront (unread : Unread) (count : ℕ) (line : List ℕ) : Type 0 where
+  pub cut : line ≡ take count unread.bytes
+  pub one : IsLine line
+
+pub in_front : {unread : Unread} {count : ℕ} {line : List ℕ} → IsLine (take count unread.bytes)
+    → line ≡ take count unread.bytes → InFront unread count line
+in_front one cut = record { cut = cut; one = subst IsLine (sym cut) one }
+
+splits : {unread : Unread} {count : ℕ} {line : List ℕ} (more : List ℕ) → InFront unread count line
+    → Splits (unread.bytes ++ more) line (drop count unread.bytes ++ more)
+splits {unread} {count} {line} more f = record {
+  split =
+      let rest = drop count unread.bytes in
+      ap (λ v. v ++ more) (sym (take-append-drop count unread.bytes) ∙ ap (λ v. v ++ rest) (sym f.cut))
+      ∙ append_assoc line rest more;
+  one = f.one;
 }
+
+pub reached_more : {old mid now : Seen} {limit : ℕ} {front : TallySeen} {before after : Unread}
+    → Reached old mid limit front before → Filled mid now before after → Reached old now limit front after
+reached_more r filled = record { lawful = r.lawful; used = used_filled r.used filled }
+
+reads_to : {old mid : Seen} {limit : ℕ} {front : TallySeen} {unread : Unread} (more : List ℕ)
+    → Reached old mid limit front unread
+    → ReadsTo ((front_of front ++ unread.bytes) ++ more) front (unread.bytes ++ more)
+reads_to {front = front} {unread = unread} more r =
+    record { lawful = r.lawful; split = append_assoc (front_of front) unread.bytes more }
+
+-- with the line used, fewer bytes are to come or unread
+pub less_to_come : {old new : Seen} {before after : Unread} (count : ℕ) → Filled old new before after
+    → count ≤ length after.bytes → IsLine (take count after.bytes)
+    → after.room + length (drop count after.bytes) < before.room + length before.bytes
+less_to_come {old} {new} {before} {after} count f within one =
+    let room = f.room in
+    let whole = ap length f.behind in
+    let parts = length-append before.bytes f.more in
+    let long = ap length one.whole in
+    let line = length-append one.bytes (line_feed ∷ []) in
+    omega (
+      arith,
+      room,
+      whole,
+      parts,
+      long,
+      line,
+      within,
+      length-take-le count after.bytes within,
+      length-drop count after.bytes,
+    )
+
+-- ---- the header
+
+-- some bytes were taken, and none was used
+pub begun : {old now : Seen} {limit : ℕ} {start unread : Unread} → start ≡ record { bytes = []; room = limit }
+    → Filled old now start unread → Used old now limit [] unread
+begun {old} {now} {limit} {start} {unread} new filled =
+    used_filled (used_none old limit) (subst (λ v. Filled old now v unread) new filled)
+
+-- there was no line
+pub header_missing : {old new : Seen} {limit : ℕ} (more : List ℕ) → TakesAll old new limit more → ¬ HasLine more
+    → RefusesTable old new limit BadHeader
+header_missing more all none = (more, all, λ k both some most at. none (header_line k both, at))
+
+-- the first line is no header
+pub header_refused : {old mid new : Seen} {limit count : ℕ} {unread : Unread} {line more : List ℕ}
+    → Used old mid limit [] unread → TakesAll mid new unread.room more → InFront unread count line
+    → ((k : ℕ) (both : Bool) → 1 ≤ k → k ≤ 31 → line ≡ ended (header_line k both) → ⊥)
+    → RefusesTable old new limit BadHeader
+header_refused {unread = unread} {more = more} used all f none = (
+  unread.bytes ++ more,
+  used_all used all,
+  λ k both some most at. none k both some most
+      (line_is (header_line k both) at.0 (splits more f) (Without-header k both most) at.1),
+)
+
+-- the first line is a header
+pub header_used : {old now : Seen} {limit count : ℕ} {unread : Unread} {line : List ℕ} (k : ℕ) (both : Bool)
+    → Used old now limit [] unread → InFront unread count line → 1 ≤ k → k ≤ 31 → line ≡ ended (header_line k both)
+    → Reached old now limit (record { k = k; both = both; rows = [] })
+    (record unread { bytes = drop count unread.bytes })
+header_used {old} {now} {limit} {count} {unread} {line} k both used f some most e = record {
+  lawful = record { some = some; most = most; rows = AreRows-none k both };
+  used =
+      let text : take count unread.bytes ≡ ended (header_line k both) ++ [] = sym f.cut ∙ e
+      ∙ sym (append-nil (ended (header_line k both))) in
+      subst (λ v. Used old now limit v (record unread { bytes = drop count unread.bytes })) text (used_up count used);
+}
+
+-- ---- rows
+
+-- the line is a row that may come next
+pub row_used : {old now : Seen} {limit count : ℕ} {front : TallySeen} {unread : Unread} {line : List ℕ} (row : Row)
+    → Reached old now limit front unread → InFront unread count line → MayFollow front row
+    → line ≡ row_in_columns front.k false row
+    → Reached old now limit (record front { rows = front.rows ++ row ∷ [] })
+    (record unread { bytes = drop count unread.bytes })
+row_used {old} {now} {limit} {count} {front} {unread} {line} row r f follows e = record {
+  lawful = record { some = r.lawful.some; most = r.lawful.most; rows = follows };
+  used =
+      let text : front_of front ++ take count unread.bytes ≡ front_of (record front { rows = front.rows ++ row ∷ [] }) =
+      ap (λ v. front_of front ++ v) (sym f.cut ∙ e) ∙ front_push front row in
+      subst (λ v. Used old now limit v (record unread { bytes = drop count unread.bytes })) text (used_up count r.used);
+}
+
+-- the line is no such row
+pub row_refused : {old mid new : Seen} {limit count : ℕ} {front : TallySeen} {unread : Unread}
+    {line more : List ℕ} (is : Bool) (number : ℕ)
+    → Reached old mid limit front unread → TakesAll mid new unread.room more → InFront unread count line
+    → BeginsAsEnd line is × (is ≡ false)
+    → ((row : Row) → MayFollow front row → line ≡ row_in_columns front.k false row → ⊥)
+    → number ≡ length front.rows + 2 → RefusesTable old new limit (BadRow number)
+row_refused {front = front} {unread = unread} {more = more} is number r all f told none counted = (
+  (front_of front ++ unread.bytes) ++ more,
+  used_all r.used all,
+  record {
+    front = front;
+    rest = unread.bytes ++ more;
+    reads = reads_to more r;
+    line = has_line (splits more f);
+    no_end = no_end is (splits more f) told.0 told.1;
+    no_row = λ row follows at. none row follows
+        (line_is (row_line front.k row) at.0 (splits more f)
+        (Without-row front.k row (follower_fits front row follows).count) at.1);
+    counted = counted;
+  },
+)
 
 -- ---- the end
 
-pub bad_end : (bytes left line rest : List ℕ) (front : TallySeen) (is end : Bool) → ReadsTo bytes front left → Splits left line rest
-    → is ≡ pointwise eqb (codes "END") (take 3 line) → is ≡ true → (left ≡ end_text front.rows → IsTrue end) → end ≡ false → HasBadEnd bytes
-bad_end bytes left line rest front is end reads s told taken answer refused = record {
-  front = front;
-  rest = left;
-  reads = reads;
-  ends = inr (begins_with_end left line rest is s told taken);
-  wrong = λ e. never (sym refused ∙ answer e);
+-- no line is left
+pub end_missing : {old mid new : Seen} {limit : ℕ} {front : TallySeen} {unread : Unread} {more : List ℕ}
+    → Reached old mid limit front unread → TakesAll mid new unread.room more → ¬ HasLine (unread.bytes ++ more)
+    → RefusesTable old new limit BadEnd
+end_missing {front = front} {unread = unread} {more = more} r all none = (
+  (front_of front ++ unread.bytes) ++ more,
+  used_all r.used all,
+  record {
+    front = front;
+    rest = unread.bytes ++ more;
+    reads = reads_to more r;
+    ends = inl none;
+    wrong =
+        λ e. none (end_has_line front.rows (unread.bytes ++ more) e);
+  },
+)
+
+-- the end line of the rows is a line
+end_is_line : {front : TallySeen} → IsTable front
+    → Without line_feed (end_line (length front.rows) (total_of front.rows))
+end_is_line {front} lawful =
+    let most = length-le_total front.rows lawful.rows.ordered.present in
+    let small = lawful.rows.small in
+    Without-end (length front.rows) (total_of front.rows) (omega (arith, most, small)) (omega (arith, small))
+
+-- where what is left is the end, the line is it, and nothing comes behind
+only_end : {left line rest : List ℕ} {front : TallySeen} → IsTable front → Splits left line rest
+    → left ≡ end_text front.rows → (line ≡ end_text front.rows) × (rest ≡ [])
+only_end {left} {line} {rest} {front} lawful s e =
+    let same : line ≡ end_text front.rows =
+    line_is (end_line (length front.rows) (total_of front.rows)) [] s (end_is_line lawful)
+    (e ∙ sym (append-nil (end_text front.rows))) in
+    let long = ap length (sym e ∙ s.split ∙ ap (λ v. v ++ rest) same) in
+    (same, none rest (omega (arith, long, length-append (end_text front.rows) rest))) where
+      none : (rest : List ℕ) → length rest ≡ 0 → rest ≡ []
+      none [] e = refl
+      none (c ∷ rest) e = absurd (omega (arith, e))
+
+-- two tests, of which one failed
+pub not_both : {A B : Type 0} (one other : Bool) → (one ≡ false) ⊎ ((one ≡ true) × (other ≡ false))
+    → (A → IsTrue other) → (B → IsTrue one) → A → B → ⊥
+not_both one other (inl failed) told told_one a b = never (sym failed ∙ told_one b)
+not_both one other (inr failed) told told_one a b = never (sym failed.1 ∙ told a)
+
+-- the line begins as the end does, but it is another, or more comes behind it
+pub end_refused : {old mid new : Seen} {limit count : ℕ} {front : TallySeen} {unread : Unread}
+    {line more : List ℕ} (is : Bool)
+    → Reached old mid limit front unread → TakesAll mid new unread.room more → InFront unread count line
+    → BeginsAsEnd line is × (is ≡ true) → (line ≡ end_text front.rows → drop count unread.bytes ++ more ≡ [] → ⊥)
+    → RefusesTable old new limit BadEnd
+end_refused {front = front} {unread = unread} {more = more} is r all f told wrong = (
+  (front_of front ++ unread.bytes) ++ more,
+  used_all r.used all,
+  record {
+    front = front;
+    rest = unread.bytes ++ more;
+    reads = reads_to more r;
+    ends = inr (begins_with_end is (splits more f) told.0 told.1);
+    wrong = λ e. let only = only_end r.lawful (splits more f) e in wrong only.0 only.1;
+  },
+)
+
+-- the line is the end, and nothing comes behind it
+pub table_given : {old mid new : Seen} {limit count : ℕ} {front : TallySeen} {unread : Unread} {line more : List ℕ}
+    → Reached old mid limit front unread → TakesAll mid new unread.room more → InFront unread count line
+    → line ≡ end_text front.rows → drop count unread.bytes ++ more ≡ [] → GivesTable old new limit front
+table_given {front = front} {unread = unread} {line = line} {more = more} r all f is none = record {
+  bytes = (front_of front ++ unread.bytes) ++ more;
+  taken = used_all r.used all;
+  has_table =
+      let s = splits more f in
+      let rest : unread.bytes ++ more ≡ end_text front.rows = s.split ∙ ap (λ v. line ++ v) none ∙ append-nil line
+      ∙ is in
+      record {
+        lawful = r.lawful;
+        whole = append_assoc (front_of front) unread.bytes more
+            ∙ ap (λ v. front_of front ++ v) rest;
+      };
 }
-
-pub no_end_line : (bytes left : List ℕ) (front : TallySeen) → ReadsTo bytes front left → ¬ HasLine left → HasBadEnd bytes
-no_end_line bytes left front reads none = record { front = front; rest = left; reads = reads; ends = inl none; wrong = λ e. none (end_has_line front.rows left e) }
-
-pub whole_table : (bytes left : List ℕ) (front tally : TallySeen) → ReadsTo bytes front left → left ≡ end_text front.rows → tally ≡ front → HasTable bytes tally
-whole_table bytes left front tally reads e same =
-    subst (HasTable bytes) (sym same) (record { lawful = reads.lawful; whole = reads.split ∙ ap (λ v. front_text front.k front.both front.rows ++ v) e })
 
 -- ---- sources
 
 -- a source whose bytes could not be taken gave no table for that reason
-pub refuses-taking : (old new : Seen) (limit : ℕ) (why : TakeFault) → TakingFails old new limit why → RefusesTable old new limit (taking_fault why)
+refuses-taking : (old new : Seen) (limit : ℕ) (why : TakeFault) → TakingFails old new limit why
+    → RefusesTable old new limit (taking_fault why)
 refuses-taking old new limit taking.TooLong h = h
 refuses-taking old new limit taking.Read h = h
 refuses-taking old new limit taking.Memory h = inl h
 
--- what is answered of all bytes of a source in place of a tally is why it gave none
-pub refuses-reading : (old new : Seen) (limit : ℕ) (bytes : List ℕ) → TakesAll old new limit bytes → (fault : ReportFault)
-    → UnlessMemory (HasTableFault bytes) fault → RefusesTable old new limit fault
-refuses-reading old new limit bytes all BadHeader h = (bytes, all, h)
-refuses-reading old new limit bytes all (BadRow number) h = (bytes, all, h)
-refuses-reading old new limit bytes all BadEnd h = (bytes, all, h)
-refuses-reading old new limit bytes all Write h = absurd h
-refuses-reading old new limit bytes all TableTooLong h = absurd h
-refuses-reading old new limit bytes all TableRead h = absurd h
-refuses-reading old new limit bytes all (BadWord number) h = absurd h
-refuses-reading old new limit bytes all Memory h = inr (bytes, all)
+pub taking_refused : {old mid : Seen} {limit : ℕ} {used : List ℕ} {unread : Unread} (new : Seen) (why : TakeFault)
+    → Used old mid limit used unread → TakingFails mid new unread.room why
+    → RefusesTable old new limit (taking_fault why)
+taking_refused {old} {mid} {limit} new why used fails = refuses-taking old new limit why (used_fails new why used fails)
+
+pub memory_refused : {old now : Seen} {limit : ℕ} {used : List ℕ} {unread : Unread} → Used old now limit used unread
+    → RefusesTable old now limit Memory
+memory_refused used = inl (used_in_vain used)
+
+-- all was taken, and then a growth was refused
+pub all_in_vain : {old mid new : Seen} {limit : ℕ} {front : TallySeen} {unread : Unread} {more : List ℕ}
+    → Reached old mid limit front unread → TakesAll mid new unread.room more → RefusesTable old new limit Memory
+all_in_vain {front = front} {unread = unread} {more = more} r all =
+    inr ((front_of front ++ unread.bytes) ++ more, used_all r.used all)

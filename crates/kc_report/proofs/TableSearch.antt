@@ -172,21 +172,28 @@ stopped bytes front rest reads stops (inr e) (inl line) (inl is) = (Err BadEnd, 
 stopped bytes front rest reads stops (inr e) (inl line) (inr is) =
     (Err (BadRow (length front.rows + 2)), record { front = front; rest = rest; reads = reads; line = line; no_end = is; no_row = stops; counted = refl })
 
+rows_push : (k : ℕ) (rows : List Row) (row : Row) → rows_text k rows ++ row_in_columns k false row ≡ rows_text k (rows ++ row ∷ [])
+rows_push k [] row = sym (append-nil (row_in_columns k false row))
+rows_push k (first ∷ rows) row =
+    append_assoc (row_in_columns k false first) (rows_text k rows) (row_in_columns k false row) ∙ ap (λ v. row_in_columns k false first ++ v) (rows_push k rows row)
+
+-- the header and the rows, and one row more
+pub front_push : (front : TallySeen) (row : Row)
+    → front_text front.k front.both front.rows ++ row_in_columns front.k false row ≡ front_text front.k front.both (front.rows ++ row ∷ [])
+front_push front row =
+    let header = ended (header_line front.k front.both) in
+    append_assoc header (rows_text front.k front.rows) (row_in_columns front.k false row) ∙ ap (λ v. header ++ v) (rows_push front.k front.rows row)
+
 -- the reading with one row more
-pub one_more : (bytes : List ℕ) (front : TallySeen) (row : Row) (rest more : List ℕ) → ReadsTo bytes front rest → MayFollow front row
+one_more : (bytes : List ℕ) (front : TallySeen) (row : Row) (rest more : List ℕ) → ReadsTo bytes front rest → MayFollow front row
     → rest ≡ row_in_columns front.k false row ++ more → ReadsTo bytes (record front { rows = front.rows ++ row ∷ [] }) more
-one_more bytes front row rest more reads follows split = record {
-  lawful = record { some = reads.lawful.some; most = reads.lawful.most; rows = follows };
-  split =
-      let header = ended (header_line front.k front.both) in
-      let line = row_in_columns front.k false row in
-      reads.split ∙ ap (λ v. front_text front.k front.both front.rows ++ v) split ∙ sym (append_assoc (front_text front.k front.both front.rows) line more)
-      ∙ ap (λ v. v ++ more) (append_assoc header (rows_text front.k front.rows) line ∙ ap (λ v. header ++ v) (rows_push front.k front.rows row));
-} where
-  rows_push : (k : ℕ) (rows : List Row) (row : Row) → rows_text k rows ++ row_in_columns k false row ≡ rows_text k (rows ++ row ∷ [])
-  rows_push k [] row = sym (append-nil (row_in_columns k false row))
-  rows_push k (first ∷ rows) row =
-      append_assoc (row_in_columns k false first) (rows_text k rows) (row_in_columns k false row) ∙ ap (λ v. row_in_columns k false first ++ v) (rows_push k rows row)
+one_more bytes front row rest more reads follows split =
+    let text = front_text front.k front.both front.rows in
+    let line = row_in_columns front.k false row in
+    record {
+      lawful = record { some = reads.lawful.some; most = reads.lawful.most; rows = follows };
+      split = reads.split ∙ ap (λ v. text ++ v) split ∙ sym (append_assoc text line more) ∙ ap (λ v. v ++ more) (front_push front row);
+    }
 
 -- the answer, where the rows go on with an answer for each shorter rest
 answer_here : (bytes : List ℕ) (front : TallySeen) (rest : List ℕ) → ReadsTo bytes front rest
@@ -222,7 +229,7 @@ known_header bytes =
     (λ k. both _ _ (known_le 1 k) (either _ _ (known_front bytes (ended (header_line k true))) (known_front bytes (ended (header_line k false))))) 32
 
 -- behind the header, no row is read yet
-pub no_row_yet : (bytes : List ℕ) (k : ℕ) (both_ : Bool) (rest : List ℕ) → 1 ≤ k → k ≤ 31 → bytes ≡ ended (header_line k both_) ++ rest
+no_row_yet : (bytes : List ℕ) (k : ℕ) (both_ : Bool) (rest : List ℕ) → 1 ≤ k → k ≤ 31 → bytes ≡ ended (header_line k both_) ++ rest
     → ReadsTo bytes (record { k = k; both = both_; rows = [] }) rest
 no_row_yet bytes k both_ rest some most split = record {
   lawful = record { some = some; most = most; rows = AreRows-none k both_ };

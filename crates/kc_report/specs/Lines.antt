@@ -1,7 +1,12 @@
--- Lines that line feeds end.
-use Rattle.std.specs.Prelude.{◌≡◌, ◌≢◌, ℕ, List, [], ◌∷◌}
+-- Lines that line feeds end, and the finding of one in what a source gives.
+use Rattle.std.specs.Prelude.{◌≡◌, ◌≢◌, ℕ, ◌≤◌, List, [], ◌∷◌, ◌++◌, length, take, Result, Ok, Err, Option, Some, None}
+use Rattle.kc_io.specs.declared.taking.TakeFault.{TakeFault}
+use Rattle.kc_io.specs.Sources.{Seen}
+use Rattle.kc_io.specs.Taking.{TakesAll, TakingFails}
+use Rattle.kc_io.specs.Intakes.{Unread, Filled}
 use Rattle.kc_report.specs.Bytes.{line_feed}
 use Rattle.kc_report.specs.Table.{ended}
+use Rattle.kc_report.specs.TableReading.{HasLine}
 
 -- none of the bytes is this one
 abbrev pub Without : ℕ → List ℕ → Type 0
@@ -13,3 +18,12 @@ pub record IsLine (line : List ℕ) : Type 0 where
   pub bytes : List ℕ
   pub whole : line ≡ ended bytes
   pub one : Without line_feed bytes
+
+-- The search for a line in the unread bytes, for which more may have been taken: Ok(Some(n)), the first n of them are
+-- one; Ok(None), the source told its end, and there is none; else why no more could be taken.
+abbrev pub FindsLine : Seen → Seen → Unread → Unread → Result (Option ℕ) TakeFault → Type 0
+FindsLine old new before after (Ok (Some n)) =
+    Filled old new before after × (n ≤ length after.bytes) × IsLine (take n after.bytes)
+FindsLine old new before after (Ok None) =
+    (more : List ℕ) × TakesAll old new before.room more × (¬ HasLine (before.bytes ++ more))
+FindsLine old new before after (Err why) = TakingFails old new before.room why

@@ -18,6 +18,8 @@ mod histo;
 mod lines;
 mod querying;
 mod statistics;
+#[cfg(test)]
+mod stream_tests;
 mod table;
 pub mod table_laws;
 mod table_reading;

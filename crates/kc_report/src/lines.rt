@@ -1,16 +1,27 @@
-//! Lines that line feeds end, taken from the front of bytes.
-ghost use Rattle.std.specs.Prelude.{◌≡◌, ◌++◌, IfSome, IfNone};
-ghost use Rattle.kc_report.specs.Lines.{IsLine};
-ghost use Rattle.kc_report.specs.TableReading.{HasLine};
+//! The lines of a source, each ended by a line feed.
+ghost use Rattle.kc_report.specs.Lines.{FindsLine};
 
+use kc_io::{Intake, Source, TakeFault};
 use memchr::memchr;
 
-// The first line of the bytes, with its line end, and the bytes behind it.
-pub(crate) fn split_line(bytes: &[u8]) -> Option<(&[u8], &[u8])>
-    ensures none { IfNone result (¬ HasLine bytes.now) }
-    ensures split { IfSome result (λ parts. bytes.now ≡ parts.0.now ++ parts.1.now) }
-    ensures line { IfSome result (λ parts. IsLine parts.0.now) }
+// How many of the unread bytes the first line has, with its line end. Blocks are taken until a whole line is there, or
+// the source has told its end.
+pub(crate) fn first_line<R: Source>(
+    reader: &mut R,
+    intake: &mut Intake,
+) -> Result<Option<usize>, TakeFault>
+    ensures { FindsLine (R.seen reader.old) (R.seen reader.new) intake.old intake.new result }
 {
-    let end = memchr(b'\n', bytes)?;
-    Some(bytes.split_at(end + 1))
+    let mut searched = 0;
+    'searching: loop {
+        let bytes = intake.as_slice();
+        let (_, unsearched) = bytes.split_at(searched);
+        if let Some(end) = memchr(b'\n', unsearched) {
+            return Ok(Some(searched + end + 1));
+        }
+        searched = bytes.len();
+        if !intake.fill(reader)? {
+            return Ok(None);
+        }
+    }
 }

@@ -1,27 +1,27 @@
 //! The reading of table texts.
-ghost use Rattle.std.specs.Prelude.{◌≡◌, ◌≢◌, ◌↔◌, ℕ, Bool, ◌≤◌, ◌^◌, IsTrue, IfSome, IfNone, IfOk, IfErr};
+ghost use Rattle.std.specs.Prelude.{◌≡◌, ◌≢◌, ◌↔◌, ℕ, List, Bool, [], ◌++◌, ◌≤◌, ◌^◌, length, drop};
+ghost use Rattle.std.specs.Prelude.{IsTrue, IfSome, IfNone, IfOk, IfErr};
+ghost use Rattle.kc_io.specs.Taking.{TakesAll, TakingFails};
 ghost use Rattle.kc_report.specs.Table.{header_line, ended};
-ghost use Rattle.kc_report.specs.Faults.{UnlessMemory};
-ghost use Rattle.kc_report.specs.TableReading.{HasTable, HasTableFault, GivesTable, RefusesTable};
+ghost use Rattle.kc_report.specs.TableReading.{GivesTable, RefusesTable};
 
 use crate::block::Block;
 use crate::faults::ReportFault;
-use crate::lines::split_line;
+use crate::lines::first_line;
 use crate::table::push_header;
 use crate::table_rows::{TableRows, is_same};
-use kc_io::{Source, take_all};
+use kc_io::{Intake, Source, TakeFault};
 use kc_tally::Tally;
 use kc_word::K;
 use std::alloc::Global;
 
-/// Takes all bytes of the source, and answers the tally whose table text they are. Condition: the limit is at most
-/// 2^42.
+/// Takes all bytes of the source, and answers the tally whose table text they are. It keeps the rows, and of the text
+/// one block and one line. Condition: the limit is at most 2^42.
 ///
 /// # Errors
 /// `TableTooLong` where the source gave more than `limit` bytes, and `TableRead` where it failed, whichever the
-/// reading met
-/// first; these before any line is looked at. Else the first fault of the bytes: `BadHeader`, `BadRow` with its line or
-/// `BadEnd`. `Memory` where a growth was refused.
+/// reading met first; these before any fault of the text, behind which the source is read to its end. Else the first
+/// fault of the bytes: `BadHeader`, `BadRow` with its line or `BadEnd`. `Memory` where a growth was refused.
 pub fn read_table<R: Source>(
     alloc: Global,
     reader: &mut R,
@@ -31,37 +31,49 @@ pub fn read_table<R: Source>(
     ensures table { IfOk result (λ tally. GivesTable (R.seen reader.old) (R.seen reader.new) limit tally) }
     ensures fault { IfErr result (RefusesTable (R.seen reader.old) (R.seen reader.new) limit) }
 {
-    let bytes = take_all(alloc, reader, limit)?;
-    table_of(alloc, &bytes)
-}
-
-// The tally whose table text the bytes are.
-fn table_of(alloc: Global, bytes: &[u8]) -> Result<Tally, ReportFault>
-    ensures table { IfOk result (λ tally. HasTable bytes.now tally) }
-    ensures fault { IfErr result (UnlessMemory (HasTableFault bytes.now)) }
-{
     let mut scratch = Block::new();
-    let Some((header, mut left)) = split_line(bytes) else {
+    let mut intake = Intake::new(alloc, limit)?;
+    let Some(count) = first_line(reader, &mut intake)? else {
         return Err(ReportFault::BadHeader);
     };
-    let Some((k, both)) = header_of(&mut scratch, header) else {
+    let Some((k, both)) = header_of(&mut scratch, &intake.as_slice()[..count]) else {
+        intake.skip_rest(reader)?;
         return Err(ReportFault::BadHeader);
     };
+    intake.use_up(count);
     let mut rows = TableRows::new(alloc, k, both);
-    'lines: while let Some((line, rest)) = split_line(left) {
+    'lines: loop {
+        let Some(count) = first_line(reader, &mut intake)? else {
+            return Err(ReportFault::BadEnd);
+        };
+        let line = &intake.as_slice()[..count];
         if line.starts_with(b"END") {
-            if !rows.is_end(&mut scratch, left) {
+            let is_end = rows.is_end(&mut scratch, line);
+            if !is_last(reader, intake, count)? || !is_end {
                 return Err(ReportFault::BadEnd);
             }
             return Ok(rows.into_tally(alloc)?);
         }
-        let Some(row) = rows.next_row(&mut scratch, line) else {
+        let Some(row) = rows.next_row(line) else {
+            intake.skip_rest(reader)?;
             return Err(ReportFault::BadRow(rows.next_line_number()));
         };
         rows.push(row)?;
-        left = rest;
+        intake.use_up(count);
     }
-    Err(ReportFault::BadEnd)
+}
+
+// Takes all that comes of the source, and answers whether the first `count` unread bytes are the last of all.
+fn is_last<R: Source>(reader: &mut R, intake: Intake, count: usize) -> Result<bool, TakeFault>
+    requires { count ≤ length intake.bytes }
+    ensures last { IfOk result (λ last. (more : List ℕ)
+        × TakesAll (R.seen reader.old) (R.seen reader.new) intake.room more
+        × (IsTrue last ↔ (drop count intake.bytes ++ more ≡ []))) }
+    ensures fault { IfErr result (TakingFails (R.seen reader.old) (R.seen reader.new) intake.room) }
+{
+    let behind = intake.as_slice().len() - count;
+    let more = intake.skip_rest(reader)?;
+    Ok(behind == 0 && more == 0)
 }
 
 // The length of the words, and whether both strands were counted, that a header says.

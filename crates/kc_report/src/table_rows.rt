@@ -6,11 +6,13 @@ ghost use Rattle.kc_word.specs.Word.{text, form};
 ghost use Rattle.kc_report.specs.Dumping.{row_in_columns};
 ghost use Rattle.kc_report.specs.Table.{end_text};
 ghost use Rattle.kc_report.specs.TableReading.{MayFollow};
-ghost use Rattle.kc_report.specs.TableRows.{RisesTo};
+ghost use Rattle.kc_report.specs.TableRows.{RisesTo, is_below_small_letters};
+ghost use Rattle.std.specs.List.{list_all};
 
 use crate::block::Block;
-use crate::dumping::{GREATEST_COUNT, push_columns};
+use crate::dumping::GREATEST_COUNT;
 use crate::table::push_end;
+use itoa::Buffer;
 use kc_tally::{Row, Tally};
 use kc_word::{K, Word, canonical, pack};
 use std::alloc::{AllocError, Global};
@@ -58,13 +60,13 @@ impl TableRows {
     }
 
     // The row that the line says, where it may come next.
-    pub(crate) fn next_row(&self, scratch: &mut Block, line: &[u8]) -> Option<Row>
+    pub(crate) fn next_row(&self, line: &[u8]) -> Option<Row>
         ensures some { IfSome result (λ row. line.now ≡ row_in_columns self.now.k false row) }
         ensures follows { IfSome result (λ row. MayFollow self.now row) }
         ensures none { IfNone result ((row : Row) → MayFollow self.now row
             → line.now ≢ row_in_columns self.now.k false row) }
     {
-        let Some(row) = row_of(scratch, line, self.k) else {
+        let Some(row) = row_of(line, self.k) else {
             return None;
         };
         if !self.may_follow(row) {
@@ -137,39 +139,60 @@ fn is_form(word: Word, k: K, both: bool) -> bool
 }
 
 // The row that the line says.
-fn row_of(scratch: &mut Block, line: &[u8], k: K) -> Option<Row>
+fn row_of(line: &[u8], k: K) -> Option<Row>
     ensures below { IfSome result (λ row. row.word < 4 ^ k) }
     ensures small { IfSome result (λ row. row.count < 2 ^ 64) }
     ensures some { IfSome result (λ row. line.now ≡ row_in_columns k false row) }
     ensures none { IfNone result ((row : Row) → row.word < 4 ^ k → row.count < 2 ^ 64
         → line.now ≢ row_in_columns k false row) }
 {
-    let Some(row) = fields_of(line, k) else {
-        return None;
-    };
-    scratch.clear();
-    push_columns(scratch, k, false, row);
-    if !is_same(scratch, line) {
-        return None;
-    }
-    Some(row)
+    let (letters, fields) = line.split_at_checked(k.get() as usize)?;
+    let word = word_of(letters, k)?;
+    let digits = fields.strip_prefix(b" ")?.strip_suffix(b"\n")?;
+    let count = count_of(digits)?;
+    Some(Row { word, count })
 }
 
-// The word and the count of a line that may be a row: where it is a row, it is this one.
-fn fields_of(line: &[u8], k: K) -> Option<Row>
-    ensures below { IfSome result (λ row. row.word < 4 ^ k) }
-    ensures small { IfSome result (λ row. row.count < 2 ^ 64) }
-    ensures found { (row : Row) → row.word < 4 ^ k → row.count < 2 ^ 64
-        → line.now ≡ row_in_columns k false row → result ≡ Some row }
+// The word that capital letters spell.
+fn word_of(letters: &[u8], k: K) -> Option<u64>
+    ensures below { IfSome result (λ word. word < 4 ^ k) }
+    ensures some { IfSome result (λ word. letters.now ≡ text k word) }
+    ensures none { IfNone result ((word : ℕ) → word < 4 ^ k → letters.now ≢ text k word) }
 {
-    let (letters, fields) = line.split_at_checked(k.get() as usize)?;
-    let word = pack(letters, k)?;
-    let digits = fields.strip_prefix(b" ")?.strip_suffix(b"\n")?;
-    let count = number_of(digits)?;
-    Some(Row {
-        word: word.0,
-        count,
-    })
+    let Some(word) = pack(letters, k) else {
+        return None;
+    };
+    if !are_below_small_letters(letters) {
+        return None;
+    }
+    Some(word.0)
+}
+
+// Whether no byte is a small letter or greater. Every byte is looked at, so that the loop has no exit inside.
+fn are_below_small_letters(bytes: &[u8]) -> bool
+    ensures { result ≡ list_all is_below_small_letters bytes.now }
+{
+    let mut all = true;
+    for byte in bytes {
+        all &= *byte < b'a';
+    }
+    all
+}
+
+// The number that digits say, which has one spelling.
+fn count_of(digits: &[u8]) -> Option<u64>
+    ensures small { IfSome result (λ number. number < 2 ^ 64) }
+    ensures some { IfSome result (λ number. digits.now ≡ decimal number) }
+    ensures none { IfNone result ((number : ℕ) → number < 2 ^ 64 → digits.now ≢ decimal number) }
+{
+    let Some(number) = number_of(digits) else {
+        return None;
+    };
+    let mut spelled = Buffer::new();
+    if digits != spelled.format(number).as_bytes() {
+        return None;
+    }
+    Some(number)
 }
 
 // The number of a text that may be a number: where it is one in decimal, it is this one.

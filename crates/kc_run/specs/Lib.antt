@@ -1,3 +1,4 @@
 pub mod Tickets
 pub mod WholeDraws
 pub mod Laws
+pub mod Runs

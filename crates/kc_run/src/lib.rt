@@ -1,4 +1,7 @@
-//! Work that threads share by drawing numbers.
+//! Whole runs, and the tickets by which their workers share the batches.
+//!
+//! `run` counts numbered batches with several workers, each in a thread of its own, over one table in locked stripes,
+//! and answers the tally of all batches. The workers draw the numbers of the batches from `Tickets`.
 //!
 //! `Tickets::new` makes tickets with a limit, and with them all the `Seat`s that ever draw from them. Threads share
 //! the tickets by reference, and each has a seat of its own. `Tickets::draw` answers the next number below the limit,
@@ -17,10 +20,22 @@
 //! ```
 #![tactic(auto)]
 
+mod crew;
+mod fault;
+mod gate;
 pub mod laws;
+mod runs;
 pub mod tickets;
+mod worker;
 
+pub use crate::fault::RunFault;
+pub use crate::gate::{Gate, NoGate};
+pub use crate::runs::run;
 pub use crate::tickets::{Seat, Tickets};
+pub use kc_gather::{GatherFault, gather, plain_tables, quotient_tables};
+pub use kc_tally::Tally;
 
+#[cfg(test)]
+mod run_tests;
 #[cfg(test)]
 mod tests;

@@ -17,7 +17,7 @@ use Rattle.kc_share.specs.declared.entry.View.{View}
 use Rattle.kc_share.specs.Entries.{booking_of, entries_in, word_total}
 use Rattle.kc_share.specs.Share.{kept_stripe, with_entry, word_total_in, entry_total_in, AreNumbersOf}
 use Rattle.kc_share.specs.Rule.{journal_for, IsViewOf, IsSheet, IsState, view_of, empty_stripes, first_view, view_less_part, part_view, view_without_first, first_kept_view, no_plan, keeper_view, blank_view, joined_view, Knowledge, IsLook, view_noted_in, noted_view, IsBooking}
-use Rattle.kc_share.proofs.Views.{entries_in-append, journal_for-append, booked_weight, kept_weight, blank_booked, keeps, words, Weighed, weighed, is_sheet, fits_set, splits, joins, journal_is, rest_is_idle}
+use Rattle.kc_share.proofs.Views.{entries_in-append, journal_for-append, booked_weight, kept_weight, blank_booked, keeps, words, Weighed, weighed, is_sheet, AreViewsOf-set, split_keeps_rule, join_keeps_rule, journal_is, rest_is_idle}
 
 -- ---- the rule at the start
 
@@ -79,10 +79,12 @@ part_goes plan id v more s (is, sheet) at =
     let mine = sheet.fits id v at in
     let same = mine.has_plan (omega arith) in (
       is,
-      is_sheet (splits id v (view_less_part v) (part_view v) (weighed sheet) at
-          (record { parts = omega arith; booked = λ stripe h. refl; journals = λ stripe h. refl; kept = λ stripe. refl })
-          (record { has_plan = λ _. same; idle = λ none. absurd (omega arith) })
-          (record { has_plan = λ _. same; idle = λ none. absurd (omega arith) })),
+      is_sheet (split_keeps_rule id v (view_less_part v) (part_view v) (weighed sheet) (record {
+        at = at;
+        same = record { parts = omega arith; booked = λ stripe h. refl; journals = λ stripe h. refl; kept = λ stripe. refl };
+        first_fits = record { has_plan = λ _. same; idle = λ none. absurd (omega arith) };
+        second_fits = record { has_plan = λ _. same; idle = λ none. absurd (omega arith) };
+      })),
     )
 
 first_and_rest : (stripe : ℕ) (h : Entry → ℕ) (them : List KeptStripe) → sum_by h (journal_for stripe (drop 1 them)) + sum_by h (journal_for stripe (take 1 them)) ≡ sum_by h (journal_for stripe them) + 0
@@ -100,20 +102,24 @@ unfolding journal_for
 first_goes plan id v s (is, sheet) at =
     let mine = sheet.fits id v at in (
       is,
-      is_sheet (splits id v (view_without_first v) (first_kept_view v) (weighed sheet) at
-          (record { parts = refl; booked = λ stripe h. refl; journals = λ stripe h. first_and_rest stripe h v.kept; kept = λ stripe. first_and_rest_counted stripe v.kept })
-          (record { has_plan = mine.has_plan; idle = mine.idle })
-          (record { has_plan = λ some. absurd (omega arith); idle = λ _. refl })),
+      is_sheet (split_keeps_rule id v (view_without_first v) (first_kept_view v) (weighed sheet) (record {
+        at = at;
+        same = record { parts = refl; booked = λ stripe h. refl; journals = λ stripe h. first_and_rest stripe h v.kept; kept = λ stripe. first_and_rest_counted stripe v.kept };
+        first_fits = record { has_plan = mine.has_plan; idle = mine.idle };
+        second_fits = record { has_plan = λ some. absurd (omega arith); idle = λ _. refl };
+      })),
     )
 
 -- all goes
 pub all_goes : {S : Type 0} (plan : Plan) (id : ℕ) (v : View) → Splits {S = S} (IsState plan) id v blank_view v
 all_goes plan id v s (is, sheet) at = (
   is,
-  is_sheet (splits id v blank_view v (weighed sheet) at
-      (record { parts = omega arith; booked = λ stripe h. omega arith; journals = λ stripe h. omega arith; kept = λ stripe. omega arith })
-      (record { has_plan = λ some. absurd (omega arith); idle = λ _. refl })
-      (sheet.fits id v at)),
+  is_sheet (split_keeps_rule id v blank_view v (weighed sheet) (record {
+    at = at;
+    same = record { parts = omega arith; booked = λ stripe h. omega arith; journals = λ stripe h. omega arith; kept = λ stripe. omega arith };
+    first_fits = record { has_plan = λ some. absurd (omega arith); idle = λ _. refl };
+    second_fits = sheet.fits id v at;
+  })),
 )
 
 -- ---- joins
@@ -124,15 +130,18 @@ unfolding entries_in journal_for
 both_join plan id v other w some_part s (is, sheet) at apart there =
     let mine = sheet.fits id v at in (
       is,
-      is_sheet (joins id other v w (joined_view v w) blank_view (weighed sheet) at there
-          (record {
-            parts = omega arith;
-            booked = λ stripe h. omega (arith, ap (sum_by h) (entries_in-append stripe v.booked w.booked), sum_by-append h (entries_in stripe v.booked) (entries_in stripe w.booked));
-            journals = λ stripe h. omega (arith, ap (sum_by h) (journal_for-append stripe v.kept w.kept), sum_by-append h (journal_for stripe v.kept) (journal_for stripe w.kept));
-            kept = λ stripe. omega (arith, sum_by-append (λ (k : KeptStripe). cond (eqb k.stripe stripe) 1 0) v.kept w.kept);
-          })
-          (record { has_plan = λ _. mine.has_plan some_part; idle = λ none. absurd (omega arith) })
-          (record { has_plan = λ some. absurd (omega arith); idle = λ _. refl })),
+      is_sheet (join_keeps_rule id other v w (joined_view v w) blank_view (weighed sheet) (record {
+        at = at;
+        there = there;
+        same = record {
+          parts = omega arith;
+          booked = λ stripe h. omega (arith, ap (sum_by h) (entries_in-append stripe v.booked w.booked), sum_by-append h (entries_in stripe v.booked) (entries_in stripe w.booked));
+          journals = λ stripe h. omega (arith, ap (sum_by h) (journal_for-append stripe v.kept w.kept), sum_by-append h (journal_for stripe v.kept) (journal_for stripe w.kept));
+          kept = λ stripe. omega (arith, sum_by-append (λ (k : KeptStripe). cond (eqb k.stripe stripe) 1 0) v.kept w.kept);
+        };
+        first_fits = record { has_plan = λ _. mine.has_plan some_part; idle = λ none. absurd (omega arith) };
+        second_fits = record { has_plan = λ some. absurd (omega arith); idle = λ _. refl };
+      })),
     )
 
 -- ---- what is known
@@ -149,8 +158,8 @@ known {plan} {views} id v whole at small = record {
 }
 
 -- a look: one load
-pub looks : {S : Type 0} (plan : Plan) (slots id : ℕ) (me : Me S View) → Allows (IsState plan) slots id me 0 (λ n. n) (IsLook (step slots 0 0 0 none) me)
-looks {S} plan slots id me s (is, sheet) long at fits =
+pub look_is_allowed : {S : Type 0} (plan : Plan) (slots id : ℕ) (me : Me S View) → Allows (IsState plan) slots id me 0 (λ n. n) (IsLook (step slots 0 0 0 none) me)
+look_is_allowed {S} plan slots id me s (is, sheet) long at fits =
     let P : List ℕ → Type 0 = λ ws. slice_index ws 0 < 18446744073709551616 → (u : View) × (a : Act S) × Valid s.homes me.1 a × IsState plan (stepped record { words = ws; homes = s.homes; views = s.views } 0 (slice_index ws 0) id me.1 u a) × IsLook (step slots 0 0 0 none) me (slice_index ws 0) (u, carried_after me.1 a) in
     let again : set s.views id me.0 ≡ s.views = set_again s.views id me.0 at in
     subst P (sym is) (λ small. (me.0, no_act, tt, (refl, subst (IsSheet plan) (sym again) sheet), (refl, known id me.0 (weighed sheet) at (omega arith)))) fits
@@ -183,14 +192,21 @@ unfolding noted_one
 booked_more stripe h v it entry =
     omega (arith, ap (sum_by h) (entries_in-append stripe v.booked (booking_of it.stripe entry ∷ [])), sum_by-append h (entries_in stripe v.booked) (entries_in stripe (booking_of it.stripe entry ∷ [])), one_booked stripe h it entry)
 
-module _ {plan : Plan} {views : List View} (id : ℕ) (v : View) (it : KeptStripe) (entry : Entry) (whole : Weighed plan views) (at : get_elem? views id ≡ some v) (keeps_it : v.kept ≡ it ∷ []) where
+-- the view keeps this one stripe and has a part, and the sums of its journal with the entry fit a number
+pub record CanBook (v : View) (it : KeptStripe) (entry : Entry) : Type 0 where
+  pub keeps_it : v.kept ≡ it ∷ []
+  pub some_part : 0 < v.parts
+  pub few_words : word_total it.journal + entry.words < 2 ^ 64
+  pub few_entries : length it.journal + 1 < 2 ^ 64
+
+module _ {plan : Plan} {views : List View} (id : ℕ) {v : View} {it : KeptStripe} {entry : Entry} (whole : Weighed plan views) (at : get_elem? views id ≡ some v) (can : CanBook v it entry) where
   booked_all : (stripe : ℕ) (h : Entry → ℕ) → sum_by (booked_weight stripe h) (set views id (noted_one v it entry)) ≡ sum_by (booked_weight stripe h) views + cond (eqb it.stripe stripe) (h entry) 0
   booked_all stripe h = omega (arith, sum_by-set_elem (booked_weight stripe h) views id v (noted_one v it entry) at, booked_more stripe h v it entry)
 
   kept_all : (stripe : ℕ) (h : Entry → ℕ) → sum_by (kept_weight stripe h) (set views id (noted_one v it entry)) ≡ sum_by (kept_weight stripe h) views + cond (eqb it.stripe stripe) (h entry) 0
   unfolding noted_one
   kept_all stripe h =
-      let mine : kept_weight stripe h v ≡ sum_by h (journal_for stripe (it ∷ [])) = ap (λ them. sum_by h (journal_for stripe them)) keeps_it in
+      let mine : kept_weight stripe h v ≡ sum_by h (journal_for stripe (it ∷ [])) = ap (λ them. sum_by h (journal_for stripe them)) can.keeps_it in
       omega (arith, sum_by-set_elem (kept_weight stripe h) views id v (noted_one v it entry) at, one_kept stripe h it entry, mine)
 
   -- a sum that fits in the journal's stripe with the entry fits in each
@@ -198,24 +214,24 @@ module _ {plan : Plan} {views : List View} (id : ℕ) (v : View) (it : KeptStrip
   fits_still h room before stripe = ⊎_elim
       (λ (here : (eqb it.stripe stripe ≡ true) × (it.stripe ≡ stripe)).
       let more : cond (eqb it.stripe stripe) (h entry) 0 ≡ h entry = ap {B = ℕ} (λ (b : Bool). cond b (h entry) 0) here.0 in
-      let now : sum_by (booked_weight stripe h) views ≡ sum_by h it.journal = subst (λ n. sum_by (booked_weight n h) views ≡ sum_by h it.journal) here.1 (whole.balanced it.stripe h ∙ journal_is id v it h whole at keeps_it) in
+      let now : sum_by (booked_weight stripe h) views ≡ sum_by h it.journal = subst (λ n. sum_by (booked_weight n h) views ≡ sum_by h it.journal) here.1 (whole.balanced it.stripe h ∙ journal_is id v it h whole at can.keeps_it) in
       omega (arith, booked_all stripe h, more, now, room))
       (λ (else : (eqb it.stripe stripe ≡ false) × (it.stripe ≢ stripe)).
       let more : cond (eqb it.stripe stripe) (h entry) 0 ≡ 0 = ap {B = ℕ} (λ (b : Bool). cond b (h entry) 0) else.0 in
       omega (arith, booked_all stripe h, more, before stripe))
       (eqb_tells it.stripe stripe)
 
-  noted_on : 0 < v.parts → word_total it.journal + entry.words < 2 ^ 64 → length it.journal + 1 < 2 ^ 64 → Weighed plan (set views id (noted_one v it entry))
+  booking_keeps_rule : Weighed plan (set views id (noted_one v it entry))
   unfolding noted_one
-  noted_on some_part few_words few_entries = record {
+  booking_keeps_rule = record {
     shared_out = omega (arith, sum_by-set_elem (λ view. view.parts) views id v (noted_one v it entry) at, whole.shared_out);
     balanced = λ stripe h. omega (arith, booked_all stripe h, kept_all stripe h, whole.balanced stripe h);
     one_keeper = λ stripe.
-        let mine : keeps stripe v ≡ count_by (λ k. eqb k.stripe stripe) (it ∷ []) = ap (count_by (λ (k : KeptStripe). eqb k.stripe stripe)) keeps_it in
+        let mine : keeps stripe v ≡ count_by (λ k. eqb k.stripe stripe) (it ∷ []) = ap (count_by (λ (k : KeptStripe). eqb k.stripe stripe)) can.keeps_it in
         omega (arith, sum_by-set_elem (keeps stripe) views id v (noted_one v it entry) at, mine, whole.one_keeper stripe);
-    words_fit = fits_still words few_words whole.words_fit;
-    entries_fit = fits_still (λ _. 1) (omega (arith, sum_by-ones it.journal)) whole.entries_fit;
-    fits = fits_set plan views id (noted_one v it entry) whole.fits (record { has_plan = (whole.fits id v at).has_plan; idle = λ none. absurd (omega arith) });
+    words_fit = fits_still words can.few_words whole.words_fit;
+    entries_fit = fits_still (λ _. 1) (omega (arith, sum_by-ones it.journal, can.few_entries)) whole.entries_fit;
+    fits = AreViewsOf-set plan views id (noted_one v it entry) whole.fits (record { has_plan = (whole.fits id v at).has_plan; idle = λ none. absurd (omega (arith, can.some_part)) });
   }
 
 at_set_here : {X : Type 0} (xs : List X) (k : ℕ) (x y : X) → get_elem? xs k ≡ some x → get_elem? (set xs k y) k ≡ some y
@@ -228,11 +244,11 @@ unfolding noted_one
 noted_is v it entry keeps_it = ap (view_noted_in v entry) (sym keeps_it)
 
 -- a booking: one load
-pub books : {S : Type 0} (plan : Plan) (slots id : ℕ) (me : Me S View) (it : KeptStripe) (entry : Entry) → me.0.kept ≡ it ∷ [] → 0 < me.0.parts → word_total it.journal + entry.words < 2 ^ 64 → length it.journal + 1 < 2 ^ 64
+pub booking_is_allowed : {S : Type 0} (plan : Plan) (slots id : ℕ) (me : Me S View) (it : KeptStripe) (entry : Entry) → CanBook me.0 it entry
     → Allows (IsState plan) slots id me 0 (λ n. n) (IsBooking entry (step slots 0 0 0 none) me)
-books {S} plan slots id me it entry keeps_it some_part few_words few_entries s (is, sheet) long at fits =
+booking_is_allowed {S} plan slots id me it entry can s (is, sheet) long at fits =
     let P : List ℕ → Type 0 = λ ws. slice_index ws 0 < 18446744073709551616 → (u : View) × (a : Act S) × Valid s.homes me.1 a × IsState plan (stepped record { words = ws; homes = s.homes; views = s.views } 0 (slice_index ws 0) id me.1 u a) × IsBooking entry (step slots 0 0 0 none) me (slice_index ws 0) (u, carried_after me.1 a) in
-    let now = subst (λ u. Weighed plan (set s.views id u)) (noted_is me.0 it entry keeps_it) (noted_on id me.0 it entry (weighed sheet) at keeps_it some_part few_words few_entries) in
+    let now = subst (λ u. Weighed plan (set s.views id u)) (noted_is me.0 it entry can.keeps_it) (booking_keeps_rule id (weighed sheet) at can) in
     subst P (sym is) (λ small. (noted_view entry me.0, no_act, tt, (refl, is_sheet now), (refl, known id (noted_view entry me.0) now (at_set_here s.views id me.0 (noted_view entry me.0) at) (omega arith)))) fits
 
 -- ---- the views of keepers and shares

@@ -83,8 +83,12 @@ is_sheet {plan} {views} whole = record {
 
 -- ---- views that are changed
 
-pub fits_set : (plan : Plan) (views : List View) (k : ℕ) (w : View) → ((j : ℕ) (v : View) → get_elem? views j ≡ some v → IsViewOf plan v) → IsViewOf plan w → (j : ℕ) (v : View) → get_elem? (set views k w) j ≡ some v → IsViewOf plan v
-fits_set plan views k w others mine j v at = ⊎_elim
+-- each is a view of the plan
+abbrev pub AreViewsOf : Plan → List View → Type 0
+AreViewsOf plan views = (k : ℕ) (view : View) → get_elem? views k ≡ some view → IsViewOf plan view
+
+pub AreViewsOf-set : (plan : Plan) (views : List View) (k : ℕ) (w : View) → AreViewsOf plan views → IsViewOf plan w → AreViewsOf plan (set views k w)
+AreViewsOf-set plan views k w others mine = λ j v at. ⊎_elim
     (λ (t : (j ≡ k) × (w ≡ v)). subst (IsViewOf plan) t.1 mine)
     (λ (t : (j ≢ k) × (get_elem? views j ≡ some v)). others j v t.1)
     (at_set views k j w v at)
@@ -104,42 +108,59 @@ pub blank_kept : (stripe : ℕ) (h : Entry → ℕ) → kept_weight stripe h bla
 unfolding journal_for
 blank_kept stripe h = refl
 
-split_sum : (f : View → ℕ) (views : List View) (id : ℕ) (v v' w' : View) → get_elem? views id ≡ some v → f blank_view ≡ 0 → f v' + f w' ≡ f v + f blank_view → sum_by f (set views id v' ++ w' ∷ []) ≡ sum_by f views
-split_sum f views id v v' w' at none same = omega (arith, sum_by_push f (set views id v') w', sum_by-set_elem f views id v v' at, none, same)
+-- the view at `id` is cut in two
+pub record IsSplit (plan : Plan) (views : List View) (id : ℕ) (v v' w' : View) : Type 0 where
+  pub at : get_elem? views id ≡ some v
+  pub same : HaveTheSame v blank_view v' w'
+  pub first_fits : IsViewOf plan v'
+  pub second_fits : IsViewOf plan w'
 
--- a view is cut in two
-pub splits : {plan : Plan} {views : List View} (id : ℕ) (v v' w' : View) → Weighed plan views → get_elem? views id ≡ some v → HaveTheSame v blank_view v' w' → IsViewOf plan v' → IsViewOf plan w' → Weighed plan (set views id v' ++ w' ∷ [])
-splits {plan} {views} id v v' w' whole at same mine theirs = record {
-  shared_out = split_sum (λ view. view.parts) views id v v' w' at refl same.parts ∙ whole.shared_out;
-  balanced = λ stripe h. booked stripe h ∙ whole.balanced stripe h ∙ sym (split_sum (kept_weight stripe h) views id v v' w' at (blank_kept stripe h) (same.journals stripe h));
-  one_keeper = λ stripe. omega (arith, split_sum (keeps stripe) views id v v' w' at refl (same.kept stripe), whole.one_keeper stripe);
+split_keeps_sum : {plan : Plan} {views : List View} {id : ℕ} {v v' w' : View} (f : View → ℕ) → IsSplit plan views id v v' w' → f blank_view ≡ 0 → f v' + f w' ≡ f v + f blank_view
+    → sum_by f (set views id v' ++ w' ∷ []) ≡ sum_by f views
+split_keeps_sum {plan} {views} {id} {v} {v'} {w'} f split none same =
+    omega (arith, sum_by_push f (set views id v') w', sum_by-set_elem f views id v v' split.at, none, same)
+
+pub split_keeps_rule : {plan : Plan} {views : List View} (id : ℕ) (v v' w' : View) → Weighed plan views → IsSplit plan views id v v' w' → Weighed plan (set views id v' ++ w' ∷ [])
+split_keeps_rule {plan} {views} id v v' w' whole split = record {
+  shared_out = split_keeps_sum (λ view. view.parts) split refl split.same.parts ∙ whole.shared_out;
+  balanced = λ stripe h. booked stripe h ∙ whole.balanced stripe h ∙ sym (split_keeps_sum (kept_weight stripe h) split (blank_kept stripe h) (split.same.journals stripe h));
+  one_keeper = λ stripe. omega (arith, split_keeps_sum (keeps stripe) split refl (split.same.kept stripe), whole.one_keeper stripe);
   words_fit = λ stripe. omega (arith, booked stripe words, whole.words_fit stripe);
   entries_fit = λ stripe. omega (arith, booked stripe (λ _. 1), whole.entries_fit stripe);
   fits = λ j u there. ⊎_elim
-      (λ (old : get_elem? (set views id v') j ≡ some u). fits_set plan views id v' whole.fits mine j u old)
-      (λ (new : w' ≡ u). subst (IsViewOf plan) new theirs)
+      (λ (old : get_elem? (set views id v') j ≡ some u). AreViewsOf-set plan views id v' whole.fits split.first_fits j u old)
+      (λ (new : w' ≡ u). subst (IsViewOf plan) new split.second_fits)
       (at_snoc (set views id v') w' u j there);
 }
   where
     booked : (stripe : ℕ) (h : Entry → ℕ) → sum_by (booked_weight stripe h) (set views id v' ++ w' ∷ []) ≡ sum_by (booked_weight stripe h) views
-    booked stripe h = split_sum (booked_weight stripe h) views id v v' w' at (blank_booked stripe h) (same.booked stripe h)
+    booked stripe h = split_keeps_sum (booked_weight stripe h) split (blank_booked stripe h) (split.same.booked stripe h)
 
-join_sum : (f : View → ℕ) (views : List View) (id other : ℕ) (v w v' w' : View) → get_elem? views id ≡ some v → get_elem? (set views id v') other ≡ some w → f v' + f w' ≡ f v + f w → sum_by f (set (set views id v') other w') ≡ sum_by f views
-join_sum f views id other v w v' w' at there same = omega (arith, sum_by-set_elem f views id v v' at, sum_by-set_elem f (set views id v') other w w' there, same)
+-- the views at `id` and `other` are made one, and what is left of the second stands at `other`
+pub record IsJoin (plan : Plan) (views : List View) (id other : ℕ) (v w v' w' : View) : Type 0 where
+  pub at : get_elem? views id ≡ some v
+  pub there : get_elem? (set views id v') other ≡ some w
+  pub same : HaveTheSame v w v' w'
+  pub first_fits : IsViewOf plan v'
+  pub second_fits : IsViewOf plan w'
 
--- two views are made one
-pub joins : {plan : Plan} {views : List View} (id other : ℕ) (v w v' w' : View) → Weighed plan views → get_elem? views id ≡ some v → get_elem? (set views id v') other ≡ some w → HaveTheSame v w v' w' → IsViewOf plan v' → IsViewOf plan w' → Weighed plan (set (set views id v') other w')
-joins {plan} {views} id other v w v' w' whole at there same mine theirs = record {
-  shared_out = join_sum (λ view. view.parts) views id other v w v' w' at there same.parts ∙ whole.shared_out;
-  balanced = λ stripe h. booked stripe h ∙ whole.balanced stripe h ∙ sym (join_sum (kept_weight stripe h) views id other v w v' w' at there (same.journals stripe h));
-  one_keeper = λ stripe. omega (arith, join_sum (keeps stripe) views id other v w v' w' at there (same.kept stripe), whole.one_keeper stripe);
+join_keeps_sum : {plan : Plan} {views : List View} {id other : ℕ} {v w v' w' : View} (f : View → ℕ) → IsJoin plan views id other v w v' w' → f v' + f w' ≡ f v + f w
+    → sum_by f (set (set views id v') other w') ≡ sum_by f views
+join_keeps_sum {plan} {views} {id} {other} {v} {w} {v'} {w'} f join same =
+    omega (arith, sum_by-set_elem f views id v v' join.at, sum_by-set_elem f (set views id v') other w w' join.there, same)
+
+pub join_keeps_rule : {plan : Plan} {views : List View} (id other : ℕ) (v w v' w' : View) → Weighed plan views → IsJoin plan views id other v w v' w' → Weighed plan (set (set views id v') other w')
+join_keeps_rule {plan} {views} id other v w v' w' whole join = record {
+  shared_out = join_keeps_sum (λ view. view.parts) join join.same.parts ∙ whole.shared_out;
+  balanced = λ stripe h. booked stripe h ∙ whole.balanced stripe h ∙ sym (join_keeps_sum (kept_weight stripe h) join (join.same.journals stripe h));
+  one_keeper = λ stripe. omega (arith, join_keeps_sum (keeps stripe) join (join.same.kept stripe), whole.one_keeper stripe);
   words_fit = λ stripe. omega (arith, booked stripe words, whole.words_fit stripe);
   entries_fit = λ stripe. omega (arith, booked stripe (λ _. 1), whole.entries_fit stripe);
-  fits = fits_set plan (set views id v') other w' (fits_set plan views id v' whole.fits mine) theirs;
+  fits = AreViewsOf-set plan (set views id v') other w' (AreViewsOf-set plan views id v' whole.fits join.first_fits) join.second_fits;
 }
   where
     booked : (stripe : ℕ) (h : Entry → ℕ) → sum_by (booked_weight stripe h) (set (set views id v') other w') ≡ sum_by (booked_weight stripe h) views
-    booked stripe h = join_sum (booked_weight stripe h) views id other v w v' w' at there (same.booked stripe h)
+    booked stripe h = join_keeps_sum (booked_weight stripe h) join (join.same.booked stripe h)
 
 -- ---- what a view knows of the others
 
@@ -192,9 +213,9 @@ pub rest_is_idle : {plan : Plan} {views : List View} (id : ℕ) (v : View) (stri
 rest_is_idle {plan} {views} id v stripe h whole at all =
     let others = set views id blank_view in
     let light : sum_by (λ view. view.parts) others ≡ 0 = omega (arith, sum_by-set_elem (λ view. view.parts) views id v blank_view at, whole.shared_out) in
-    omega (arith, sum_by-set_elem (booked_weight stripe h) views id v blank_view at, idle others (fits_set plan views id blank_view whole.fits (record { has_plan = λ some. absurd (omega arith); idle = λ none. refl })) light, blank_booked stripe h)
+    omega (arith, sum_by-set_elem (booked_weight stripe h) views id v blank_view at, idle others (AreViewsOf-set plan views id blank_view whole.fits (record { has_plan = λ some. absurd (omega arith); idle = λ none. refl })) light, blank_booked stripe h)
   where
-    idle : (us : List View) → ((k : ℕ) (u : View) → get_elem? us k ≡ some u → IsViewOf plan u) → sum_by (λ view. view.parts) us ≡ 0 → sum_by (booked_weight stripe h) us ≡ 0
+    idle : (us : List View) → AreViewsOf plan us → sum_by (λ view. view.parts) us ≡ 0 → sum_by (booked_weight stripe h) us ≡ 0
     idle [] fits light = refl
     idle (u ∷ us) fits light =
         let parts = sum_by-cons (λ (view : View). view.parts) u us in

@@ -68,7 +68,8 @@ impl<C: Counts, N: Books> Locked<C, N> {
         Ok(())
     }
 
-    /// What the stripe tells of a word, where it is the one in which the word counts, with this setup and of its number.
+    /// What the stripe tells of a word, where it is the one in which the word counts: it has this setup, and the number
+    /// of the word's stripe.
     ///
     /// The word is below 4^k.
     pub(crate) fn look(

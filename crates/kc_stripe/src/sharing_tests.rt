@@ -16,7 +16,7 @@ use std::test::Fail;
 use std::thread::{Threads, join};
 
 // An empty table for each stripe.
-fn tables_of(alloc: Global, setup: &Setup) -> Result<Vec<PlainCounts>, AllocError>
+pub(crate) fn tables_of(alloc: Global, setup: &Setup) -> Result<Vec<PlainCounts>, AllocError>
     ensures count { IfOk result (λ tables. vec_len tables ≡ stripe_count setup.now) }
     ensures tables { IfOk result (λ tables.
         All (λ table. (table.counts ≡ empty) × (table.bits ≡ key_bits setup.now)) tables.items) }
@@ -45,7 +45,7 @@ fn book_cut<N: Books, R: Wait>(
 }
 
 // Books a batch everywhere.
-fn book_batch<N: Books, R: Wait>(
+pub(crate) fn book_batch<N: Books, R: Wait>(
     rt: &R,
     alloc: Global,
     stripes: &Stripes<PlainCounts, N>,
@@ -63,7 +63,7 @@ fn book_batch<N: Books, R: Wait>(
 }
 
 // Books batches everywhere, and gives the share back.
-fn book_all<N: Books, R: Wait>(
+pub(crate) fn book_all<N: Books, R: Wait>(
     rt: &R,
     alloc: Global,
     stripes: &Stripes<PlainCounts, N>,
@@ -132,28 +132,41 @@ fn book_halves<N: Books + Send + Sync, R: Threads + Wait + Sync>(
     Ok((one, other))
 }
 
-// What each stripe has, its total and the length of its journal, and what the whole share says of it.
+// What each stripe has, its total and the length of its journal, and what the share says of it.
+pub(crate) type Sums = ((u64, u64), (u64, u64));
+
+pub(crate) fn sums_of<N: Books>(
+    alloc: Global,
+    setup: &Setup,
+    stripes: &[Stripe<PlainCounts>],
+    share: &Share<N>,
+) -> Result<Vec<Sums>, AllocError>
+    requires { share.now.plan.stripes ≡ stripe_count setup.now }
+{
+    let mut sums = Vec::new(alloc);
+    for stripe in stripes {
+        let number = stripe.number();
+        if number < setup.stripes() {
+            let has = (stripe.total(), stripe.journal().len() as u64);
+            sums.push((has, (share.words(number), share.entries(number))))?;
+        }
+    }
+    Ok(sums)
+}
+
 fn sums_by_two<N: Books + Send + Sync, R: Threads + Wait + Sync>(
     rt: &R,
     alloc: Global,
     setup: &Setup,
     sheet: Sheet,
     batches: &[Arc<Batch>],
-) -> Result<Vec<((u64, u64), (u64, u64))>, Fail>
+) -> Result<Vec<Sums>, Fail>
     requires name { sheet.table ≡ N.table }
     requires stripes { sheet.plan.stripes ≡ stripe_count setup.now }
     requires parts { sheet.plan.parts ≡ 2 }
 {
     let (stripes, whole) = count_by_two::<N, R>(rt, alloc, setup, sheet, batches)?;
-    let mut sums = Vec::new(alloc);
-    for stripe in &stripes {
-        let number = stripe.number();
-        if number < setup.stripes() {
-            let has = (stripe.total(), stripe.journal().len() as u64);
-            sums.push((has, (whole.words(number), whole.entries(number))))?;
-        }
-    }
-    Ok(sums)
+    Ok(sums_of(alloc, setup, &stripes, &whole)?)
 }
 
 #[test]
@@ -225,5 +238,52 @@ fn a_word_is_looked_up_among_the_batches(rt: HostRuntime) -> Result<(), Fail> {
     assert!(rt; booked == [Ok(()), Err(BookFault::Twice), Err(BookFault::Stranger)]);
     assert_eq!(rt; seen, [(2, 1), (0, 1)]);
     assert_eq!(rt; share, (2, 1));
+    Ok(())
+}
+
+// Books a batch everywhere, and looks up ACG, CGT and AAA: how often each was counted. Then the sharing ends: the
+// numbers and the totals of the stripes, as they come.
+fn book_look_and_end<N: Books, R: Wait>(
+    rt: &R,
+    alloc: Global,
+    setup: &Setup,
+    sheet: Sheet,
+    batch: &Arc<Batch>,
+) -> Result<([u64; 3], Vec<(u32, u64)>), Fail>
+    requires name { sheet.table ≡ N.table }
+    requires stripes { sheet.plan.stripes ≡ stripe_count setup.now }
+{
+    if setup.rule().k().get() != 3 {
+        return Err(Fail::from("another setup"));
+    }
+    let tables = tables_of(alloc, setup)?;
+    let (stripes, mut share) = Stripes::<PlainCounts, N>::new(alloc, setup, tables, sheet)?;
+    book_batch(rt, alloc, &stripes, &mut share, batch)?;
+    let counts = [
+        stripes.look(rt, alloc, &mut share, Word(6))?.count(),
+        stripes.look(rt, alloc, &mut share, Word(27))?.count(),
+        stripes.look(rt, alloc, &mut share, Word(0))?.count(),
+    ];
+    let (stripes, _) = stripes.into_stripes(alloc, share)?;
+    let mut totals = Vec::new(alloc);
+    for stripe in &stripes {
+        totals.push((stripe.number(), stripe.total()))?;
+    }
+    Ok((counts, totals))
+}
+
+#[test]
+fn each_stripe_is_found_under_its_own_lock(rt: HostRuntime) -> Result<(), Fail> {
+    let alloc = rt.alloc();
+    let setup = setup_of(3, 4).ok_or("no setup")?;
+    let batches = batches_of(alloc, &setup, &reads_of(alloc, &[b"ACGT"])?, 8)?;
+    let batch = batches.first().ok_or("no batch")?;
+    let sheet = Sheet::new(alloc, setup.stripes(), 1)?;
+    let (counts, totals) = book_look_and_end::<Brand, _>(&rt, alloc, &setup, sheet, batch)?;
+    assert_eq!(rt; counts, [1, 1, 0]);
+    assert_eq!(rt;
+        totals.as_slice(),
+        [(0, 0), (1, 0), (2, 1), (3, 1)].as_slice()
+    );
     Ok(())
 }

@@ -1,19 +1,13 @@
-// Worked rows of setups, cuts and stripes.
+//! Worked rows of setups and cuts.
 ghost use Rattle.std.specs.Prelude.{◌≡◌, IfOk};
 ghost use Rattle.kc_stripe.specs.Setup.{key_bits};
 
-use crate::{BookFault, Cut, Setup, Stripe, cut_up};
+use crate::{Cut, Setup, Stripe, cut_up};
 use kc_fastx::SeqRead;
 use kc_hash::{Hash, Matrix};
-use kc_table::{Counts, LimitedCounts, PlainCounts, QuotientTable, TableFault};
-use kc_tally::Row;
-use kc_word::slow::base_count;
+use kc_table::PlainCounts;
 use kc_word::{Batch, K, Rule, Word, clean, cut};
-use rand_core::SeedableRng;
-use rand_core::utils::NextWord;
-use rand_xoshiro::SplitMix64;
-use std::alloc::{AllocError, Global};
-use std::process::Abort;
+use std::alloc::Global;
 use std::sync::Arc;
 use std::test::Fail;
 
@@ -63,7 +57,12 @@ pub(crate) fn cut_of(
 }
 
 // The cuts of the reads in stripe 0, in batches of so many positions.
-fn cuts_of(alloc: Global, setup: &Setup, texts: &[&[u8]], size: u64) -> Result<Vec<Cut>, Fail> {
+pub(crate) fn cuts_of(
+    alloc: Global,
+    setup: &Setup,
+    texts: &[&[u8]],
+    size: u64,
+) -> Result<Vec<Cut>, Fail> {
     let mut cuts = Vec::new(alloc);
     for batch in &batches_of(alloc, setup, &reads_of(alloc, texts)?, size)? {
         cuts.push(cut_of(alloc, setup, batch, 0)?)?;
@@ -72,7 +71,11 @@ fn cuts_of(alloc: Global, setup: &Setup, texts: &[&[u8]], size: u64) -> Result<V
 }
 
 // An empty stripe over a `BTreeMap`.
-fn plain_stripe(alloc: Global, setup: &Setup, number: u32) -> Result<Stripe<PlainCounts>, Fail> {
+pub(crate) fn plain_stripe(
+    alloc: Global,
+    setup: &Setup,
+    number: u32,
+) -> Result<Stripe<PlainCounts>, Fail> {
     if number >= setup.stripes() {
         return Err(Fail::from("no such stripe"));
     }
@@ -128,118 +131,6 @@ fn cuts_of_a_batch(rt: HostRuntime) -> Result<(), Fail> {
     Ok(())
 }
 
-// What a stripe of words of three bases holds, by its calls: no bin above the third is filled.
-#[derive(Drop)]
-struct Held<'a> {
-    // the numbers of the batches in the journal
-    journal: &'a [u64],
-    total: u64,
-    // the bins 1 to 3
-    bins: [u64; 3],
-    // the words whose count is not 0, each with its count
-    counts: &'a [(u64, u64)],
-}
-
-fn assert_held<C: Counts>(
-    rt: &impl Abort,
-    stripe: &Stripe<C>,
-    held: &Held<'_>,
-) -> Result<(), Fail> {
-    if stripe.setup().rule().k().get() != 3 {
-        return Err(Fail::from("another setup"));
-    }
-    assert_eq!(rt; stripe.journal().len(), held.journal.len());
-    for (batch, number) in stripe.journal().iter().zip(held.journal) {
-        assert_eq!(rt; batch.number(), *number);
-    }
-    assert_eq!(rt; stripe.total(), held.total);
-    assert_eq!(rt; [stripe.bin(1), stripe.bin(2), stripe.bin(3)], held.bins);
-    for word in 0..64 {
-        let mut want = 0;
-        for (counted, count) in held.counts {
-            if *counted == word {
-                want = *count;
-            }
-        }
-        assert_eq!(rt; stripe.count_of(Word(word)), want);
-    }
-    Ok(())
-}
-
-const NOTHING: Held<'static> = Held {
-    journal: &[],
-    total: 0,
-    bins: [0, 0, 0],
-    counts: &[],
-};
-
-// What a stripe of one stripe's setup with k 3 does: batch 0 has AAA twice, batch 1 once.
-fn is_booked_in_order<C: Counts>(
-    rt: &impl Abort,
-    alloc: Global,
-    stripe: &mut Stripe<C>,
-) -> Result<(), Fail> {
-    let setup = setup_of(3, 1).ok_or("no setup")?;
-    let texts: [&[u8]; 2] = [b"AAAA", b"AAA"];
-    let cuts = cuts_of(alloc, &setup, &texts, 2)?;
-    let [first, second] = cuts.as_slice() else {
-        return Err(Fail::from("other batches"));
-    };
-    let two = setup_of(3, 2).ok_or("no setup")?;
-    let others = cuts_of(alloc, &two, &texts, 2)?;
-    let stranger = others.last().ok_or("no batch")?;
-    let one = Held {
-        journal: &[0],
-        total: 2,
-        bins: [0, 1, 0],
-        counts: &[(0, 2)],
-    };
-    let both = Held {
-        journal: &[0, 1],
-        total: 3,
-        bins: [0, 0, 1],
-        counts: &[(0, 3)],
-    };
-    assert_held(rt, stripe, &NOTHING)?;
-    stripe.book(first)?;
-    assert_held(rt, stripe, &one)?;
-    assert!(rt; stripe.book(first) == Err(BookFault::Twice));
-    assert_held(rt, stripe, &one)?;
-    assert!(rt; stripe.book(stranger) == Err(BookFault::Stranger));
-    assert_held(rt, stripe, &one)?;
-    stripe.book(second)?;
-    assert_held(rt, stripe, &both)?;
-    assert!(rt; stripe.book(stranger) == Err(BookFault::Twice));
-    assert!(rt; stripe.book(first) == Err(BookFault::Twice));
-    assert_held(rt, stripe, &both)?;
-    let rows = stripe.rows(alloc)?;
-    assert_eq!(rt; rows.as_slice(), [Row { word: 0, count: 3 }].as_slice());
-    Ok(())
-}
-
-// An empty stripe over a quotient table with a slot for each key: all words of three bases in one stripe.
-fn quotient_stripe(alloc: Global) -> Result<Stripe<QuotientTable>, Fail> {
-    let setup = setup_of(3, 1).ok_or("no setup")?;
-    if setup.key_bits() != 6 || setup.stripes() != 1 {
-        return Err(Fail::from("another setup"));
-    }
-    let table = QuotientTable::new(alloc, 6, 6, 6)?;
-    let stripe = Stripe::new(alloc, &setup, 0, table)?;
-    Ok(stripe)
-}
-
-// The same over a `BTreeMap`.
-fn map_stripe(alloc: Global) -> Result<Stripe<PlainCounts>, Fail> {
-    plain_stripe(alloc, &setup_of(3, 1).ok_or("no setup")?, 0)
-}
-
-#[test]
-fn batches_are_booked_in_order(rt: HostRuntime) -> Result<(), Fail> {
-    let alloc = rt.alloc();
-    is_booked_in_order(&rt, alloc, &mut map_stripe(alloc)?)?;
-    is_booked_in_order(&rt, alloc, &mut quotient_stripe(alloc)?)
-}
-
 #[test]
 fn counts_of_words(rt: HostRuntime) -> Result<(), Fail> {
     let setup = setup_of(3, 4).ok_or("no setup")?;
@@ -258,208 +149,6 @@ fn counts_of_words(rt: HostRuntime) -> Result<(), Fail> {
     // ACG twice in this stripe, CGT in another, and GGG nowhere
     for (word, count) in [(6, 2), (27, 0), (42, 0)] {
         assert_eq!(rt; stripe.count_of(Word(word)), count);
-    }
-    Ok(())
-}
-
-#[test]
-fn a_full_table_refuses(rt: HostRuntime) -> Result<(), Fail> {
-    let alloc = rt.alloc();
-    let setup = setup_of(3, 1).ok_or("no setup")?;
-    let cuts = cuts_of(alloc, &setup, &[b"ACGTA", b"ACG"], 3)?;
-    let [three, one] = cuts.as_slice() else {
-        return Err(Fail::from("other batches"));
-    };
-    for (refusal, fault) in [
-        (TableFault::Full, BookFault::Full),
-        (TableFault::Memory, BookFault::Memory),
-    ] {
-        if setup.stripes() != 1 {
-            return Err(Fail::from("another setup"));
-        }
-        let table = LimitedCounts::new(alloc, setup.key_bits(), 2, refusal);
-        let mut stripe = Stripe::new(alloc, &setup, 0, table)?;
-        assert!(rt; stripe.book(three) == Err(fault));
-        assert_held(&rt, &stripe, &NOTHING)?;
-        assert_eq!(rt; stripe.rows(alloc)?.len(), 0);
-        stripe.book(one)?;
-        let held = Held {
-            journal: &[1],
-            total: 1,
-            bins: [1, 0, 0],
-            counts: &[(6, 1)],
-        };
-        assert_held(&rt, &stripe, &held)?;
-    }
-    Ok(())
-}
-
-// The same word 5,000 times, again 5,000 times, and 3 times.
-fn comes_to_the_last_bin<C: Counts>(
-    rt: &impl Abort,
-    alloc: Global,
-    stripe: &mut Stripe<C>,
-) -> Result<(), Fail> {
-    let setup = setup_of(3, 1).ok_or("no setup")?;
-    let mut bases = Vec::new(alloc);
-    for _ in 0..10_005 {
-        bases.push(b'A')?;
-    }
-    let mut bins = Vec::new(alloc);
-    for cut in &cuts_of(alloc, &setup, &[&bases], 5_000)? {
-        stripe.book(cut)?;
-        bins.push((stripe.bin(5_000), stripe.bin(10_000), stripe.bin(10_001)))?;
-    }
-    assert_eq!(rt;
-        bins.as_slice(),
-        [(1, 0, 0), (0, 1, 0), (0, 0, 1)].as_slice()
-    );
-    assert_eq!(rt; stripe.total(), 10_003);
-    Ok(())
-}
-
-#[test]
-fn the_last_bin(rt: HostRuntime) -> Result<(), Fail> {
-    let alloc = rt.alloc();
-    comes_to_the_last_bin(&rt, alloc, &mut map_stripe(alloc)?)?;
-    comes_to_the_last_bin(&rt, alloc, &mut quotient_stripe(alloc)?)
-}
-
-// Books the cut, again where memory is refused: the stripe is then as it was before.
-fn is_booked_again<C: Counts>(
-    rt: &impl Abort,
-    stripe: &mut Stripe<C>,
-    cut: &Cut,
-    before: &Held<'_>,
-) -> Result<(), Fail> {
-    if let Err(fault) = stripe.book(cut) {
-        assert_eq!(rt; fault, BookFault::Memory);
-        assert_held(rt, stripe, before)?;
-        stripe.book(cut)?;
-    }
-    Ok(())
-}
-
-// AAA, and the words of the text of 40 words.
-const ONCE: [u64; 41] = [
-    0, 1, 2, 3, 4, 5, 6, 7, 8, 9, 10, 11, 12, 13, 14, 15, 16, 17, 18, 19, 20, 21, 22, 24, 25, 28,
-    32, 33, 34, 35, 36, 37, 40, 44, 49, 50, 51, 52, 53, 56, 61,
-];
-
-// Books AAA, and then a batch of 40 other words, again where memory is refused.
-fn is_booked_at_last<C: Counts>(
-    rt: &impl Abort,
-    alloc: Global,
-    stripe: &mut Stripe<C>,
-) -> Result<(), Fail> {
-    let setup = setup_of(3, 1).ok_or("no setup")?;
-    let texts: [&[u8]; 2] = [b"AACAAGAATACCACGACTAGCAGGAGTATCATGATTCCCGCC", b"AAA"];
-    let cuts = cuts_of(alloc, &setup, &texts, 40)?;
-    let [forty, one] = cuts.as_slice() else {
-        return Err(Fail::from("other batches"));
-    };
-    let before = Held {
-        journal: &[1],
-        total: 1,
-        bins: [1, 0, 0],
-        counts: &[(0, 1)],
-    };
-    is_booked_again(rt, stripe, one, &NOTHING)?;
-    is_booked_again(rt, stripe, forty, &before)?;
-    let mut counts = Vec::new(alloc);
-    for word in ONCE {
-        counts.push((word, 1))?;
-    }
-    let after = Held {
-        journal: &[1, 0],
-        total: 41,
-        bins: [41, 0, 0],
-        counts: &counts,
-    };
-    assert_held(rt, stripe, &after)
-}
-
-// Run with each allocation refused in turn: `rt try --test --fail-alloc N`.
-#[test]
-fn a_refused_growth_leaves_the_stripe(rt: HostRuntime) -> Result<(), Fail> {
-    let alloc = rt.alloc();
-    is_booked_at_last(&rt, alloc, &mut map_stripe(alloc)?)?;
-    is_booked_at_last(&rt, alloc, &mut quotient_stripe(alloc)?)
-}
-
-// Rows of all stripes, in the order of the words.
-pub(crate) fn sorted_rows(
-    alloc: Global,
-    stripes: &[Stripe<PlainCounts>],
-) -> Result<Vec<(u64, u64)>, AllocError> {
-    let mut rows = Vec::new(alloc);
-    for stripe in stripes {
-        for row in &stripe.rows(alloc)? {
-            rows.push((row.word, row.count))?;
-        }
-    }
-    rows.sort_unstable_by_key(|row| row.0);
-    Ok(rows)
-}
-
-// Reads of random bases and Ns.
-pub(crate) fn random_reads(alloc: Global, random: &mut SplitMix64) -> Result<Vec<SeqRead>, Fail> {
-    let mut reads = Vec::new(alloc);
-    for _ in 0..40 {
-        let mut bases = Vec::new(alloc);
-        for _ in 0..random.next_word() % 50 {
-            bases.push(b"ACGTACGTN"[random.next_word() as usize % 9])?;
-        }
-        reads.push(SeqRead::new(bases, None).ok_or("no read")?)?;
-    }
-    Ok(reads)
-}
-
-#[test]
-fn stripes_hold_the_tally(rt: HostRuntime) -> Result<(), Fail> {
-    let alloc = rt.alloc();
-    let mut random = SplitMix64::seed_from_u64(11);
-    let k = K::new(3).ok_or("no length of a word")?;
-    let rule = Rule::new(k, true, b'!');
-    let setup = Setup::new(rule, Hash::seeded(6, 1), 8).ok_or("no setup")?;
-    let reads = random_reads(alloc, &mut random)?;
-    let Some(_) = base_count(&reads) else {
-        return Err(Fail::from("too many bases"));
-    };
-    let mut want = Vec::new(alloc);
-    for row in &kc_tally::slow::tally(alloc, &reads, &rule)? {
-        want.push((row.word, row.count))?;
-    }
-    let mut stripes = Vec::new(alloc);
-    for number in 0..8 {
-        stripes.push(plain_stripe(alloc, &setup, number)?)?;
-    }
-    let mut batches = batches_of(alloc, &setup, &reads, 7)?;
-    batches.sort_unstable_by_key(|batch| batch.number().wrapping_mul(0x9e37_79b9_7f4a_7c15));
-    for batch in &batches {
-        for (stripe, cut) in stripes.iter_mut().zip(cut_up(alloc, &setup, batch)?) {
-            stripe.book(&cut)?;
-        }
-    }
-    assert_eq!(rt; sorted_rows(alloc, &stripes)?.as_slice(), want.as_slice());
-    let mut total = 0u64;
-    for (_, count) in &want {
-        total = total.saturating_add(*count);
-    }
-    let mut booked = 0u64;
-    for stripe in &stripes {
-        booked = booked.saturating_add(stripe.total());
-    }
-    assert_eq!(rt; booked, total);
-    for bin in 1..9 {
-        let mut words = 0u64;
-        for stripe in &stripes {
-            words = words.saturating_add(stripe.bin(bin));
-        }
-        assert_eq!(rt;
-            words,
-            want.iter().filter(|row| row.1 == bin).count() as u64
-        );
     }
     Ok(())
 }

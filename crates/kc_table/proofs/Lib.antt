@@ -5,5 +5,6 @@ pub mod Places
 pub mod ReprobingSteps
 pub mod Resizing
 pub mod SlotSteps
+pub mod SlotWords
 pub mod Soundness
 pub mod Writing

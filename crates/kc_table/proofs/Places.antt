@@ -1,5 +1,7 @@
 -- Places and keys: a slot, a number of reprobes and a remainder give one key, and a key's places differ.
-use Rattle.std.proofs.Common.{◌≡◌, ◌∙◌, ℕ, zero, suc, ◌+◌, ◌-◌, ◌*◌, ◌/◌, ◌%◌, ◌^◌, ◌<◌, ◌≤◌, Bool, true, false, ◌&&◌, nat_eq, min, unwrap_or, refl, sym, ap, arith, mod-lt, mod-eq_of_lt, suc-mul, add-zero, inl, inr}
+use Rattle.std.proofs.Common.{◌≡◌, ◌∙◌, ℕ, zero, suc, ◌+◌, ◌-◌, ◌*◌, ◌/◌, ◌%◌, ◌^◌, ◌<◌, ◌≤◌, Bool, true, false, ◌&&◌}
+use Rattle.std.proofs.Common.{nat_eq, min, unwrap_or, refl, sym, ap, arith, mod-lt, mod-eq_of_lt, suc-mul, add-zero}
+use Rattle.std.proofs.Common.{inl, inr}
 use Rattle.std.proofs.Math.Nat.{mod-add-mod, add-mul-mod_self_left, add-mul-div_right, mod-mod, min-le_left}
 use Rattle.std.specs.List.{find, range_with_len}
 use Rattle.std.proofs.Math.Pow.{mod-mod-pow}
@@ -16,12 +18,14 @@ triangle-suc i =
 
 -- the places are walked by growing steps
 pub place_step : (key i log : ℕ) → (place key (i - 1) log + i) % 2 ^ log ≡ place key i log
-place_step key zero log = mod-add-mod (key % 2 ^ log + triangle 0) (2 ^ log) 0 ∙ ap (λ n. n % 2 ^ log) (add-zero (key % 2 ^ log + triangle 0))
+place_step key zero log =
+    mod-add-mod (key % 2 ^ log + triangle 0) (2 ^ log) 0 ∙ ap (λ n. n % 2 ^ log) (add-zero (key % 2 ^ log + triangle 0))
 place_step key (suc i) log =
     let before : suc i - 1 ≡ i = omega arith in
     let next : triangle (suc i) ≡ triangle i + suc i = ap triangle (omega arith) ∙ triangle-suc i ∙ omega arith in
     let sum : key % 2 ^ log + triangle i + suc i ≡ key % 2 ^ log + triangle (suc i) = omega (arith, next) in
-    ap (λ n. (place key n log + suc i) % 2 ^ log) before ∙ mod-add-mod (key % 2 ^ log + triangle i) (2 ^ log) (suc i) ∙ ap (λ n. n % 2 ^ log) sum
+    ap (λ n. (place key n log + suc i) % 2 ^ log) before ∙ mod-add-mod (key % 2 ^ log + triangle i) (2 ^ log) (suc i)
+    ∙ ap (λ n. n % 2 ^ log) sum
 
 pub place-lt : (key i log : ℕ) → place key i log < 2 ^ log
 place-lt key i log = mod-lt _ (pow_pos log)
@@ -45,7 +49,8 @@ place_back s t m pos below =
 pub place-key_in : (log s tag : ℕ) → s < 2 ^ log → place (key_in log s tag) (reprobe_of tag) log ≡ s
 place-key_in log s tag below =
     let t = triangle (reprobe_of tag) in
-    ap (λ h. (h + t) % 2 ^ log) (mod-mul-add (tag / 64) (2 ^ log) ((s + (2 ^ log - 1) * t) % 2 ^ log) (mod-lt _ (pow_pos log)))
+    ap (λ h. (h + t) % 2 ^ log)
+    (mod-mul-add (tag / 64) (2 ^ log) ((s + (2 ^ log - 1) * t) % 2 ^ log) (mod-lt _ (pow_pos log)))
     ∙ place_back s t (2 ^ log) (pow_pos log) below
 
 pub tag_of-mod : (log key i : ℕ) → i < 63 → tag_of log key i % 64 ≡ i + 1
@@ -61,14 +66,18 @@ reprobe_of-tag_of log key i small = ap (λ n. n - 1) (tag_of-mod log key i small
 pub key_in-tag_of : (key i log : ℕ) → i < 63 → key_in log (place key i log) (tag_of log key i) ≡ key
 key_in-tag_of key i log small =
     let p = place key i log in
-    ap (λ r. r * 2 ^ log + (p + (2 ^ log - 1) * triangle (reprobe_of (tag_of log key i))) % 2 ^ log) (tag_of-div log key i small)
+    ap (λ r. r * 2 ^ log + (p + (2 ^ log - 1) * triangle (reprobe_of (tag_of log key i))) % 2 ^ log)
+    (tag_of-div log key i small)
     ∙ ap (λ n. key / 2 ^ log * 2 ^ log + (p + (2 ^ log - 1) * triangle n) % 2 ^ log) (reprobe_of-tag_of log key i small)
-    ∙ ap (λ h. key / 2 ^ log * 2 ^ log + h) (home_back (key % 2 ^ log) (triangle i) (2 ^ log) (pow_pos log) (mod-lt _ (pow_pos log)))
+    ∙ ap (λ h. key / 2 ^ log * 2 ^ log + h)
+    (home_back (key % 2 ^ log) (triangle i) (2 ^ log) (pow_pos log) (mod-lt _ (pow_pos log)))
     ∙ div-add-mod' key (2 ^ log)
 
 pub tag_of-key_in : (log s tag : ℕ) → 1 ≤ tag % 64 → tag_of log (key_in log s tag) (reprobe_of tag) ≡ tag
 tag_of-key_in log s tag probed =
-    ap (λ r. r * 64 + (reprobe_of tag + 1)) (div-mul-add (tag / 64) (2 ^ log) ((s + (2 ^ log - 1) * triangle (reprobe_of tag)) % 2 ^ log) (mod-lt _ (pow_pos log)))
+    ap (λ r. r * 64 + (reprobe_of tag + 1))
+    (div-mul-add (tag / 64) (2 ^ log) ((s + (2 ^ log - 1) * triangle (reprobe_of tag)) % 2 ^ log)
+    (mod-lt _ (pow_pos log)))
     ∙ omega (arith, div-add-mod' tag 64)
 
 -- for which i below 64 the numbers up to i add up to t, modulo m
@@ -100,10 +109,12 @@ from_all_below p (suc n) all i below =
 triangles_differ : (m n : ℕ) → all_below (λ i. nat_eq (turn m (triangle i % m)) i) n ≡ true
     → (i j : ℕ) → i < n → j < n → triangle i % m ≡ triangle j % m → i ≡ j
 triangles_differ m n all i j si sj same =
-    let at : (i : ℕ) → i < n → turn m (triangle i % m) ≡ i = λ i small. eqb-true _ _ (from_all_below (λ i. nat_eq (turn m (triangle i % m)) i) n all i small) in
+    let at : (i : ℕ) → i < n → turn m (triangle i % m) ≡ i =
+    λ i small. eqb-true _ _ (from_all_below (λ i. nat_eq (turn m (triangle i % m)) i) n all i small) in
     sym (at i si) ∙ ap (turn m) same ∙ at j sj
 
-all_turned : (log : ℕ) → log ≤ 6 → all_below (λ i. nat_eq (turn (2 ^ log) (triangle i % 2 ^ log)) i) (min 63 (2 ^ log)) ≡ true
+all_turned : (log : ℕ) → log ≤ 6
+    → all_below (λ i. nat_eq (turn (2 ^ log) (triangle i % 2 ^ log)) i) (min 63 (2 ^ log)) ≡ true
 unfolding all_below turn
 all_turned zero few = refl
 all_turned (suc zero) few = refl
@@ -134,17 +145,22 @@ differ_by : (key i j log l : ℕ) → AreSpread l log i j → place key i log �
 differ_by key i j log l spread same =
     let narrow : l ≤ log = spread.narrow in
     let split : log - l + l ≡ log = omega arith in
-    let low : (n : ℕ) → n % 2 ^ log % 2 ^ l ≡ n % 2 ^ l = λ n. ap (λ k. n % 2 ^ k % 2 ^ l) (sym split) ∙ mod-mod-pow n (log - l) l in
+    let low : (n : ℕ) → n % 2 ^ log % 2 ^ l ≡ n % 2 ^ l =
+    λ n. ap (λ k. n % 2 ^ k % 2 ^ l) (sym split) ∙ mod-mod-pow n (log - l) l in
     let h = key % 2 ^ log in
-    let lows : (h + triangle i) % 2 ^ l ≡ (h + triangle j) % 2 ^ l = sym (low (h + triangle i)) ∙ ap (λ n. n % 2 ^ l) same ∙ low (h + triangle j) in
-    triangles_differ (2 ^ l) (min 63 (2 ^ l)) (all_turned l spread.few) i j spread.first spread.second (cancelled (2 ^ l) h (triangle i) (triangle j) (pow_pos l) lows)
+    let lows : (h + triangle i) % 2 ^ l ≡ (h + triangle j) % 2 ^ l =
+    sym (low (h + triangle i)) ∙ ap (λ n. n % 2 ^ l) same ∙ low (h + triangle j) in
+    triangles_differ (2 ^ l) (min 63 (2 ^ l)) (all_turned l spread.few) i j spread.first spread.second
+    (cancelled (2 ^ l) h (triangle i) (triangle j) (pow_pos l) lows)
 
 -- the places of a key differ, as many as there are slots for
-pub places_differ : (key i j log : ℕ) → i < different_places log → j < different_places log → place key i log ≡ place key j log → i ≡ j
+pub places_differ : (key i j log : ℕ) → i < different_places log → j < different_places log
+    → place key i log ≡ place key j log → i ≡ j
 places_differ key i j log si sj same =
     let most : different_places log ≤ 63 = min-le_left 63 (2 ^ log) in
     elim (cases_lt 6 log) [
-      | inl large ↦ differ_by key i j log 6 (record { few = omega arith; narrow = omega arith; first = omega arith; second = omega arith }) same
+      | inl large ↦ differ_by key i j log 6
+          (record { few = omega arith; narrow = omega arith; first = omega arith; second = omega arith }) same
       | inr few ↦ differ_by key i j log log (record { few = few; narrow = omega arith; first = si; second = sj }) same
     ]
 

@@ -1,86 +1,89 @@
 -- What a slot that is written changes in a table of fixed size.
-use Rattle.std.proofs.Common.{◌≡◌, ◌≢◌, ◌∙◌, ℕ, ◌+◌, ◌^◌, ◌<◌, List, length, set, Some, get_or, sym, ap, subst, inl, inr, zero-add}
+use Rattle.std.proofs.Common.{◌≡◌, ◌≢◌, ◌∙◌, ℕ, ◌^◌, ◌<◌, List, length, set, Some, sym, ap, subst, inl, inr, zero-add}
 use Rattle.std.specs.FinMap.{insert}
 use Rattle.std.proofs.lemmas.Bool.{cases_eq}
-use Rattle.std.proofs.lemmas.List.{get_or-set_same, get_or-set_other, get_or_read}
-use Rattle.kc_table.specs.declared.slots.Slot.{Slot}
 use Rattle.kc_table.specs.declared.slots.Slots.{Slots}
 use Rattle.kc_table.specs.QuotientTable.{counts_in}
 use Rattle.kc_table.specs.Reprobing.{IsFound, IsFree}
-use Rattle.kc_table.specs.Slot.{IsSound, key_in, empty_slot, tag_at, slot_count, content_of, contents_of, counts_of}
+use Rattle.kc_table.specs.Slot.{Slot, IsSound, key_in, tag_at, slot_count, content_of, contents_of}
 use Rattle.kc_table.proofs.Contents.{counts_in-set}
 use Rattle.kc_table.proofs.Places.{place-lt}
-use Rattle.kc_table.proofs.SlotSteps.{length-contents_from, contents_from-set, content_of_some, within_slots, empty_at, slots_apart, holds_found, nowhere_free}
+use Rattle.kc_table.proofs.SlotSteps.{length-contents_from, contents_from-set, content_of_some, within_slots, empty_at}
+use Rattle.kc_table.proofs.SlotSteps.{slots_apart, holds_found, nowhere_free}
+use Rattle.kc_table.proofs.SlotWords.{tag_at-set_same, tag_at-set_other}
 use Rattle.kc_table.proofs.Soundness.{found_some, found_key, sound_put, sound_same}
 
--- the tags after a slot is written
-tag_at-set_same : (slots : List Slot) (s : ℕ) (slot : Slot) → s < length slots → tag_at (set slots s slot) s ≡ slot.tag
-tag_at-set_same slots s slot below = ap (λ (r : Slot). r.tag) (get_or-set_same slots s slot empty_slot below)
-
-tag_at-set_other : (slots : List Slot) (s : ℕ) (slot : Slot) (t : ℕ) → t ≢ s → tag_at (set slots s slot) t ≡ tag_at slots t
-tag_at-set_other slots s slot t apart = ap (λ (r : Slot). r.tag) (get_or-set_other slots s t slot empty_slot apart)
-
-contents_of-set : (log : ℕ) (slots : List Slot) (s : ℕ) (slot : Slot) (k : ℕ) → slot.tag ≢ 0 → key_in log s slot.tag ≡ k → contents_of log (set slots s slot) ≡ set (contents_of log slots) s (Some (k, slot.count))
+contents_of-set : (log : ℕ) (slots : List Slot) (s : ℕ) (slot : Slot) (k : ℕ) → slot.tag ≢ 0 → key_in log s slot.tag ≡ k
+    → contents_of log (set slots s slot) ≡ set (contents_of log slots) s (Some (k, slot.count))
 contents_of-set log slots s slot k some key =
     contents_from-set log 0 slots s slot ∙ ap (λ n. set (contents_of log slots) s (content_of log n slot)) (zero-add s)
     ∙ ap (set (contents_of log slots) s) (content_of_some log s slot some ∙ ap (λ x. Some (x, slot.count)) key)
 
 module _ (table : Slots) (key index : ℕ) where
   -- a new key is put at its first free place
-  module _ (new count : ℕ) (below : key < 2 ^ table.bits) (free : IsFree table.log (tag_at table.slots.items) key index new) where
+  module _ (new count : ℕ) (below : key < 2 ^ table.bits)
+      (free : IsFree table.log (tag_at table.slots.items) key index new) where
     fits : index < length table.slots.items
-    fits = subst (λ n. index < n) (sym table.sized) (subst (λ s. s < 2 ^ table.log) (sym free.here) (place-lt key free.reprobe table.log))
+    fits =
+        subst (λ n. index < n) (sym table.sized)
+        (subst (λ s. s < 2 ^ table.log) (sym free.here) (place-lt key free.reprobe table.log))
 
-    pub sound_slot_put : IsSound table.bits table.log (tag_at (set table.slots.items index (record { tag = new; count = count })))
+    pub sound_slot_put : IsSound table.bits table.log
+        (tag_at (set table.slots.items index (record { tag = new; count = count })))
     sound_slot_put =
-        sound_put table.sound key index new below free (tag_at (set table.slots.items index (record { tag = new; count = count })))
-        (tag_at-set_same table.slots.items index (record { tag = new; count = count }) fits) (tag_at-set_other table.slots.items index (record { tag = new; count = count }))
+        sound_put table.sound key index new below free
+        (tag_at (set table.slots.items index (record { tag = new; count = count })))
+        (tag_at-set_same table.slots.items index (record { tag = new; count = count }) fits)
+        (tag_at-set_other table.slots.items index (record { tag = new; count = count }))
 
-    pub counts_slot_put : counts_in (contents_of table.log (set table.slots.items index (record { tag = new; count = count }))) ≡ insert (counts_in (contents_of table.log table.slots.items)) key count
+    pub counts_slot_put : counts_in
+        (contents_of table.log (set table.slots.items index (record { tag = new; count = count })))
+        ≡ insert (counts_in (contents_of table.log table.slots.items)) key count
     counts_slot_put =
-        let found : IsFound table.log (tag_at (set table.slots.items index (record { tag = new; count = count }))) key index = record {
+        let found : IsFound table.log (tag_at (set table.slots.items index (record { tag = new; count = count }))) key
+        index = record {
           reprobe = free.reprobe;
           small = free.small;
           here = free.here;
           is = tag_at-set_same table.slots.items index (record { tag = new; count = count }) fits ∙ free.is;
         } in
-        let after : tag_at (set table.slots.items index (record { tag = new; count = count })) index ≡ new = tag_at-set_same table.slots.items index (record { tag = new; count = count }) fits in
+        let after : tag_at (set table.slots.items index (record { tag = new; count = count })) index ≡ new =
+        tag_at-set_same table.slots.items index (record { tag = new; count = count }) fits in
         ap counts_in (contents_of-set table.log table.slots.items index (record { tag = new; count = count }) key
         (λ none. found_some sound_slot_put key index found (after ∙ none))
         (ap (key_in table.log index) (sym after) ∙ found_key sound_slot_put key index found))
-        ∙ counts_in-set (contents_of table.log table.slots.items) index key count (subst (λ n. index < n) (sym (length-contents_from table.log 0 table.slots.items)) fits)
-        (inl (empty_at table.log table.slots.items index fits free.empty)) (λ t m apart held. nowhere_free table.slots.items table.sound key index new free t m held)
+        ∙ counts_in-set (contents_of table.log table.slots.items) index key count
+        (subst (λ n. index < n) (sym (length-contents_from table.log 0 table.slots.items)) fits)
+        (inl (empty_at table.log table.slots.items index fits free.empty))
+        (λ t m apart held. nowhere_free table.slots.items table.sound key index new free t m held)
 
   -- the count of a stored key is written
   module _ (count : ℕ) (found : IsFound table.log (tag_at table.slots.items) key index) where
-    pub sound_slot_count_put : IsSound table.bits table.log (tag_at (set table.slots.items index (record { tag = tag_at table.slots.items index; count = count })))
+    pub sound_slot_count_put : IsSound table.bits table.log
+        (tag_at (set table.slots.items index (record { tag = tag_at table.slots.items index; count = count })))
     sound_slot_count_put =
         let slot : Slot = record { tag = tag_at table.slots.items index; count = count } in
         sound_same table.sound (tag_at (set table.slots.items index slot)) (λ s. elim (cases_eq s index) [
-          | inl same ↦ ap (tag_at (set table.slots.items index slot)) same ∙ tag_at-set_same table.slots.items index slot (within_slots table.slots.items index (found_some table.sound key index found)) ∙ ap (tag_at table.slots.items) (sym same)
+          | inl same ↦ ap (tag_at (set table.slots.items index slot)) same
+              ∙ tag_at-set_same table.slots.items index slot
+              (within_slots table.slots.items index (found_some table.sound key index found))
+              ∙ ap (tag_at table.slots.items) (sym same)
           | inr apart ↦ tag_at-set_other table.slots.items index slot s apart
         ])
 
-    pub counts_slot_count_put : counts_in (contents_of table.log (set table.slots.items index (record { tag = tag_at table.slots.items index; count = count }))) ≡ insert (counts_in (contents_of table.log table.slots.items)) key count
+    pub counts_slot_count_put : counts_in
+        (contents_of table.log
+        (set table.slots.items index (record { tag = tag_at table.slots.items index; count = count })))
+        ≡ insert (counts_in (contents_of table.log table.slots.items)) key count
     counts_slot_count_put =
         let some = found_some table.sound key index found in
         let held = holds_found table.slots.items table.sound key index found in
-        ap counts_in (contents_of-set table.log table.slots.items index (record { tag = tag_at table.slots.items index; count = count }) key some (found_key table.sound key index found))
-        ∙ counts_in-set (contents_of table.log table.slots.items) index key count (subst (λ n. index < n) (sym (length-contents_from table.log 0 table.slots.items)) (within_slots table.slots.items index some))
-        (inr (slot_count table.slots.items index, held)) (λ t m apart other. apart (slots_apart table.slots.items table.sound t index key m (slot_count table.slots.items index) other held))
-
-  -- the slot of a found key, as it was read, with its count one more
-  module _ (found : IsFound table.log (tag_at table.slots.items) key index) (slot : Slot) (read : slot ≡ get_or table.slots.items index slot) where
-    at : slot ≡ get_or table.slots.items index empty_slot
-    at = get_or_read table.slots.items index slot (within_slots table.slots.items index (found_some table.sound key index found)) read empty_slot
-
-    pub sound_slot_counted : IsSound table.bits table.log (tag_at (set table.slots.items index (record { tag = slot.tag; count = slot.count + 1 })))
-    sound_slot_counted =
-        subst (λ (r : Slot). IsSound table.bits table.log (tag_at (set table.slots.items index (record { tag = r.tag; count = r.count + 1 })))) (sym at)
-        (sound_slot_count_put (slot_count table.slots.items index + 1) found)
-
-    pub counts_slot_counted :
-        counts_of table.log (set table.slots.items index (record { tag = slot.tag; count = slot.count + 1 })) ≡ insert (counts_of table.log table.slots.items) key (slot_count table.slots.items index + 1)
-    counts_slot_counted =
-        ap (λ (r : Slot). counts_of table.log (set table.slots.items index (record { tag = r.tag; count = r.count + 1 }))) at
-        ∙ counts_slot_count_put (slot_count table.slots.items index + 1) found
+        ap counts_in (contents_of-set table.log table.slots.items index
+        (record { tag = tag_at table.slots.items index; count = count }) key some
+        (found_key table.sound key index found))
+        ∙ counts_in-set (contents_of table.log table.slots.items) index key count
+        (subst (λ n. index < n) (sym (length-contents_from table.log 0 table.slots.items))
+        (within_slots table.slots.items index some))
+        (inr (slot_count table.slots.items index, held))
+        (λ t m apart other. apart
+        (slots_apart table.slots.items table.sound t index key m (slot_count table.slots.items index) other held))

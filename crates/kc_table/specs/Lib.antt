@@ -1,5 +1,6 @@
 pub mod Counts
 pub mod LimitedCounts
+pub mod Packing
 pub mod PlainCounts
 pub mod QuotientTable
 pub mod Reprobing

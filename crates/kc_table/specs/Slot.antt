@@ -1,7 +1,6 @@
 -- What the slots of a table hold, and what their tags keep.
 use Rattle.std.specs.Prelude.{◌≡◌, ◌≢◌, refl, ℕ, ◌+◌, ◌-◌, ◌*◌, ◌/◌, ◌%◌, ◌^◌, ◌<◌, ◌≤◌, ◌==◌}
 use Rattle.std.specs.Prelude.{if◌then◌else◌, List, [], ◌∷◌, Option, Some, None, slice_index_or}
-use Rattle.kc_table.specs.declared.slots.Slot.{Slot}
 use Rattle.kc_table.specs.Counts.{KeyCounts}
 use Rattle.kc_table.specs.QuotientTable.{SlotList, counts_in}
 use Rattle.kc_table.specs.Reprobing.{triangle, place, reprobe_of, tag_of}
@@ -16,6 +15,11 @@ key_in log index tag = tag / tag_step * 2 ^ log + (index + (2 ^ log - 1) * trian
 slot_rows :
     (tag_of 8 773 3 ≡ 196) × (reprobe_of 196 ≡ 3) × (key_in 8 11 196 ≡ 773) × (key_in 8 2 (tag_of 8 255 2) ≡ 255)
 slot_rows = (refl, refl, refl, refl)
+
+-- a slot: its tag, which is 0 where the slot is empty, and the count of its key
+pub record Slot : Type 0 where
+  pub tag : ℕ
+  pub count : ℕ
 
 abbrev pub empty_slot : Slot
 empty_slot = record { tag = 0; count = 0 }

@@ -20,11 +20,13 @@
 mod counts;
 mod fault;
 mod limited;
+mod packed;
 mod plain;
 mod quotient;
 mod reprobing;
 mod sizes;
 mod slots;
+mod tag;
 
 pub use counts::Counts;
 pub use fault::TableFault;

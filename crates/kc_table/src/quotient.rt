@@ -16,8 +16,9 @@ use kc_base::Counter;
 use std::alloc::{AllocError, Global};
 use std::marker::Model;
 
-/// The map as a table of 2^log slots, which grows up to 2^max_log. A slot holds a tag, which is a key's remainder and
-/// its number of reprobes, and the key's count; the slot's index gives the rest of the key.
+/// The map as a table of 2^log slots, which grows up to 2^max_log. A slot is a word that holds a tag, which is a key's
+/// remainder and its number of reprobes, and the low bits of the key's count; the slot's index gives the rest of the
+/// key, and the count's high bits stand apart.
 #[derive(Drop)]
 pub struct QuotientTable {
     alloc: Global,
@@ -158,7 +159,7 @@ impl Counts for QuotientTable {
     #[inline]
     fn get(&self, key: u64) -> u64 {
         match self.find(key, &mut Counter::zero()) {
-            Some(place) => self.slots.slots[place as usize].count,
+            Some(place) => self.slots.slots.count(place as usize),
             None => 0,
         }
     }

@@ -1,42 +1,33 @@
 //! A table of fixed size, whose slots hold a key's remainder, its number of reprobes and its count.
 ghost use Rattle.std.specs.Prelude.{◌≡◌, ◌≢◌, ℕ, ◌+◌, ◌-◌, ◌<◌, ◌≤◌, ◌^◌, length, true, false, None};
-ghost use Rattle.std.specs.Prelude.{IfOk, IfSome, IfNone, filter, nat_lt};
+ghost use Rattle.std.specs.Prelude.{IfOk, IfSome, IfNone};
 ghost use Rattle.std.specs.FinMap.{empty, insert, get};
-ghost use Rattle.kc_table.specs.QuotientTable.{entries_in, HasStoredCrowd, MayBeTooSmall};
+ghost use Rattle.kc_table.specs.QuotientTable.{Holds, HasStoredCrowd, MayBeTooSmall};
 ghost use Rattle.kc_table.specs.Reprobing.{IsFound, IsFree, IsOut, IsReprobing};
 ghost use Rattle.kc_table.specs.Sizes.{most_bits, most_log, remainder_bits, count_bits};
-ghost use Rattle.kc_table.specs.Slot.{key_in, IsSound, tag_at, contents_of};
+ghost use Rattle.kc_table.specs.Slot.{key_in, IsSound, tag_at};
 
 use crate::fault::TableFault;
+use crate::packed::PackedSlots;
 use crate::reprobing::Reprobing;
-use crate::sizes::{PLACES, TAG_STEP};
+use crate::sizes::{PLACES, REMAINDER_BITS};
+use crate::tag::Tag;
 use kc_base::Counter;
 use std::alloc::{AllocError, Global};
 
-/// A slot. The tag is 0 where the slot is empty; else it is the key's remainder times `TAG_STEP` and one more than
-/// its number of reprobes.
-#[derive(Clone, Copy)]
-pub(crate) struct Slot {
-    pub tag: u64,
-    pub count: u64,
-}
-
-/// A table of 2^log slots for keys of so many bits.
+/// A table of 2^log slots for keys of so many bits. The low bits of a count have what the tag leaves of a slot's word.
 #[derive(Drop)]
 pub(crate) struct Slots {
     pub bits: u32,
     pub log: u32,
-    pub slots: Vec<Slot>,
+    pub slots: PackedSlots,
     ghost sized: { length slots.items ≡ 2 ^ log },
+    ghost shared: { bits + slots.low ≡ log + remainder_bits },
     ghost sound: { IsSound bits log (tag_at slots.items) },
 }
 
-impl Slot {
-    const EMPTY: Slot = Slot { tag: 0, count: 0 };
-}
-
 impl Slots {
-    ghost use Rattle.kc_table.specs.Slots.{key_counts, slot_tags, slot_counts};
+    ghost use Rattle.kc_table.specs.Slots.{key_counts, slot_list, slot_tags, slot_counts, counted_entries};
 
     /// A table whose slots are empty.
     pub fn empty(alloc: Global, bits: u32, log: u32) -> Result<Slots, AllocError>
@@ -48,19 +39,19 @@ impl Slots {
         ensures log { IfOk result (λ t. t.log ≡ log) }
         ensures empty { IfOk result (λ t. key_counts t ≡ empty) }
     {
-        let slots = vec![in alloc; Slot::EMPTY; 1 << log]?;
+        let slots = PackedSlots::empty(alloc, REMAINDER_BITS + log - bits, 1 << log)?;
         Ok(Slots { bits, log, slots })
     }
 
     /// The tag in a slot; the one way in which reprobing reads slots.
     #[inline(always)]
-    fn read(&self, index: usize, steps: &mut Counter) -> u64
+    fn read(&self, index: usize, steps: &mut Counter) -> Tag
         requires { index < 2 ^ self.now.log }
         ensures tag { result ≡ slot_tags self.now index }
         ensures counted { steps.new.count ≡ steps.old.count + 1 }
     {
         steps.tick();
-        self.slots[index].tag
+        self.slots.tag(index)
     }
 
     /// Walks over the key's places up to the key itself or a free one. A slot is never emptied, so
@@ -71,16 +62,16 @@ impl Slots {
         ensures { IsReprobing self.now.log (slot_tags self.now) key (steps.new.count - steps.old.count) result }
     {
         let mask = self.slots.len() - 1;
-        let remainder = (key >> self.log) * TAG_STEP;
+        let remainder = key >> self.log;
         let mut place = key as usize & mask;
         for i in 0..PLACES {
             place = (place + i) & mask;
-            let wanted = remainder + (i as u64 + 1);
+            let wanted = Tag::of(remainder, i);
             let tag = self.read(place, steps);
             if tag == wanted {
                 return Reprobing::Found { place };
             }
-            if tag == 0 {
+            if tag.is_empty() {
                 return Reprobing::Free { place, tag: wanted };
             }
         }
@@ -89,14 +80,14 @@ impl Slots {
 
     /// Puts a new key at its first free place.
     #[inline(always)]
-    pub fn put(&mut self, key: u64, place: usize, tag: u64, count: u64)
+    pub fn put(&mut self, key: u64, place: usize, tag: Tag, count: u64)
         requires in_range { key < 2 ^ self.old.bits }
         requires free { IsFree self.old.log (slot_tags self.old) key place tag }
         ensures bits { self.new.bits ≡ self.old.bits }
         ensures log { self.new.log ≡ self.old.log }
         ensures put { key_counts self.new ≡ insert (key_counts self.old) key count }
     {
-        self.slots[place] = Slot { tag, count };
+        self.slots.put(place, tag, count);
     }
 
     /// Adds one to the count of the key in this slot, and tells the new count.
@@ -109,29 +100,23 @@ impl Slots {
         ensures told { result ≡ slot_counts self.old place + 1 }
         ensures counted { key_counts self.new ≡ insert (key_counts self.old) key (slot_counts self.old place + 1) }
     {
-        let slot = self.slots[place];
-        let count = slot.count + 1;
-        self.slots[place] = Slot {
-            tag: slot.tag,
-            count,
-        };
-        count
+        self.slots.add_one(place)
     }
 
     /// The key in a slot, by its remainder and the home that has this slot for its number of reprobes.
     #[inline(always)]
-    pub fn key_at(&self, index: usize, tag: u64) -> u64
+    pub fn key_at(&self, index: usize, tag: Tag) -> u64
         requires tag { tag ≡ slot_tags self.now index }
         requires some { tag ≢ 0 }
         ensures key { result ≡ key_in self.now.log index tag }
         ensures in_range { result < 2 ^ self.now.bits }
     {
         let mask = self.slots.len() - 1;
-        let reprobe = (tag % TAG_STEP) as usize - 1;
-        let turn = reprobe * (reprobe + 1) / 2;
+        let reprobes = tag.reprobes();
+        let turn = reprobes * (reprobes + 1) / 2;
         // To step back by `turn` round the table is to go forward by `mask` times as much.
         let home = (index + mask * turn) & mask;
-        (tag / TAG_STEP << self.log) + home as u64
+        (tag.remainder() << self.log) + home as u64
     }
 
     /// Stores a key that is not stored yet, unless its places are taken.
@@ -167,12 +152,12 @@ impl Slots {
     {
         let mut table = Slots::empty(alloc, self.bits, log)?;
         for old_index in 0..self.slots.len() {
-            let slot = self.slots[old_index];
-            if slot.tag == 0 {
+            let tag = self.slots.tag(old_index);
+            if tag.is_empty() {
                 continue;
             }
-            let key = self.key_at(old_index, slot.tag);
-            if !table.take(key, slot.count) {
+            let key = self.key_at(old_index, tag);
+            if !table.take(key, self.slots.count(old_index)) {
                 return Ok(None);
             }
         }
@@ -210,22 +195,49 @@ impl Slots {
         Err(TableFault::Full)
     }
 
-    /// Each key whose count is at least 1, with its count.
+    /// Each key whose count is at least 1, with its count. The room for them is asked for once.
     pub fn entries(&self, alloc: Global) -> Result<Vec<(u64, u64)>, AllocError>
-        ensures { IfOk result (λ v. v.items
-            ≡ filter (λ e. nat_lt 0 e.1) (entries_in (contents_of self.now.log self.now.slots.items))) }
+        ensures { IfOk result (λ v. v.items ≡ counted_entries self.now) }
     {
-        let mut entries = Vec::new(alloc);
+        let mut entries = Vec::with_capacity(alloc, self.counted())?;
         for index in 0..self.slots.len() {
-            let slot = self.slots[index];
-            if slot.tag == 0 {
+            let Some(entry) = self.entry(index) else {
                 continue;
-            }
-            if slot.count == 0 {
-                continue;
-            }
-            entries.push((self.key_at(index, slot.tag), slot.count))?;
+            };
+            entries.push_reserved(entry);
         }
         Ok(entries)
+    }
+
+    // How many keys have a count of at least 1.
+    fn counted(&self) -> usize
+        ensures { result ≡ length (counted_entries self.now) }
+    {
+        let mut counted = 0;
+        for index in 0..self.slots.len() {
+            let Some(_) = self.entry(index) else {
+                continue;
+            };
+            counted += 1;
+        }
+        counted
+    }
+
+    // The key in a slot and its count, where that is at least 1.
+    #[inline(always)]
+    fn entry(&self, index: usize) -> Option<(u64, u64)>
+        requires { index < 2 ^ self.now.log }
+        ensures some { IfSome result (λ e. Holds (slot_list self.now) index e.0 e.1 × (1 ≤ e.1)) }
+        ensures none { IfNone result ((key count : ℕ) → Holds (slot_list self.now) index key count → count ≡ 0) }
+    {
+        let tag = self.slots.tag(index);
+        if tag.is_empty() {
+            return None;
+        }
+        let count = self.slots.count(index);
+        if count == 0 {
+            return None;
+        }
+        Some((self.key_at(index, tag), count))
     }
 }

@@ -175,6 +175,84 @@ fn the_longest_remainder_is_kept(rt: HostRuntime) -> Result<(), Fail> {
     Ok(())
 }
 
+// Counts the key so many times.
+fn count_times(
+    rt: &impl Abort,
+    table: &mut QuotientTable,
+    key: u64,
+    times: u64,
+) -> Result<(), TableFault>
+    requires { key < 2 ^ table.old.bits }
+    ensures { table.new.bits ≡ table.old.bits }
+{
+    for _ in 0..times {
+        count(rt, table, key)?;
+    }
+    Ok(())
+}
+
+// Counts three keys of 62 bits in a table of 2^log slots: up to the largest count that the word of a slot holds, which
+// is `most`, one more and two more.
+fn counts_at_the_carry(
+    rt: &impl Abort,
+    alloc: Global,
+    log: u32,
+    most: u64,
+    rows: &[(u64, u64)],
+) -> Result<(), Fail>
+    requires log { 4 ≤ log }
+    requires few_slots { log ≤ 40 }
+    requires few { most ≤ 100 }
+{
+    let longest = (1 << 62) - 1;
+    let mut table = QuotientTable::new(alloc, 62, log, 40)?;
+    count_times(rt, &mut table, 5, most)?;
+    count_times(rt, &mut table, longest, most + 1)?;
+    count_times(rt, &mut table, 7, most + 2)?;
+    assert_eq!(rt; table.log(), log);
+    assert_eq!(rt;
+        counts(alloc, &table, &[5, longest, 7])?.as_slice(),
+        [most, most + 1, most + 2].as_slice()
+    );
+    assert_eq!(rt; sorted_rows(alloc, &table)?.as_slice(), rows);
+    Ok(())
+}
+
+// 58 + log - 62 low bits of a count stand in a slot's word.
+#[test]
+fn counts_outgrow_their_slots(rt: HostRuntime) -> Result<(), Fail> {
+    let alloc = rt.alloc();
+    let longest = (1 << 62) - 1;
+    counts_at_the_carry(&rt, alloc, 4, 0, &[(7, 2), (longest, 1)])?;
+    counts_at_the_carry(&rt, alloc, 5, 1, &[(5, 1), (7, 3), (longest, 2)])?;
+    counts_at_the_carry(&rt, alloc, 6, 3, &[(5, 3), (7, 5), (longest, 4)])?;
+    counts_at_the_carry(&rt, alloc, 9, 31, &[(5, 31), (7, 33), (longest, 32)])?;
+    Ok(())
+}
+
+#[test]
+fn a_growth_keeps_counts_that_outgrew_their_slots(rt: HostRuntime) -> Result<(), Fail> {
+    let alloc = rt.alloc();
+    let longest = (1 << 62) - 1;
+    let mut table = QuotientTable::new(alloc, 62, 4, 40)?;
+    count_times(&rt, &mut table, longest, 5)?;
+    for key in 0..32 {
+        table.ready(key)?;
+    }
+    assert_eq!(rt; table.log(), 6);
+    assert_eq!(rt; table.get(longest), 5);
+    count_times(&rt, &mut table, longest, 2)?;
+    assert_eq!(rt; table.get(longest), 7);
+    for key in 32..100 {
+        table.ready(key)?;
+    }
+    assert_eq!(rt; table.log(), 7);
+    assert_eq!(rt; table.get(longest), 7);
+    count_times(&rt, &mut table, longest, 2)?;
+    assert_eq!(rt; table.rows(alloc)?.as_slice(), [(longest, 9)].as_slice());
+    Ok(())
+}
+
 #[test]
 fn a_limited_map_answers_as_chosen(rt: HostRuntime) -> Result<(), Fail> {
     let alloc = rt.alloc();

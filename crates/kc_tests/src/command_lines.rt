@@ -1,17 +1,24 @@
 //! Whole command lines, over input, output and errors in memory.
 use kc_tool::program;
+use std::rt::Files;
+use std::sync::Wait;
 use std::test::Fail;
+use std::thread::Threads;
 
-// What a command line wrote, and its exit status.
+/// What a command line wrote, and its exit status.
 #[derive(Drop)]
-struct Ran {
-    status: u8,
-    output: Vec<u8>,
-    errors: Vec<u8>,
+pub(crate) struct Ran {
+    pub(crate) status: u8,
+    pub(crate) output: Vec<u8>,
+    pub(crate) errors: Vec<u8>,
 }
 
-// Runs `kcount` with these arguments, separated by blanks, on this input.
-fn run(rt: &HostRuntime, arguments: &str, input: &[u8]) -> Result<Ran, Fail> {
+/// Runs `kcount` with these arguments, separated by blanks, on this input.
+pub(crate) fn run<H: Files + Threads + Wait + Sync + AllocGlobal>(
+    rt: &H,
+    arguments: &str,
+    input: &[u8],
+) -> Result<Ran, Fail> {
     let alloc = rt.alloc();
     let mut line = vec![in alloc; String::from_str(alloc, "kcount")?]?;
     for argument in arguments.split(' ') {
@@ -105,8 +112,7 @@ fn a_dump_in_lines(rt: HostRuntime) -> Result<(), Fail> {
 #[test]
 fn refusals(rt: HostRuntime) -> Result<(), Fail> {
     let dump = "--print dump --column";
-    let good = b">r1\nACGTA\n".as_slice();
-    let rows: [(&str, &str, &[u8], &str, u8); 34] = [
+    let rows: [(&str, &str, &[u8], &str, u8); 9] = [
         (
             "-m 3",
             dump,
@@ -163,145 +169,6 @@ fn refusals(rt: HostRuntime) -> Result<(), Fail> {
             "kcount: 2: bad base, source 1, line 3\n",
             1,
         ),
-        ("-m 32", dump, good, "kcount: 51: bad option --mer-len\n", 2),
-        ("-C", dump, good, "kcount: 51: bad option --mer-len\n", 2),
-        ("-m 0", dump, good, "kcount: 51: bad option --mer-len\n", 2),
-        ("-m 3x", dump, good, "kcount: 51: bad option --mer-len\n", 2),
-        ("-m +3", dump, good, "kcount: 51: bad option --mer-len\n", 2),
-        (
-            "-m 18446744073709551619",
-            dump,
-            good,
-            "kcount: 51: bad option --mer-len\n",
-            2,
-        ),
-        (
-            "-m 3_0",
-            dump,
-            good,
-            "kcount: 51: bad option --mer-len\n",
-            2,
-        ),
-        ("-m=", dump, good, "kcount: 51: bad option --mer-len\n", 2),
-        (
-            "-m 3",
-            "--column",
-            good,
-            "kcount: 51: bad option --print\n",
-            2,
-        ),
-        (
-            "-m 3",
-            "--print table",
-            good,
-            "kcount: 51: bad option --print\n",
-            2,
-        ),
-        (
-            "-m 3",
-            "--print dumps",
-            good,
-            "kcount: 51: bad option --print\n",
-            2,
-        ),
-        (
-            "-m 3",
-            "--print=",
-            good,
-            "kcount: 51: bad option --print\n",
-            2,
-        ),
-        (
-            "-m 3 --min-qual-char ab",
-            dump,
-            good,
-            "kcount: 51: bad option --min-qual-char\n",
-            2,
-        ),
-        (
-            "-m 3 --min-qual-char=",
-            dump,
-            good,
-            "kcount: 51: bad option --min-qual-char\n",
-            2,
-        ),
-        (
-            "-m 3 --min-qual-char \x7f",
-            dump,
-            good,
-            "kcount: 51: bad option --min-qual-char\n",
-            2,
-        ),
-        (
-            "-m 3 --min-qual-char \t",
-            dump,
-            good,
-            "kcount: 51: bad option --min-qual-char\n",
-            2,
-        ),
-        (
-            "-m 3 --min-qual-char é",
-            dump,
-            good,
-            "kcount: 51: bad option --min-qual-char\n",
-            2,
-        ),
-        (
-            "-m 3 --batch 0",
-            dump,
-            good,
-            "kcount: 51: bad option --batch\n",
-            2,
-        ),
-        (
-            "-m 3 --batch 68719476737",
-            dump,
-            good,
-            "kcount: 51: bad option --batch\n",
-            2,
-        ),
-        (
-            "-m 3 --batch 1k",
-            dump,
-            good,
-            "kcount: 51: bad option --batch\n",
-            2,
-        ),
-        (
-            "--min-qual-char ab --batch 0",
-            "--column",
-            good,
-            "kcount: 51: bad option --mer-len\n",
-            2,
-        ),
-        (
-            "-m 3 --batch 0 --min-qual-char ab",
-            "--column",
-            good,
-            "kcount: 51: bad option --min-qual-char\n",
-            2,
-        ),
-        (
-            "-m 3 --batch 0",
-            "--print table",
-            good,
-            "kcount: 51: bad option --batch\n",
-            2,
-        ),
-        (
-            "-m 3 --batch 1",
-            "--print table",
-            good,
-            "kcount: 51: bad option --print\n",
-            2,
-        ),
-        (
-            "-m 0",
-            dump,
-            b"ACGT\n",
-            "kcount: 51: bad option --mer-len\n",
-            2,
-        ),
         (
             "-m 3 -C",
             dump,
@@ -316,6 +183,114 @@ fn refusals(rt: HostRuntime) -> Result<(), Fail> {
         assert_eq!(rt; got.errors.as_slice(), errors.as_bytes(), "{arguments}");
         assert_eq!(rt; got.output.len(), 0, "{arguments}");
         assert_eq!(rt; got.status, status, "{arguments}");
+    }
+    Ok(())
+}
+
+// A value outside its limits refuses the command line under its option's name, whether the option acts or not, before the
+// input is looked at; of several it is the first in the order of the help.
+#[test]
+fn bad_options(rt: HostRuntime) -> Result<(), Fail> {
+    let rows = [
+        ("-m 32", "--mer-len"),
+        ("-m 0", "--mer-len"),
+        ("-m 3x", "--mer-len"),
+        ("-m +3", "--mer-len"),
+        ("-m 18446744073709551619", "--mer-len"),
+        ("-m 3_0", "--mer-len"),
+        ("-m 3k", "--mer-len"),
+        ("-m=", "--mer-len"),
+        ("-C", "--mer-len"),
+        ("-m 3 -s 0", "--size"),
+        ("-m 3 -s 1099511627777", "--size"),
+        ("-m 3 -s 1100G", "--size"),
+        ("-m 3 -s 18446744073709552k", "--size"),
+        ("-m 3 -s k", "--size"),
+        ("-m 3 -s 2K", "--size"),
+        ("-m 3 -s 2g", "--size"),
+        ("-m 3 -s 2kk", "--size"),
+        ("-m 3 --size=", "--size"),
+        ("-m 3 -t 0", "--threads"),
+        ("-m 3 -t 65", "--threads"),
+        ("-m 3 -t 1k", "--threads"),
+        ("-m 3 --min-qual-char ab", "--min-qual-char"),
+        ("-m 3 --min-qual-char=", "--min-qual-char"),
+        ("-m 3 --min-qual-char \x7f", "--min-qual-char"),
+        ("-m 3 --min-qual-char \t", "--min-qual-char"),
+        ("-m 3 --min-qual-char é", "--min-qual-char"),
+        ("-m 3 --stripes 0", "--stripes"),
+        ("-m 3 --stripes 3", "--stripes"),
+        ("-m 3 --stripes 128", "--stripes"),
+        ("-m 1 --stripes 5", "--stripes"),
+        ("-m 3 --batch 0", "--batch"),
+        ("-m 3 --batch 68719476737", "--batch"),
+        ("-m 3 --batch 1k", "--batch"),
+        ("-m 3 --print dumps", "--print"),
+        ("-m 3 --print Table", "--print"),
+        ("-m 3 --print=", "--print"),
+        ("-m 3 --lower-count 4611686018427387905", "--lower-count"),
+        ("-m 3 --lower-count=", "--lower-count"),
+        ("-m 3 --upper-count 4611686018427387905", "--upper-count"),
+        ("-m 3 --high 0", "--high"),
+        ("-m 3 --high 10000001", "--high"),
+        ("--high 0 --batch 0", "--mer-len"),
+        ("-m 3 -t 0 -s 0", "--size"),
+        ("-m 3 --stripes 3 --min-qual-char ab -t 65", "--threads"),
+        (
+            "-m 3 --print x --batch 0 --stripes 0 --min-qual-char ab",
+            "--min-qual-char",
+        ),
+        ("-m 3 --print x --batch 0 --stripes 0", "--stripes"),
+        ("-m 3 --print x --batch 0", "--batch"),
+        (
+            "-m 3 --high 0 --upper-count x --lower-count x --print x",
+            "--print",
+        ),
+        (
+            "-m 3 --high 0 --upper-count x --lower-count x",
+            "--lower-count",
+        ),
+        ("-m 3 --high 0 --upper-count x", "--upper-count"),
+    ];
+    for (arguments, name) in rows {
+        let line = format!(in rt.alloc(); "count {arguments}")?;
+        let wanted = format!(in rt.alloc(); "kcount: 51: bad option {name}\n")?;
+        let got = run(&rt, line.as_str(), b"ACGT\n")?;
+        assert_eq!(rt; got.errors.as_slice(), wanted.as_bytes(), "{arguments}");
+        assert_eq!(rt; got.output.len(), 0, "{arguments}");
+        assert_eq!(rt; got.status, 2, "{arguments}");
+    }
+    Ok(())
+}
+
+// Values at their limits are taken, and what does not act changes nothing.
+#[test]
+fn values_at_their_limits(rt: HostRuntime) -> Result<(), Fail> {
+    let rows = [
+        "-s 1",
+        "-s 2k",
+        "-s 0000000000000000000000000000100",
+        "-t 64",
+        "--threads=01",
+        "--min-qual-char !",
+        "--min-qual-char ~",
+        "--min-qual-char -",
+        "--stripes 1",
+        "--stripes 64",
+        "--batch 1",
+        "--batch 68719476736",
+        "--lower-count 8",
+        "--upper-count 8",
+        "--upper-count 4611686018427387904",
+        "--high 1",
+        "--high 10000000",
+    ];
+    for arguments in rows {
+        let line = format!(in rt.alloc(); "count -m 3 --print dump --column {arguments}")?;
+        let got = run(&rt, line.as_str(), b">r\nAAAAAAAAAA\n")?;
+        assert_eq!(rt; got.output.as_slice(), b"AAA 8\n".as_slice(), "{arguments}");
+        assert_eq!(rt; got.errors.len(), 0, "{arguments}");
+        assert_eq!(rt; got.status, 0, "{arguments}");
     }
     Ok(())
 }
@@ -337,14 +312,33 @@ fn command_lines_that_clap_refuses(rt: HostRuntime) -> Result<(), Fail> {
         "count -m 3 --print dump --frob",
         "count -m",
         "count -m 3 -m 4",
-        "count file.fa",
+        "count -m -3",
+        "count -m 3 -L 2",
+        "count -m 3 --column=yes",
+        "dump first.kct second.kct",
+        "dump -m 3",
+        "histo -n 3",
+        "stats --high 3",
+        "stats a b",
+        "query",
+        "query table",
     ] {
         let got = run(&rt, arguments, b"")?;
         assert_eq!(rt; got.status, 2, "{arguments}");
         assert_eq!(rt; got.output.len(), 0, "{arguments}");
         assert!(rt; !got.errors.is_empty(), "{arguments}");
     }
-    for arguments in ["help", "help count", "--help", "count --help", "--version"] {
+    for arguments in [
+        "help",
+        "help count",
+        "--help",
+        "count --help",
+        "dump --help",
+        "histo -h",
+        "stats --help",
+        "query --help",
+        "--version",
+    ] {
         let got = run(&rt, arguments, b"")?;
         assert_eq!(rt; got.status, 0, "{arguments}");
         assert!(rt; !got.output.is_empty(), "{arguments}");

@@ -1,9 +1,13 @@
 //! Lists of sources, and sources and writers that give or take little, or fail.
 use kc_fastx::{FastxFault, FromBytes, FromRead};
-use kc_tool::{Dump, K, OptionName, Options, ToVec, ToWrite, ToolFault, count_reads, write_fault};
+use kc_tool::{
+    Dump, K, OptionName, Options, Print, ToVec, ToWrite, ToolFault, count_reads, write_fault,
+};
 use std::io;
 use std::io::{Read, Write};
+use std::sync::Wait;
 use std::test::Fail;
+use std::thread::Threads;
 
 // A reader of some bytes that gives one byte at a time and fails at its n-th read.
 #[derive(Drop)]
@@ -67,12 +71,16 @@ impl Write for Narrow {
 }
 
 fn columns(k: u32) -> Option<Options> {
-    Some(Options::new(K::new(k)?, Dump::in_columns()))
+    Some(
+        Options::new(K::new(k)?)
+            .with_print(Print::Dump)
+            .with_dump(Dump::in_columns()),
+    )
 }
 
 // What a count of these inputs answers, and what it wrote.
-fn count(
-    rt: &HostRuntime,
+fn count<H: Threads + Wait + Sync + AllocGlobal>(
+    rt: &H,
     inputs: &[&[u8]],
     options: &Options,
 ) -> Result<(Result<(), ToolFault>, Vec<u8>), Fail> {
@@ -128,10 +136,6 @@ fn the_first_faulty_source_is_told(rt: HostRuntime) -> Result<(), Fail> {
 fn slow_and_failing_sources(rt: HostRuntime) -> Result<(), Fail> {
     let alloc = rt.alloc();
     let options = columns(3).ok_or("a length")?;
-    let failed = ToolFault::Fastx {
-        source: 1,
-        fault: FastxFault::Read,
-    };
     for n in 0..13 {
         let slow = Slow {
             left: b">r1\nACGTA\n",
@@ -141,6 +145,10 @@ fn slow_and_failing_sources(rt: HostRuntime) -> Result<(), Fail> {
         sources.push(FromRead::new(slow))?;
         let mut writer = ToVec::new(Vec::new(alloc));
         let answer = count_reads(&rt, alloc, sources, &options, &mut writer);
+        let failed = ToolFault::Fastx {
+            source: 1,
+            fault: FastxFault::Read,
+        };
         let (wanted, text) = if n <= 10 {
             (Err(failed), b"".as_slice())
         } else {
@@ -153,8 +161,8 @@ fn slow_and_failing_sources(rt: HostRuntime) -> Result<(), Fail> {
 }
 
 // What a count answers over such a writer, and what the writer took.
-fn count_into(
-    rt: &HostRuntime,
+fn count_into<H: Threads + Wait + Sync + AllocGlobal>(
+    rt: &H,
     room: usize,
     is_silent: bool,
     is_stuck: bool,
@@ -216,7 +224,10 @@ fn bounds_and_tabs(rt: HostRuntime) -> Result<(), Fail> {
         (Dump::in_columns().between(2, 1), b""),
     ];
     for (dump, text) in rows {
-        let options = Options::new(k, dump).with_both(true);
+        let options = Options::new(k)
+            .with_both(true)
+            .with_print(Print::Dump)
+            .with_dump(dump);
         let (answer, written) = count(&rt, &[b">r1\nACGTA\n".as_slice()], &options)?;
         assert_eq!(rt; answer, Ok(()));
         assert_eq!(rt; written.as_slice(), text);

@@ -1,5 +1,12 @@
+pub mod ArgumentsLemmas
 pub mod CommandLemmas
 pub mod CountingLemmas
+pub mod FaultLinesLemmas
+pub mod FilesLemmas
 pub mod NumbersLemmas
 pub mod ReadingLemmas
 pub mod RunningLemmas
+pub mod SourcesLemmas
+pub mod TasksLemmas
+pub mod VerbsLemmas
+pub mod SettingsLemmas

@@ -1,9 +1,10 @@
--- The command line of kcount: the names of its commands, and of each option its name, its short and its long form, and
--- whether it takes a value: source, the table of options in the README. The records are those of `clap`.
-use Rattle.std.specs.Prelude.{[], ◌∷◌, Some, true, false, codes}
+-- The command line of kcount: the names of its commands, and of each option and argument its name, its short and its
+-- long form, whether it takes a value, and whether it has to be given: source, the table of options in the README. The
+-- records are those of `clap`.
+use Rattle.std.specs.Prelude.{◌≡◌, ◌⊎◌, ℕ, [], ◌∷◌, Some, true, false, codes}
 use Rattle.clap.specs.Simple.{new_shape}
 use Rattle.clap.specs.Words.{App, Rule, Shape, Text, new_rule}
-use Rattle.clap.specs.declared.builder.action.ArgAction.TheVariants.{SetTrue}
+use Rattle.clap.specs.declared.builder.action.ArgAction.TheVariants.{Append, SetTrue}
 
 -- an option with one value, under its long name
 abbrev pub value_option : Text → Rule
@@ -13,29 +14,150 @@ value_option name = record (new_rule name) { long = Some name; value_names = 1 }
 abbrev pub flag_option : Text → Rule
 flag_option name = record (new_rule name) { long = Some name; action = Some SetTrue }
 
+-- an option that has a short name too, which is one letter
+abbrev pub with_short : ℕ → Rule → Rule
+with_short letter option = record option { short = Some letter }
+
+-- an argument that is given once or not at all
+abbrev pub one_argument : Text → Rule
+one_argument name = record (new_rule name) { value_names = 1 }
+
+-- an argument that is given any number of times
+abbrev pub several_arguments : Text → Rule
+several_arguments name = record (new_rule name) { action = Some Append; value_names = 1 }
+
+-- an argument that has to be given
+abbrev pub required : Rule → Rule
+required argument = record argument { required = true }
+
 -- `-m`, `--mer-len`
 abbrev pub mer_len_option : Rule
-mer_len_option = record (value_option (codes "mer-len")) { short = Some 109 }
+mer_len_option = with_short 109 (value_option (codes "mer-len"))
+
+-- `-s`, `--size`
+abbrev pub size_option : Rule
+size_option = with_short 115 (value_option (codes "size"))
+
+-- `-t`, `--threads`
+abbrev pub threads_option : Rule
+threads_option = with_short 116 (value_option (codes "threads"))
 
 -- `-C`, `--canonical`
 abbrev pub canonical_option : Rule
-canonical_option = record (flag_option (codes "canonical")) { short = Some 67 }
+canonical_option = with_short 67 (flag_option (codes "canonical"))
+
+-- `-o`, `--output`
+abbrev pub output_option : Rule
+output_option = with_short 111 (value_option (codes "output"))
+
+-- `--min-qual-char`
+abbrev pub min_qual_char_option : Rule
+min_qual_char_option = value_option (codes "min-qual-char")
+
+-- `--stripes`
+abbrev pub stripes_option : Rule
+stripes_option = value_option (codes "stripes")
+
+-- `--batch`
+abbrev pub batch_option : Rule
+batch_option = value_option (codes "batch")
+
+-- `--print`
+abbrev pub print_option : Rule
+print_option = value_option (codes "print")
+
+-- `--column`
+abbrev pub column_option : Rule
+column_option = flag_option (codes "column")
+
+-- `--tab`
+abbrev pub tab_option : Rule
+tab_option = flag_option (codes "tab")
+
+-- `--lower-count`
+abbrev pub lower_count_option : Rule
+lower_count_option = value_option (codes "lower-count")
+
+-- `--upper-count`
+abbrev pub upper_count_option : Rule
+upper_count_option = value_option (codes "upper-count")
+
+-- `--high`
+abbrev pub high_option : Rule
+high_option = value_option (codes "high")
+
+-- FILE, any number of them
+abbrev pub files_argument : Rule
+files_argument = several_arguments (codes "file")
+
+-- FILE, one or none
+abbrev pub file_argument : Rule
+file_argument = one_argument (codes "file")
+
+-- TABLE, a file that has to be given
+abbrev pub table_argument : Rule
+table_argument = required file_argument
+
+-- WORD, at least one
+abbrev pub words_argument : Rule
+words_argument = required (several_arguments (codes "word"))
 
 -- `kcount count`
 abbrev pub count_shape : Shape
 count_shape = record (new_shape (codes "count")) {
   rules = mer_len_option
+      ∷ size_option
+      ∷ threads_option
       ∷ canonical_option
-      ∷ value_option (codes "min-qual-char")
-      ∷ value_option (codes "batch")
-      ∷ value_option (codes "print")
-      ∷ flag_option (codes "column")
+      ∷ output_option
+      ∷ min_qual_char_option
+      ∷ stripes_option
+      ∷ batch_option
+      ∷ print_option
+      ∷ column_option
+      ∷ tab_option
+      ∷ lower_count_option
+      ∷ upper_count_option
+      ∷ high_option
+      ∷ files_argument
       ∷ [];
 }
+
+-- `kcount dump`, where `-c`, `-t`, `-L` and `-U` are short forms of the options that a count has without them
+abbrev pub dump_shape : Shape
+dump_shape = record (new_shape (codes "dump")) {
+  rules = with_short 99 column_option
+      ∷ with_short 116 tab_option
+      ∷ with_short 76 lower_count_option
+      ∷ with_short 85 upper_count_option
+      ∷ output_option
+      ∷ file_argument
+      ∷ [];
+}
+
+-- `kcount histo`
+abbrev pub histo_shape : Shape
+histo_shape = record (new_shape (codes "histo")) { rules = high_option ∷ output_option ∷ file_argument ∷ [] }
+
+-- `kcount stats`
+abbrev pub stats_shape : Shape
+stats_shape = record (new_shape (codes "stats")) { rules = output_option ∷ file_argument ∷ [] }
+
+-- `kcount query`
+abbrev pub query_shape : Shape
+query_shape = record (new_shape (codes "query")) { rules = output_option ∷ table_argument ∷ words_argument ∷ [] }
 
 -- `kcount`, which has a version and wants a command
 abbrev pub kcount_app : App
 kcount_app = record {
   top = record (new_shape (codes "kcount")) { has_version = true; subcommand_required = true; is_leaf = false };
-  subs = count_shape ∷ [];
+  subs = count_shape ∷ dump_shape ∷ histo_shape ∷ stats_shape ∷ query_shape ∷ [];
 }
+
+-- the name of a command
+abbrev pub IsCommand : Text → Type 0
+IsCommand name = (name ≡ codes "count")
+    ⊎ (name ≡ codes "dump")
+    ⊎ (name ≡ codes "histo")
+    ⊎ (name ≡ codes "stats")
+    ⊎ (name ≡ codes "query")

@@ -1,9 +1,9 @@
 -- The lines of the refusals: source, our formats page.
-use Rattle.std.specs.Prelude.{ℕ, List, [], ◌∷◌, ◌++◌, codes, decimal}
+use Rattle.std.specs.Prelude.{ℕ, List, [], ◌∷◌, ◌++◌, codes, decimal, string_bytes}
 use Rattle.kc_fastx.specs.declared.FastxFault.{FastxFault}
 use Rattle.kc_fastx.specs.declared.FastxFault.TheVariants as fastx
 use Rattle.kc_tool.specs.declared.faults.OptionName.{OptionName}
-use Rattle.kc_tool.specs.declared.faults.OptionName.TheVariants.{MerLen, MinQualChar, Batch, Print}
+use Rattle.kc_tool.specs.declared.faults.OptionName.TheVariants as option
 use Rattle.kc_tool.specs.declared.faults.ToolFault.{ToolFault}
 use Rattle.kc_tool.specs.declared.faults.ToolFault.TheVariants.{
   Fastx,
@@ -16,14 +16,24 @@ use Rattle.kc_tool.specs.declared.faults.ToolFault.TheVariants.{
   BadOption,
   BadWord,
   Write,
+  Run,
+  OpenFailed,
 }
+use Rattle.kc_run.specs.declared.fault.RunFault.{RunFault}
+use Rattle.kc_run.specs.declared.fault.RunFault.TheVariants as run
 
 -- the long name of an option
 abbrev pub option_text : OptionName → List ℕ
-option_text MerLen = codes "--mer-len"
-option_text MinQualChar = codes "--min-qual-char"
-option_text Batch = codes "--batch"
-option_text Print = codes "--print"
+option_text option.MerLen = codes "--mer-len"
+option_text option.Size = codes "--size"
+option_text option.Threads = codes "--threads"
+option_text option.MinQualChar = codes "--min-qual-char"
+option_text option.Stripes = codes "--stripes"
+option_text option.Batch = codes "--batch"
+option_text option.Print = codes "--print"
+option_text option.LowerCount = codes "--lower-count"
+option_text option.UpperCount = codes "--upper-count"
+option_text option.High = codes "--high"
 
 -- a refusal of a source
 abbrev pub in_source : List ℕ → ℕ → List ℕ
@@ -44,19 +54,33 @@ reader_text source fastx.TooLong = in_source (codes "6: too long") source
 reader_text source fastx.Read = in_source (codes "7: read failed") source
 reader_text source fastx.Memory = codes "8: no memory"
 
--- what a refusal says, behind `kcount: `
-abbrev pub fault_text : ToolFault → List ℕ
-fault_text (Fastx source fault) = reader_text source fault
-fault_text BadHeader = codes "41: bad header"
-fault_text (BadRow line) = codes "42: bad row, line " ++ decimal line
-fault_text BadEnd = codes "43: bad end"
-fault_text TableTooLong = codes "44: table too long"
-fault_text TableRead = codes "45: table read failed"
-fault_text Memory = codes "46: no memory"
-fault_text (BadOption name) = codes "51: bad option " ++ option_text name
-fault_text (BadWord number) = codes "52: bad word " ++ decimal number
-fault_text Write = codes "53: write failed"
+-- what a refusal of the counting says, behind `kcount: `
+abbrev pub run_text : RunFault → List ℕ
+run_text (run.Foreign stripe) = codes "31: foreign stripe " ++ decimal stripe
+run_text (run.NoThread worker) = codes "33: no thread for worker " ++ decimal worker
+run_text run.Memory = codes "34: no memory"
+run_text (run.Full stripe) = codes "35: stripe " ++ decimal stripe ++ codes " is full"
+
+-- what a refusal says, behind `kcount: ` and before the name of a file
+abbrev pub fault_front : ToolFault → List ℕ
+fault_front (Fastx source fault) = reader_text source fault
+fault_front BadHeader = codes "41: bad header"
+fault_front (BadRow line) = codes "42: bad row, line " ++ decimal line
+fault_front BadEnd = codes "43: bad end"
+fault_front TableTooLong = codes "44: table too long"
+fault_front TableRead = codes "45: table read failed"
+fault_front Memory = codes "46: no memory"
+fault_front (BadOption name) = codes "51: bad option " ++ option_text name
+fault_front (BadWord number) = codes "52: bad word " ++ decimal number
+fault_front Write = codes "53: write failed"
+fault_front (Run fault) = run_text fault
+fault_front (OpenFailed name) = codes "54: cannot open "
+
+-- the name of the file that a refusal names at its end
+abbrev pub fault_name : ToolFault → List ℕ
+fault_name (OpenFailed name) = string_bytes name
+fault_name _ = []
 
 -- the line of a refusal
 abbrev pub fault_line : ToolFault → List ℕ
-fault_line fault = codes "kcount: " ++ fault_text fault ++ 10 ∷ []
+fault_line fault = codes "kcount: " ++ fault_front fault ++ fault_name fault ++ 10 ∷ []

@@ -7,7 +7,7 @@ use Rattle.kc_fastx.specs.Parsing.{HaveReads, IsFirstFaulty, RefusesFor, most_by
 use Rattle.kc_fastx.specs.Reads.{Read}
 use Rattle.kc_fastx.specs.declared.faults.FastxFault.{FastxFault}
 use Rattle.kc_tool.specs.declared.faults.ToolFault.{ToolFault}
-use Rattle.kc_tool.specs.declared.faults.ToolFault.TheVariants.{Fastx, Memory}
+use Rattle.kc_tool.specs.declared.faults.ToolFault.TheVariants.{Fastx, Memory, Run}
 
 -- each source gave its input, up to the end that it told, and all together no more bytes than the limit. What the
 -- sources are afterwards is not kept
@@ -40,8 +40,10 @@ FailsAt seen sources number fault =
     IsFirstFaulty (λ before inputs. (reads : List Read) × GaveReads seen before inputs reads) (IsRefusedBehind seen)
     sources number fault
 
--- why the sources have no reads; of want of memory outside the readers nothing is said
+-- why the sources were not counted: one has no reads; or all have reads, and the run over them was refused. Of want of
+-- memory outside the readers nothing is said
 abbrev pub RefusesSources : {S : Type 0} → (S → Seen) → List S → ToolFault → Type 0
 RefusesSources seen sources (Fastx number fault) = FailsAt seen sources number fault
+RefusesSources {S} seen sources (Run fault) = (reads : List Read) × ReadsSources seen sources reads
 RefusesSources seen sources Memory = ⊤
 RefusesSources seen sources _ = ⊥

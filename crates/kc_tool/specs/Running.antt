@@ -1,5 +1,5 @@
 -- How the program ends, for each command line: source, the README ("The exit status") and our formats page.
-use Rattle.std.specs.Prelude.{◌≡◌, ◌≢◌, ◌⊎◌, ℕ, List, [], ◌∷◌, Some, codes, ⊤, Result, Ok, Err}
+use Rattle.std.specs.Prelude.{◌≡◌, ◌≢◌, ◌⊎◌, ℕ, List, [], Some, Result, Ok, Err}
 use Rattle.clap.specs.Faults.{fault_of}
 use Rattle.clap.specs.Kinds.{IsAmong}
 use Rattle.clap.specs.Words.{Row, Text, kind_of, subcommand_of, subcommand_rows_of}
@@ -7,16 +7,14 @@ use Rattle.clap.specs.declared.parser.matches.ArgMatches.{ArgMatches}
 use Rattle.clap.specs.declared.error.Error.{Error}
 use Rattle.clap.specs.declared.error.kind.ErrorKind.{ErrorKind}
 use Rattle.clap.specs.declared.error.kind.ErrorKind.TheVariants.{DisplayHelp, DisplayVersion, OutOfMemory}
+use Rattle.kc_io.specs.Sinks.{Written, HasWritten, HasBegun}
 use Rattle.kc_io.specs.Sources.{Seen}
-use Rattle.kc_tool.specs.Arguments.{AsksFor, first_bad}
 use Rattle.kc_tool.specs.Command.{kcount_app}
 use Rattle.kc_tool.specs.FaultLines.{fault_line}
-use Rattle.kc_tool.specs.Reading.{FailsAt}
-use Rattle.kc_tool.specs.Reporting.{IsReportOf}
-use Rattle.kc_tool.specs.Settings.{Settings}
-use Rattle.kc_io.specs.Sinks.{Written, HasWritten, HasBegun}
+use Rattle.kc_tool.specs.Verbs.{EndsSo, name_of}
+use Rattle.kc_tool.specs.declared.verbs.Verb.{Verb}
 use Rattle.kc_tool.specs.declared.faults.ToolFault.{ToolFault}
-use Rattle.kc_tool.specs.declared.faults.ToolFault.TheVariants.{Fastx, Memory, BadOption, Write}
+use Rattle.kc_tool.specs.declared.faults.ToolFault.TheVariants.{Memory, BadOption, Write}
 use Rattle.kc_tool.specs.declared.running.Ending.{Ending}
 use Rattle.kc_tool.specs.declared.running.Ending.TheVariants.{Fault, Refused}
 
@@ -37,54 +35,39 @@ pub record AreRefused (arguments : List Text) : Type 0 where
   pub no_help : reason ≢ DisplayHelp
   pub no_version : reason ≢ DisplayVersion
 
--- the arguments ask to count, with these options
-pub record AskToCount (arguments : List Text) (options : List Row) : Type 0 where
+-- the arguments ask for a command, with these options
+pub record AskFor (arguments : List Text) (command : Verb) (options : List Row) : Type 0 where
   pub accepted : fault_of kcount_app arguments ≡ []
-  pub named : subcommand_of kcount_app arguments ≡ Some (codes "count", options)
+  pub named : subcommand_of kcount_app arguments ≡ Some (name_of command, options)
 
--- `clap` takes the arguments, for a count with these options
+-- `clap` takes the arguments, for a command with these options
 pub record AreTaken (arguments : List Text) (matches : ArgMatches) : Type 0 where
+  pub command : Verb
   pub options : List Row
-  pub asked : AskToCount arguments options
-  pub entered : subcommand_rows_of matches ≡ Some (codes "count", options)
+  pub asked : AskFor arguments command options
+  pub entered : subcommand_rows_of matches ≡ Some (name_of command, options)
 
--- the text is the report of the input that the options of a count ask for
-pub record IsReportFor {S : Type 0} (seen : S → Seen) (input : S) (options : List Row) (text : List ℕ) : Type 0 where
-  pub settings : Settings
-  pub asked : AsksFor options settings
-  pub report : IsReportOf seen (input ∷ []) settings text
+-- the arguments ask for a command, and this is what comes of it
+abbrev pub DoesCommand : Seen → List Text → Written → Written → Result (Unit {0}) ToolFault → Type 0
+DoesCommand input arguments old new outcome = (command : Verb) × (options : List Row)
+    × AskFor arguments command options × EndsSo command options input old new outcome
 
--- the text answers the arguments: it is help or the version, or the report that they ask for
-abbrev pub IsAnswer : {S : Type 0} → (S → Seen) → S → List Text → List ℕ → Type 0
-IsAnswer seen input arguments text = AskForHelp arguments
-    ⊎ ((options : List Row) × AskToCount arguments options × IsReportFor seen input options text)
+-- the help or the version was written
+abbrev pub ShowsHelp : List Text → Written → Written → Type 0
+ShowsHelp arguments old new = (text : List ℕ) × AskForHelp arguments × HasWritten old new text
 
--- why options are not counted with: the first bad one, or the fault of the input, which is source 1 and the only one;
--- of want of memory outside the readers nothing is said
-abbrev pub FailsWith : {S : Type 0} → (S → Seen) → S → List Row → ToolFault → Type 0
-FailsWith seen input options (BadOption name) = first_bad options ≡ Some name
-FailsWith seen input options (Fastx number fault) =
-    (settings : Settings) × AsksFor options settings × FailsAt seen (input ∷ []) number fault
-FailsWith seen input options Memory = ⊤
-FailsWith seen input options _ = ⊥
+-- the output failed while the help or the version was written
+abbrev pub FailsInHelp : List Text → Written → Written → ToolFault → Type 0
+FailsInHelp arguments old new fault = (text : List ℕ) × AskForHelp arguments × (fault ≡ Write) × HasBegun old new text
 
--- a fault of the program, and what it leaves of the output: a beginning of the answer where writing failed, and else
--- nothing was written
-abbrev pub FailsSo : {S : Type 0} → (S → Seen) → S → List Text → Written → Written → ToolFault → Type 0
-FailsSo seen input arguments old new Write =
-    (text : List ℕ) × IsAnswer seen input arguments text × HasBegun old new text
-FailsSo seen input arguments old new Memory = new ≡ old
-FailsSo seen input arguments old new fault = (new ≡ old)
-    × (options : List Row) × AskToCount arguments options × FailsWith seen input options fault
+-- memory was refused before the arguments were understood, and nothing was written
+abbrev pub LacksMemory : Written → Written → ToolFault → Type 0
+LacksMemory old new fault = (fault ≡ Memory) × (new ≡ old)
 
--- what a count does with its options: its report was written; or a beginning of it, where writing failed; or nothing
-abbrev pub CountsSo : {S : Type 0} → (S → Seen) → S → List Row → Written → Written → Result (Unit {0}) ToolFault
-    → Type 0
-CountsSo seen input options old new (Ok done) =
-    (text : List ℕ) × IsReportFor seen input options text × HasWritten old new text
-CountsSo seen input options old new (Err Write) =
-    (text : List ℕ) × IsReportFor seen input options text × HasBegun old new text
-CountsSo seen input options old new (Err fault) = (new ≡ old) × FailsWith seen input options fault
+-- a fault of the program: of a command, of the help, or of memory
+abbrev pub FailsSo : Seen → List Text → Written → Written → ToolFault → Type 0
+FailsSo input arguments old new fault = DoesCommand input arguments old new (Err fault)
+    ⊎ FailsInHelp arguments old new fault ⊎ LacksMemory old new fault
 
 -- `clap` answers with help or with the version
 abbrev pub IsHelp : Error → Type 0
@@ -100,32 +83,29 @@ ShowsSo error old new (Err (Fault fault)) = ⊥
 ShowsSo error old new (Err (Refused text)) = (new ≡ old) × (kind_of error ≢ OutOfMemory)
     × (kind_of error ≢ DisplayHelp) × (kind_of error ≢ DisplayVersion)
 
--- what is done with the arguments: the answer was written; or there was a fault; or they are refused
-abbrev pub CarriesOut : {S : Type 0} → (S → Seen) → S → List Text → Written → Written → Result (Unit {0}) Ending
-    → Type 0
-CarriesOut seen input arguments old new (Ok done) =
-    (text : List ℕ) × IsAnswer seen input arguments text × HasWritten old new text
-CarriesOut seen input arguments old new (Err (Fault fault)) = FailsSo seen input arguments old new fault
-CarriesOut seen input arguments old new (Err (Refused text)) = AreRefused arguments × (new ≡ old)
+-- what is done with the arguments: the command or the help; or there was a fault; or they are refused
+abbrev pub CarriesOut : Seen → List Text → Written → Written → Result (Unit {0}) Ending → Type 0
+CarriesOut input arguments old new (Ok done) =
+    DoesCommand input arguments old new (Ok done) ⊎ ShowsHelp arguments old new
+CarriesOut input arguments old new (Err (Fault fault)) = FailsSo input arguments old new fault
+CarriesOut input arguments old new (Err (Refused text)) = AreRefused arguments × (new ≡ old)
 
 -- the text was written, or a beginning of it before the sink failed
 abbrev pub IsTold : Written → Written → List ℕ → Type 0
 IsTold old new text = HasWritten old new text ⊎ HasBegun old new text
 
--- status 0: the answer was written, and nothing to the errors
-pub record EndsWell {S : Type 0} (seen : S → Seen) (input : S) (arguments : List Text)
-    (output output_after errors errors_after : Written) : Type 0 where
-  pub text : List ℕ
-  pub answer : IsAnswer seen input arguments text
-  pub written : HasWritten output output_after text
+-- status 0: the command or the help was carried out, and nothing was written to the errors
+pub record EndsWell (input : Seen) (arguments : List Text) (output output_after errors errors_after : Written)
+    : Type 0 where
+  pub done : DoesCommand input arguments output output_after (Ok tt) ⊎ ShowsHelp arguments output output_after
   pub silent : errors_after ≡ errors
 
 -- a fault with this status, whose line went to the errors
-pub record EndsInFault {S : Type 0} (seen : S → Seen) (input : S) (arguments : List Text)
-    (output output_after errors errors_after : Written) (status : ℕ) : Type 0 where
+pub record EndsInFault (input : Seen) (arguments : List Text) (output output_after errors errors_after : Written)
+    (status : ℕ) : Type 0 where
   pub fault : ToolFault
   pub exit : status ≡ status_of fault
-  pub failed : FailsSo seen input arguments output output_after fault
+  pub failed : FailsSo input arguments output output_after fault
   pub told : IsTold errors errors_after (fault_line fault)
 
 -- arguments that are no command line: the output stays, and a text went to the errors

@@ -1,63 +1,76 @@
-//! Counting words.
-ghost use Rattle.std.specs.Prelude.{◌≡◌, ◌≤◌, ◌+◌, ◌^◌, ℕ, length, OnOk, IfOk, map};
-ghost use Rattle.std.specs.BTreeMap.{IsOrdered};
-ghost use Rattle.std.specs.Ordering.{nat_cmp};
+//! Counting words: reads are cleaned, cut into batches, and counted by as many threads as are asked for.
+ghost use Rattle.std.specs.Prelude.{◌≡◌, ◌≤◌, ◌^◌, IfOk, IfErr, map};
 ghost use Rattle.kc_fastx.specs.Reads.{base_count};
-ghost use Rattle.kc_word.specs.Occurrences.{words_of};
-ghost use Rattle.kc_word.specs.Cutting.{cleaned};
-ghost use Rattle.kc_tally.specs.Tally.{IsTally, IsTallyOf};
-ghost use Rattle.kc_tool.specs.Counting.{counted, times, HasNoZeros, all_words, entry_row};
+ghost use Rattle.kc_word.specs.Cutting.{cleaned, cutting};
+ghost use Rattle.kc_word.specs.Shared.{values};
+ghost use Rattle.kc_tally.specs.Tally.{IsTallyOf};
+ghost use Rattle.kc_stripe.specs.Setup.{stripe_count};
+ghost use Rattle.kc_tool.specs.Counting.{IsCountingFault};
+ghost use Rattle.kc_tool.specs.Settings.{rule_of};
 
+use crate::faults::ToolFault;
+use crate::settings::Options;
 use kc_fastx::SeqRead;
-use kc_tally::laws::rows_of_tally;
-use kc_tally::{Row, Tally};
-use kc_word::{Batch, Piece, Rule, clean, cut, laws, words};
+use kc_hash::Hash;
+use kc_run::{NoGate, quotient_tables, run};
+use kc_stripe::Setup;
+use kc_tally::Tally;
+use kc_word::{Batch, Piece, Rule, clean, cut, laws};
 use std::alloc::{AllocError, Global};
-use std::collections::BTreeMap;
-use std::sync::Arc;
+use std::sync::{Arc, Wait};
+use std::thread::Threads;
 
-/// The tally of reads that have at most 2^36 bases together, counted batch after batch of `size` positions.
-/// Condition: the size is at least 1.
-pub(crate) fn tally_of(
+/// The seed of the hash that divides the words among the stripes. No report depends on it.
+const SEED: u64 = 1;
+
+/// The tally of reads that have at most 2^36 bases together, counted as the options say.
+///
+/// # Errors
+/// `Run` where a thread, a place in a table or memory for them was refused. `Memory` where a growth was refused
+/// elsewhere.
+pub(crate) fn tally_of<H: Threads + Wait + Sync>(
+    rt: &H,
     alloc: Global,
     reads: &[SeqRead],
-    rule: &Rule,
-    size: u64,
-) -> Result<Tally, AllocError>
+    options: &Options,
+) -> Result<Tally, ToolFault>
     requires few { base_count reads.now ≤ 2 ^ 36 }
-    requires some { 1 ≤ size }
-    ensures { IfOk result (IsTallyOf rule.now reads.now) }
+    ensures tally { IfOk result (IsTallyOf (rule_of options.now) reads.now) }
+    ensures fault { IfErr result IsCountingFault }
 {
-    let rows = counted_rows(alloc, reads, rule, size)?;
-    // what is known of a length, and of the rows of a tally
+    let rule = options.rule();
+    // what is known of a length, and of cuttings
     let _bases = rule.k().get();
-    rows_of_tally();
-    Tally::of_rows(alloc, rule.k(), rule.both(), rows)
+    laws::cutting_occurrences();
+    let batches = batches_of(alloc, reads, &rule, options.batch())?;
+    let setup = setup_of(options);
+    let tables = quotient_tables(alloc, &setup, options.size())?;
+    let tally = run(
+        rt,
+        alloc,
+        &batches,
+        &setup,
+        tables,
+        options.workers(),
+        &NoGate,
+    )?;
+    Ok(tally)
 }
 
-// The rows of the tally, counted batch after batch.
-fn counted_rows(
-    alloc: Global,
-    reads: &[SeqRead],
-    rule: &Rule,
-    size: u64,
-) -> Result<Vec<Row>, AllocError>
-    requires few { base_count reads.now ≤ 2 ^ 36 }
-    requires some { 1 ≤ size }
-    ensures { IfOk result (λ rows. IsTally rule.now reads.now rows.items) }
+// How the words are divided among the stripes.
+fn setup_of(options: &Options) -> Setup
+    ensures rule { result.rule ≡ rule_of options.now }
+    ensures stripes { stripe_count result ≡ options.now.stripes }
 {
-    let batches = batches_of(alloc, reads, rule, size)?;
-    let mut counts = BTreeMap::new(alloc);
-    for batch in &batches {
-        count_words(&mut counts, &words(alloc, batch, rule)?)?;
-    }
-    // what is known of the words of reads
-    laws::words_of_reads();
-    laws::counted_words();
-    rows_of(alloc, &counts)
+    let rule = options.rule();
+    let hash = Hash::seeded(2 * rule.k().get(), SEED);
+    let Some(setup) = Setup::new(rule, hash, options.stripes()) else {
+        unreachable!()
+    };
+    setup
 }
 
-// The reads cleaned and cut into batches, which have their words.
+// The reads cleaned and cut into batches of `size` positions.
 fn batches_of(
     alloc: Global,
     reads: &[SeqRead],
@@ -65,14 +78,10 @@ fn batches_of(
     size: u64,
 ) -> Result<Vec<Arc<Batch>>, AllocError>
     requires { 1 ≤ size }
-    ensures words { IfOk result (λ batches. all_words rule.now batches.items ≡ words_of rule.now reads.now) }
-    ensures few { IfOk result (λ batches. length (all_words rule.now batches.items) ≤ base_count reads.now) }
+    ensures { IfOk result (λ batches. values batches.items
+        ≡ cutting rule.now.k size (map (λ read. cleaned rule.now read) reads.now)) }
 {
-    let k = rule.k();
-    // what is known of a length, and of the words of reads
-    let _bases = k.get();
-    laws::words_of_reads();
-    cut(alloc, clean_all(alloc, reads, rule)?, k, size)
+    cut(alloc, clean_all(alloc, reads, rule)?, rule.k(), size)
 }
 
 // The pieces of the reads.
@@ -84,31 +93,4 @@ fn clean_all(alloc: Global, reads: &[SeqRead], rule: &Rule) -> Result<Vec<Piece>
         pieces.push(clean(alloc, read, rule)?)?;
     }
     Ok(pieces)
-}
-
-// Counts each word once more.
-fn count_words(counts: &mut BTreeMap<u64, u64>, words: &[u64]) -> Result<(), AllocError>
-    requires { (n : ℕ) → counted counts.old n + length words.now ≤ 2 ^ 62 }
-    ensures counts { OnOk result ((n : ℕ) → counted counts.new n ≡ counted counts.old n + times words.now n) }
-    ensures present { OnOk result (HasNoZeros counts.old → HasNoZeros counts.new) }
-{
-    for word in words {
-        *counts.entry(*word)?.or_insert(0) += 1;
-    }
-    Ok(())
-}
-
-// The words and their counts, in rising order of the words.
-fn rows_of(alloc: Global, counts: &BTreeMap<u64, u64>) -> Result<Vec<Row>, AllocError>
-    ensures rows { IfOk result (λ rows. rows.items ≡ map entry_row counts.now.entries) }
-    ensures rising { IsOrdered nat_cmp counts.now }
-{
-    let mut rows = Vec::with_capacity(alloc, counts.len())?;
-    for (word, count) in counts {
-        rows.push(Row {
-            word: *word,
-            count: *count,
-        })?;
-    }
-    Ok(rows)
 }

@@ -1,15 +1,17 @@
 //! The line that a refusal prints.
-ghost use Rattle.std.specs.Prelude.{◌≡◌, ◌≤◌, ◌+◌, ◌++◌, decimal, length, IfErr};
-ghost use Rattle.kc_io.specs.Sinks.{Writes};
+ghost use Rattle.std.specs.Prelude.{◌≡◌, ◌≤◌, ◌<◌, ◌+◌, ◌++◌, decimal, length, IfErr, OnOk, OnErr};
+ghost use Rattle.kc_io.specs.Sinks.{Writes, Drains, HasBegun};
 ghost use Rattle.kc_tool.specs.declared.faults.ToolFault.TheVariants.{Write};
-ghost use Rattle.kc_tool.specs.FaultLines.{fault_line, fault_text, reader_text, in_source, at_line};
+ghost use Rattle.kc_tool.specs.FaultLines.{fault_line, fault_front, fault_name, reader_text, run_text};
+ghost use Rattle.kc_tool.specs.FaultLines.{in_source, at_line};
 
 use crate::faults::ToolFault;
 use kc_fastx::FastxFault;
-use kc_io::{Sink, write_out};
-use kc_report::Block;
+use kc_io::{Failed, Sink, write_all, write_out};
+use kc_report::{BLOCK_SIZE, Block};
+use kc_run::RunFault;
 
-/// Writes the line of a refusal.
+/// Writes the line of a refusal. It takes no memory.
 ///
 /// # Errors
 /// `Write` where the writer failed or took no byte. A beginning of the line was written.
@@ -17,18 +19,52 @@ pub fn write_fault<W: Sink>(writer: &mut W, fault: &ToolFault) -> Result<(), Too
     ensures written { Writes (W.seen writer.old) (W.seen writer.new) result (fault_line fault.now) }
     ensures fault { IfErr result (λ fault. fault ≡ Write) }
 {
-    let mut line = Block::new();
-    line.push(b"kcount: ");
-    push_fault(&mut line, fault);
-    line.push(b"\n");
-    write_out(writer, line.as_slice())?;
-    Ok(())
+    Ok(write_line(writer, fault)?)
 }
 
-// What the refusal says, at the end of the line.
-fn push_fault(line: &mut Block, fault: &ToolFault)
+// Writes the line of a refusal.
+fn write_line<W: Sink>(writer: &mut W, fault: &ToolFault) -> Result<(), Failed>
+    ensures { Writes (W.seen writer.old) (W.seen writer.new) result (fault_line fault.now) }
+{
+    let mut line = Block::new();
+    line.push(b"kcount: ");
+    push_front(&mut line, fault);
+    put_text(writer, &mut line, name_of(fault).as_bytes())?;
+    line.push(b"\n");
+    write_out(writer, line.as_slice())
+}
+
+// Puts a text of any length behind the block, and leaves room for a byte. Where there is no room for so many, they go
+// to the writer.
+fn put_text<W: Sink>(writer: &mut W, block: &mut Block, text: &[u8]) -> Result<(), Failed>
+    requires { length block.old < BLOCK_SIZE }
+    ensures ok { OnOk result (Drains (W.seen writer.old) (W.seen writer.new) (block.old ++ text.now) block.new) }
+    ensures room { OnOk result (length block.new < BLOCK_SIZE) }
+    ensures err { OnErr result (HasBegun (W.seen writer.old) (W.seen writer.new) (block.old ++ text.now)) }
+{
+    if text.len() < BLOCK_SIZE - block.len() {
+        block.push(text);
+        return Ok(());
+    }
+    write_all(writer, block.as_slice())?;
+    block.clear();
+    write_all(writer, text)
+}
+
+// The name of the file that the refusal names, which stands at its end.
+fn name_of(fault: &ToolFault) -> &str
+    ensures { result.now ≡ fault_name fault.now }
+{
+    match fault {
+        ToolFault::OpenFailed(name) => name.as_str(),
+        _ => "",
+    }
+}
+
+// What the refusal says before the name of a file, at the end of the line.
+fn push_front(line: &mut Block, fault: &ToolFault)
     requires room { length line.old ≤ 100 }
-    ensures pushed { line.new ≡ line.old ++ fault_text fault.now }
+    ensures pushed { line.new ≡ line.old ++ fault_front fault.now }
     ensures short { length line.new ≤ length line.old + 200 }
 {
     match fault {
@@ -45,13 +81,32 @@ fn push_fault(line: &mut Block, fault: &ToolFault)
         }
         ToolFault::BadWord(number) => push_numbered(line, b"52: bad word ", *number),
         ToolFault::Write => line.push(b"53: write failed"),
+        ToolFault::Run(fault) => push_run_fault(line, *fault),
+        ToolFault::OpenFailed(_) => line.push(b"54: cannot open "),
+    }
+}
+
+// What a refusal of the counting says, at the end of the line.
+fn push_run_fault(line: &mut Block, fault: RunFault)
+    requires room { length line.old ≤ 100 }
+    ensures pushed { line.new ≡ line.old ++ run_text fault }
+    ensures short { length line.new ≤ length line.old + 200 }
+{
+    match fault {
+        RunFault::Foreign(at) => push_numbered(line, b"31: foreign stripe ", u64::from(at)),
+        RunFault::NoThread(at) => push_numbered(line, b"33: no thread for worker ", u64::from(at)),
+        RunFault::Memory => line.push(b"34: no memory"),
+        RunFault::Full(at) => {
+            push_numbered(line, b"35: stripe ", u64::from(at));
+            line.push(b" is full");
+        }
     }
 }
 
 // A refusal that ends with a number, at the end of the line.
 fn push_numbered(line: &mut Block, what: &[u8], number: u64)
     requires room { length line.old ≤ 100 }
-    requires brief { length what.now ≤ 20 }
+    requires brief { length what.now ≤ 30 }
     ensures pushed { line.new ≡ line.old ++ (what.now ++ decimal number) }
     ensures short { length line.new ≤ length line.old + 100 }
 {

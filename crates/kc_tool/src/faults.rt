@@ -1,30 +1,43 @@
 //! The refusals of the program.
 ghost use Rattle.std.specs.Prelude.{◌≡◌};
-ghost use Rattle.kc_tool.specs.declared.faults.ToolFault.TheVariants.{Memory, Write};
+ghost use Rattle.kc_tool.specs.declared.faults.ToolFault.TheVariants.{Memory, Run, Write};
 ghost use Rattle.kc_tool.specs.FaultLines.{option_text};
 ghost use Rattle.kc_tool.specs.Faults.{report_fault};
 
 use kc_fastx::FastxFault;
 use kc_io::Failed;
 use kc_report::ReportFault;
+use kc_run::RunFault;
 use std::alloc::{AllocError, AllocFailed};
 use thiserror::Error;
 
-/// An option of the command line whose value can be refused.
+/// An option of the command line whose value can be refused, in the order in which they are judged.
 #[derive(Clone, Copy, Debug, PartialEq, Eq)]
 pub enum OptionName {
     /// `--mer-len`
     MerLen,
+    /// `--size`
+    Size,
+    /// `--threads`
+    Threads,
     /// `--min-qual-char`
     MinQualChar,
+    /// `--stripes`
+    Stripes,
     /// `--batch`
     Batch,
     /// `--print`
     Print,
+    /// `--lower-count`
+    LowerCount,
+    /// `--upper-count`
+    UpperCount,
+    /// `--high`
+    High,
 }
 
 /// Why a command could not be carried out.
-#[derive(Clone, Copy, Debug, PartialEq, Eq, Error)]
+#[derive(Debug, Drop, PartialEq, Eq, Error)]
 pub enum ToolFault {
     /// A source could not be read as sequence reads. Sources are numbered from 1.
     #[error("{fault}, source {source}")]
@@ -61,6 +74,12 @@ pub enum ToolFault {
     /// The writer failed, or took no byte.
     #[error("write failed")]
     Write,
+    /// The counting was refused.
+    #[error("{0}")]
+    Run(RunFault),
+    /// The file of this name could not be opened, or not be created.
+    #[error("cannot open {0}")]
+    OpenFailed(String),
 }
 
 impl OptionName {
@@ -70,9 +89,15 @@ impl OptionName {
     {
         match self {
             OptionName::MerLen => "--mer-len",
+            OptionName::Size => "--size",
+            OptionName::Threads => "--threads",
             OptionName::MinQualChar => "--min-qual-char",
+            OptionName::Stripes => "--stripes",
             OptionName::Batch => "--batch",
             OptionName::Print => "--print",
+            OptionName::LowerCount => "--lower-count",
+            OptionName::UpperCount => "--upper-count",
+            OptionName::High => "--high",
         }
     }
 }
@@ -98,6 +123,14 @@ impl From<Failed> for ToolFault {
 
     fn from(_error: Failed) -> ToolFault {
         ToolFault::Write
+    }
+}
+
+impl From<RunFault> for ToolFault {
+    ghost from_gives = { λ why fault. fault ≡ Run why };
+
+    fn from(fault: RunFault) -> ToolFault {
+        ToolFault::Run(fault)
     }
 }
 

@@ -1,15 +1,15 @@
 //! The program `kcount`: how often each k-mer (word of length k) occurs in sequence reads.
 //!
 //! `count_reads` goes from sources of bytes to a written report, as `Options` say. `program` reads a whole command
-//! line, counts and answers the exit status; `run` does the same over streams that the caller keeps. A refusal is a
-//! `ToolFault`, and `write_fault` writes its line.
+//! line, does what it asks for and answers the exit status; `run` does the same over streams that the caller keeps. A
+//! refusal is a `ToolFault`, and `write_fault` writes its line.
 //!
 //! `write_dump`, `write_histo`, `write_stats` and `write_table` write a `Tally`, and `query` the counts of some words;
 //! `read_table` reads what `write_table` writes.
 //!
 //! ```text
 //! let k = K::new(3).ok_or("a length")?;
-//! let options = Options::new(k, Dump::in_columns());
+//! let options = Options::new(k).with_print(Print::Dump).with_dump(Dump::in_columns());
 //! let sources = vec![in alloc; FromBytes::new(b">r1\nACGTA\n")]?;
 //! let mut writer = ToVec::new(Vec::new(alloc));
 //! count_reads(&rt, alloc, sources, &options, &mut writer)?;
@@ -19,17 +19,22 @@
 
 mod arguments;
 mod command;
+mod command_arguments;
 mod counting;
 mod fault_lines;
 mod faults;
+mod files;
+mod help;
 pub mod laws;
 mod numbers;
 mod reading;
 mod reporting;
 mod running;
 mod settings;
+mod tasks;
+mod verbs;
 
-pub use arguments::options;
+pub use arguments::{dump_options, high_of, options};
 pub use fault_lines::write_fault;
 pub use faults::{OptionName, ToolFault};
 pub use kc_io::{Sink, ToVec, ToWrite};
@@ -37,8 +42,9 @@ pub use kc_report::{
     Dump, GREATEST_HIGH, ReportFault, query, read_table, write_dump, write_histo, write_stats,
     write_table,
 };
+pub use kc_run::RunFault;
 pub use kc_tally::{Row, Tally};
 pub use kc_word::K;
 pub use reporting::count_reads;
 pub use running::{program, run};
-pub use settings::Options;
+pub use settings::{Options, Print};

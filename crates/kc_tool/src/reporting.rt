@@ -1,24 +1,42 @@
-//! From sources to a report.
-ghost use Rattle.std.specs.Prelude.{◌≢◌, OnOk, IfErr, IsErrOf};
+//! Reports on a tally, and from sources to a report.
+ghost use Rattle.std.specs.Prelude.{◌≡◌, ◌≢◌, OnOk, IfErr, IsErrOf};
 ghost use Rattle.kc_tool.specs.Reporting.{WritesReport, BeginsReport, LeavesUnwritten};
+ghost use Rattle.kc_tool.specs.Reporting.{IsWritable, WritesText, report_of, report_text};
 
 use crate::counting::tally_of;
 use crate::faults::ToolFault;
 use crate::reading::read_sources;
-use crate::settings::Options;
+use crate::settings::{Options, Print};
 use kc_io::{Sink, Source};
-use kc_report::write_dump;
+use kc_report::{write_dump, write_histo, write_stats, write_table};
+use kc_tally::Tally;
 use std::alloc::Global;
+use std::sync::Wait;
+use std::thread::Threads;
+
+/// A report on a tally.
+#[derive(Clone, Copy, Debug, PartialEq, Eq)]
+pub enum Report {
+    /// The table text, from which the tally can be read again.
+    Table,
+    /// The words with their counts, laid out so.
+    Dump(kc_report::Dump),
+    /// How many words have which count, with a line of its own for each count up to this.
+    Histo(u64),
+    /// Four numbers about all words.
+    Stats,
+}
 
 /// Reads all sources in order, counts their words, and writes the report that the options ask for. Nothing is written
 /// before all sources were read and counted. The sources have at most 2^36 bytes together.
 ///
 /// # Errors
 /// `Fastx` with the fault of the first source that has one, and its number from 1; so it is also where a growth was
-/// refused while that source was read. `Memory` where one was refused elsewhere. After both nothing was written.
+/// refused while that source was read. `Run` where the counting was refused, and `Memory` where a growth was refused
+/// elsewhere. After all these nothing was written.
 /// `Write` where the writer failed or took no byte; a beginning of the report was written.
-pub fn count_reads<H, R: Source + Drop, W: Sink>(
-    _rt: &H,
+pub fn count_reads<H: Threads + Wait + Sync, R: Source + Drop, W: Sink>(
+    rt: &H,
     alloc: Global,
     sources: Vec<R>,
     options: &Options,
@@ -32,7 +50,42 @@ pub fn count_reads<H, R: Source + Drop, W: Sink>(
         → LeavesUnwritten R.seen sources.items (W.seen writer.old) (W.seen writer.new) fault) }
 {
     let reads = read_sources(alloc, sources)?;
-    let tally = tally_of(alloc, &reads, &options.rule(), options.batch())?;
-    write_dump(writer, &tally, &options.dump())?;
+    let tally = tally_of(rt, alloc, &reads, options)?;
+    write_report(alloc, writer, &tally, report_of(options))
+}
+
+// The report that the options ask for.
+fn report_of(options: &Options) -> Report
+    ensures asked { result ≡ report_of options.now }
+    ensures writable { IsWritable result }
+{
+    match options.print() {
+        Print::Table => Report::Table,
+        Print::Dump => Report::Dump(options.dump()),
+        Print::Histo => Report::Histo(options.high()),
+        Print::Stats => Report::Stats,
+    }
+}
+
+/// Writes a report on a tally. Condition: a histogram is for counts up to 1 to 10,000,000.
+///
+/// # Errors
+/// `Write` where the writer failed or took no byte; a beginning of the report was written. `Memory` where a growth was
+/// refused; nothing was written.
+pub(crate) fn write_report<W: Sink>(
+    alloc: Global,
+    writer: &mut W,
+    tally: &Tally,
+    report: Report,
+) -> Result<(), ToolFault>
+    requires { IsWritable report }
+    ensures { WritesText (report_text report tally.now) (W.seen writer.old) (W.seen writer.new) result }
+{
+    match report {
+        Report::Table => write_table(writer, tally)?,
+        Report::Dump(dump) => write_dump(writer, tally, &dump)?,
+        Report::Histo(high) => write_histo(alloc, writer, tally, high)?,
+        Report::Stats => write_stats(writer, tally)?,
+    }
     Ok(())
 }

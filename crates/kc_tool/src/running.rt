@@ -2,12 +2,10 @@
 ghost use Rattle.std.specs.Prelude.{◌≡◌, ◌≤◌, ◌⊎◌, IfErr, IfOk, map, string_bytes};
 ghost use Rattle.clap.specs.Faults.{fault_of};
 ghost use Rattle.clap.specs.Kinds.{HasKind};
-ghost use Rattle.clap.specs.Words.{found_of, rows_of};
 ghost use Rattle.kc_tool.specs.Command.{kcount_app};
 ghost use Rattle.kc_tool.specs.Running.{
   AreTaken,
   CarriesOut,
-  CountsSo,
   EndsInFault,
   EndsRefused,
   EndsWell,
@@ -17,16 +15,18 @@ ghost use Rattle.kc_tool.specs.Running.{
 ghost use Rattle.kc_tool.specs.declared.faults.ToolFault.TheVariants.{Memory, Write};
 ghost use Rattle.kc_tool.specs.declared.running.Ending.TheVariants.{Fault};
 
-use crate::arguments::options;
-use crate::command::{COUNT, command};
+use crate::command::command;
 use crate::fault_lines::write_fault;
 use crate::faults::ToolFault;
-use crate::reporting::count_reads;
+use crate::verbs::{carry_out, verb_named};
 use clap::ArgMatches;
 use clap::error::ErrorKind;
 use kc_io::{Failed, FromRead, Sink, Source, ToWrite, write_out};
 use std::alloc::{AllocError, AllocFailed, Global};
 use std::io;
+use std::rt::Files;
+use std::sync::Wait;
+use std::thread::Threads;
 
 /// The exit status where all went well.
 const DONE: u8 = 0;
@@ -37,15 +37,13 @@ const REFUSED: u8 = 2;
 
 /// Carries out the command line `arguments`, which begins with the program's name, and answers the exit status: 0; 1
 /// for a fault; 2 for a command line that is refused. The line of a fault goes to `errors`, and so does the text of a
-/// refusal. Failing to write there changes no status.
-pub fn program<H, I: io::Read + Drop, O: io::Write + Drop, E: io::Write + Drop>(
-    rt: &H,
-    alloc: Global,
-    arguments: Vec<String>,
-    input: I,
-    output: O,
-    errors: E,
-) -> u8
+/// refusal. Failing to write there changes no status. Files are opened and created by `rt`.
+pub fn program<
+    H: Files + Threads + Wait + Sync,
+    I: io::Read + Drop,
+    O: io::Write + Drop,
+    E: io::Write + Drop,
+>(rt: &H, alloc: Global, arguments: Vec<String>, input: I, output: O, errors: E) -> u8
     ensures { result ≤ 2 }
 {
     let mut output = ToWrite::new(output);
@@ -54,11 +52,11 @@ pub fn program<H, I: io::Read + Drop, O: io::Write + Drop, E: io::Write + Drop>(
     run(rt, alloc, &arguments, input, &mut output, &mut errors)
 }
 
-/// What `program` does, over streams that the caller keeps. Status 0: the output has the answer, which is the report
-/// that the arguments ask for, or help or the version. Status 1: the line of a fault went to the errors, and the output
-/// is as it was, or has a beginning of the answer where writing failed. Status 2: the output is as it was, and why the
-/// arguments are refused went to the errors.
-pub fn run<H, R: Source + Drop, W: Sink, E: Sink>(
+/// What `program` does, over streams that the caller keeps. Status 0: the output, or the file that the arguments name
+/// for it, has what the arguments ask for: a report, the answer to a query, help or the version. Status 1: the line of
+/// a fault went to the errors, and the output is as it was, or has a beginning of the answer where writing failed. Status
+/// 2: the output is as it was, and why the arguments are refused went to the errors.
+pub fn run<H: Files + Threads + Wait + Sync, R: Source + Drop, W: Sink, E: Sink>(
     rt: &H,
     alloc: Global,
     arguments: &[String],
@@ -66,18 +64,18 @@ pub fn run<H, R: Source + Drop, W: Sink, E: Sink>(
     output: &mut W,
     errors: &mut E,
 ) -> u8
-    ensures done { result ≡ 0 → EndsWell R.seen input (map string_bytes arguments.now)
+    ensures done { result ≡ 0 → EndsWell (R.seen input) (map string_bytes arguments.now)
         (W.seen output.old) (W.seen output.new) (E.seen errors.old) (E.seen errors.new) }
-    ensures fault { result ≡ 1 → EndsInFault R.seen input (map string_bytes arguments.now)
+    ensures fault { result ≡ 1 → EndsInFault (R.seen input) (map string_bytes arguments.now)
         (W.seen output.old) (W.seen output.new) (E.seen errors.old) (E.seen errors.new) 1 }
     ensures refused { result ≡ 2 →
-        EndsInFault R.seen input (map string_bytes arguments.now)
+        EndsInFault (R.seen input) (map string_bytes arguments.now)
         (W.seen output.old) (W.seen output.new) (E.seen errors.old) (E.seen errors.new) 2
         ⊎ EndsRefused (map string_bytes arguments.now)
         (W.seen output.old) (W.seen output.new) (E.seen errors.old) (E.seen errors.new) }
     ensures status { result ≤ 2 }
 {
-    match carry_out(rt, alloc, arguments, input, output) {
+    match obey(rt, alloc, arguments, input, output) {
         Ok(()) => DONE,
         Err(Ending::Fault(fault)) => {
             let _ = write_fault(errors, &fault);
@@ -134,24 +132,28 @@ fn status_of(fault: &ToolFault) -> u8
 }
 
 // Reads the command line and does what it asks for.
-fn carry_out<H, R: Source + Drop, W: Sink>(
+fn obey<H: Files + Threads + Wait + Sync, R: Source + Drop, W: Sink>(
     rt: &H,
     alloc: Global,
     arguments: &[String],
     input: R,
     output: &mut W,
 ) -> Result<(), Ending>
-    ensures { CarriesOut R.seen input (map string_bytes arguments.now) (W.seen output.old) (W.seen output.new) result }
+    ensures { CarriesOut (R.seen input) (map string_bytes arguments.now)
+        (W.seen output.old) (W.seen output.new) result }
 {
     let matches = match parsed(alloc, arguments) {
         Ok(matches) => matches,
         Err(error) => return show(alloc, &error, output),
     };
-    match matches.subcommand() {
-        Some((COUNT, matches)) => Ok(count(rt, alloc, matches, input, output)?),
-        // `clap` passes no command line without one of the commands
-        _ => unreachable!(),
-    }
+    // `clap` passes no command line without one of the commands
+    let Some((name, matches)) = matches.subcommand() else {
+        unreachable!()
+    };
+    let Some(verb) = verb_named(name) else {
+        unreachable!()
+    };
+    Ok(carry_out(rt, alloc, verb, matches, input, output)?)
 }
 
 // What `clap` makes of the command line.
@@ -160,22 +162,6 @@ fn parsed<'a>(alloc: Global, arguments: &'a [String]) -> Result<ArgMatches<'a>, 
     ensures refused { IfErr result (HasKind (fault_of kcount_app (map string_bytes arguments.now))) }
 {
     command(alloc)?.try_get_matches_from(arguments)
-}
-
-// Counts the words of the input by the options, and writes the report.
-fn count<H, R: Source + Drop, W: Sink>(
-    rt: &H,
-    alloc: Global,
-    matches: &ArgMatches<'_>,
-    input: R,
-    output: &mut W,
-) -> Result<(), ToolFault>
-    ensures { CountsSo R.seen input (rows_of (found_of matches.now)) (W.seen output.old) (W.seen output.new) result }
-{
-    let options = options(alloc, matches)?;
-    let mut sources = Vec::new(alloc);
-    sources.push(input)?;
-    count_reads(rt, alloc, sources, &options, output)
 }
 
 // Help and the version go to the output. Any other text refuses the command line.

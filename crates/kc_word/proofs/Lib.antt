@@ -14,3 +14,7 @@ pub mod Cuttings
 pub mod Taking
 pub mod Batching
 pub mod Sameness
+pub mod PackedLemmas
+pub mod RunLemmas
+pub mod PieceLemmas
+pub mod WalkLemmas

@@ -7,22 +7,16 @@ use Rattle.std.proofs.lemmas.List.Sums.{prefix_len-le-length, prefix_len_is}
 use Rattle.std.proofs.lemmas.List.Folds.{list_all-append, list_all-map}
 use Rattle.std.proofs.lemmas.Int.Digits.{number_push, number_lt}
 use Rattle.std.specs.Int.Digits.{number_from_digits, number_from_digits_after, AllBelowBase}
-use Rattle.std.specs.List.{list_all, prefix_len, suffix_len}
+use Rattle.std.specs.List.{list_all, prefix_len}
 use Rattle.std.specs.Char.{to_ascii_uppercase}
 use Rattle.kc_word.specs.Letter.{is_base, are_bases, code, complement}
 use Rattle.kc_word.specs.Cutting.{unusable}
 use Rattle.kc_word.specs.Word.{number, reverse_complement, form}
 use Rattle.kc_word.proofs.WordLemmas.{code-lt, code-complement, number-canonical, map-reverse}
-use Rattle.kc_word.proofs.Windows.{word_of, last_window, length-last_window}
+use Rattle.kc_word.specs.Walking.{last_window, is_letter, digit_of, other_digit, run_of, IsRolled}
+use Rattle.kc_word.proofs.Windows.{word_of, length-last_window}
 
 -- ---- digits
-
--- the digit of a byte: its code in the word, and what is left to 3 in the reverse complement. A byte that is no base counts as A
-pub digit_of : ℕ → ℕ
-digit_of byte = cond (is_base (to_ascii_uppercase byte)) (code (to_ascii_uppercase byte)) 0
-
-pub other_digit : ℕ → ℕ
-other_digit byte = 3 - digit_of byte
 
 digit_of-lt : (byte : ℕ) → digit_of byte < 4
 unfolding digit_of
@@ -107,13 +101,6 @@ last_window_push k bytes byte h =
     ∙ ap (λ xs. xs ++ byte ∷ []) (sym (drop-drop 1 (length bytes) (replicate k unusable ++ bytes)))
 
 -- ---- the run of bases at the end
-
--- whether the byte is a base in either case
-abbrev pub is_letter : ℕ → Bool
-is_letter byte = is_base (to_ascii_uppercase byte)
-
-pub run_of : ℕ → List ℕ → ℕ
-run_of k bytes = suffix_len is_letter (replicate k unusable ++ bytes)
 
 run_of_push : (k : ℕ) (bytes : List ℕ) (byte : ℕ) → run_of k (bytes ++ byte ∷ []) ≡ cond (is_letter byte) (1 + run_of k bytes) 0
 unfolding run_of
@@ -222,12 +209,6 @@ number-other_window window h =
     ∙ ap reverse (others-window window (sym (list_all-map is_base to_ascii_uppercase window) ∙ h)))
 
 -- ---- the state of the roll
-
--- what the two numbers and the run say of the bytes seen so far
-pub record IsRolled (k : ℕ) (seen : List ℕ) (forward backward run : ℕ) : Type 0 where
-  pub forward_is : forward ≡ number_from_digits 4 (map digit_of (last_window k seen))
-  pub backward_is : backward ≡ number_from_digits 4 (reverse (map other_digit (last_window k seen)))
-  pub run_is : run ≡ run_of k seen
 
 last_window-none : (k : ℕ) → last_window k [] ≡ replicate k unusable
 unfolding last_window

@@ -12,6 +12,7 @@ use Rattle.kc_word.specs.Letter.{is_base, are_bases}
 use Rattle.kc_word.specs.Word.{number, form}
 use Rattle.kc_word.specs.Rule.{CountingRule}
 use Rattle.kc_word.specs.Cutting.{unusable}
+use Rattle.kc_word.specs.Walking.{last_window}
 use Rattle.kc_word.specs.Occurrences.{is_usable, word_at, form_at, position_count, words_in}
 
 -- the number of the word that a window holds, in the form under which it counts, where all its bytes are bases
@@ -24,7 +25,7 @@ windows k bytes = map (λ p. take k (drop p bytes)) (range_with_len 0 (position_
 
 -- ---- lists made from a range
 
-map-range : {X : Type 0} (f g : ℕ → X) (a n : ℕ) → ((p : ℕ) → p < a + n → f p ≡ g p) → map f (range_with_len a n) ≡ map g (range_with_len a n)
+pub map-range : {X : Type 0} (f g : ℕ → X) (a n : ℕ) → ((p : ℕ) → p < a + n → f p ≡ g p) → map f (range_with_len a n) ≡ map g (range_with_len a n)
 map-range f g a zero same = refl
 map-range f g a (suc n) same =
     ap (λ x. x ∷ map f (range_with_len (a + 1) n)) (same a (omega arith)) ∙ ap (λ xs. g a ∷ xs) (map-range f g (a + 1) n (λ p h. same p (omega (arith, h))))
@@ -67,10 +68,6 @@ words_in-windows rule bytes =
     ∙ sym (filter_map-map (word_of rule.both) (λ p. take rule.k (drop p bytes)) (range_with_len 0 (position_count rule.k (length bytes))))
 
 -- ---- one more byte
-
--- the last k bytes, where k bytes N stand before the first one
-unfoldable pub last_window : ℕ → List ℕ → List ℕ
-last_window k bytes = drop (length bytes) (replicate k unusable ++ bytes)
 
 pub length-last_window : (k : ℕ) (bytes : List ℕ) → length (last_window k bytes) ≡ k
 unfolding last_window

@@ -7,3 +7,7 @@ pub mod Laws
 pub mod Cursor
 pub mod Sameness
 pub mod Shared
+pub mod Packed
+pub mod Runs
+pub mod PackedPiece
+pub mod Walking

@@ -1,11 +1,14 @@
 //! Pieces cut into numbered batches of as many positions each.
 ghost use Rattle.std.specs.Prelude.{◌≡◌, ℕ, ◌+◌, ◌^◌, ◌<◌, ◌≤◌, List, length, min, IfOk, OnOk};
-ghost use Rattle.kc_word.specs.Cutting.{stretches, position_total, cutting, KeepsOccurrences, KeepsWords};
+ghost use Rattle.kc_word.specs.Cutting.{stretches, position_total, cutting, as_reads, KeepsOccurrences, KeepsWords};
+ghost use Rattle.kc_word.specs.Occurrences.{words_of};
 ghost use Rattle.kc_word.specs.Shared.{values};
 ghost use Rattle.kc_word.specs.Cursor.{position_number, IsCursor};
 
 use crate::k::K;
 use crate::piece::Piece;
+use crate::rule::Rule;
+use crate::walk::Walk;
 use std::alloc::{AllocError, Global};
 use std::marker::Model;
 use std::sync::Arc;
@@ -18,11 +21,14 @@ pub struct Batch {
 }
 
 impl Model for Batch {
+    ghost use Rattle.std.specs.Prelude.{◌≤◌, length};
     ghost use Rattle.kc_word.specs.Cutting.{NumberedPieces};
 
     ghost Value = { NumberedPieces };
 
     ghost view = { λ b. record { number = b.number; pieces = b.pieces.items } };
+
+    ghost invariant = { λ b. 1 ≤ length b.pieces.items };
 }
 
 impl Batch {
@@ -38,6 +44,14 @@ impl Batch {
         ensures { result.now ≡ self.now.pieces }
     {
         &self.pieces
+    }
+
+    /// The words at the positions of the batch, without those that hold N, as numbers, in the forms under which
+    /// they count, in order: the items are what `words` gives of the batch. It takes no memory.
+    pub fn walk(&self, rule: &Rule) -> Walk<'_>
+        ensures { result ≡ words_of rule.now (as_reads self.now.pieces) }
+    {
+        Walk::new(&self.pieces, *rule)
     }
 }
 
@@ -130,7 +144,7 @@ fn take_positions(
         let count = piece.position_count(k);
         let taken = room.min(count - next.position);
         if taken > 0 {
-            let end = next.position + taken + bases - 1;
+            let end = next.position + taken + (bases - 1);
             parts.push(piece.part(alloc, next.position, end)?)?;
         }
         room -= taken;

@@ -2,7 +2,6 @@
 ghost use Rattle.std.specs.Prelude.{◌≡◌, ◌<◌, if◌then◌else◌};
 ghost use Rattle.std.specs.Char.{to_ascii_uppercase};
 ghost use Rattle.kc_word.specs.Letter.{is_base, code, base};
-ghost use Rattle.kc_word.specs.Cutting.{cleaned_letter};
 
 /// What stands in a piece for a base that is not usable.
 pub(crate) const UNUSABLE: u8 = b'N';
@@ -31,27 +30,6 @@ static CODES: [u8; 256] = [
     4, 4, 4, 4, 4, 4, 4, 4, 4, 4, 4, 4, 4, 4, 4, 4,
 ];
 
-// the upper case at the letters of the bases in either case, and N elsewhere
-#[rattlefmt::skip]
-static CLEANED: [u8; 256] = [
-    78, 78, 78, 78, 78, 78, 78, 78, 78, 78, 78, 78, 78, 78, 78, 78,
-    78, 78, 78, 78, 78, 78, 78, 78, 78, 78, 78, 78, 78, 78, 78, 78,
-    78, 78, 78, 78, 78, 78, 78, 78, 78, 78, 78, 78, 78, 78, 78, 78,
-    78, 78, 78, 78, 78, 78, 78, 78, 78, 78, 78, 78, 78, 78, 78, 78,
-    78, 65, 78, 67, 78, 78, 78, 71, 78, 78, 78, 78, 78, 78, 78, 78,
-    78, 78, 78, 78, 84, 78, 78, 78, 78, 78, 78, 78, 78, 78, 78, 78,
-    78, 65, 78, 67, 78, 78, 78, 71, 78, 78, 78, 78, 78, 78, 78, 78,
-    78, 78, 78, 78, 84, 78, 78, 78, 78, 78, 78, 78, 78, 78, 78, 78,
-    78, 78, 78, 78, 78, 78, 78, 78, 78, 78, 78, 78, 78, 78, 78, 78,
-    78, 78, 78, 78, 78, 78, 78, 78, 78, 78, 78, 78, 78, 78, 78, 78,
-    78, 78, 78, 78, 78, 78, 78, 78, 78, 78, 78, 78, 78, 78, 78, 78,
-    78, 78, 78, 78, 78, 78, 78, 78, 78, 78, 78, 78, 78, 78, 78, 78,
-    78, 78, 78, 78, 78, 78, 78, 78, 78, 78, 78, 78, 78, 78, 78, 78,
-    78, 78, 78, 78, 78, 78, 78, 78, 78, 78, 78, 78, 78, 78, 78, 78,
-    78, 78, 78, 78, 78, 78, 78, 78, 78, 78, 78, 78, 78, 78, 78, 78,
-    78, 78, 78, 78, 78, 78, 78, 78, 78, 78, 78, 78, 78, 78, 78, 78,
-];
-
 static BASES: [u8; 4] = *b"ACGT";
 
 /// The code of a base in either case, or `NO_BASE`.
@@ -69,12 +47,4 @@ pub(crate) fn base_of(code: u64) -> u8
     ensures { result ≡ base code }
 {
     BASES[code as usize]
-}
-
-/// A base in upper case, and `N` for any other byte.
-#[inline(always)]
-pub(crate) fn cleaned_letter(byte: u8) -> u8
-    ensures { result ≡ cleaned_letter byte }
-{
-    CLEANED[byte as usize]
 }

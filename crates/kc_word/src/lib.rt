@@ -20,13 +20,17 @@
 #![tactic(auto)]
 
 mod batch;
+mod codes;
 mod k;
 pub mod laws;
 mod letter;
+mod packed;
 mod piece;
 mod roll;
 mod rule;
+mod runs;
 pub mod slow;
+mod walk;
 mod word;
 
 pub use batch::{Batch, cut};
@@ -34,6 +38,7 @@ pub use k::K;
 pub use piece::{Piece, clean};
 pub use roll::{read_words, words};
 pub use rule::Rule;
+pub use walk::Walk;
 pub use word::{Word, canonical, pack, reverse_complement, text};
 
 #[cfg(test)]

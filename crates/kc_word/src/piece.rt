@@ -1,33 +1,40 @@
 //! Reads cleaned into pieces.
 ghost use Rattle.std.specs.Prelude.{◌≡◌, ◌+◌, ◌^◌, ◌<◌, ◌↔◌, length, slice_index, slice_range, ◌≤◌, map, Some, IfOk};
-ghost use Rattle.std.specs.Prelude.{IsTrue};
+ghost use Rattle.std.specs.Prelude.{IsTrue, [], ◌∷◌, ◌++◌, OnOk};
 ghost use Rattle.kc_fastx.specs.Reads.{read_of};
 ghost use Rattle.kc_word.specs.Occurrences.{position_count};
-ghost use Rattle.kc_word.specs.Cutting.{cleaned, cleaned_letter, is_piece_byte};
+ghost use Rattle.kc_word.specs.Cutting.{cleaned, cleaned_letter, is_piece_byte, unusable};
+ghost use Rattle.kc_word.specs.Letter.{base};
+ghost use Rattle.kc_word.specs.PackedPiece.{letter_of};
 
+use crate::codes::Codes;
 use crate::k::K;
-use crate::letter::{UNUSABLE, cleaned_letter};
+use crate::letter::{NO_BASE, UNUSABLE, base_of, code_of};
+use crate::packed::Packed;
 use crate::rule::Rule;
+use crate::runs::{Run, extend_runs, is_in_runs};
 use kc_fastx::SeqRead;
 use std::alloc::{AllocError, Global};
 use std::marker::Model;
 
 /// A read, or a part of one, made ready to be counted: upper-case bases, and `N` in place of each base
-/// that is not usable.
+/// that is not usable. It is kept as packed codes and a list of the runs of N. Under a run stand codes 0, so that
+/// equal pieces are kept alike.
 #[derive(Debug, Drop)]
 pub struct Piece {
-    bytes: Vec<u8>,
+    bases: Packed,
+    runs: Vec<Run>,
 }
 
 impl Model for Piece {
-    ghost use Rattle.std.specs.Prelude.{◌≡◌, ℕ, true, List};
-    ghost use Rattle.kc_word.specs.Cutting.{are_piece_bytes};
+    ghost use Rattle.std.specs.Prelude.{ℕ, List};
+    ghost use Rattle.kc_word.specs.PackedPiece.{bytes_of, IsPiece};
 
     ghost Value = { List ℕ };
 
-    ghost view = { λ p. p.bytes.items };
+    ghost view = { λ p. bytes_of p.bases p.runs.items };
 
-    ghost invariant = { λ p. are_piece_bytes p.bytes.items ≡ true };
+    ghost invariant = { λ p. IsPiece p.bases p.runs.items };
 }
 
 impl Piece {
@@ -35,14 +42,14 @@ impl Piece {
     pub fn len(&self) -> u64
         ensures { result ≡ length self.now }
     {
-        self.bytes.len() as u64
+        self.bases.len() as u64
     }
 
     /// Whether there is no byte.
     pub fn is_empty(&self) -> bool
         ensures { IsTrue result ↔ (length self.now ≡ 0) }
     {
-        self.bytes.is_empty()
+        self.len() == 0
     }
 
     /// The byte at index `i`. Condition: `i` is below the length.
@@ -51,15 +58,21 @@ impl Piece {
         ensures value { result ≡ slice_index self.now i }
         ensures letter { IsTrue (is_piece_byte result) }
     {
-        self.bytes[i as usize]
+        let at = i as usize;
+        if is_in_runs(&self.runs, at) {
+            return UNUSABLE;
+        }
+        base_of(self.bases.code(at))
     }
 
     /// How many positions the piece has: the words of k bases begin at 0 to n - k.
     pub(crate) fn position_count(&self, k: K) -> usize
         ensures value { result ≡ position_count k (length self.now) }
-        ensures fits { length self.now + 1 < 2 ^ 64 }
+        ensures fits { length self.now < 2 ^ 64 }
     {
-        (self.bytes.len() + 1).saturating_sub(k.get() as usize)
+        let count = self.len() as usize;
+        let bases = k.get() as usize;
+        if count < bases { 0 } else { count - bases + 1 }
     }
 
     /// The bytes from `from` to before `to`, as a piece.
@@ -68,15 +81,85 @@ impl Piece {
         requires within { to ≤ length self.now }
         ensures { IfOk result (λ part. part ≡ slice_range self.now from to) }
     {
-        let bytes = Vec::from_slice(alloc, &self.bytes[from..to])?;
-        Ok(Piece { bytes })
+        if from == 0 && to as u64 == self.len() {
+            return self.copy(alloc);
+        }
+        let mut part = Piece::with_capacity(alloc, to - from)?;
+        let mut codes = self.codes(from);
+        for i in from..to {
+            part.push_code(codes.take())?;
+        }
+        Ok(part)
     }
 
-    /// All bytes, in order.
-    pub(crate) fn bytes(&self) -> &[u8]
-        ensures { result.now ≡ self.now }
+    /// The codes of the bytes from index `from` on. Condition: the index is at most the length.
+    pub(crate) fn codes(&self, from: usize) -> Codes<'_>
+        requires { from ≤ length self.now }
+        ensures { result ≡ record { bytes = self.now; taken = from } }
     {
-        &self.bytes
+        Codes::new(&self.bases, &self.runs, from)
+    }
+
+    // the same bytes
+    fn copy(&self, alloc: Global) -> Result<Piece, AllocError>
+        ensures { IfOk result (λ piece. piece ≡ self.now) }
+    {
+        let bases = self.bases.copy(alloc)?;
+        let runs = Vec::from_slice(alloc, &self.runs)?;
+        Ok(Piece { bases, runs })
+    }
+
+    // no bytes, with room for `count`
+    fn with_capacity(alloc: Global, count: usize) -> Result<Piece, AllocError>
+        ensures { IfOk result (λ piece. piece ≡ []) }
+    {
+        let bases = Packed::with_capacity(alloc, count)?;
+        let runs = Vec::new(alloc);
+        Ok(Piece { bases, runs })
+    }
+
+    // appends a base in either case as the upper-case one, and any other byte as N
+    #[inline(always)]
+    fn push(&mut self, byte: u8) -> Result<(), AllocError>
+        requires { length self.old + 1 < 2 ^ 64 }
+        ensures { OnOk result (self.new ≡ self.old ++ cleaned_letter byte ∷ []) }
+    {
+        self.push_code(code_of(byte) as u64)
+    }
+
+    // appends the base of a code, and N for any other number
+    #[inline(always)]
+    fn push_code(&mut self, code: u64) -> Result<(), AllocError>
+        requires { length self.old + 1 < 2 ^ 64 }
+        ensures { OnOk result (self.new ≡ self.old ++ letter_of code ∷ []) }
+    {
+        if code < NO_BASE as u64 {
+            self.push_base(code)
+        } else {
+            self.push_gap()
+        }
+    }
+
+    // appends the base of a code
+    #[inline(always)]
+    fn push_base(&mut self, code: u64) -> Result<(), AllocError>
+        requires below { code < 4 }
+        requires fits { length self.old + 1 < 2 ^ 64 }
+        ensures { OnOk result (self.new ≡ self.old ++ base code ∷ []) }
+    {
+        self.bases.push(code)?;
+        Ok(())
+    }
+
+    // appends N
+    fn push_gap(&mut self) -> Result<(), AllocError>
+        requires { length self.old + 1 < 2 ^ 64 }
+        ensures { OnOk result (self.new ≡ self.old ++ unusable ∷ []) }
+    {
+        let at = self.bases.len();
+        self.bases.push(0)?;
+        extend_runs(&mut self.runs, at)?;
+        Ok(())
     }
 }
 
@@ -91,7 +174,7 @@ impl PartialEq for Piece {
     ghost laws = { partial_equiv_from_equiv nat_list_eq_equiv };
 
     fn eq(&self, other: &Piece) -> bool {
-        self.bytes.as_slice() == other.bytes.as_slice()
+        self.bases == other.bases && self.runs.as_slice() == other.runs.as_slice()
     }
 }
 
@@ -116,11 +199,11 @@ pub fn clean(alloc: Global, read: &SeqRead, rule: &Rule) -> Result<Piece, AllocE
 fn clean_bases(alloc: Global, bases: &[u8]) -> Result<Piece, AllocError>
     ensures { IfOk result (λ piece. piece ≡ map cleaned_letter bases.now) }
 {
-    let mut cleaned = Vec::with_capacity(alloc, bases.len())?;
+    let mut cleaned = Piece::with_capacity(alloc, bases.len())?;
     for base in bases {
-        cleaned.push(cleaned_letter(*base))?;
+        cleaned.push(*base)?;
     }
-    Ok(Piece { bytes: cleaned })
+    Ok(cleaned)
 }
 
 // bases with a quality each, cleaned
@@ -134,14 +217,10 @@ fn clean_by_quality(
     ensures { IfOk result (λ piece. piece ≡ cleaned rule.now (read_of bases.now (Some quals.now))) }
 {
     let floor = rule.floor();
-    let mut cleaned = Vec::with_capacity(alloc, bases.len())?;
+    let mut cleaned = Piece::with_capacity(alloc, bases.len())?;
     for (i, base) in bases.iter().enumerate() {
-        let letter = if quals[i] >= floor {
-            cleaned_letter(*base)
-        } else {
-            UNUSABLE
-        };
-        cleaned.push(letter)?;
+        let byte = if quals[i] >= floor { *base } else { UNUSABLE };
+        cleaned.push(byte)?;
     }
-    Ok(Piece { bytes: cleaned })
+    Ok(cleaned)
 }

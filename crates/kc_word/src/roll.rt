@@ -1,17 +1,21 @@
 //! The words of pieces, rolled along their bytes.
-ghost use Rattle.std.specs.Prelude.{◌≡◌, ◌^◌, ◌<◌, ◌≤◌, ◌++◌, [], None, IfOk, OnOk, All, length, min};
+ghost use Rattle.std.specs.Prelude.{◌≡◌, ◌^◌, ◌<◌, ◌≤◌, ◌++◌, ◌+◌, ◌∷◌, nat_le, [], None, length, min};
+ghost use Rattle.std.specs.Prelude.{IfSome, IfNone, IfOk, OnOk, All};
 ghost use Rattle.std.specs.Vec.{vec_capacity};
 ghost use Rattle.kc_fastx.specs.Reads.{read_of};
 ghost use Rattle.kc_word.specs.Occurrences.{words_in, words_of};
 ghost use Rattle.kc_word.specs.Cutting.{as_reads, position_total};
+ghost use Rattle.kc_word.specs.Walking.{words_left};
 
 use crate::batch::Batch;
+use crate::codes::Codes;
 use crate::k::K;
-use crate::letter::{NO_BASE, code_of};
+use crate::letter::NO_BASE;
 use crate::piece::{Piece, clean};
 use crate::rule::Rule;
 use kc_fastx::SeqRead;
 use std::alloc::{AllocError, Global};
+use std::marker::Model;
 
 /// The words of a read as numbers, in the forms under which they count, in the order of their positions.
 pub fn read_words(alloc: Global, read: &SeqRead, rule: &Rule) -> Result<Vec<u64>, AllocError>
@@ -20,8 +24,8 @@ pub fn read_words(alloc: Global, read: &SeqRead, rule: &Rule) -> Result<Vec<u64>
     ensures short { IfOk result (λ words. length words.items ≤ length read.now.bases) }
 {
     let piece = clean(alloc, read, rule)?;
-    let mut words = Vec::with_capacity(alloc, piece.bytes().len())?;
-    push_words(piece.bytes(), *rule, &mut words)?;
+    let mut words = Vec::with_capacity(alloc, piece.len() as usize)?;
+    push_words(&piece, *rule, &mut words)?;
     Ok(words)
 }
 
@@ -34,7 +38,7 @@ pub fn words(alloc: Global, batch: &Batch, rule: &Rule) -> Result<Vec<u64>, Allo
 {
     let mut words = room_for_words(alloc, batch.pieces(), rule.k())?;
     for part in batch.pieces() {
-        push_words(part.bytes(), *rule, &mut words)?;
+        push_words(part, *rule, &mut words)?;
     }
     Ok(words)
 }
@@ -58,29 +62,116 @@ fn position_count(pieces: &[Piece], k: K) -> usize
     count
 }
 
-// Appends the words of a piece: two numbers are rolled along its bytes, and a word stands wherever the
-// run of bases is as long as a word.
-fn push_words(bytes: &[u8], rule: Rule, words: &mut Vec<u64>) -> Result<(), AllocError>
-    ensures words { OnOk result (words.new.items ≡ words.old.items ++ words_in rule (read_of bytes.now None)) }
+// Appends the words of a piece.
+fn push_words(piece: &Piece, rule: Rule, words: &mut Vec<u64>) -> Result<(), AllocError>
+    ensures words { OnOk result (words.new.items ≡ words.old.items ++ words_in rule (read_of piece.now None)) }
     ensures some { 1 ≤ rule.k }
 {
-    let k = rule.k().get();
-    let both = rule.both();
-    let mask = (1u64 << (2 * k)) - 1;
-    let top = 2 * (k - 1);
-    let mut forward = 0u64;
-    let mut backward = mask;
-    let mut run = 0usize;
-    for byte in bytes {
-        let code = code_of(*byte);
-        let digit = (code & 3) as u64;
-        forward = (forward * 4 + digit) & mask;
-        backward = (backward >> 2) + ((3 - digit) << top);
-        run = if code < NO_BASE { run + 1 } else { 0 };
-        let word = if both { backward.min(forward) } else { forward };
-        if run >= k as usize {
+    let _some = rule.k().get();
+    let mut roll = Roll::new(piece, rule);
+    for i in 0..piece.len() {
+        if let Some(word) = roll.step() {
             words.push(word)?;
         }
     }
     Ok(())
+}
+
+/// A place in a piece whose words are taken: two numbers are rolled along its codes, and a word stands wherever the
+/// run of bases is as long as a word.
+#[derive(Drop)]
+pub(crate) struct Roll<'a> {
+    codes: Codes<'a>,
+    rule: Rule,
+    forward: u64,
+    backward: u64,
+    run: usize,
+}
+
+impl<'a> Model for Roll<'a> {
+    ghost use Rattle.kc_word.specs.Walking.{Walking, IsWalking};
+
+    ghost Value = { Walking };
+
+    ghost view = { λ r. record { rule = r.rule; bytes = r.codes.bytes; taken = r.codes.taken } };
+
+    ghost invariant = { λ r. IsWalking (record { rule = r.rule; bytes = r.codes.bytes; taken = r.codes.taken })
+        r.forward r.backward r.run };
+}
+
+impl<'a> Roll<'a> {
+    /// At the front of the piece.
+    pub(crate) fn new(piece: &'a Piece, rule: Rule) -> Roll<'a>
+        ensures place { result ≡ record { rule = rule; bytes = piece.now; taken = 0 } }
+        ensures words { words_left result ≡ words_in rule (read_of piece.now None) }
+    {
+        let _count = piece.len();
+        let k = rule.k().get();
+        Roll {
+            codes: piece.codes(0),
+            rule,
+            forward: 0,
+            backward: (1u64 << (2 * k)) - 1,
+            run: 0,
+        }
+    }
+
+    /// How the words count.
+    pub(crate) fn rule(&self) -> Rule
+        ensures { result ≡ self.now.rule }
+    {
+        self.rule
+    }
+
+    /// Whether all bytes were taken.
+    #[inline(always)]
+    pub(crate) fn is_done(&self) -> bool
+        ensures { result ≡ nat_le (length self.now.bytes) self.now.taken }
+    {
+        self.codes.is_done()
+    }
+
+    /// Takes the next byte, and answers the word that ends in it, if one does. Condition: not all bytes were taken.
+    #[inline(always)]
+    pub(crate) fn step(&mut self) -> Option<u64>
+        requires { self.old.taken < length self.old.bytes }
+        ensures taken { self.new ≡ record { rule = self.old.rule; bytes = self.old.bytes; taken = self.old.taken + 1 } }
+        ensures word { IfSome result (λ word. words_left self.old ≡ word ∷ words_left self.new) }
+        ensures none { IfNone result (words_left self.new ≡ words_left self.old) }
+    {
+        let k = self.rule.k().get();
+        let both = self.rule.both();
+        let mask = (1u64 << (2 * k)) - 1;
+        let code = self.codes.take();
+        let digit = code & 3;
+        let forward = (self.forward * 4 + digit) & mask;
+        let backward = (self.backward >> 2) + ((3 - digit) << (2 * (k - 1)));
+        let run = if code < NO_BASE as u64 {
+            self.run + 1
+        } else {
+            0
+        };
+        self.forward = forward;
+        self.backward = backward;
+        self.run = run;
+        if run < k as usize {
+            return None;
+        }
+        let word = if both { backward.min(forward) } else { forward };
+        Some(word)
+    }
+    /// Takes bytes up to the end of the next word, or all that are left where no word ends in them.
+    #[inline(always)]
+    pub(crate) fn next_word(&mut self) -> Option<u64>
+        ensures rule { self.new.rule ≡ self.old.rule }
+        ensures word { IfSome result (λ word. words_left self.old ≡ word ∷ words_left self.new) }
+        ensures none { IfNone result ((words_left self.old ≡ []) × (words_left self.new ≡ [])) }
+    {
+        while !self.is_done() {
+            if let Some(word) = self.step() {
+                return Some(word);
+            }
+        }
+        None
+    }
 }

@@ -33,6 +33,15 @@ fn pieces_of(alloc: Global, texts: &[&[u8]], rule: &Rule) -> Result<Vec<Piece>, 
     Ok(pieces)
 }
 
+// The words of a batch, taken one by one.
+fn walked(alloc: Global, batch: &Batch, rule: &Rule) -> Result<Vec<u64>, AllocError> {
+    let mut found = Vec::new(alloc);
+    for word in batch.walk(rule) {
+        found.push(word)?;
+    }
+    Ok(found)
+}
+
 // The pieces of a batch as one text, with a bar behind each.
 fn shown(alloc: Global, batch: &Batch) -> Result<Vec<u8>, AllocError> {
     let mut line = Vec::new(alloc);
@@ -145,6 +154,8 @@ fn batches(rt: HostRuntime) -> Result<(), Fail> {
         assert_eq!(rt; shown(rt.alloc(), batch)?.as_slice(), want);
         assert_eq!(rt; words(rt.alloc(), batch, &rule)?.as_slice(), one);
         assert_eq!(rt; words(rt.alloc(), batch, &both)?.as_slice(), two);
+        assert_eq!(rt; walked(rt.alloc(), batch, &rule)?.as_slice(), one);
+        assert_eq!(rt; walked(rt.alloc(), batch, &both)?.as_slice(), two);
     }
     Ok(())
 }
@@ -167,6 +178,52 @@ fn batches_of_each_size(rt: HostRuntime) -> Result<(), Fail> {
         }
         assert_eq!(rt; count, 8);
     }
+    Ok(())
+}
+
+// The bases of a piece stand 32 to a word of 64 bits: here the last one of the first word is N.
+#[test]
+fn bytes_over_two_words(rt: HostRuntime) -> Result<(), Fail> {
+    let rule = rule_of(3, false)?;
+    let pieces = pieces_of(rt.alloc(), &[b"ACGTACGTACGTACGTACGTACGTACGTACGNT"], &rule)?;
+    assert!(rt; pieces.len() == 1);
+    let piece = &pieces[0];
+    assert_eq!(rt; piece.len(), 33);
+    assert!(rt; piece.len() > 32);
+    for (i, want) in b"ACGTACGTACGTACGTACGTACGTACGTACGNT".iter().enumerate() {
+        assert!(rt; (i as u64) < piece.len());
+        assert_eq!(rt; piece.base(i as u64), *want);
+    }
+    Ok(())
+}
+
+#[test]
+fn words_beside_a_gap(rt: HostRuntime) -> Result<(), Fail> {
+    let rule = rule_of(31, false)?;
+    let bases = b"TTTTTTTTTTTTTTTTTTTTTTTTTTTTTTTNTTTTTTTTTTTTTTTTTTTTTTTTTTTTTTT".as_slice();
+    let batches = cut(
+        rt.alloc(),
+        pieces_of(rt.alloc(), &[bases], &rule)?,
+        rule.k(),
+        100,
+    )?;
+    assert!(rt; batches.len() == 1);
+    let want: [u64; 2] = [4_611_686_018_427_387_903, 4_611_686_018_427_387_903];
+    assert_eq!(rt;
+        words(rt.alloc(), &batches[0], &rule)?.as_slice(),
+        want.as_slice()
+    );
+    Ok(())
+}
+
+#[test]
+fn pieces_by_value(rt: HostRuntime) -> Result<(), Fail> {
+    let rule = rule_of(3, false)?;
+    let pieces = pieces_of(rt.alloc(), &[b"NNN", b"AAA", b"nnn", b"AAAA"], &rule)?;
+    assert!(rt; pieces.len() == 4);
+    assert_eq!(rt; pieces[0] == pieces[1], false);
+    assert_eq!(rt; pieces[0] == pieces[2], true);
+    assert_eq!(rt; pieces[1] == pieces[3], false);
     Ok(())
 }
 

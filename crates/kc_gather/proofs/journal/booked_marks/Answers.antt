@@ -26,7 +26,7 @@ pub loop-batch-preserved : goal.loop-batch-preserved
 loop-batch-preserved c =
     let item = values-item c.args.journal.now c.batch-item.result c.loop-batch.batch-index c.deref.result.now c.loop-batch-test.true c.batch-item.is c.deref.ensures in
     let same : c.number.result ≡ c.deref.result.now.number = c.number.ensures ∙ ap (λ (b : NumberedPieces). b.number) (c.deref-in-loop-batch.ensures ∙ sym c.deref.ensures) in
-    rw same (IsMarkedTo-more (values c.args.batches.now) (values c.args.journal.now) c.loop-batch.marks.items c.loop-batch.batch-index c.deref.result.now item.0 item.1
+    rw same (IsMarkedTo-more (values c.args.batches.now) (values c.args.journal.now) c.loop-batch.marks.items c.loop-batch.batch-index c.deref.result.now item
     (c.is_given.ensures.0 c.if-not-is_given.false) c.loop-batch.invariant)
 
 pub returns-clause-given : goal.returns-clause-given

@@ -1,5 +1,5 @@
 use Rattle.std.proofs.Common.{◌-◌, length}
-use Rattle.kc_io.proofs.TakingLemmas.{TakenSoFar}
+use Rattle.kc_io.specs.Taking.{TakenSoFar}
 use Rattle.kc_io.proofs.taking.take_by_blocks.Given as goal
 
 abbrev pub invariant-reading : goal.invariant-reading

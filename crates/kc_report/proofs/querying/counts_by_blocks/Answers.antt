@@ -2,9 +2,9 @@ use Rattle.std.proofs.Common.{[], map, sym, ◌∙◌, subst, arith}
 use Rattle.std.specs.Prelude.{string_bytes}
 use Rattle.std.proofs.lemmas.List.{length-map}
 use Rattle.std.proofs.lemmas.Result.{err_from_is_err_and}
-use Rattle.kc_io.proofs.SinksLemmas.{began_front}
+use Rattle.kc_io.proofs.SinksLemmas.{began_front, last}
 use Rattle.kc_report.specs.Querying.{query_text, IsAskable}
-use Rattle.kc_report.proofs.QueryLemmas.{next_answer, query_written, word_of, below_map}
+use Rattle.kc_report.proofs.QueryLemmas.{AnswerStep, next_answer, none_left, word_of, below_map}
 use Rattle.kc_report.proofs.querying.counts_by_blocks.Goals as goal
 
 pub returns-in_err-make_room : goal.returns-in_err-make_room
@@ -17,22 +17,39 @@ push_answer-requires-clause-askable g c =
     let words = c.args.words.now in
     let item = c.word-item.result in
     let i = c.loop-word.word-index in
-    subst (IsAskable c.args.tally.now.k) (word_of string_bytes words i item item c.loop-word-test.true (sym c.word-item.is) ∙ sym c.as_bytes.ensures.value)
+    subst (IsAskable c.args.tally.now.k)
+    (word_of string_bytes words i item item c.loop-word-test.true (sym c.word-item.is) ∙ sym c.as_bytes.ensures.value)
     (c.requires i [] (below_map string_bytes words i c.loop-word-test.true))
 
 pub loop-word-preserved : goal.loop-word-preserved
 loop-word-preserved g c =
+    let seen = g.W.Sink.seen in
+    let tally = c.args.tally.now in
     let words = c.args.words.now in
     let item = c.word-item.result in
     let i = c.loop-word.word-index in
-    next_answer _ _ _ c.args.tally.now (query_text c.args.tally.now (map string_bytes words)) (map string_bytes words) i c.loop-word.block
-    c.make_room.new.self c.push_answer.new.block c.as_bytes.result.now (below_map string_bytes words i c.loop-word-test.true) c.loop-word.invariant
-    c.in_ok-make_room.ensures.ok c.push_answer.ensures
+    let step : AnswerStep tally (map string_bytes words) = record {
+      start = seen c.args.writer.now;
+      now = seen c.loop-word.writer;
+      next = seen c.make_room.new.writer;
+      text = query_text tally (map string_bytes words);
+      block = c.loop-word.block;
+      room = c.make_room.new.self;
+      index = i;
+      pending = c.loop-word.invariant;
+      moved = c.in_ok-make_room.ensures.ok;
+    } in
+    next_answer step c.push_answer.new.block c.as_bytes.result.now
+    (below_map string_bytes words i c.loop-word-test.true) c.push_answer.ensures
     (word_of string_bytes words i item item c.loop-word-test.true (sym c.word-item.is) ∙ sym c.as_bytes.ensures.value)
 
 pub returns : goal.returns
 returns g c =
+    let seen = g.W.Sink.seen in
+    let words = map string_bytes c.args.words.now in
     let over = c.loop-word-test.false in
     let long = length-map c.args.words.now string_bytes in
-    query_written _ _ _ c.args.tally.now (query_text c.args.tally.now (map string_bytes c.args.words.now)) (map string_bytes c.args.words.now) c.loop-word.word-index c.loop-word.block
-    c.write_out.result (omega (arith, over, long)) c.loop-word.invariant (rw c.as_slice.ensures at c.write_out.ensures)
+    last (seen c.args.writer.now) (seen c.loop-word.writer) (seen c.write_out.new.writer)
+    (query_text c.args.tally.now words) c.loop-word.block c.write_out.result
+    (none_left c.args.tally.now words c.loop-word.block c.loop-word.word-index (omega (arith, over, long))
+    c.loop-word.invariant) (rw c.as_slice.ensures at c.write_out.ensures)

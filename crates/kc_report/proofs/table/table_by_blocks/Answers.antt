@@ -1,21 +1,46 @@
 use Rattle.std.proofs.lemmas.Result.{err_from_is_err_and}
 use Rattle.kc_io.proofs.SinksLemmas.{began_front}
 use Rattle.kc_report.specs.Table.{table_text, end_text}
-use Rattle.kc_report.proofs.TableLemmas.{next_row, written}
+use Rattle.kc_report.proofs.TableLemmas.{TableStep, next_row, written}
 use Rattle.kc_report.proofs.table.table_by_blocks.Goals as goal
 
 pub loop-row-preserved : goal.loop-row-preserved
 loop-row-preserved g c =
-    next_row _ _ _ (table_text c.args.tally.now) (end_text c.args.tally.now.rows) c.args.tally.now.k c.rows-rows.result.now c.loop-row.row-index c.loop-row.block c.make_room.new.self c.push_columns.new.block
-    (record { word = 0; count = 0 }) c.loop-row-test.true c.loop-row.invariant c.in_ok-make_room.ensures.ok (rw c.k-in-loop-row.ensures at c.push_columns.ensures)
+    let seen = g.W.Sink.seen in
+    let tally = c.args.tally.now in
+    let step : TableStep tally.k c.rows-rows.result.now (end_text tally.rows) = record {
+      start = seen c.args.writer.now;
+      now = seen c.loop-row.writer;
+      next = seen c.make_room.new.writer;
+      text = table_text tally;
+      block = c.loop-row.block;
+      room = c.make_room.new.self;
+      index = c.loop-row.row-index;
+      pending = c.loop-row.invariant;
+      moved = c.in_ok-make_room.ensures.ok;
+    } in
+    next_row step c.push_columns.new.block c.loop-row-test.true (rw c.k-in-loop-row.ensures at c.push_columns.ensures)
 
 pub returns : goal.returns
 returns g c =
+    let seen = g.W.Sink.seen in
+    let tally = c.args.tally.now in
     let pushed = c.push_end.ensures in
     let rows = c.rows-rows.ensures.rows in
     let total = c.total.ensures.value in
-    written _ _ _ _ (table_text c.args.tally.now) (end_text c.args.tally.now.rows) c.args.tally.now.k c.rows-rows.result.now c.loop-row.row-index c.loop-row.block c.make_room-2.new.self c.push_end.new.block
-    c.write_out.result c.loop-row-test.false c.loop-row.invariant c.in_ok-make_room-2.ensures.ok (rw (rows, total) at pushed) (rw c.as_slice.ensures at c.write_out.ensures)
+    let step : TableStep tally.k c.rows-rows.result.now (end_text tally.rows) = record {
+      start = seen c.args.writer.now;
+      now = seen c.loop-row.writer;
+      next = seen c.make_room-2.new.writer;
+      text = table_text tally;
+      block = c.loop-row.block;
+      room = c.make_room-2.new.self;
+      index = c.loop-row.row-index;
+      pending = c.loop-row.invariant;
+      moved = c.in_ok-make_room-2.ensures.ok;
+    } in
+    written step (seen c.write_out.new.writer) c.push_end.new.block c.write_out.result c.loop-row-test.false
+    (rw (rows, total) at pushed) (rw c.as_slice.ensures at c.write_out.ensures)
 
 pub returns-in_err-make_room : goal.returns-in_err-make_room
 returns-in_err-make_room g c =
@@ -24,5 +49,6 @@ returns-in_err-make_room g c =
 
 pub returns-in_err-make_room-2 : goal.returns-in_err-make_room-2
 returns-in_err-make_room-2 g c =
-    let p = err_from_is_err_and c.from_residual-in_err-make_room-2.result c.from_residual-in_err-make_room-2.ensures.1 in rw p.1
+    let p = err_from_is_err_and c.from_residual-in_err-make_room-2.result c.from_residual-in_err-make_room-2.ensures.1
+    in rw p.1
     (began_front _ _ _ _ _ _ c.loop-row.invariant c.in_err-make_room-2.ensures.err)

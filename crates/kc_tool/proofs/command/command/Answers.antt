@@ -1,21 +1,21 @@
-use Rattle.std.proofs.Common.{rules, refl, ap, ap₂, ◌≡◌, ◌∙◌, ◌&&◌, Bool, true, false, not, codes}
+use Rattle.std.proofs.Common.{rules, refl, codes, true, ◌≡◌}
 use Rattle.std.proofs.lemmas.Result.{IfOk-weaker}
-use Rattle.clap.specs.Words.{App, Shape, app_of, new_app, with_subcommand}
+use Rattle.clap.specs.Words.{App, app_of, new_app}
+use Rattle.kc_tool.proofs.CommandLemmas.{joined}
 use Rattle.kc_tool.proofs.command.command.Goals as goal
 
--- a plain command has no global argument
-third : (a b c rest : Bool) → (a && (b && (not c && rest))) ≡ true → c ≡ false
-third true true false rest e = refl
-third true true true rest e = cc
-third true false c rest e = cc
-third false b c rest e = cc
+abbrev named : App
+named = new_app (codes "kcount")
 
-abbrev empty_app : App
-empty_app = record { top = record (new_app (codes "kcount")).top { has_version = true; subcommand_required = true }; subs = (new_app (codes "kcount")).subs }
+abbrev no_command : App
+no_command = record { top = record named.top { has_version = true; subcommand_required = true }; subs = named.subs }
 
 pub returns : goal.returns
 returns c =
-    let none : app_of c.subcommand_required.result ≡ empty_app = search rules in
-    let plain = third _ _ _ _ (ap (λ (s : Shape). s.is_plain) c.in_ok-count_command.ensures) in
-    IfOk-weaker c.subcommand.result _ _
-    (λ command added. added.shape plain ∙ ap₂ with_subcommand none c.in_ok-count_command.ensures) c.subcommand.ensures
+    let none : app_of c.subcommand_required.result ≡ no_command = search rules in
+    let with_count = joined c.in_ok-subcommand.ensures refl c.in_ok-count_command.ensures none in
+    let with_dump = joined c.in_ok-subcommand-2.ensures refl c.in_ok-dump_command.ensures with_count in
+    let with_histo = joined c.in_ok-subcommand-3.ensures refl c.in_ok-histo_command.ensures with_dump in
+    let with_stats = joined c.in_ok-subcommand-4.ensures refl c.in_ok-stats_command.ensures with_histo in
+    IfOk-weaker c.subcommand-5.result _ _
+    (λ command adds. joined adds refl c.in_ok-query_command.ensures with_stats) c.subcommand-5.ensures

@@ -1,20 +1,27 @@
-use Rattle.std.proofs.Common.{rules, ap, ap₂, false, Some, ◌≡◌, ◌∙◌, codes}
+use Rattle.std.proofs.Common.{ap}
 use Rattle.std.proofs.lemmas.Result.{IfOk-weaker}
-use Rattle.clap.specs.Words.{App, Rule, app_of, new_app, rule_of, with_rule}
-use Rattle.kc_tool.specs.Command.{canonical_option, mer_len_option}
+use Rattle.clap.specs.Words.{App}
+use Rattle.kc_tool.proofs.CommandLemmas.{added}
 use Rattle.kc_tool.proofs.command.count_command.Goals as goal
 
 pub returns : goal.returns
 returns c =
-    let none : app_of c.about.result ≡ new_app (codes "count") = search rules in
-    let mer_len : rule_of c.short.result ≡ mer_len_option = rw c.short.ensures (ap (λ (r : Rule). record r { short = Some 109 }) c.value_option-mer_len.ensures.rule) in
-    let mer_len_own : c.short.result.global ≡ false = rw c.short.ensures c.value_option-mer_len.ensures.own in
-    let canonical : rule_of c.short-2.result ≡ canonical_option = rw c.short-2.ensures (ap (λ (r : Rule). record r { short = Some 67 }) c.flag_option-canonical.ensures.rule) in
-    let canonical_own : c.short-2.result.global ≡ false = rw c.short-2.ensures c.flag_option-canonical.ensures.own in
-    let one = c.in_ok-arg.ensures.shape mer_len_own ∙ ap₂ with_rule none mer_len in
-    let two = c.in_ok-arg-2.ensures.shape canonical_own ∙ ap₂ with_rule one canonical in
-    let three = c.in_ok-arg-3.ensures.shape c.value_option-min_qual_char.ensures.own ∙ ap₂ with_rule two c.value_option-min_qual_char.ensures.rule in
-    let four = c.in_ok-arg-4.ensures.shape c.value_option-batch.ensures.own ∙ ap₂ with_rule three c.value_option-batch.ensures.rule in
-    let five = c.in_ok-arg-5.ensures.shape c.value_option-print.ensures.own ∙ ap₂ with_rule four c.value_option-print.ensures.rule in
-    IfOk-weaker c.arg-6.result _ _
-    (λ command added. ap (λ (a : App). a.top) (added.shape c.flag_option-column.ensures.own ∙ ap₂ with_rule five c.flag_option-column.ensures.rule)) c.arg-6.ensures
+    let with_mer_len = added c.in_ok-arg.ensures c.mer_len.ensures.own c.mer_len.ensures.rule c.described.ensures in
+    let with_size = added c.in_ok-arg-2.ensures c.size.ensures.own c.size.ensures.rule with_mer_len in
+    let with_threads = added c.in_ok-arg-3.ensures c.threads.ensures.own c.threads.ensures.rule with_size in
+    let with_canonical = added c.in_ok-arg-4.ensures c.canonical.ensures.own c.canonical.ensures.rule with_threads in
+    let with_output = added c.in_ok-arg-5.ensures c.output.ensures.own c.output.ensures.rule with_canonical in
+    let with_min_qual_char =
+    added c.in_ok-arg-6.ensures c.min_qual_char.ensures.own c.min_qual_char.ensures.rule with_output in
+    let with_stripes = added c.in_ok-arg-7.ensures c.stripes.ensures.own c.stripes.ensures.rule with_min_qual_char in
+    let with_batch = added c.in_ok-arg-8.ensures c.batch.ensures.own c.batch.ensures.rule with_stripes in
+    let with_print = added c.in_ok-arg-9.ensures c.print.ensures.own c.print.ensures.rule with_batch in
+    let with_column = added c.in_ok-arg-10.ensures c.column.ensures.own c.column.ensures.rule with_print in
+    let with_tab = added c.in_ok-arg-11.ensures c.tab.ensures.own c.tab.ensures.rule with_column in
+    let with_lower_count = added c.in_ok-arg-12.ensures c.lower_count.ensures.own c.lower_count.ensures.rule with_tab in
+    let with_upper_count =
+    added c.in_ok-arg-13.ensures c.upper_count.ensures.own c.upper_count.ensures.rule with_lower_count in
+    let with_high = added c.in_ok-arg-14.ensures c.high.ensures.own c.high.ensures.rule with_upper_count in
+    let top = λ (a : App). a.top in
+    IfOk-weaker c.arg-15.result _ _
+    (λ command adds. ap top (added adds c.files.ensures.own c.files.ensures.rule with_high)) c.arg-15.ensures

@@ -1,13 +1,14 @@
-use Rattle.std.proofs.Common.{◌≡◌, ◌≤◌, ◌+◌, ◌*◌, ◌^◌, suc, drop, length, rules, ◌∙◌, ap, arith, sym, get_or, drop-cons, subst}
+use Rattle.std.proofs.Common.{◌≡◌, ◌≤◌, ◌+◌, ◌-◌, ◌*◌, ◌^◌, suc, drop, length, rules, ◌∙◌, ap, arith, sym, get_or, drop-cons, subst}
 use Rattle.std.proofs.lemmas.List.{drop_all}
-use Rattle.kc_tool.specs.Numbers.{digit}
-use Rattle.kc_tool.proofs.NumbersLemmas.{Reads, digit_is, too_great, ended}
+use Rattle.kc_tool.specs.Numbers.{between, digit}
+use Rattle.kc_tool.proofs.NumbersLemmas.{Reads, digit_is, too_great, ended, fits}
 use Rattle.kc_tool.proofs.numbers.number.Goals as goal
 
 pub returns : goal.returns
 returns c =
-    sym (ended c.args.text.now c.loop-byte.number (λ e. let z : length c.args.text.now ≡ 0 = ap length e in search (rules, z))
-    (subst (λ v. Reads c.args.text.now c.loop-byte.number v) (drop_all _ _ c.loop-byte-test.false) c.loop-byte.invariant))
+    let read = subst (λ v. Reads c.args.text.now c.loop-byte.number v) (drop_all _ _ c.loop-byte-test.false) c.loop-byte.invariant in
+    let value = ended c.args.text.now c.loop-byte.number (λ e. let z : length c.args.text.now ≡ 0 = ap length e in search (rules, z)) read in
+    sym (ap (between 0 (2 ^ 64 - 1)) value ∙ fits 0 (2 ^ 64 - 1) c.loop-byte.number (omega arith) (omega (arith, read.fits)))
 
 pub returns-in_err-number : goal.returns-in_err-number
 returns-in_err-number c =

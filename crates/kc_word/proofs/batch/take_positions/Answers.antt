@@ -1,4 +1,5 @@
-use Rattle.std.proofs.Common.{◌+◌, [], ◌∷◌, ◌++◌, length, refl, ap, sym, ◌∙◌, subst, arith, inl, inr}
+use Rattle.std.proofs.Common.{◌≤◌, ◌+◌, [], ◌∷◌, ◌++◌, length, refl, ap, sym, ◌∙◌, subst, arith, inl, inr}
+use Rattle.std.specs.List.{slice_range}
 use Rattle.std.proofs.lemmas.List.{get_or_read}
 use Rattle.kc_word.specs.Occurrences.{position_count}
 use Rattle.kc_word.specs.Cursor.{position_number}
@@ -18,6 +19,7 @@ overflow_add-end-then-taken-gt0 c = omega arith
 
 pub loop-room-preserved-then-next-taken : goal.loop-room-preserved-then-next-taken
 loop-room-preserved-then-next-taken c =
+    let some : 1 ≤ c.get-bases.result = omega arith in
     let here = get_or_read c.args.pieces.now c.loop-room.next.piece c.index-pieces-next.result (omega arith) c.index-pieces-next.is [] in
     IsTaking-more c.args.k _ _ c.args.pieces.now c.get-bases.ensures.some (record {
       index = c.loop-room.next.piece;
@@ -46,7 +48,8 @@ loop-room-preserved-then-next-taken c =
             elim c.if-taken-gt0.branch [
               | then-taken-gt0+in_ok-part+in_ok-push w ↦ inl (
                 w.if-taken-gt0.true,
-                ap (λ v. v.items) w.parts-is ∙ w.in_ok-push.ensures.items ∙ ap (λ part. c.loop-room.parts.items ++ part ∷ []) w.in_ok-part.ensures,
+                ap (λ v. v.items) w.parts-is ∙ w.in_ok-push.ensures.items ∙ ap (λ part. c.loop-room.parts.items ++ part ∷ []) w.in_ok-part.ensures
+                    ∙ ap (λ end. c.loop-room.parts.items ++ slice_range c.index-pieces-next.result c.loop-room.next.position end ∷ []) (omega (arith, some)),
               )
               | else-taken-gt0 w ↦ inr (w.if-taken-gt0.false, ap (λ v. v.items) w.parts-is)
             ];
@@ -56,6 +59,7 @@ loop-room-preserved-then-next-taken c =
 
 pub loop-room-preserved : goal.loop-room-preserved
 loop-room-preserved c =
+    let some : 1 ≤ c.get-bases.result = omega arith in
     let here = get_or_read c.args.pieces.now c.loop-room.next.piece c.index-pieces-next.result (omega arith) c.index-pieces-next.is [] in
     IsTaking-more c.args.k _ _ c.args.pieces.now c.get-bases.ensures.some (record {
       index = c.loop-room.next.piece;
@@ -84,7 +88,8 @@ loop-room-preserved c =
             elim c.if-taken-gt0.branch [
               | then-taken-gt0+in_ok-part+in_ok-push w ↦ inl (
                 w.if-taken-gt0.true,
-                ap (λ v. v.items) w.parts-is ∙ w.in_ok-push.ensures.items ∙ ap (λ part. c.loop-room.parts.items ++ part ∷ []) w.in_ok-part.ensures,
+                ap (λ v. v.items) w.parts-is ∙ w.in_ok-push.ensures.items ∙ ap (λ part. c.loop-room.parts.items ++ part ∷ []) w.in_ok-part.ensures
+                    ∙ ap (λ end. c.loop-room.parts.items ++ slice_range c.index-pieces-next.result c.loop-room.next.position end ∷ []) (omega (arith, some)),
               )
               | else-taken-gt0 w ↦ inr (w.if-taken-gt0.false, ap (λ v. v.items) w.parts-is)
             ];

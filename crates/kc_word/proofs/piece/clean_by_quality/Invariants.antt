@@ -5,4 +5,4 @@ use Rattle.kc_word.specs.Cutting.{cleaned_base}
 use Rattle.kc_word.proofs.piece.clean_by_quality.Given as goal
 
 abbrev pub invariant-loop-i : goal.invariant-loop-i
-invariant-loop-i l = l.cleaned.items ≡ map (λ j. cleaned_base l.rule (read_of l.bases (Some l.quals)) j) (range_with_len 0 l.i)
+invariant-loop-i l = l.cleaned ≡ map (λ j. cleaned_base l.rule (read_of l.bases (Some l.quals)) j) (range_with_len 0 l.i)

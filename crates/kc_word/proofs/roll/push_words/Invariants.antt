@@ -1,6 +1,12 @@
-use Rattle.std.proofs.Common.{take}
-use Rattle.kc_word.proofs.Counting.{IsCounted}
+use Rattle.std.proofs.Common.{◌≡◌, ◌++◌, None}
+use Rattle.kc_fastx.specs.Reads.{read_of}
+use Rattle.kc_word.specs.Occurrences.{words_in}
+use Rattle.kc_word.specs.Walking.{words_left}
 use Rattle.kc_word.proofs.roll.push_words.Given as goal
 
-abbrev pub invariant-loop-byte : goal.invariant-loop-byte
-invariant-loop-byte l = IsCounted l.fn.rule (take l.byte-index l.bytes) l.initial.words.items l.words.items l.forward l.backward l.run
+abbrev pub invariant-loop-i : goal.invariant-loop-i
+invariant-loop-i l = record {
+  words : l.words.items ++ words_left l.roll ≡ l.initial.words.items ++ words_in l.fn.rule (read_of l.piece None);
+  bytes : l.roll.bytes ≡ l.piece;
+  taken : l.roll.taken ≡ l.i;
+}

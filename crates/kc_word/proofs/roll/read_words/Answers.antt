@@ -8,16 +8,16 @@ use Rattle.kc_word.proofs.roll.read_words.Goals as goal
 pub returns-clause-words : goal.returns-clause-words
 returns-clause-words c =
     c.in_ok-push_words.ensures.words
-    ∙ ap (λ xs. xs ++ words_in c.args.rule.now (read_of c.bytes-2.result.now None)) c.in_ok-words.ensures.items
-    ∙ ap (λ xs. words_in c.args.rule.now (read_of xs None)) (c.bytes-2.ensures ∙ c.in_ok-piece.ensures.cleaned)
+    ∙ ap (λ xs. xs ++ words_in c.args.rule.now (read_of c.in_ok-piece.piece None)) c.in_ok-words.ensures.items
+    ∙ ap (λ xs. words_in c.args.rule.now (read_of xs None)) c.in_ok-piece.ensures.cleaned
     ∙ words_in-cleaned c.args.rule.now c.args.read.now
 
 pub returns-clause-below : goal.returns-clause-below
 returns-clause-below c =
     subst (All (λ word. word < 4 ^ c.args.rule.now.k))
     (sym (c.in_ok-push_words.ensures.words
-    ∙ ap (λ xs. xs ++ words_in c.args.rule.now (read_of c.bytes-2.result.now None)) c.in_ok-words.ensures.items
-    ∙ ap (λ xs. words_in c.args.rule.now (read_of xs None)) (c.bytes-2.ensures ∙ c.in_ok-piece.ensures.cleaned)
+    ∙ ap (λ xs. xs ++ words_in c.args.rule.now (read_of c.in_ok-piece.piece None)) c.in_ok-words.ensures.items
+    ∙ ap (λ xs. words_in c.args.rule.now (read_of xs None)) c.in_ok-piece.ensures.cleaned
     ∙ words_in-cleaned c.args.rule.now c.args.read.now))
     (All-words_in c.args.rule.now c.args.read.now)
 

@@ -1,7 +1,6 @@
-use Rattle.std.proofs.Common.{ℕ, ◌^◌, ◌<◌, ◌++◌, List, take, All, length, None, ap, sym, ◌∙◌, subst, arith}
+use Rattle.std.proofs.Common.{ℕ, ◌^◌, ◌<◌, List, take, All, length, ap, sym, ◌∙◌, subst, arith}
 use Rattle.std.proofs.lemmas.List.{take_all}
-use Rattle.kc_fastx.specs.Reads.{read_of}
-use Rattle.kc_word.specs.Occurrences.{words_in, words_of}
+use Rattle.kc_word.specs.Occurrences.{words_of}
 use Rattle.kc_word.specs.Cutting.{as_reads}
 use Rattle.kc_word.proofs.Counting.{words_of-none, words_of-more}
 use Rattle.kc_word.proofs.Cuttings.{length-words_of-pieces}
@@ -20,8 +19,7 @@ loop-part-preserved c =
       next_words = c.push_words.new.words.items;
       within = omega arith;
       piece_is = c.part-item.is;
-      pushed =
-          c.in_ok-push_words.ensures.words ∙ ap (λ bytes. c.loop-part.words.items ++ words_in c.args.rule.now (read_of bytes None)) c.bytes.ensures;
+      pushed = c.in_ok-push_words.ensures.words;
     }) c.loop-part.invariant
 
 pub returns-clause-below : goal.returns-clause-below

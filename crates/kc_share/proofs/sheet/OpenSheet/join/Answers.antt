@@ -1,6 +1,6 @@
 use Rattle.std.proofs.Common.{◌++◌, sym, ap, ◌∙◌, arith}
-use Rattle.kc_share.proofs.Steps.{both_join, looks}
-use Rattle.kc_share.proofs.Sharing.{both_looked, words_have_room, entries_have_room, words_added, entries_added}
+use Rattle.kc_share.proofs.Steps.{both_join, look_is_allowed}
+use Rattle.kc_share.proofs.Sharing.{IsJoinedLook, both_looked, words_have_room, entries_have_room, words_added, entries_added}
 use Rattle.kc_share.proofs.sheet.OpenSheet.join.Goals as goal
 
 pub join_seat-requires : goal.join_seat-requires
@@ -10,31 +10,32 @@ join_seat-requires g c =
     (share.0 ∙ sym c.self.invariant.0, other.0 ∙ sym c.self.invariant.0, other.1, omega arith, both_join _ _ _ _ _ (omega (arith, share.3, share.4)))
 
 pub load-requires : goal.load-requires
-load-requires g c = (c.join_seat.ensures.0 ∙ c.share.invariant.0 ∙ sym c.self.invariant.0, omega arith, looks _ _ _ _)
+load-requires g c = (c.join_seat.ensures.0 ∙ c.share.invariant.0 ∙ sym c.self.invariant.0, omega arith, look_is_allowed _ _ _ _)
 
 pub add_each-requires : goal.add_each-requires
 add_each-requires g c =
     let share = c.share.invariant in
-    let other = c.other.invariant in
-    words_have_room c.share.inside.seat.me.0 c.other.inside.seat.me.0 c.join_seat.new.seat.me c.load.new.seat.me share.1 c.join_seat.ensures.2 c.load.ensures.2 c.share.inside.words c.other.inside.words share.6 other.6
+    let joined : IsJoinedLook c.share.inside.seat.me.0 c.other.inside.seat.me.0 c.share.inside.seat.me.1 c.join_seat.new.seat.me c.load.new.seat.me = record { empty = share.1; joins = c.join_seat.ensures.2; look = c.load.ensures.2 } in
+    words_have_room joined c.share.inside.words c.other.inside.words share.6 c.other.invariant.6
 
 pub add_each-requires-2 : goal.add_each-requires-2
 add_each-requires-2 g c =
     let share = c.share.invariant in
-    let other = c.other.invariant in
-    entries_have_room c.share.inside.seat.me.0 c.other.inside.seat.me.0 c.join_seat.new.seat.me c.load.new.seat.me share.1 c.join_seat.ensures.2 c.load.ensures.2 c.share.inside.entries c.other.inside.entries share.7 other.7
+    let joined : IsJoinedLook c.share.inside.seat.me.0 c.other.inside.seat.me.0 c.share.inside.seat.me.1 c.join_seat.new.seat.me c.load.new.seat.me = record { empty = share.1; joins = c.join_seat.ensures.2; look = c.load.ensures.2 } in
+    entries_have_room joined c.share.inside.entries c.other.inside.entries share.7 c.other.invariant.7
 
 pub invariant_of-share : goal.invariant_of-share
 invariant_of-share g c =
     let share = c.share.invariant in
     let other = c.other.invariant in
-    let looked = both_looked c.share.inside.seat.me.0 c.other.inside.seat.me.0 c.join_seat.new.seat.me c.load.new.seat.me share.1 c.join_seat.ensures.2 c.load.ensures.2 in (
+    let joined : IsJoinedLook c.share.inside.seat.me.0 c.other.inside.seat.me.0 c.share.inside.seat.me.1 c.join_seat.new.seat.me c.load.new.seat.me = record { empty = share.1; joins = c.join_seat.ensures.2; look = c.load.ensures.2 } in
+    let looked = both_looked joined in (
       c.load.ensures.0 ∙ c.join_seat.ensures.0 ∙ share.0,
       ap (λ m. m.1) looked,
       ap (λ m. m.0.kept) looked ∙ ap (λ them. them ++ c.other.inside.seat.me.0.kept) share.2 ∙ other.2,
       omega (arith, share.3, other.3, ap (λ m. m.0.parts) looked),
       omega (arith, share.4),
       omega (arith, share.5, ap (λ m. m.0.plan.stripes) looked),
-      words_added c.share.inside.seat.me.0 c.other.inside.seat.me.0 c.join_seat.new.seat.me c.load.new.seat.me share.1 c.join_seat.ensures.2 c.load.ensures.2 c.share.inside.words c.other.inside.words _ share.6 other.6 c.add_each.ensures,
-      entries_added c.share.inside.seat.me.0 c.other.inside.seat.me.0 c.join_seat.new.seat.me c.load.new.seat.me share.1 c.join_seat.ensures.2 c.load.ensures.2 c.share.inside.entries c.other.inside.entries _ share.7 other.7 c.add_each-2.ensures,
+      words_added joined c.share.inside.words c.other.inside.words _ share.6 other.6 c.add_each.ensures,
+      entries_added joined c.share.inside.entries c.other.inside.entries _ share.7 other.7 c.add_each-2.ensures,
     )

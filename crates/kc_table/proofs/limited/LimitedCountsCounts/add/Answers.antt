@@ -5,5 +5,10 @@ use Rattle.kc_table.proofs.KeyCounts.{len-added}
 use Rattle.kc_table.proofs.limited.LimitedCountsCounts.add.Goals as goal
 
 pub invariant_of-self : goal.invariant_of-self
-invariant_of-self c =
-    (c.self.invariant.0 ∙ sym (ap len c.add.ensures.counted ∙ len-added c.self.inside.plain.counts c.args.key (subst (λ t. IsStored t.counts c.args.key) (sym c.self.view_is) c.requires.stored)), c.self.invariant.1)
+invariant_of-self c = (
+  c.self.invariant.0 ∙ sym
+      (ap len c.add.ensures.counted
+      ∙ len-added c.self.inside.plain.counts c.args.key
+      (subst (λ t. IsStored t.counts c.args.key) (sym c.self.view_is) c.requires.stored)),
+  c.self.invariant.1,
+)

@@ -5,5 +5,9 @@ use Rattle.kc_table.proofs.limited.LimitedCountsCounts.ready.Goals as goal
 
 pub invariant_of-self-2 : goal.invariant_of-self-2
 invariant_of-self-2 c =
-    let new : contains_key c.self.inside.plain.counts c.args.key ≡ false = sym c.is_stored.ensures ∙ c.if-is_stored.false in
-    (ap (λ n. n + 1) c.self.invariant.0 ∙ sym (ap len c.in_ok-ready.ensures.stored ∙ len-readied_new c.self.inside.plain.counts c.args.key new), omega arith)
+    let new : contains_key c.self.inside.plain.counts c.args.key ≡ false =
+    sym c.is_stored.ensures ∙ c.if-is_stored.false in (
+      ap (λ n. n + 1) c.self.invariant.0
+          ∙ sym (ap len c.in_ok-ready.ensures.stored ∙ len-readied_new c.self.inside.plain.counts c.args.key new),
+      omega arith,
+    )

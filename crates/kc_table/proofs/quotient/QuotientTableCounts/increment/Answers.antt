@@ -9,23 +9,36 @@ use Rattle.kc_table.proofs.quotient.QuotientTableCounts.increment.Goals as goal
 
 pub count-requires-clause-found : goal.count-requires-clause-found
 count-requires-clause-found c =
-    found_at c.self.inside.slots.slots.items c.self.inside.slots.sound c.args.key c.in-Some.place (subst (λ t. HoldsKey t.slots c.in-Some.place c.args.key) (sym c.self.view_is) c.in-Some.ensures.slot)
+    found_at c.self.inside.slots.slots.items c.self.inside.slots.sound c.args.key c.in-Some.place
+    (subst (λ t. HoldsKey t.slots c.in-Some.place c.args.key) (sym c.self.view_is) c.in-Some.ensures.slot)
 
 pub count-requires-clause-room : goal.count-requires-clause-room
 count-requires-clause-room c =
-    let found = found_at c.self.inside.slots.slots.items c.self.inside.slots.sound c.args.key c.in-Some.place (subst (λ t. HoldsKey t.slots c.in-Some.place c.args.key) (sym c.self.view_is) c.in-Some.ensures.slot) in
+    let found =
+    found_at c.self.inside.slots.slots.items c.self.inside.slots.sound c.args.key c.in-Some.place
+    (subst (λ t. HoldsKey t.slots c.in-Some.place c.args.key) (sym c.self.view_is) c.in-Some.ensures.slot) in
     subst (λ n. n < 2 ^ 62)
-    (ap (λ t. count_at (counts_in t.slots) c.args.key) (sym c.self.view_is) ∙ count_at-some _ c.args.key _ (get_found c.self.inside.slots.slots.items c.self.inside.slots.sound c.args.key c.in-Some.place found))
+    (ap (λ t. count_at (counts_in t.slots) c.args.key) (sym c.self.view_is)
+    ∙ count_at-some _ c.args.key _
+    (get_found c.self.inside.slots.slots.items c.self.inside.slots.sound c.args.key c.in-Some.place found))
     c.requires.room
 
 pub returns-clause-counted : goal.returns-clause-counted
 returns-clause-counted c =
-    let found = found_at c.self.inside.slots.slots.items c.self.inside.slots.sound c.args.key c.in-Some.place (subst (λ t. HoldsKey t.slots c.in-Some.place c.args.key) (sym c.self.view_is) c.in-Some.ensures.slot) in
-    rw (← c.self.view_is) (c.count.ensures.counted ∙ ap (λ n. insert (counts_of c.self.inside.slots.log c.self.inside.slots.slots.items) c.args.key (n + 1))
-    (sym (count_at-some _ c.args.key _ (get_found c.self.inside.slots.slots.items c.self.inside.slots.sound c.args.key c.in-Some.place found))))
+    let found =
+    found_at c.self.inside.slots.slots.items c.self.inside.slots.sound c.args.key c.in-Some.place
+    (subst (λ t. HoldsKey t.slots c.in-Some.place c.args.key) (sym c.self.view_is) c.in-Some.ensures.slot) in
+    rw (← c.self.view_is)
+    (c.count.ensures.counted
+    ∙ ap (λ n. insert (counts_of c.self.inside.slots.log c.self.inside.slots.slots.items) c.args.key (n + 1))
+    (sym (count_at-some _ c.args.key _
+    (get_found c.self.inside.slots.slots.items c.self.inside.slots.sound c.args.key c.in-Some.place found))))
 
 pub returns-clause-told : goal.returns-clause-told
 returns-clause-told c =
-    let found = found_at c.self.inside.slots.slots.items c.self.inside.slots.sound c.args.key c.in-Some.place (subst (λ t. HoldsKey t.slots c.in-Some.place c.args.key) (sym c.self.view_is) c.in-Some.ensures.slot) in
+    let found =
+    found_at c.self.inside.slots.slots.items c.self.inside.slots.sound c.args.key c.in-Some.place
+    (subst (λ t. HoldsKey t.slots c.in-Some.place c.args.key) (sym c.self.view_is) c.in-Some.ensures.slot) in
     rw (← c.self.view_is) (c.count.ensures.told ∙ ap (λ n. n + 1)
-    (sym (count_at-some _ c.args.key _ (get_found c.self.inside.slots.slots.items c.self.inside.slots.sound c.args.key c.in-Some.place found))))
+    (sym (count_at-some _ c.args.key _
+    (get_found c.self.inside.slots.slots.items c.self.inside.slots.sound c.args.key c.in-Some.place found))))

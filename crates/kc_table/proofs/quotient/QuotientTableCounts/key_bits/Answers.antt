@@ -6,4 +6,5 @@ use Rattle.kc_table.proofs.quotient.QuotientTableCounts.key_bits.Goals as goal
 
 pub returns-clause-within : goal.returns-clause-within
 returns-clause-within c =
-    subst (λ t. IsWithin c.self.inside.slots.bits (counts_in t.slots)) c.self.view_is (IsWithin-slots c.self.inside.slots.slots.items c.self.inside.slots.sound)
+    subst (λ t. IsWithin c.self.inside.slots.bits (counts_in t.slots)) c.self.view_is
+    (IsWithin-slots c.self.inside.slots.slots.items c.self.inside.slots.sound)

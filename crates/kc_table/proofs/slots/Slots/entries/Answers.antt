@@ -1,28 +1,49 @@
-use Rattle.std.proofs.Common.{◌≡◌, ◌<◌, ◌≤◌, ◌∙◌, sym, ap, length, arith, rules, Some, ℕ, List, [], ◌∷◌, ◌++◌}
-use Rattle.kc_table.specs.QuotientTable.{Holds}
-use Rattle.kc_table.specs.Slot.{contents_of}
-use Rattle.kc_table.proofs.SlotSteps.{slot_read_empty, slot_read_held, length-contents_from}
-use Rattle.kc_table.proofs.Contents.{counted_in-empty, counted_in-zero, counted_in-some, counted_in-all}
+use Rattle.std.proofs.Common.{◌≡◌, ◌<◌, ◌≤◌, ◌∙◌, ◌+◌, ◌++◌, ◌∷◌, [], sym, ap, length, arith, rules, List, ℕ}
+use Rattle.std.proofs.lemmas.List.{length_push}
+use Rattle.kc_table.specs.Slots.{slot_list, counted_entries}
+use Rattle.kc_table.proofs.Contents.{counted_in, counted_in-none, counted_in-some, counted_in-all, counted_in-le}
+use Rattle.kc_table.proofs.SlotSteps.{content_at, length-contents_from}
 use Rattle.kc_table.proofs.slots.Slots.entries.Goals as goal
 
-pub loop-index-preserved-then-slot-eq0 : goal.loop-index-preserved-then-slot-eq0
-loop-index-preserved-then-slot-eq0 c =
+pub loop-index-preserved-in_default : goal.loop-index-preserved-in_default
+loop-index-preserved-in_default c =
     let below : c.loop-index.index < length c.args.self.now.slots.items = search rules in
-    c.loop-index.invariant ∙ sym (counted_in-empty _ c.loop-index.index (slot_read_empty _ _ _ _ below c.index-slot.ensures c.if-slot-eq0.true))
+    let same =
+    counted_in-none (slot_list c.args.self.now) c.loop-index.index _
+    (content_at c.args.self.now.log c.args.self.now.slots.items c.loop-index.index below)
+    c.in_default.ensures.none in
+    record { so_far = c.loop-index.invariant.so_far ∙ sym same; room = c.loop-index.invariant.room }
 
-pub loop-index-preserved-then-slot-eq0-2 : goal.loop-index-preserved-then-slot-eq0-2
-loop-index-preserved-then-slot-eq0-2 c =
-    let below : c.loop-index.index < length c.args.self.now.slots.items = search rules in
-    c.loop-index.invariant ∙ sym (counted_in-zero _ c.loop-index.index _ _ (slot_read_held _ _ _ _ below c.index-slot.ensures c.if-slot-eq0.false) c.if-slot-eq0-2.true)
+pub push_reserved-requires : goal.push_reserved-requires
+push_reserved-requires c =
+    let more =
+    counted_in-some (slot_list c.args.self.now) c.loop-index.index _ _ c.in-Some.ensures.some.0
+    c.in-Some.ensures.some.1 in
+    let one : length (counted_in (c.loop-index.index + 1) (slot_list c.args.self.now))
+    ≡ length (counted_in c.loop-index.index (slot_list c.args.self.now)) + 1 =
+    ap (λ (es : List (ℕ × ℕ)). length es) more ∙ length_push _ _ in
+    let most : length (counted_in (c.loop-index.index + 1) (slot_list c.args.self.now)) ≤ length
+    (counted_entries c.args.self.now) = counted_in-le (slot_list c.args.self.now) (c.loop-index.index + 1) in
+    omega (
+      arith,
+      c.loop-index.entries.ok.0,
+      ap (λ (es : List (ℕ × ℕ)). length es) c.loop-index.invariant.so_far,
+      c.loop-index.invariant.room,
+    )
 
 pub loop-index-preserved : goal.loop-index-preserved
-loop-index-preserved c =
-    let below : c.loop-index.index < length c.args.self.now.slots.items = search rules in
-    let held : Holds (contents_of c.args.self.now.log c.args.self.now.slots.items) c.loop-index.index c.key_at.result c.index-slot.result.now.count =
-    slot_read_held _ _ _ _ below c.index-slot.ensures c.if-slot-eq0.false ∙ ap (λ k. Some (Some (k, c.index-slot.result.now.count))) (sym c.key_at.ensures.key) in
-    c.in_ok-push.ensures.items ∙ ap (λ (es : List (ℕ × ℕ)). es ++ (c.key_at.result, c.index-slot.result.now.count) ∷ []) c.loop-index.invariant ∙ sym (counted_in-some _ c.loop-index.index _ _ held c.if-slot-eq0-2.false)
+loop-index-preserved c = record {
+  so_far =
+      c.push_reserved.ensures.items
+      ∙ ap (λ (es : List (ℕ × ℕ)). es ++ c.in-Some.entry ∷ []) c.loop-index.invariant.so_far
+      ∙ sym (counted_in-some (slot_list c.args.self.now) c.loop-index.index _ _ c.in-Some.ensures.some.0
+      c.in-Some.ensures.some.1);
+  room = c.push_reserved.ensures.capacity ∙ c.loop-index.invariant.room;
+}
 
 pub returns : goal.returns
 returns c =
     let all : length c.args.self.now.slots.items ≤ c.loop-index.index = search rules in
-    c.loop-index.invariant ∙ counted_in-all _ c.loop-index.index (let same : length (contents_of c.args.self.now.log c.args.self.now.slots.items) ≡ length c.args.self.now.slots.items = length-contents_from c.args.self.now.log 0 c.args.self.now.slots.items in omega arith)
+    let same : length (slot_list c.args.self.now) ≡ length c.args.self.now.slots.items =
+    length-contents_from c.args.self.now.log 0 c.args.self.now.slots.items in
+    c.loop-index.invariant.so_far ∙ counted_in-all (slot_list c.args.self.now) c.loop-index.index (omega arith)

@@ -15,7 +15,9 @@ loop-log-preserved c =
       | inl before ↦ c.loop-log.invariant l from before
       | inr past ↦ let here : c.loop-log.log ≡ l = omega arith in
           subst (λ n. MayBeTooSmall c.args.self.now.bits n counts c.args.key) here
-          (small_by_out _ _ c.args.key counts c.in-Some.table (record { same_bits = bits; same_log = log; same_counts = same }) c.requires.in_range (c.take.ensures.out (search rules)))
+          (small_by_out _ _ c.args.key counts c.in-Some.table
+          (record { same_bits = bits; same_log = log; same_counts = same }) c.requires.in_range
+          (c.take.ensures.out (search rules)))
     ]
 
 pub loop-log-preserved-in_default-resized : goal.loop-log-preserved-in_default-resized
@@ -35,4 +37,5 @@ returns-then-take-clause-smallest c =
     λ l from below. c.loop-log.invariant l from (omega (arith, log, c.take.ensures.log))
 
 pub returns-clause-full : goal.returns-clause-full
-returns-clause-full c = λ _. c.loop-log.invariant c.args.max_log c.requires.may_grow (omega (arith, c.loop-log-test.false))
+returns-clause-full c =
+    λ _. c.loop-log.invariant c.args.max_log c.requires.may_grow (omega (arith, c.loop-log-test.false))

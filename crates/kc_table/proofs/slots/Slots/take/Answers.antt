@@ -8,5 +8,7 @@ unreachable-requires c =
     let rows = c.args.self.now.slots.items in
     let sound = c.args.self.now.sound in
     let never : ◌≡◌ {A = Option ℕ} (Some _) None =
-    sym (get-counts_in _ c.in-Found.place c.args.key _ (slots_apart rows sound) (holds_found rows sound c.args.key c.in-Found.place c.in-Found.ensures.0)) ∙ c.requires.new in
+    sym (get-counts_in _ c.in-Found.place c.args.key _ (slots_apart rows sound)
+    (holds_found rows sound c.args.key c.in-Found.place c.in-Found.ensures.0))
+    ∙ c.requires.new in
     cc

@@ -1,0 +1,132 @@
+//! The taking of a source's bytes block by block, for who uses them as they come.
+ghost use Rattle.std.specs.Prelude.{◌≡◌, ◌<◌, ◌≤◌, List, ℕ, [], length, drop, IfOk, IfErr};
+ghost use Rattle.kc_io.specs.Taking.{TakesAll, TakingFails};
+ghost use Rattle.kc_io.specs.Intakes.{Fills};
+
+use crate::sources::Source;
+use crate::taking::{TakeFault, new_block};
+use std::alloc::{AllocError, Global};
+use std::marker::Model;
+
+/// The bytes that were taken of a source and not used yet, and how many more may be taken. It keeps these bytes and one
+/// block, whatever was taken before.
+#[derive(Drop)]
+pub struct Intake {
+    bytes: Vec<u8>,
+    used: usize,
+    block: Vec<u8>,
+    room: u64,
+}
+
+impl Model for Intake {
+    ghost use Rattle.std.specs.Prelude.{◌≤◌, ◌<◌, length, drop};
+    ghost use Rattle.kc_io.specs.Intakes.{Unread};
+
+    ghost Value = { Unread };
+
+    ghost view = { λ i. record { bytes = drop i.used i.bytes.items; room = i.room } };
+
+    ghost invariant = { λ i. (i.used ≤ length i.bytes.items) × (0 < length i.block.items) };
+}
+
+impl Intake {
+    /// Nothing was taken yet, and `limit` bytes may be.
+    ///
+    /// # Errors
+    /// `AllocError` where the block was refused.
+    pub fn new(alloc: Global, limit: u64) -> Result<Intake, AllocError>
+        ensures { IfOk result (λ intake. intake ≡ record { bytes = []; room = limit }) }
+    {
+        let block = new_block(alloc)?;
+        Ok(Intake {
+            bytes: Vec::new(alloc),
+            used: 0,
+            block,
+            room: limit,
+        })
+    }
+
+    /// The bytes that were taken and not used yet.
+    pub fn as_slice(&self) -> &[u8]
+        ensures { result.now ≡ self.now.bytes }
+    {
+        &self.bytes[self.used..]
+    }
+
+    /// Uses the first `count` bytes, which are forgotten. Condition: there are so many.
+    pub fn use_up(&mut self, count: usize)
+        requires { count ≤ length self.old.bytes }
+        ensures { self.new ≡ record self.old { bytes = drop count self.old.bytes } }
+    {
+        self.used += count;
+    }
+
+    /// Takes at most a block more of the source, by one read, and puts it behind the bytes that are there: true where
+    /// some came, false where the source told its end.
+    ///
+    /// # Errors
+    /// `TooLong` where more came than might be taken, `Read` where the read failed, `Memory` where a growth was
+    /// refused.
+    pub fn fill<S: Source>(&mut self, source: &mut S) -> Result<bool, TakeFault>
+        ensures { Fills (S.seen source.old) (S.seen source.new) self.old self.new result }
+    {
+        let Ok(count) = source.read(self.block.as_mut_slice()) else {
+            return Err(TakeFault::Read);
+        };
+        if count == 0 {
+            return Ok(false);
+        }
+        if count as u64 > self.room {
+            return Err(TakeFault::TooLong);
+        }
+        forget_front(&mut self.bytes, self.used);
+        self.used = 0;
+        self.bytes.extend_from_slice(&self.block[..count])?;
+        self.room -= count as u64;
+        Ok(true)
+    }
+
+    /// Takes all that comes of the source, forgets it, and answers how many bytes it was.
+    ///
+    /// # Errors
+    /// `TooLong` where more came than might be taken, and `Read` where a read failed, whichever came first.
+    pub fn skip_rest<S: Source>(mut self, source: &mut S) -> Result<u64, TakeFault>
+        ensures skipped { IfOk result (λ count. (bytes : List ℕ)
+            × TakesAll (S.seen source.old) (S.seen source.new) self.room bytes × (length bytes ≡ count)) }
+        ensures fault { IfErr result (TakingFails (S.seen source.old) (S.seen source.new) self.room) }
+    {
+        skip_by_blocks(source, self.room, self.block.as_mut_slice())
+    }
+}
+
+// Forgets the first bytes. The others move to the front.
+fn forget_front(bytes: &mut Vec<u8>, count: usize)
+    requires { count ≤ length bytes.old.items }
+    ensures { bytes.new.items ≡ drop count bytes.old.items }
+{
+    let len = bytes.len();
+    bytes.as_mut_slice().copy_within(count..len, 0);
+    bytes.truncate(len - count);
+}
+
+// Takes all bytes of the source, by way of the block, and answers how many they were.
+fn skip_by_blocks<S: Source>(source: &mut S, limit: u64, block: &mut [u8]) -> Result<u64, TakeFault>
+    requires { 0 < length block.old }
+    ensures skipped { IfOk result (λ count. (bytes : List ℕ)
+        × TakesAll (S.seen source.old) (S.seen source.new) limit bytes × (length bytes ≡ count)) }
+    ensures fault { IfErr result (TakingFails (S.seen source.old) (S.seen source.new) limit) }
+{
+    let mut skipped = 0u64;
+    'reading: loop {
+        let Ok(count) = source.read(block) else {
+            return Err(TakeFault::Read);
+        };
+        if count == 0 {
+            return Ok(skipped);
+        }
+        if count as u64 > limit - skipped {
+            return Err(TakeFault::TooLong);
+        }
+        skipped += count as u64;
+    }
+}

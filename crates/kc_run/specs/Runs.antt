@@ -1,0 +1,80 @@
+-- Whole runs: what a worker has at its start and at its end, and with which fault a run ends. They are this project's
+-- own.
+use Rattle.std.specs.Prelude.{◌≡◌, ℕ, ◌+◌, ◌<◌, List, [], All, Some, Result, Ok, Err, IfOk, length, map, sum_by}
+use Rattle.std.specs.Prelude.{slice_get}
+use Rattle.kc_share.specs.declared.entry.Plan.{Plan}
+use Rattle.kc_share.specs.declared.entry.Booking.{Booking}
+use Rattle.kc_share.specs.Share.{ShareSeen, share_of, entry_total_in}
+use Rattle.kc_stripe.specs.Setup.{StripeSetup, stripe_count}
+use Rattle.kc_stripe.specs.declared.fault.BookFault.{BookFault}
+use Rattle.kc_stripe.specs.declared.fault.BookFault.TheVariants as book
+use Rattle.kc_run.specs.Tickets.{Roll, Drawer, IsSeatOf, IsDone, answers_of}
+use Rattle.kc_run.specs.declared.fault.RunFault.{RunFault}
+use Rattle.kc_run.specs.declared.fault.RunFault.TheVariants as run
+
+-- what the workers share belongs together: as many numbers are drawn from the tickets as there are batches, and the
+-- sheet of this plan is for the stripes of this setup
+pub record IsJob (roll : Roll) (plan : Plan) (batches : ℕ) (setup : StripeSetup) : Type 0 where
+  pub limit : roll.limit ≡ batches
+  pub stripes : plan.stripes ≡ stripe_count setup
+
+-- the seat draws from these tickets, and has drawn nothing
+pub record IsFreshSeatOf (roll : Roll) (seat : Drawer) : Type 0 where
+  pub own : IsSeatOf roll seat
+  pub fresh : seat.drawn ≡ []
+
+-- a worker that has done nothing yet: its seat has drawn nothing, and its share has one part of a sheet of this plan
+-- and has booked nothing
+pub record IsReady (roll : Roll) (plan : Plan) (seat : Drawer) (share : ShareSeen) : Type 0 where
+  pub seat_fresh : IsFreshSeatOf roll seat
+  pub unused : share ≡ share_of plan 1 []
+
+-- in each of so many stripes n batches more were booked
+abbrev pub HaveMore : ℕ → ℕ → List Booking → List Booking → Type 0
+HaveMore stripes n old new =
+    (stripe : ℕ) → stripe < stripes → entry_total_in stripe new ≡ entry_total_in stripe old + n
+
+-- a worker that has ended well: its seat is done, and its share still has one part, with as many entries in each stripe
+-- as the seat was answered numbers
+pub record HasWorked (roll : Roll) (plan : Plan) (seat : Drawer) (share : ShareSeen) : Type 0 where
+  pub own : IsSeatOf roll seat
+  pub done : IsDone seat
+  pub one_part : share.parts ≡ 1
+  pub same_plan : share.plan ≡ plan
+  pub booked : (stripe : ℕ) → stripe < plan.stripes
+      → entry_total_in stripe share.booked ≡ length (answers_of seat)
+
+-- workers that have ended well: their seats, and their shares joined
+pub record HaveWorked (roll : Roll) (plan : Plan) (seats : List Drawer) (share : ShareSeen) : Type 0 where
+  pub own : All (IsSeatOf roll) seats
+  pub done : All IsDone seats
+  pub parts : share.parts ≡ length seats
+  pub same_plan : share.plan ≡ plan
+  pub booked : (stripe : ℕ) → stripe < plan.stripes
+      → entry_total_in stripe share.booked ≡ sum_by (λ seat. length (answers_of seat)) seats
+
+-- a thread is promised to work with these tickets and a sheet of this plan
+abbrev pub IsPromised : Roll → Plan → Roll → Plan → Type 0
+IsPromised roll plan promised_roll promised_plan = (promised_roll ≡ roll) × (promised_plan ≡ plan)
+
+-- the fault with which a worker ends whose booking into the stripe of this number was refused
+abbrev pub booking_fault : ℕ → BookFault → RunFault
+booking_fault stripe book.Twice = run.Foreign stripe
+booking_fault stripe book.Stranger = run.Foreign stripe
+booking_fault stripe book.Full = run.Full stripe
+booking_fault stripe book.Memory = run.Memory
+
+module _ {W : Type 0} where
+  -- the answers of the threads of n workers: each that ended well is as it was promised, and where all did they are n
+  pub record AreEnds (HasEnded : W → Type 0) (n : ℕ) (results : List (Result W RunFault)) : Type 0 where
+    pub kept : All (λ result. IfOk result HasEnded) results
+    pub all : (workers : List W) → map (λ worker. Ok worker) workers ≡ results → length workers ≡ n
+
+  -- the worker of this index ended well
+  abbrev pub EndedWell : List (Result W RunFault) → ℕ → Type 0
+  EndedWell results i = (worker : W) × (slice_get results i ≡ Some (Ok worker))
+
+  -- the fault is that of the lowest-numbered worker that met one
+  abbrev pub IsFirstFault : List (Result W RunFault) → RunFault → Type 0
+  IsFirstFault results fault =
+      (i : ℕ) × (slice_get results i ≡ Some (Err fault)) × ((j : ℕ) → j < i → EndedWell results j)

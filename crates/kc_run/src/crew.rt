@@ -1,0 +1,228 @@
+//! The workers of a run, each in a thread of its own.
+ghost use Rattle.std.specs.Prelude.{◌≡◌, ℕ, ◌≤◌, ◌⊎◌, [], All, Some, None, Ok, Err, IfOk, IfErr, IfSome};
+ghost use Rattle.std.specs.Prelude.{length, map, slice_get, vec_len};
+ghost use Rattle.kc_share.specs.declared.entry.Plan.{Plan};
+ghost use Rattle.kc_share.specs.Share.{share_of};
+ghost use Rattle.kc_run.specs.declared.fault.RunFault.TheVariants.{Memory, NoThread};
+ghost use Rattle.kc_run.specs.Tickets.{Roll};
+ghost use Rattle.kc_run.specs.Runs.{IsJob, IsFreshSeatOf, IsReady, HasWorked, HaveWorked, IsPromised, AreEnds, IsFirstFault};
+
+use crate::fault::RunFault;
+use crate::gate::Gate;
+use crate::tickets::{Seat, Tickets};
+use crate::worker::{Job, Worker};
+use kc_share::{Books, Plan, Share};
+use kc_stripe::Stripes;
+use kc_table::Counts;
+use std::alloc::{AllocError, Global};
+use std::snapshot::Snapshot;
+use std::sync::Wait;
+use std::thread;
+use std::thread::{Promise, PromisedHandle, Scope, Threads};
+
+/// What a worker's thread answers.
+type Ended<N> = Result<Worker<N>, RunFault>;
+
+/// A worker that ends well has worked with these tickets and a sheet of this plan.
+#[derive(Drop)]
+struct Working {
+    tickets: Snapshot<Tickets>,
+    plan: Plan,
+}
+
+impl<N: Books> Promise<Result<Worker<N>, RunFault>> for Working {
+    ghost use Rattle.std.specs.Prelude.{IfOk};
+    ghost use Rattle.kc_run.specs.Runs.{HasWorked};
+
+    ghost kept_by = { λ promise result. IfOk result (λ worker.
+        HasWorked promise.tickets.value promise.plan worker.seat worker.share) };
+}
+
+/// The threads that were started, in the order of their workers, and the number of the first worker for which none
+/// could be started.
+#[derive(Drop)]
+struct Started<N: Books> {
+    threads: Vec<PromisedHandle<Result<Worker<N>, RunFault>, Working>>,
+    refused: Option<u32>,
+}
+
+/// A worker for each seat, each with one part of the share.
+pub(crate) fn workers_of<C: Counts, N: Books>(
+    alloc: Global,
+    stripes: &Stripes<C, N>,
+    mut seats: Vec<Seat>,
+    mut share: Share<N>,
+) -> Result<Vec<Worker<N>>, AllocError>
+    requires some { 1 ≤ vec_len seats }
+    requires share { share ≡ share_of share.plan (vec_len seats) [] }
+    ensures len { IfOk result (λ workers. vec_len workers ≡ vec_len seats) }
+    ensures ready { IfOk result (λ workers. (roll : Roll) → All (IsFreshSeatOf roll) seats.items
+        → All (λ worker. IsReady roll share.plan worker.seat worker.share) workers.items) }
+{
+    let mut workers = Vec::with_capacity(alloc, seats.len())?;
+    while seats.len() > 1 {
+        let Some(seat) = seats.pop() else {
+            unreachable!()
+        };
+        let share = stripes.split(&mut share);
+        workers.push(Worker { seat, share })?;
+    }
+    let Some(seat) = seats.pop() else {
+        unreachable!()
+    };
+    workers.push(Worker { seat, share })?;
+    Ok(workers)
+}
+
+/// Lets the workers work, each in a thread of its own, and waits for all of them. Where some met a fault or could not
+/// be started, the fault of the lowest-numbered one is answered.
+pub(crate) fn work_all<
+    H: Threads + Wait + Sync,
+    C: Counts + Send,
+    N: Books + Send + Sync,
+    G: Gate + Sync,
+>(
+    rt: &H,
+    alloc: Global,
+    job: &Job<C, N, G>,
+    workers: Vec<Worker<N>>,
+) -> Result<Vec<Worker<N>>, RunFault>
+    requires job { IsJob job.now.tickets.now job.now.plan (length job.now.batches.now) job.now.stripes.now.setup }
+    requires few { vec_len workers ≤ 64 }
+    requires ready { All (λ worker. IsReady job.now.tickets.now job.now.plan worker.seat worker.share) workers.items }
+    ensures len { IfOk result (λ ended. vec_len ended ≡ vec_len workers) }
+    ensures worked { IfOk result (λ ended.
+        All (λ worker. HasWorked job.now.tickets.now job.now.plan worker.seat worker.share) ended.items) }
+{
+    let results = thread::scope(
+        thread::scope_env(),
+        rt,
+        |scope| -> Result<Vec<Ended<N>>, AllocError>
+            requires { IsJob job.now.tickets.now job.now.plan (length job.now.batches.now) job.now.stripes.now.setup
+                × (vec_len workers ≤ 64)
+                × All (λ worker. IsReady job.now.tickets.now job.now.plan worker.seat worker.share) workers.items }
+            ensures { IfOk result (λ results. AreEnds
+                (λ worker. HasWorked job.entry.now.tickets.now job.entry.now.plan worker.seat worker.share)
+                (vec_len workers) results.items) }
+        {
+            let started = start_all(scope, rt, alloc, job, workers)?;
+            let results = join_all(rt, started)?;
+            Ok(results)
+        },
+    )?;
+    let ended = all_well(alloc, results)?;
+    Ok(ended)
+}
+
+// Starts a thread for each worker, until one is refused.
+fn start_all<
+    's,
+    E,
+    H: Threads + Wait + Sync,
+    C: Counts + Send,
+    N: Books + Send + Sync,
+    G: Gate + Sync,
+>(
+    scope: &Scope<'s, E>,
+    rt: &'s H,
+    alloc: Global,
+    job: &'s Job<'s, C, N, G>,
+    mut workers: Vec<Worker<N>>,
+) -> Result<Started<N>, AllocError>
+    requires job { IsJob job.now.tickets.now job.now.plan (length job.now.batches.now) job.now.stripes.now.setup }
+    requires few { vec_len workers ≤ 64 }
+    requires ready { All (λ worker. IsReady job.now.tickets.now job.now.plan worker.seat worker.share) workers.items }
+    ensures all { IfOk result (λ started. started.refused ≡ None → vec_len started.threads ≡ vec_len workers) }
+    ensures refused { IfOk result (λ started. IfSome started.refused (λ number. number ≡ vec_len started.threads)) }
+    ensures promised { IfOk result (λ started. All (λ thread.
+        IsPromised job.now.tickets.now job.now.plan thread.promise.tickets.value thread.promise.plan)
+        started.threads.items) }
+{
+    let mut threads = Vec::with_capacity(alloc, workers.len())?;
+    while let Some(worker) = workers.pop() {
+        let number = threads.len() as u32;
+        let working = Working {
+            tickets: Snapshot::of(job.tickets),
+            plan: job.plan,
+        };
+        let work = move || -> Result<Worker<N>, RunFault>
+            requires { IsJob job.now.tickets.now job.now.plan (length job.now.batches.now) job.now.stripes.now.setup
+                × IsReady job.now.tickets.now job.now.plan worker.seat worker.share }
+            ensures { IfOk result (λ ended.
+                HasWorked job.entry.now.tickets.now job.entry.now.plan ended.seat ended.share) }
+        { worker.work(rt, alloc, job, number) };
+        match scope.spawn_with(working, work) {
+            Ok(thread) => threads.push(thread)?,
+            Err(_) => {
+                return Ok(Started {
+                    threads,
+                    refused: Some(number),
+                });
+            }
+        }
+    }
+    Ok(Started {
+        threads,
+        refused: None,
+    })
+}
+
+// Waits for the threads. Their answers stand in the order of the workers, and last that one more was refused.
+fn join_all<R: Threads, N: Books>(rt: &R, started: Started<N>) -> Result<Vec<Ended<N>>, AllocError>
+    ensures kept { IfOk result (λ results. (roll : Roll) (plan : Plan)
+        → All (λ thread. IsPromised roll plan thread.promise.tickets.value thread.promise.plan) started.threads.items
+        → All (λ ended. IfOk ended (λ worker. HasWorked roll plan worker.seat worker.share)) results.items) }
+    ensures all { IfOk result (λ results. started.refused ≡ None → vec_len results ≡ vec_len started.threads) }
+    ensures refused { IfOk result (λ results. (number : ℕ) → started.refused ≡ Some number
+        → slice_get results.items (vec_len started.threads) ≡ Some (Err (NoThread number))) }
+{
+    let Started { threads, refused } = started;
+    let mut results = thread::join_promised(rt, threads)?;
+    if let Some(number) = refused {
+        results.push(Err(RunFault::NoThread(number)))?;
+    }
+    Ok(results)
+}
+
+// The workers, where all ended well, and else the fault of the lowest-numbered one that met one.
+fn all_well<N: Books>(alloc: Global, results: Vec<Ended<N>>) -> Result<Vec<Worker<N>>, RunFault>
+    ensures well { IfOk result (λ workers. map (λ worker. Ok worker) workers.items ≡ results.items) }
+    ensures first { IfErr result (λ fault. (fault ≡ Memory) ⊎ IsFirstFault results.items fault) }
+{
+    let mut workers = Vec::with_capacity(alloc, results.len())?;
+    for ended in results {
+        match ended {
+            Ok(worker) => {
+                let Ok(()) = workers.push(worker) else {
+                    return Err(RunFault::Memory);
+                };
+            }
+            Err(fault) => return Err(fault),
+        }
+    }
+    Ok(workers)
+}
+
+/// The seats of the workers, and their shares joined.
+pub(crate) fn joined<C: Counts, N: Books>(
+    alloc: Global,
+    stripes: &Stripes<C, N>,
+    mut workers: Vec<Worker<N>>,
+) -> Result<(Vec<Seat>, Share<N>), AllocError>
+    requires some { 1 ≤ vec_len workers }
+    ensures len { IfOk result (λ both. vec_len both.0 ≡ vec_len workers) }
+    ensures whole { IfOk result (λ both. (roll : Roll) (plan : Plan)
+        → All (λ worker. HasWorked roll plan worker.seat worker.share) workers.items
+        → HaveWorked roll plan both.0.items both.1) }
+{
+    let mut seats = Vec::with_capacity(alloc, workers.len())?;
+    let Some(Worker { seat, mut share }) = workers.pop() else {
+        unreachable!()
+    };
+    seats.push(seat)?;
+    while let Some(Worker { seat, share: other }) = workers.pop() {
+        seats.push(seat)?;
+        stripes.join(&mut share, other);
+    }
+    Ok((seats, share))
+}

@@ -1,0 +1,159 @@
+//! Seeded reads, whose words are counted in stripes, and by the slow tally.
+ghost use Rattle.std.specs.Prelude.{◌≤◌};
+ghost use Rattle.kc_tally.specs.Histogram.{last_bin};
+
+use crate::tests::{batches_of, plain_stripe};
+use crate::{Setup, Stripe, cut_up};
+use kc_fastx::SeqRead;
+use kc_hash::Hash;
+use kc_table::{Counts, QuotientTable};
+use kc_word::slow::base_count;
+use kc_word::{K, Rule};
+use rand_core::SeedableRng;
+use rand_core::utils::NextWord;
+use rand_xoshiro::SplitMix64;
+use std::alloc::{AllocError, Global};
+use std::process::Abort;
+use std::test::Fail;
+
+// Words of three bases on both strands, in eight stripes.
+pub(crate) fn seeded_setup() -> Option<Setup> {
+    let rule = Rule::new(K::new(3)?, true, b'!');
+    Setup::new(rule, Hash::seeded(6, 1), 8)
+}
+
+// So many random bases, some of them N.
+pub(crate) fn random_read(
+    alloc: Global,
+    random: &mut SplitMix64,
+    length: u64,
+) -> Result<SeqRead, Fail> {
+    let mut bases = Vec::new(alloc);
+    for _ in 0..length {
+        bases.push(b"ACGTACGTN"[random.next_word() as usize % 9])?;
+    }
+    let read = SeqRead::new(bases, None).ok_or("no read")?;
+    Ok(read)
+}
+
+// Reads of random lengths below 50.
+fn random_reads(alloc: Global, random: &mut SplitMix64) -> Result<Vec<SeqRead>, Fail> {
+    let mut reads = Vec::new(alloc);
+    for _ in 0..40 {
+        let length = random.next_word() % 50;
+        reads.push(random_read(alloc, random, length)?)?;
+    }
+    Ok(reads)
+}
+
+// The rows of the slow tally.
+pub(crate) fn slow_rows(
+    alloc: Global,
+    reads: &[SeqRead],
+    rule: &Rule,
+) -> Result<Vec<(u64, u64)>, Fail> {
+    let Some(_) = base_count(reads) else {
+        return Err(Fail::from("too many bases"));
+    };
+    let mut rows = Vec::new(alloc);
+    for row in &kc_tally::slow::tally(alloc, reads, rule)? {
+        rows.push((row.word, row.count))?;
+    }
+    Ok(rows)
+}
+
+// Rows of all stripes, in the order of the words.
+pub(crate) fn sorted_rows<C: Counts>(
+    alloc: Global,
+    stripes: &[Stripe<C>],
+) -> Result<Vec<(u64, u64)>, AllocError> {
+    let mut rows = Vec::new(alloc);
+    for stripe in stripes {
+        for row in &stripe.rows(alloc)? {
+            rows.push((row.word, row.count))?;
+        }
+    }
+    rows.sort_unstable_by_key(|row| row.0);
+    Ok(rows)
+}
+
+// Books batches of seven positions in all stripes, in another order than that of their numbers.
+fn book_everywhere<C: Counts>(
+    alloc: Global,
+    setup: &Setup,
+    stripes: &mut Vec<Stripe<C>>,
+    reads: &[SeqRead],
+) -> Result<(), Fail> {
+    let mut batches = batches_of(alloc, setup, reads, 7)?;
+    batches.sort_unstable_by_key(|batch| batch.number().wrapping_mul(0x9e37_79b9_7f4a_7c15));
+    for batch in &batches {
+        for (stripe, cut) in stripes.iter_mut().zip(cut_up(alloc, setup, batch)?) {
+            stripe.book(&cut)?;
+        }
+    }
+    Ok(())
+}
+
+// How many words are in this bin, over all stripes.
+fn words_in_bin<C: Counts>(stripes: &[Stripe<C>], bin: u64) -> u64
+    requires some { 1 ≤ bin }
+    requires within { bin ≤ last_bin }
+{
+    let mut words = 0u64;
+    for stripe in stripes {
+        words = words.saturating_add(stripe.bin(bin));
+    }
+    words
+}
+
+// Books seeded reads in the eight stripes: rows, totals and bins are those of the slow tally.
+fn hold_the_tally<C: Counts>(
+    rt: &impl Abort,
+    alloc: Global,
+    stripes: &mut Vec<Stripe<C>>,
+) -> Result<(), Fail> {
+    let setup = seeded_setup().ok_or("no setup")?;
+    let reads = random_reads(alloc, &mut SplitMix64::seed_from_u64(11))?;
+    let want = slow_rows(alloc, &reads, setup.rule())?;
+    book_everywhere(alloc, &setup, stripes, &reads)?;
+    let stripes = stripes.as_slice();
+    assert_eq!(rt; sorted_rows(alloc, stripes)?.as_slice(), want.as_slice());
+    let total = want.iter().fold(0u64, |sum, row| sum.saturating_add(row.1));
+    let booked = stripes
+        .iter()
+        .fold(0u64, |sum, stripe| sum.saturating_add(stripe.total()));
+    assert_eq!(rt; booked, total);
+    for bin in 1..9 {
+        let words = want.iter().filter(|row| row.1 == bin).count() as u64;
+        assert_eq!(rt; words_in_bin(stripes, bin), words);
+    }
+    Ok(())
+}
+
+// An empty stripe over a quotient table with a slot for each key.
+fn quotient_stripe(
+    alloc: Global,
+    setup: &Setup,
+    number: u32,
+) -> Result<Stripe<QuotientTable>, Fail> {
+    if setup.key_bits() != 3 || number >= setup.stripes() {
+        return Err(Fail::from("another setup"));
+    }
+    let table = QuotientTable::new(alloc, 3, 3, 3)?;
+    let stripe = Stripe::new(alloc, setup, number, table)?;
+    Ok(stripe)
+}
+
+#[test]
+fn stripes_hold_the_tally(rt: HostRuntime) -> Result<(), Fail> {
+    let alloc = rt.alloc();
+    let setup = seeded_setup().ok_or("no setup")?;
+    let mut plain = Vec::new(alloc);
+    let mut quotient = Vec::new(alloc);
+    for number in 0..8 {
+        plain.push(plain_stripe(alloc, &setup, number)?)?;
+        quotient.push(quotient_stripe(alloc, &setup, number)?)?;
+    }
+    hold_the_tally(&rt, alloc, &mut plain)?;
+    hold_the_tally(&rt, alloc, &mut quotient)
+}

@@ -1,0 +1,166 @@
+//! Threads that book: many at once, and one that ends without giving its share back.
+ghost use Rattle.std.specs.Prelude.{◌≡◌};
+ghost use Rattle.kc_stripe.specs.Setup.{stripe_count};
+
+use crate::sharing_tests::{Sums, book_all, book_batch, sums_of, tables_of};
+use crate::tally_tests::{random_read, seeded_setup, slow_rows, sorted_rows};
+use crate::tests::{batches_of, reads_of, setup_of};
+use crate::{BookFault, Setup, Stripes};
+use kc_fastx::SeqRead;
+use kc_share::{Books, Share, Sheet};
+use kc_table::PlainCounts;
+use kc_word::Batch;
+use rand_core::SeedableRng;
+use rand_xoshiro::SplitMix64;
+use std::alloc::Global;
+use std::marker::Brand;
+use std::sync::{Arc, Wait};
+use std::test::Fail;
+use std::thread::{Threads, join, map_vec};
+
+// A share for each eight batches, split off the whole one.
+fn jobs_of<'a, N: Books>(
+    alloc: Global,
+    stripes: &Stripes<PlainCounts, N>,
+    whole: &mut Share<N>,
+    batches: &'a [Arc<Batch>],
+) -> Result<Vec<(Share<N>, &'a [Arc<Batch>])>, Fail>
+    ensures { whole.new.plan ≡ whole.old.plan }
+{
+    let mut jobs = Vec::new(alloc);
+    for part in batches.chunks(8) {
+        if whole.parts() < 2 {
+            return Err(Fail::from("too few parts"));
+        }
+        jobs.push((stripes.split(whole), part))?;
+    }
+    Ok(jobs)
+}
+
+// Each eight batches are booked by a thread of their own; what the stripes and the joined shares have, and the rows.
+fn count_by_many<N: Books + Send + Sync, R: Threads + Wait + Sync>(
+    rt: &R,
+    alloc: Global,
+    setup: &Setup,
+    sheet: Sheet,
+    batches: &[Arc<Batch>],
+) -> Result<(Vec<Sums>, Vec<(u64, u64)>), Fail>
+    requires name { sheet.table ≡ N.table }
+    requires stripes { sheet.plan.stripes ≡ stripe_count setup.now }
+{
+    let tables = tables_of(alloc, setup)?;
+    let (stripes, mut whole) = Stripes::<PlainCounts, N>::new(alloc, setup, tables, sheet)?;
+    let jobs = jobs_of(alloc, &stripes, &mut whole, batches)?;
+    let shared = &stripes;
+    let ended = map_vec(
+        rt,
+        jobs,
+        &|(share, part)| { book_all(rt, alloc, shared, share, part) },
+    )?;
+    for end in ended {
+        let (share, booked) = end;
+        booked?;
+        stripes.join(&mut whole, share);
+    }
+    let (stripes, whole) = stripes.into_stripes(alloc, whole)?;
+    let sums = sums_of(alloc, setup, &stripes, &whole)?;
+    Ok((sums, sorted_rows(alloc, &stripes)?))
+}
+
+// Sixteen random reads of 48 positions each.
+fn long_reads(alloc: Global) -> Result<Vec<SeqRead>, Fail> {
+    let mut random = SplitMix64::seed_from_u64(12);
+    let mut reads = Vec::new(alloc);
+    for _ in 0..16 {
+        reads.push(random_read(alloc, &mut random, 50)?)?;
+    }
+    Ok(reads)
+}
+
+#[test]
+fn what_eight_threads_booked_is_the_tally(rt: HostRuntime) -> Result<(), Fail> {
+    let alloc = rt.alloc();
+    let setup = seeded_setup().ok_or("no setup")?;
+    let reads = long_reads(alloc)?;
+    let batches = batches_of(alloc, &setup, &reads, 12)?;
+    assert_eq!(rt; (batches.len(), setup.stripes()), (64, 8));
+    let sheet = Sheet::new(alloc, setup.stripes(), 9)?;
+    let (sums, rows) = count_by_many::<Brand, _>(&rt, alloc, &setup, sheet, &batches)?;
+    assert_eq!(rt; sums.len(), 8);
+    for (has, told) in &sums {
+        assert_eq!(rt; has, told);
+        assert_eq!(rt; has.1, 64);
+    }
+    let want = slow_rows(alloc, &reads, setup.rule())?;
+    assert_eq!(rt; rows.as_slice(), want.as_slice());
+    Ok(())
+}
+
+// Books a batch everywhere, and gives the share back.
+fn book_and_return<N: Books, R: Wait>(
+    rt: &R,
+    alloc: Global,
+    stripes: &Stripes<PlainCounts, N>,
+    mut share: Share<N>,
+    batch: &Arc<Batch>,
+) -> (Share<N>, Result<(), BookFault>)
+    ensures { result.0.plan ≡ share.plan }
+{
+    let booked = book_batch(rt, alloc, stripes, &mut share, batch);
+    (share, booked)
+}
+
+// Three batches. One thread books the first and ends without giving its share back. Another books the second, and the
+// third is booked with its share afterwards. What the stripes and this share have, and the rows.
+fn count_without_one<N: Books + Send + Sync, R: Threads + Wait + Sync>(
+    rt: &R,
+    alloc: Global,
+    setup: &Setup,
+    sheet: Sheet,
+    batches: [&Arc<Batch>; 3],
+) -> Result<(Vec<Sums>, Vec<(u64, u64)>), Fail>
+    requires name { sheet.table ≡ N.table }
+    requires stripes { sheet.plan.stripes ≡ stripe_count setup.now }
+    requires parts { sheet.plan.parts ≡ 2 }
+{
+    let [first, second, third] = batches;
+    let tables = tables_of(alloc, setup)?;
+    let (stripes, mut kept) = Stripes::<PlainCounts, N>::new(alloc, setup, tables, sheet)?;
+    let lost = stripes.split(&mut kept);
+    let shared = &stripes;
+    let (alone, (kept, booked)) = join(
+        rt,
+        move || -> Result<(), BookFault> { book_and_return(rt, alloc, shared, lost, first).1 },
+        move || -> (Share<N>, Result<(), BookFault>)
+            ensures { result.0.plan ≡ kept.plan }
+        { book_and_return(rt, alloc, shared, kept, second) },
+    );
+    alone?;
+    booked?;
+    let (kept, booked) = book_and_return(rt, alloc, &stripes, kept, third);
+    booked?;
+    let (stripes, kept) = stripes.into_stripes(alloc, kept)?;
+    let sums = sums_of(alloc, setup, &stripes, &kept)?;
+    Ok((sums, sorted_rows(alloc, &stripes)?))
+}
+
+#[test]
+fn a_share_that_is_lost_leaves_the_stripes_lawful(rt: HostRuntime) -> Result<(), Fail> {
+    let alloc = rt.alloc();
+    let setup = setup_of(3, 1).ok_or("no setup")?;
+    let batches = batches_of(alloc, &setup, &reads_of(alloc, &[b"AAAAAAAAAAAAAA"])?, 4)?;
+    let [first, second, third] = batches.as_slice() else {
+        return Err(Fail::from("other batches"));
+    };
+    let sheet = Sheet::new(alloc, setup.stripes(), 2)?;
+    let (sums, rows) = count_without_one::<Brand, _>(
+        &rt,
+        alloc,
+        &setup,
+        sheet,
+        [first, second, third],
+    )?;
+    assert_eq!(rt; sums.as_slice(), [((12, 3), (8, 2))].as_slice());
+    assert_eq!(rt; rows.as_slice(), [(0, 12)].as_slice());
+    Ok(())
+}

@@ -1,0 +1,93 @@
+//! The texts of help: what each command does, what it reads and writes, and how it ends.
+
+/// At the top of the help of `kcount`.
+pub(crate) const KCOUNT: &str = "\
+Counts the k-mers (words of length k) in sequence reads. Each count is proved.";
+
+/// At the end of the help of `kcount`.
+pub(crate) const AFTER_KCOUNT: &str = "\
+`kcount COMMAND --help` says more of a command. Exit status: 0; 1 for a fault, whose line goes to
+standard error; 2 for a command line that is refused.
+
+Examples:
+  kcount count -m 21 -C -o reads.kct reads_1.fq reads_2.fq
+  zcat reads.fq.gz | kcount count -m 21 -C -o reads.kct
+  kcount histo reads.kct
+  kcount query reads.kct ACGTACGTACGTACGTACGTA";
+
+/// At the top of the help of `count`.
+pub(crate) const COUNT: &str = "\
+Counts the k-mers of FASTA or FASTQ files and writes a table of them, or a report.";
+
+/// At the end of the help of `count`.
+pub(crate) const AFTER_COUNT: &str = "\
+Each file is FASTA or Sanger FASTQ, as its first line says; lines may be wrapped. Letters other than
+ACGT and acgt, and bases below --min-qual-char, break k-mers. K-mers are written in rising order, and
+none before all files have been read and counted. Compressed files are read through zcat.
+
+Exit status: 0; 1 for a fault, whose line goes to standard error; 2 for a command line that is refused.
+
+Examples:
+  kcount count -m 21 -C -t 4 -s 100M -o reads.kct reads_1.fq reads_2.fq
+  zcat reads.fq.gz | kcount count -m 21 -C -o reads.kct
+  kcount count -m 4 --print dump --column < reads.fa";
+
+/// At the top of the help of `dump`.
+pub(crate) const DUMP: &str = "\
+Writes the k-mers of a table with their counts, in rising order.";
+
+/// At the end of the help of `dump`.
+pub(crate) const AFTER_DUMP: &str = "\
+A k-mer is written as `>COUNT` and `KMER`, each on a line, or with --column on one.
+
+Exit status: 0; 1 for a fault, whose line goes to standard error; 2 for a command line that is refused.
+
+Examples:
+  kcount dump -c -L 2 reads.kct
+  zcat reads.fq.gz | kcount count -m 21 | kcount dump -c -t -o reads.tsv";
+
+/// At the top of the help of `histo`.
+pub(crate) const HISTO: &str = "\
+Writes how many k-mers of a table have which count.";
+
+/// At the end of the help of `histo`.
+pub(crate) const AFTER_HISTO: &str = "\
+The lines are `COUNT NUMBER`, in rising order. Counts that no k-mer has are left out. All k-mers with a
+count above --high have one line together, that of the count behind it.
+
+Exit status: 0; 1 for a fault, whose line goes to standard error; 2 for a command line that is refused.
+
+Examples:
+  kcount histo -o reads.histo reads.kct
+  zcat reads.fq.gz | kcount count -m 21 -C | kcount histo --high 1000";
+
+/// At the top of the help of `stats`.
+pub(crate) const STATS: &str = "\
+Writes four numbers about the k-mers of a table.";
+
+/// At the end of the help of `stats`.
+pub(crate) const AFTER_STATS: &str = "\
+Unique says how many have a count of 1, Distinct how many different ones there are, Total the sum of
+their counts, and Max_count the greatest one.
+
+Exit status: 0; 1 for a fault, whose line goes to standard error; 2 for a command line that is refused.
+
+Examples:
+  kcount stats reads.kct
+  zcat reads.fq.gz | kcount count -m 21 -C | kcount stats";
+
+/// At the top of the help of `query`.
+pub(crate) const QUERY: &str = "\
+Writes the counts of k-mers that are looked up in a table.";
+
+/// At the end of the help of `query`.
+pub(crate) const AFTER_QUERY: &str = "\
+For each WORD, in the order asked, a line `KMER COUNT`; 0 for one that the table lacks. In a table of
+both strands a k-mer counts under the lesser of it and its reverse complement, which is what is written.
+Nothing is written where a WORD is no k-mer of the table's length.
+
+Exit status: 0; 1 for a fault, whose line goes to standard error; 2 for a command line that is refused.
+
+Examples:
+  zcat reads.fq.gz | kcount count -m 5 -C -o reads.kct
+  kcount query reads.kct ACGTA GATTA";

@@ -1,0 +1,38 @@
+-- A piece as it is kept: the codes of its bases, and where it has N.
+-- Source: this project's own.
+use Rattle.std.specs.Prelude.{◌≡◌, ℕ, true, ◌^◌, ◌<◌, ◌≤◌, List, length, map, slice_index, nat_lt, if◌then◌else◌}
+use Rattle.std.specs.List.{range_with_len}
+use Rattle.kc_word.specs.Letter.{base}
+use Rattle.kc_word.specs.Cutting.{unusable}
+use Rattle.kc_word.specs.declared.runs.Run.{Run}
+use Rattle.kc_word.specs.Runs.{is_in_runs, AreRuns, ArePassed}
+
+-- the byte at index i: N in a run, and elsewhere the base that has the code
+abbrev pub byte_at : List ℕ → List Run → ℕ → ℕ
+byte_at codes runs i = if is_in_runs runs i then unusable else base (slice_index codes i)
+
+-- the byte of a code: N where it is 4
+abbrev pub letter_of : ℕ → ℕ
+letter_of code = if nat_lt code 4 then base code else unusable
+
+-- the bytes of a piece
+unfoldable pub bytes_of : List ℕ → List Run → List ℕ
+bytes_of codes runs = map (λ i. byte_at codes runs i) (range_with_len 0 (length codes))
+
+-- the runs lie within the piece, and the code under a run is 0
+pub record IsPiece (codes : List ℕ) (runs : List Run) : Type 0 where
+  pub rising : AreRuns 0 (length codes) runs
+  pub below : (i : ℕ) → slice_index codes i < 4
+  pub clear : (i : ℕ) → is_in_runs runs i ≡ true → slice_index codes i ≡ 0
+
+-- a place in a piece: its bytes, and how many of them were taken
+pub record Reading : Type 0 where
+  pub bytes : List ℕ
+  pub taken : ℕ
+
+-- the place is one of this piece, with as many runs passed as end before it
+pub record IsReading (codes : List ℕ) (runs : List Run) (next at : ℕ) : Type 0 where
+  pub piece : IsPiece codes runs
+  pub passed : ArePassed runs next at
+  pub within : at ≤ length codes
+  pub fits : length codes < 2 ^ 64

@@ -1,0 +1,40 @@
+-- Runs of N in a piece: where each starts, and how long it is.
+-- Source: this project's own.
+use Rattle.std.specs.Prelude.{◌≡◌, ◌≢◌, ℕ, Bool, true, ◌+◌, ◌≤◌, ◌&&◌, nat_le, nat_lt, List, [], ◌∷◌, length, drop}
+use Rattle.std.specs.List.{list_any}
+use Rattle.kc_word.specs.declared.runs.Run.{Run}
+
+-- the index behind a run
+abbrev pub run_end : Run → ℕ
+run_end run = run.start + run.length
+
+-- whether an index lies in a run, and whether in one of the runs
+abbrev pub is_in_run : Run → ℕ → Bool
+is_in_run run i = nat_le run.start i && nat_lt i (run_end run)
+
+unfoldable pub is_in_runs : List Run → ℕ → Bool
+is_in_runs runs i = list_any (λ run. is_in_run run i) runs
+
+-- the runs lie between two indices and rise, none is empty, and no two of them touch
+abbrev pub AreRuns : ℕ → ℕ → List Run → Type 0
+AreRuns from to [] = Unit {0}
+AreRuns from to (run ∷ runs) =
+    (from ≤ run.start) × (1 ≤ run.length) × (run_end run ≤ to) × AreRuns (run_end run + 1) to runs
+
+-- the runs with one index more, behind all that they have
+pub record AreExtended (runs next : List Run) (at : ℕ) : Type 0 where
+  pub rising : AreRuns 0 (at + 1) next
+  pub here : is_in_runs next at ≡ true
+  pub others : (i : ℕ) → i ≢ at → is_in_runs next i ≡ is_in_runs runs i
+
+-- whether the first of the runs ends at an index or behind it
+abbrev pub EndBehind : ℕ → List Run → Type 0
+EndBehind at [] = Unit {0}
+EndBehind at (run ∷ runs) = at ≤ run_end run
+
+-- so many runs end before or at an index, and say nothing of the indices from there on
+pub record ArePassed (runs : List Run) (next at : ℕ) : Type 0 where
+  pub within : next ≤ length runs
+  pub rising : (to : ℕ) × AreRuns 0 to (drop next runs)
+  pub same : (i : ℕ) → at ≤ i → is_in_runs (drop next runs) i ≡ is_in_runs runs i
+  pub ahead : EndBehind at (drop next runs)

@@ -1,0 +1,57 @@
+-- The words of a piece, one byte after another: what two numbers that are rolled along it hold.
+-- Source: this project's own, with the two-bit codes of the Jellyfish paper (Marçais and Kingsford 2011).
+use Rattle.std.specs.Prelude.{◌≡◌, ℕ, Bool, ◌-◌, ◌^◌, ◌<◌, ◌≤◌, List, ◌++◌, map, length, take, drop, reverse}
+use Rattle.std.specs.Prelude.{replicate, None, if◌then◌else◌}
+use Rattle.std.specs.List.{suffix_len}
+use Rattle.std.specs.Int.Digits.{number_from_digits}
+use Rattle.std.specs.Char.{to_ascii_uppercase}
+use Rattle.kc_fastx.specs.Reads.{read_of}
+use Rattle.kc_word.specs.Letter.{is_base, code}
+use Rattle.kc_word.specs.Rule.{CountingRule}
+use Rattle.kc_word.specs.Occurrences.{words_in}
+use Rattle.kc_word.specs.Cutting.{unusable}
+
+-- the last k bytes, where k bytes N stand before the first one
+unfoldable pub last_window : ℕ → List ℕ → List ℕ
+last_window k bytes = drop (length bytes) (replicate k unusable ++ bytes)
+
+-- whether the byte is a base in either case
+abbrev pub is_letter : ℕ → Bool
+is_letter byte = is_base (to_ascii_uppercase byte)
+
+-- the digit of a byte: its code in the word, and what is left to 3 in the reverse complement. A byte that is no base
+-- counts as A
+unfoldable pub digit_of : ℕ → ℕ
+digit_of byte = if is_letter byte then code (to_ascii_uppercase byte) else 0
+
+unfoldable pub other_digit : ℕ → ℕ
+other_digit byte = 3 - digit_of byte
+
+-- how many bases the bytes end with
+unfoldable pub run_of : ℕ → List ℕ → ℕ
+run_of k bytes = suffix_len is_letter (replicate k unusable ++ bytes)
+
+-- what the two numbers and the run say of the bytes seen so far
+pub record IsRolled (k : ℕ) (seen : List ℕ) (forward backward run : ℕ) : Type 0 where
+  pub forward_is : forward ≡ number_from_digits 4 (map digit_of (last_window k seen))
+  pub backward_is : backward ≡ number_from_digits 4 (reverse (map other_digit (last_window k seen)))
+  pub run_is : run ≡ run_of k seen
+
+-- a place in a piece whose words are taken: how they count, the bytes of the piece, and how many of them were taken
+pub record Walking : Type 0 where
+  pub rule : CountingRule
+  pub bytes : List ℕ
+  pub taken : ℕ
+
+-- the words of the piece without those that end in the bytes taken
+unfoldable pub words_left : Walking → List ℕ
+words_left walking =
+    drop (length (words_in walking.rule (read_of (take walking.taken walking.bytes) None)))
+    (words_in walking.rule (read_of walking.bytes None))
+
+-- the numbers and the run are those of the bytes taken
+pub record IsWalking (walking : Walking) (forward backward run : ℕ) : Type 0 where
+  pub rolled : IsRolled walking.rule.k (take walking.taken walking.bytes) forward backward run
+  pub short : run ≤ walking.taken
+  pub within : walking.taken ≤ length walking.bytes
+  pub fits : length walking.bytes < 2 ^ 64

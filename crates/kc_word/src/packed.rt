@@ -1,0 +1,119 @@
+//! Codes of bases packed into words of 64 bits, 32 in each.
+ghost use Rattle.std.specs.Prelude.{◌≡◌, ◌+◌, ◌^◌, ◌<◌, ◌≤◌, ◌++◌, ◌∷◌, [], if◌then◌else◌, IfOk, All, length};
+ghost use Rattle.std.specs.Prelude.{slice_index, is_ok};
+ghost use Rattle.std.specs.Vec.{vec_capacity};
+ghost use Rattle.kc_word.specs.Packed.{word_count};
+
+use std::alloc::{AllocError, Global};
+use std::marker::Model;
+
+/// How many bases a word has.
+const BASES: usize = 32;
+
+/// Codes of bases, seen as their list: two bits each, the first one in the highest bits of its word. The bits
+/// behind the last one are 0, so that equal lists have equal words.
+#[derive(Debug, Drop)]
+pub(crate) struct Packed {
+    words: Vec<u64>,
+    len: usize,
+}
+
+impl Model for Packed {
+    ghost use Rattle.std.specs.Prelude.{ℕ, List};
+    ghost use Rattle.kc_word.specs.Packed.{codes_of, ArePacked};
+
+    ghost Value = { List ℕ };
+
+    ghost view = { λ p. codes_of p.words.items p.len };
+
+    ghost invariant = { λ p. ArePacked p.words.items p.len };
+}
+
+impl Packed {
+    /// No codes, with room for `count`.
+    pub(crate) fn with_capacity(alloc: Global, count: usize) -> Result<Packed, AllocError>
+        ensures { IfOk result (λ packed. packed ≡ []) }
+    {
+        let words = room_for(alloc, count)?;
+        Ok(Packed { words, len: 0 })
+    }
+
+    /// The same codes.
+    pub(crate) fn copy(&self, alloc: Global) -> Result<Packed, AllocError>
+        ensures { IfOk result (λ packed. packed ≡ self.now) }
+    {
+        let words = Vec::from_slice(alloc, &self.words)?;
+        Ok(Packed {
+            words,
+            len: self.len,
+        })
+    }
+
+    /// The number of codes.
+    #[inline(always)]
+    pub(crate) fn len(&self) -> usize
+        ensures { result ≡ length self.now }
+    {
+        self.len
+    }
+
+    /// The code at index `i`. Condition: `i` is below the length.
+    #[inline(always)]
+    pub(crate) fn code(&self, i: usize) -> u64
+        requires { i < length self.now }
+        ensures value { result ≡ slice_index self.now i }
+        ensures below { result < 4 }
+    {
+        (self.words[i / BASES] >> (62 - 2 * (i % BASES))) & 3
+    }
+
+    /// Appends a code. Conditions: the code is below 4, and the length stays below 2^64. After a refusal the
+    /// codes are as they were.
+    #[inline(always)]
+    pub(crate) fn push(&mut self, code: u64) -> Result<(), AllocError>
+        requires below { code < 4 }
+        requires fits { length self.old + 1 < 2 ^ 64 }
+        ensures { self.new ≡ (if is_ok result then self.old ++ code ∷ [] else self.old) }
+    {
+        let place = self.len % BASES;
+        let bits = code << (62 - 2 * place);
+        if place == 0 {
+            self.words.push(bits)?;
+        } else {
+            self.words[self.len / BASES] |= bits;
+        }
+        self.len += 1;
+        Ok(())
+    }
+}
+
+/// Equal lists of codes have equal words.
+impl PartialEq for Packed {
+    ghost use Rattle.std.specs.Str.{bytes_eq};
+    ghost use Rattle.std.specs.Cmp.{partial_equiv_from_equiv};
+    ghost use Rattle.std.specs.Cmp.Lexicographic.{nat_list_eq_equiv};
+
+    ghost eq = { bytes_eq };
+
+    ghost laws = { partial_equiv_from_equiv nat_list_eq_equiv };
+
+    fn eq(&self, other: &Packed) -> bool {
+        let words = self.words.as_slice();
+        let others = other.words.as_slice();
+        self.len == other.len && words == others
+    }
+}
+
+impl Eq for Packed {
+    ghost use Rattle.std.specs.Cmp.Lexicographic.{nat_list_eq_equiv};
+
+    ghost laws = { nat_list_eq_equiv };
+}
+
+// no words yet, with room for as many as the codes take
+fn room_for(alloc: Global, codes: usize) -> Result<Vec<u64>, AllocError>
+    ensures empty { IfOk result (λ room. room.items ≡ []) }
+    ensures bounded { IfOk result (λ room. vec_capacity room ≤ word_count codes) }
+{
+    Vec::with_capacity(alloc, codes.div_ceil(BASES))
+}

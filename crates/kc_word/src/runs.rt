@@ -1,0 +1,106 @@
+//! Runs of N in a piece.
+ghost use Rattle.std.specs.Prelude.{◌≡◌, ℕ, ◌+◌, ◌^◌, ◌<◌, ◌≤◌, ◌≢◌, length, nat_le, OnOk, OnErr};
+ghost use Rattle.kc_word.specs.Runs.{AreRuns, AreExtended, ArePassed, is_in_run, is_in_runs};
+
+use std::alloc::AllocError;
+
+/// A run of N: where it starts, and how long it is.
+#[derive(Clone, Copy, PartialEq, Eq, Debug)]
+pub(crate) struct Run {
+    start: usize,
+    length: usize,
+}
+
+impl Run {
+    // the index behind the run
+    #[inline(always)]
+    fn end(self) -> usize
+        requires { self.start + self.length < 2 ^ 64 }
+        ensures { result ≡ self.start + self.length }
+    {
+        self.start + self.length
+    }
+
+    // whether the index lies in the run
+    #[inline(always)]
+    fn holds(self, i: usize) -> bool
+        ensures { result ≡ is_in_run self i }
+    {
+        self.start <= i && i - self.start < self.length
+    }
+
+    // whether the run ends at the index or before it
+    fn ends_by(self, i: usize) -> bool
+        ensures { result ≡ nat_le (self.start + self.length) i }
+    {
+        self.start <= i && i - self.start >= self.length
+    }
+}
+
+/// Takes the index `at`, behind all that the runs have, into the last run where that one ends there, and else into
+/// a new one. After a refusal the runs are as they were.
+pub(crate) fn extend_runs(runs: &mut Vec<Run>, at: usize) -> Result<(), AllocError>
+    requires rising { AreRuns 0 at runs.old.items }
+    requires fits { at + 1 < 2 ^ 64 }
+    ensures extended { OnOk result (AreExtended runs.old.items runs.new.items at) }
+    ensures refused { OnErr result (runs.new.items ≡ runs.old.items) }
+{
+    let count = runs.len();
+    if count > 0 && runs[count - 1].end() == at {
+        runs[count - 1].length += 1;
+        return Ok(());
+    }
+    runs.push(Run {
+        start: at,
+        length: 1,
+    })?;
+    Ok(())
+}
+
+/// Whether the index lies in one of the runs.
+pub(crate) fn is_in_runs(runs: &[Run], i: usize) -> bool
+    ensures { result ≡ is_in_runs runs.now i }
+{
+    for run in runs {
+        if run.holds(i) {
+            return true;
+        }
+    }
+    false
+}
+
+/// How many runs end at the index `at` or before it.
+pub(crate) fn runs_before(runs: &[Run], at: usize) -> usize
+    requires { (to : ℕ) × AreRuns 0 to runs.now }
+    ensures { ArePassed runs.now result at }
+{
+    for n in 0..runs.len() {
+        if !runs[n].ends_by(at) {
+            return n;
+        }
+    }
+    runs.len()
+}
+
+/// Whether the index `at` lies in a run, for one who asks of each index in turn: `next` is the number of the first
+/// run that ends behind the index before, and then of the first one that ends behind this one.
+#[inline(always)]
+pub(crate) fn is_next_in_runs(runs: &[Run], next: &mut usize, at: usize) -> bool
+    requires passed { ArePassed runs.now next.old at }
+    requires fits { at + 1 < 2 ^ 64 }
+    ensures value { result ≡ is_in_runs runs.now at }
+    ensures passed { ArePassed runs.now next.new (at + 1) }
+{
+    if *next == runs.len() {
+        return false;
+    }
+    let run = runs[*next];
+    if run.start > at {
+        return false;
+    }
+    if at - run.start < run.length {
+        return true;
+    }
+    *next += 1;
+    false
+}

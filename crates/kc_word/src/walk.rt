@@ -1,0 +1,66 @@
+//! The words of a batch, one after another, without memory.
+ghost use Rattle.std.specs.Prelude.{◌≡◌, ◌≤◌, length};
+ghost use Rattle.kc_word.specs.Occurrences.{words_of};
+ghost use Rattle.kc_word.specs.Cutting.{as_reads};
+
+use crate::piece::Piece;
+use crate::roll::Roll;
+use crate::rule::Rule;
+use std::marker::Model;
+
+/// An iterator over the words of a batch, seen as the list of those still to come.
+#[derive(Drop)]
+pub struct Walk<'a> {
+    roll: Roll<'a>,
+    later: &'a [Piece],
+}
+
+impl<'a> Model for Walk<'a> {
+    ghost use Rattle.std.specs.Prelude.{ℕ, List, ◌++◌};
+    ghost use Rattle.kc_word.specs.Occurrences.{words_of};
+    ghost use Rattle.kc_word.specs.Cutting.{as_reads};
+    ghost use Rattle.kc_word.specs.Walking.{words_left};
+
+    ghost Value = { List ℕ };
+
+    ghost view = { λ w. words_left w.roll ++ words_of w.roll.rule (as_reads w.later.now) };
+}
+
+impl<'a> Walk<'a> {
+    /// At the front of the pieces. Condition: there is one.
+    pub(crate) fn new(pieces: &'a [Piece], rule: Rule) -> Walk<'a>
+        requires { 1 ≤ length pieces.now }
+        ensures { result ≡ words_of rule (as_reads pieces.now) }
+    {
+        Walk {
+            roll: Roll::new(&pieces[0], rule),
+            later: &pieces[1..],
+        }
+    }
+}
+
+impl<'a> Iterator for Walk<'a> {
+    type Item = u64;
+
+    ghost use Rattle.std.specs.Iterator.{YieldsFirst, item_count};
+
+    ghost next_gives = { YieldsFirst (λ w. w) };
+
+    ghost remaining = { item_count (λ w. w) };
+
+    #[inline(always)]
+    fn next(&mut self) -> Option<u64> {
+        loop {
+            if let Some(word) = self.roll.next_word() {
+                return Some(word);
+            }
+            match self.later.split_first() {
+                None => return None,
+                Some((piece, later)) => {
+                    self.roll = Roll::new(piece, self.roll.rule());
+                    self.later = later;
+                }
+            }
+        }
+    }
+}
