@@ -14,13 +14,16 @@ load-requires g c =
     let it = c.keeper.view_is in
     let taken : IsTaken c.share.inside.seat.me.0 c.keeper.inside.seat.me.0 (first_kept c.keeper.inside.seat.me.0.kept) c.take_in.new.share.me = record { share_keeps_none = share.2; keeper_keeps = ap (λ m. m.0) c.keeper.invariant.1; took = took.1 } in
     let few_words : word_total (first_kept c.keeper.inside.seat.me.0.kept).journal + g.E.Event.entry.words < 2 ^ 64 = omega (arith, c.requires.words, ap (λ (k : KeptStripe). word_total k.journal) it, ap (λ (e : Entry). e.words) c.requires.entry) in
-    let few_entries : length (first_kept c.keeper.inside.seat.me.0.kept).journal + 1 < 2 ^ 64 = omega (arith, c.requires.entries, ap (λ (k : KeptStripe). length k.journal) it) in
-    (took.0 ∙ sym c.self.invariant.0, omega arith, booking_is_allowed _ _ _ _ _ _ (record {
-      keeps_it = keeps_one taken;
-      some_part = omega (arith, same_parts taken, share.3, share.4);
-      few_words = few_words;
-      few_entries = few_entries;
-    }))
+    let few_entries : length (first_kept c.keeper.inside.seat.me.0.kept).journal + 1 < 2 ^ 64 = omega (arith, c.requires.entries, ap (λ (k : KeptStripe). length k.journal) it) in (
+      took.0 ∙ sym c.self.invariant.0,
+      omega arith,
+      booking_is_allowed _ _ _ _ _ _ (record {
+        keeps_it = keeps_one taken;
+        some_part = omega (arith, same_parts taken, share.3, share.4);
+        few_words = few_words;
+        few_entries = few_entries;
+      }),
+    )
 
 pub overflow_add-share : goal.overflow_add-share
 overflow_add-share g c =
