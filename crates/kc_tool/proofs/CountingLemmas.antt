@@ -1,9 +1,7 @@
 -- From the tally of batches to the tally of reads, and what a count asks for.
-use Rattle.std.proofs.Common.{◌≡◌, ◌<◌, ◌≤◌, ◌+◌, ◌-◌, ◌*◌, ◌/◌, ◌%◌, ◌^◌, ℕ, zero, suc, Bool, true, false, List, [], ◌∷◌, length, map, refl, sym, ◌∙◌, ap, subst, arith, below_more}
+use Rattle.std.proofs.Common.{◌≡◌, ◌<◌, ◌≤◌, ◌+◌, ◌-◌, ◌*◌, ◌%◌, ◌^◌, ℕ, zero, suc, Bool, true, false, List, [], ◌∷◌, length, map, refl, sym, ◌∙◌, ap, subst, arith, below_more}
 use Rattle.std.specs.Prelude.{◌==◌, All, sum_by}
-use Rattle.std.specs.List.{flat_map}
 use Rattle.std.proofs.lemmas.Bool.{eqb-false, eqb-true}
-use Rattle.std.proofs.lemmas.List.{length-map}
 use Rattle.std.proofs.lemmas.List.Elements.{All-cons, All-head, All-nil, All-tail}
 use Rattle.std.proofs.lemmas.List.Sums.{sum_by-append, sum_by-cons}
 use Rattle.std.proofs.Math.Nat.{div-le_of_le-mul}
@@ -13,7 +11,7 @@ use Rattle.kc_hash.specs.Seeds.{NoneIsNonsingular, turn_columns}
 use Rattle.kc_hash.proofs.Generator.{length-seed_columns}
 use Rattle.kc_hash.proofs.Linear.{length-identity}
 use Rattle.kc_word.specs.Cutting.{NumberedPieces, as_reads, batch_count, cleaned, cutting, position_total}
-use Rattle.kc_word.specs.Laws.{CuttingOccurrences, CuttingPositions, PositionsWithinBytes}
+use Rattle.kc_word.specs.Laws.{CuttingOccurrences}
 use Rattle.kc_word.specs.Occurrences.{occurrences, occurrences_in}
 use Rattle.kc_word.specs.Rule.{CountingRule}
 use Rattle.kc_word.specs.Word.{text}

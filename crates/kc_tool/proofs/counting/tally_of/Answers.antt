@@ -1,10 +1,5 @@
-use Rattle.std.proofs.Common.{◌≡◌, ◌∙◌, ◌≤◌, ◌+◌, ◌^◌, ap, sym, subst, map, length, arith}
+use Rattle.std.proofs.Common.{◌∙◌, ap, sym, length, arith}
 use Rattle.std.proofs.lemmas.List.{length-map}
-use Rattle.kc_word.specs.Cutting.{cleaned, cutting}
-use Rattle.kc_word.specs.Shared.{values}
-use Rattle.kc_tally.specs.Tally.{IsTallyOf}
-use Rattle.kc_stripe.specs.Stripe.{reads_in}
-use Rattle.kc_gather.specs.Gathering.{position_sum}
 use Rattle.kc_tool.proofs.CountingLemmas.{few_batches, small_cutting, tally_of_cutting}
 use Rattle.kc_tool.proofs.counting.tally_of.Goals as goal
 
