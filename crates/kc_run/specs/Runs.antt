@@ -1,6 +1,6 @@
 -- Whole runs: what a worker has at its start and at its end, and with which fault a run ends. They are this project's
 -- own.
-use Rattle.std.specs.Prelude.{◌≡◌, ℕ, ◌+◌, ◌<◌, List, [], All, Some, Result, Ok, Err, IfOk, length, map, sum_by}
+use Rattle.std.specs.Prelude.{◌≡◌, ℕ, ◌+◌, ◌<◌, ◌≤◌, List, [], All, Some, Result, Ok, Err, IfOk, length, map, sum_by}
 use Rattle.std.specs.Prelude.{slice_get}
 use Rattle.kc_share.specs.declared.entry.Plan.{Plan}
 use Rattle.kc_share.specs.declared.entry.Booking.{Booking}
@@ -33,6 +33,12 @@ pub record IsReady (roll : Roll) (plan : Plan) (seat : Drawer) (share : ShareSee
 abbrev pub HaveMore : ℕ → ℕ → List Booking → List Booking → Type 0
 HaveMore stripes n old new =
     (stripe : ℕ) → stripe < stripes → entry_total_in stripe new ≡ entry_total_in stripe old + n
+
+-- n batches more were booked in each stripe from one number to before another, and none in the stripes before and after
+pub record HaveMoreIn (from to n : ℕ) (old new : List Booking) : Type 0 where
+  pub there : (stripe : ℕ) → from ≤ stripe → stripe < to → entry_total_in stripe new ≡ entry_total_in stripe old + n
+  pub before : (stripe : ℕ) → stripe < from → entry_total_in stripe new ≡ entry_total_in stripe old
+  pub behind : (stripe : ℕ) → to ≤ stripe → entry_total_in stripe new ≡ entry_total_in stripe old
 
 -- a worker that has ended well: its seat is done, and its share still has one part, with as many entries in each stripe
 -- as the seat was answered numbers
