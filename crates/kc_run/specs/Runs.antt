@@ -6,9 +6,11 @@ use Rattle.kc_share.specs.declared.entry.Plan.{Plan}
 use Rattle.kc_share.specs.declared.entry.Booking.{Booking}
 use Rattle.kc_share.specs.Share.{ShareSeen, share_of, entry_total_in}
 use Rattle.kc_stripe.specs.Setup.{StripeSetup, stripe_count}
+use Rattle.kc_stripe.specs.Cut.{cuts_of}
 use Rattle.kc_stripe.specs.declared.fault.BookFault.{BookFault}
 use Rattle.kc_stripe.specs.declared.fault.BookFault.TheVariants as book
 use Rattle.kc_run.specs.Tickets.{Roll, Drawer, IsSeatOf, IsDone, answers_of}
+use Rattle.kc_run.specs.declared.round.CutBatch.{CutBatch}
 use Rattle.kc_run.specs.declared.fault.RunFault.{RunFault}
 use Rattle.kc_run.specs.declared.fault.RunFault.TheVariants as run
 
@@ -28,6 +30,10 @@ pub record IsFreshSeatOf (roll : Roll) (seat : Drawer) : Type 0 where
 pub record IsReady (roll : Roll) (plan : Plan) (seat : Drawer) (share : ShareSeen) : Type 0 where
   pub seat_fresh : IsFreshSeatOf roll seat
   pub unused : share ≡ share_of plan 1 []
+
+-- the batches of a round are cut up by this setup
+abbrev pub AreCutUp : StripeSetup → List CutBatch → Type 0
+AreCutUp setup round = All (λ it. it.cuts.items ≡ cuts_of setup it.batch.now.value) round
 
 -- in each of so many stripes n batches more were booked
 abbrev pub HaveMore : ℕ → ℕ → List Booking → List Booking → Type 0

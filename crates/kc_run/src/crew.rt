@@ -5,7 +5,8 @@ ghost use Rattle.kc_share.specs.declared.entry.Plan.{Plan};
 ghost use Rattle.kc_share.specs.Share.{share_of};
 ghost use Rattle.kc_run.specs.declared.fault.RunFault.TheVariants.{Memory, NoThread};
 ghost use Rattle.kc_run.specs.Tickets.{Roll};
-ghost use Rattle.kc_run.specs.Runs.{IsJob, IsFreshSeatOf, IsReady, HasWorked, HaveWorked, IsPromised, AreEnds, IsFirstFault};
+ghost use Rattle.kc_run.specs.Runs.{IsJob, IsFreshSeatOf, IsReady, HasWorked, HaveWorked, IsPromised, AreEnds};
+ghost use Rattle.kc_run.specs.Runs.{IsFirstFault};
 
 use crate::fault::RunFault;
 use crate::gate::Gate;

@@ -1,11 +1,10 @@
 //! A round of a worker: batches that are cut up, and then booked stripe by stripe, so that the lines of a stripe that
 //! one batch has fetched are still near for the next.
-ghost use Rattle.std.specs.Prelude.{◌≡◌, ◌+◌, ◌*◌, ◌≤◌, ◌<◌, ◌⊎◌, All, OnOk, length};
+ghost use Rattle.std.specs.Prelude.{◌≡◌, ◌+◌, ◌*◌, ◌≤◌, ◌<◌, ◌⊎◌, OnOk, length};
 ghost use Rattle.kc_share.specs.Share.{with_booking};
 ghost use Rattle.kc_stripe.specs.Setup.{stripe_count};
-ghost use Rattle.kc_stripe.specs.Cut.{cuts_of};
 ghost use Rattle.kc_stripe.specs.Locked.{cut_entry};
-ghost use Rattle.kc_run.specs.Runs.{HaveMore, HaveMoreIn};
+ghost use Rattle.kc_run.specs.Runs.{AreCutUp, HaveMore, HaveMoreIn};
 
 use crate::fault::RunFault;
 use kc_share::{Books, Share};
@@ -68,7 +67,7 @@ pub(crate) fn book_round<H: Wait, C: Counts, N: Books>(
     first: u32,
     share: &mut Share<N>,
 ) -> Result<(), RunFault>
-    requires cut_up { All (λ it. it.cuts.items ≡ cuts_of stripes.now.setup it.batch.now.value) round.now }
+    requires cut_up { AreCutUp stripes.now.setup round.now }
     requires first { first ≤ stripe_count stripes.now.setup }
     ensures kept { (share.new.parts ≡ share.old.parts) × (share.new.plan ≡ share.old.plan) }
     ensures booked { OnOk result (HaveMore (stripe_count stripes.now.setup) (length round.now)
@@ -87,7 +86,7 @@ fn book_range<H: Wait, C: Counts, N: Books>(
     to: u32,
     share: &mut Share<N>,
 ) -> Result<(), RunFault>
-    requires cut_up { All (λ it. it.cuts.items ≡ cuts_of stripes.now.setup it.batch.now.value) round.now }
+    requires cut_up { AreCutUp stripes.now.setup round.now }
     requires range { (from ≤ to) × (to ≤ stripe_count stripes.now.setup) }
     ensures kept { (share.new.parts ≡ share.old.parts) × (share.new.plan ≡ share.old.plan) }
     ensures booked { OnOk result (HaveMoreIn from to (length round.now) share.old.booked share.new.booked) }
@@ -106,7 +105,7 @@ fn book_stripe<H: Wait, C: Counts, N: Books>(
     stripe: u32,
     share: &mut Share<N>,
 ) -> Result<(), RunFault>
-    requires cut_up { All (λ it. it.cuts.items ≡ cuts_of stripes.now.setup it.batch.now.value) round.now }
+    requires cut_up { AreCutUp stripes.now.setup round.now }
     requires stripe { stripe < stripe_count stripes.now.setup }
     ensures kept { (share.new.parts ≡ share.old.parts) × (share.new.plan ≡ share.old.plan) }
     ensures booked { OnOk result (HaveMoreIn stripe (stripe + 1) (length round.now)

@@ -1,10 +1,10 @@
 //! One worker of a run: it draws numbers, and books the batch of each number into every stripe.
-ghost use Rattle.std.specs.Prelude.{◌≡◌, ◌+◌, ◌<◌, ◌≤◌, ◌⊎◌, All, IfOk, IfSome, IsNone, MatchOption};
+ghost use Rattle.std.specs.Prelude.{◌≡◌, ◌+◌, ◌<◌, ◌≤◌, ◌⊎◌, IfOk, IfSome, IsNone, MatchOption};
 ghost use Rattle.std.specs.Prelude.{length};
 ghost use Rattle.kc_stripe.specs.Setup.{stripe_count};
 ghost use Rattle.kc_stripe.specs.Cut.{cuts_of};
 ghost use Rattle.kc_run.specs.Tickets.{IsSeatOf, IsDone, answers_of};
-ghost use Rattle.kc_run.specs.Runs.{IsJob, IsReady, HasWorked};
+ghost use Rattle.kc_run.specs.Runs.{IsJob, IsReady, HasWorked, AreCutUp};
 
 use crate::fault::RunFault;
 use crate::gate::Gate;
@@ -100,8 +100,7 @@ impl<N: Books> Worker<N> {
         ensures some { IfOk result (λ round. 1 ≤ length round.items) }
         ensures few { IfOk result (λ round.
             (length round.items ≡ 1) ⊎ (length round.items ≤ job.now.round_len)) }
-        ensures cut_up { IfOk result (λ round.
-            All (λ it. it.cuts.items ≡ cuts_of job.now.stripes.now.setup it.batch.now.value) round.items) }
+        ensures cut_up { IfOk result (λ round. AreCutUp job.now.stripes.now.setup round.items) }
     {
         let mut round = Vec::new(alloc);
         round.push(cut_batch(alloc, job, drawn)?)?;

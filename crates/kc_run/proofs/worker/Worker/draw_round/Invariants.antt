@@ -1,6 +1,6 @@
-use Rattle.std.proofs.Common.{◌≡◌, ◌+◌, ◌≤◌, ◌⊎◌, All, length}
-use Rattle.kc_stripe.specs.Cut.{cuts_of}
+use Rattle.std.proofs.Common.{◌≡◌, ◌+◌, ◌≤◌, ◌⊎◌, length}
 use Rattle.kc_run.specs.Tickets.{IsSeatOf, answers_of}
+use Rattle.kc_run.specs.Runs.{AreCutUp}
 use Rattle.kc_run.proofs.worker.Worker.draw_round.Given as goal
 
 abbrev pub invariant-loop : goal.invariant-loop
@@ -11,5 +11,5 @@ invariant-loop g l = record {
   few : length l.round.items ≤ l.counter;
   bounded : (length l.round.items ≡ 1) ⊎ (length l.round.items ≤ l.job.round_len);
   some : 1 ≤ length l.round.items;
-  cut_up : All (λ it. it.cuts.items ≡ cuts_of l.job.stripes.now.setup it.batch.now.value) l.round.items;
+  cut_up : AreCutUp l.job.stripes.now.setup l.round.items;
 }
