@@ -3,7 +3,8 @@
 #   tests/memory.sh
 # Each run of the program, over FASTA and over FASTQ, either does without that growth and writes the whole dump, or writes
 # nothing, says on standard error that there is no memory, and ends with status 1. Tickets, a growing table, a stripe and a
-# gathering are asked the same by a test of their crates. It needs bin/kcount, a C compiler and the toolchain.
+# gathering are asked the same by a test of their crates. It needs bin/kcount, the tests of these crates as built, and a C
+# compiler.
 set -euo pipefail
 here=$(cd "$(dirname "$0")" && pwd)
 kcount=$here/../bin/kcount
@@ -49,9 +50,6 @@ refuse_growths "$work/reads.fq"
 refused_test() {
     REFUSE=$3 LD_PRELOAD="$work/refuse.so" "$here/../crates/$1/out/$1_tests" "$2" > "$work/said" 2>&1
 }
-for crate in kc_report kc_run kc_table kc_stripe kc_gather; do
-    (cd "$here/../crates/$crate" && rt test) > "$work/log" 2>&1 || { cat "$work/log"; exit 1; }
-done
 
 # A table is read with all its growths or not at all, and so is a histogram written: else nothing was.
 test=stream_tests::memory_or_the_report

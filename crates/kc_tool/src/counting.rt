@@ -11,11 +11,12 @@ ghost use Rattle.kc_tool.specs.Settings.{rule_of};
 use crate::faults::ToolFault;
 use crate::settings::Options;
 use kc_fastx::SeqRead;
+use kc_gather::laws;
 use kc_hash::Hash;
 use kc_run::{NoGate, quotient_tables, run};
 use kc_stripe::Setup;
 use kc_tally::Tally;
-use kc_word::{Batch, Piece, Rule, clean, cut, laws};
+use kc_word::{Batch, Piece, Rule, clean, cut};
 use std::alloc::{AllocError, Global};
 use std::sync::{Arc, Wait};
 use std::thread::Threads;
@@ -39,9 +40,9 @@ pub(crate) fn tally_of<H: Threads + Wait + Sync>(
     ensures fault { IfErr result IsCountingFault }
 {
     let rule = options.rule();
-    // what is known of a length, and of cuttings
+    // what is known of a length, and of the tally of a cutting
     let _bases = rule.k().get();
-    laws::cutting_occurrences();
+    laws::tally_of_cutting();
     let batches = batches_of(alloc, reads, &rule, options.batch())?;
     let setup = setup_of(options);
     let tables = quotient_tables(alloc, &setup, options.size())?;

@@ -1,11 +1,6 @@
-use Rattle.std.proofs.Common.{◌≡◌, ◌∙◌, ◌≤◌, ◌+◌, ◌^◌, ap, sym, subst, map, length, arith}
+use Rattle.std.proofs.Common.{◌∙◌, ap, sym, length, arith}
 use Rattle.std.proofs.lemmas.List.{length-map}
-use Rattle.kc_word.specs.Cutting.{cleaned, cutting}
-use Rattle.kc_word.specs.Shared.{values}
-use Rattle.kc_tally.specs.Tally.{IsTallyOf}
-use Rattle.kc_stripe.specs.Stripe.{reads_in}
-use Rattle.kc_gather.specs.Gathering.{position_sum}
-use Rattle.kc_tool.proofs.CountingLemmas.{few_batches, small_cutting, tally_of_cutting}
+use Rattle.kc_tool.proofs.CountingLemmas.{few_batches, small_cutting}
 use Rattle.kc_tool.proofs.counting.tally_of.Goals as goal
 
 pub run-requires-clause-few : goal.run-requires-clause-few
@@ -30,4 +25,4 @@ returns-clause-tally g c =
     let room = rw (sym c.batch.ensures.value) at c.batch.ensures.some in
     let rule = c.setup_of-setup.ensures.rule ∙ sym c.rule-rule.ensures in
     let gathered = rw (rule, c.deref.ensures.value, c.in_ok-batches.ensures) at c.in_ok-tally.ensures.tally in
-    rw (sym c.rule-rule.ensures) (tally_of_cutting c.cutting_occurrences.ensures c.rule-rule.result c.batch.result c.args.reads.now _ some room gathered)
+    rw (sym c.rule-rule.ensures) (c.tally_of_cutting.ensures c.rule-rule.result c.batch.result c.args.reads.now _ some room gathered)
