@@ -27,7 +27,7 @@ digit-above q c e t small =
     ∙ ap (λ n. n % 4) (sym (shr-shr (q * 4 + c) 2 (2 * t)))
     ∙ ap (λ n. n / 2 ^ (2 * t) % 4) quarter
 
-digit-below : (m f t : ℕ) → m * 2 ^ (2 * (f + 1 + t)) / 2 ^ (2 * f) % 4 ≡ 0
+pub digit-below : (m f t : ℕ) → m * 2 ^ (2 * (f + 1 + t)) / 2 ^ (2 * f) % 4 ≡ 0
 digit-below m f t =
     let exponent : 2 * (f + 1 + t) ≡ (2 * t + 2) + 2 * f = omega arith in
     let power = pow-add 2 (2 * t + 2) (2 * f) in

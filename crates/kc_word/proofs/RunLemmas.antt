@@ -9,13 +9,13 @@ use Rattle.kc_word.specs.Runs.{run_end, is_in_run, is_in_runs, AreRuns, AreExten
 
 -- ---- whether an index lies in a run
 
-inside-run : (run : Run) (i : ℕ) → run.start ≤ i → i < run_end run → is_in_run run i ≡ true
+pub inside-run : (run : Run) (i : ℕ) → run.start ≤ i → i < run_end run → is_in_run run i ≡ true
 inside-run run i low high = and_from _ _ (le-leb run.start i low) (lt-ltb i (run_end run) high)
 
-before-run : (run : Run) (i : ℕ) → i < run.start → is_in_run run i ≡ false
+pub before-run : (run : Run) (i : ℕ) → i < run.start → is_in_run run i ≡ false
 before-run run i h = and_left _ _ (lt-leb run.start i h)
 
-behind-run : (run : Run) (i : ℕ) → run_end run ≤ i → is_in_run run i ≡ false
+pub behind-run : (run : Run) (i : ℕ) → run_end run ≤ i → is_in_run run i ≡ false
 behind-run run i h = and_right (leb run.start i) _ (le-ltb i (run_end run) h)
 
 or-false : (a b : Bool) → a ≡ false → b ≡ false → (a || b) ≡ false

@@ -12,7 +12,7 @@ use crate::k::K;
 use crate::letter::{NO_BASE, UNUSABLE, base_of, code_of};
 use crate::packed::Packed;
 use crate::rule::Rule;
-use crate::runs::{Run, extend_runs, is_in_runs};
+use crate::runs::{Run, clip_runs, extend_runs, is_in_runs};
 use kc_fastx::SeqRead;
 use std::alloc::{AllocError, Global};
 use std::marker::Model;
@@ -81,15 +81,9 @@ impl Piece {
         requires within { to ≤ length self.now }
         ensures { IfOk result (λ part. part ≡ slice_range self.now from to) }
     {
-        if from == 0 && to as u64 == self.len() {
-            return self.copy(alloc);
-        }
-        let mut part = Piece::with_capacity(alloc, to - from)?;
-        let mut codes = self.codes(from);
-        for i in from..to {
-            part.push_code(codes.take())?;
-        }
-        Ok(part)
+        let bases = self.bases.part(alloc, from, to)?;
+        let runs = clip_runs(alloc, &self.runs, from, to)?;
+        Ok(Piece { bases, runs })
     }
 
     /// The codes of the bytes from index `from` on. Condition: the index is at most the length.
@@ -98,15 +92,6 @@ impl Piece {
         ensures { result ≡ record { bytes = self.now; taken = from } }
     {
         Codes::new(&self.bases, &self.runs, from)
-    }
-
-    // the same bytes
-    fn copy(&self, alloc: Global) -> Result<Piece, AllocError>
-        ensures { IfOk result (λ piece. piece ≡ self.now) }
-    {
-        let bases = self.bases.copy(alloc)?;
-        let runs = Vec::from_slice(alloc, &self.runs)?;
-        Ok(Piece { bases, runs })
     }
 
     // no bytes, with room for `count`

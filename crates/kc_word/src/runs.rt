@@ -1,8 +1,9 @@
 //! Runs of N in a piece.
-ghost use Rattle.std.specs.Prelude.{◌≡◌, ℕ, ◌+◌, ◌^◌, ◌<◌, ◌≤◌, ◌≢◌, length, nat_le, OnOk, OnErr};
-ghost use Rattle.kc_word.specs.Runs.{AreRuns, AreExtended, ArePassed, is_in_run, is_in_runs};
+ghost use Rattle.std.specs.Prelude.{◌≡◌, ℕ, ◌+◌, ◌^◌, ◌<◌, ◌≤◌, ◌≢◌, length, nat_le, OnOk, OnErr, IfOk};
+ghost use Rattle.std.specs.List.{flat_map};
+ghost use Rattle.kc_word.specs.Runs.{AreRuns, AreExtended, ArePassed, clip, is_in_run, is_in_runs};
 
-use std::alloc::AllocError;
+use std::alloc::{AllocError, Global};
 
 /// A run of N: where it starts, and how long it is.
 #[derive(Clone, Copy, PartialEq, Eq, Debug)]
@@ -55,6 +56,29 @@ pub(crate) fn extend_runs(runs: &mut Vec<Run>, at: usize) -> Result<(), AllocErr
         length: 1,
     })?;
     Ok(())
+}
+
+/// What of the runs lies from `from` to before `to`, counted from `from`.
+pub(crate) fn clip_runs(
+    alloc: Global,
+    runs: &[Run],
+    from: usize,
+    to: usize,
+) -> Result<Vec<Run>, AllocError>
+    ensures { IfOk result (λ clipped. clipped.items ≡ flat_map (λ run. clip from to run) runs.now) }
+{
+    let mut clipped = Vec::new(alloc);
+    for run in runs {
+        let start = run.start.max(from);
+        let end = run.start.saturating_add(run.length).min(to);
+        if start < end {
+            clipped.push(Run {
+                start: start - from,
+                length: end - start,
+            })?;
+        }
+    }
+    Ok(clipped)
 }
 
 /// Whether the index lies in one of the runs.
