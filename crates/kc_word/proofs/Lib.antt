@@ -20,3 +20,4 @@ pub mod PieceLemmas
 pub mod WalkLemmas
 pub mod Shifting
 pub mod Clipping
+pub mod Gatherings

@@ -112,7 +112,7 @@ code-behind w n i most low h =
 
 -- ---- a word behind whole words
 
-range-joined : (f g h : ℕ → ℕ) (n m : ℕ) → ((i : ℕ) → i < n → f i ≡ g i) → ((i : ℕ) → i < m → f (n + i) ≡ h i)
+pub range-joined : (f g h : ℕ → ℕ) (n m : ℕ) → ((i : ℕ) → i < n → f i ≡ g i) → ((i : ℕ) → i < m → f (n + i) ≡ h i)
     → map f (range_with_len 0 (n + m)) ≡ map g (range_with_len 0 n) ++ map h (range_with_len 0 m)
 range-joined f g h n zero front back =
     let none : n + 0 ≡ n = omega arith in
@@ -222,11 +222,6 @@ pub record IsPart (codes part : List ℕ) (from taken : ℕ) : Type 0 where
 
 pub length-part : (codes part : List ℕ) (from taken : ℕ) → IsPart codes part from taken → length part ≡ taken
 length-part codes part from taken before = ap length before.is ∙ length-map-range_with_len (λ i. get_or codes (from + i) 0) 0 taken
-
-pub part-none : (codes part : List ℕ) (from taken : ℕ) → part ≡ [] → taken ≡ 0 → IsPart codes part from taken
-part-none codes part from taken e none = record {
-  is = e ∙ sym (ap (λ n. map (λ i. get_or codes (from + i) 0) (range_with_len 0 n)) none);
-}
 
 pub part-more : (codes part next : List ℕ) (from taken count word : ℕ) → IsPart codes part from taken → next ≡ part ++ codes_in word count
     → (count ≤ 32) × (from + taken + count ≤ length codes)

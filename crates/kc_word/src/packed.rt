@@ -1,6 +1,6 @@
 //! Codes of bases packed into words of 64 bits, 32 in each.
-ghost use Rattle.std.specs.Prelude.{◌≡◌, ◌+◌, ◌^◌, ◌<◌, ◌≤◌, ◌++◌, ◌∷◌, [], if◌then◌else◌, IfOk, All, length};
-ghost use Rattle.std.specs.Prelude.{slice_index, slice_range, is_ok, ℕ, OnOk, ◌%◌};
+ghost use Rattle.std.specs.Prelude.{◌≡◌, ℕ, ◌+◌, ◌%◌, ◌^◌, ◌<◌, ◌≤◌, ◌++◌, [], IfOk, OnOk, length};
+ghost use Rattle.std.specs.Prelude.{slice_index, slice_range};
 ghost use Rattle.std.specs.Vec.{vec_capacity};
 ghost use Rattle.kc_word.specs.Packed.{word_count, code_in, codes_in};
 
@@ -8,7 +8,7 @@ use std::alloc::{AllocError, Global};
 use std::marker::Model;
 
 /// How many bases a word has.
-const BASES: usize = 32;
+pub(crate) const BASES: usize = 32;
 
 /// Codes of bases, seen as their list: two bits each, the first one in the highest bits of its word. The bits
 /// behind the last one are 0, so that equal lists have equal words.
@@ -101,25 +101,6 @@ impl Packed {
         let behind = 64 - 2 * count;
         self.words.push((word >> behind) << behind)?;
         self.len += count;
-        Ok(())
-    }
-
-    /// Appends a code. Conditions: the code is below 4, and the length stays below 2^64. After a refusal the
-    /// codes are as they were.
-    #[inline(always)]
-    pub(crate) fn push(&mut self, code: u64) -> Result<(), AllocError>
-        requires below { code < 4 }
-        requires fits { length self.old + 1 < 2 ^ 64 }
-        ensures { self.new ≡ (if is_ok result then self.old ++ code ∷ [] else self.old) }
-    {
-        let place = self.len % BASES;
-        let bits = code << (62 - 2 * place);
-        if place == 0 {
-            self.words.push(bits)?;
-        } else {
-            self.words[self.len / BASES] |= bits;
-        }
-        self.len += 1;
         Ok(())
     }
 }
