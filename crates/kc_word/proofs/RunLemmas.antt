@@ -5,7 +5,7 @@ use Rattle.std.proofs.lemmas.List.{take_more, take_all, set_at, length-take-le, 
 use Rattle.std.proofs.lemmas.List.Folds.{list_any-append, list_any_at}
 use Rattle.std.specs.List.{list_any}
 use Rattle.kc_word.specs.declared.runs.Run.{Run}
-use Rattle.kc_word.specs.Runs.{run_end, is_in_run, is_in_runs, AreRuns, AreExtended, EndBehind, ArePassed}
+use Rattle.kc_word.specs.Runs.{run_end, is_in_run, is_in_runs, AreRuns, AreExtended, EndBehind, ArePassed, AreFree}
 
 -- ---- whether an index lies in a run
 
@@ -335,6 +335,42 @@ behind-next runs next at run passed h is end =
     next-ahead : (from to i : ℕ) (rs : List Run) → i ≤ from → AreRuns from to rs → EndBehind i rs
     next-ahead from to i [] l r = tt
     next-ahead from to i (run ∷ rs) l r = let start = r.0 in omega (arith, l, start)
+
+-- ---- indices before the next run
+
+pub free-none : (runs : List Run) (next at : ℕ) → ArePassed runs next at → AreFree runs next at 0
+free-none runs next at passed =
+    let here : at ≡ at + 0 = omega arith in
+    record { passed = subst (ArePassed runs next) here passed; free = λ i l h. absurd (omega (arith, l, h)) }
+
+pub free-behind : (runs : List Run) (next at n : ℕ) → ArePassed runs next at → next ≡ length runs → AreFree runs next at n
+free-behind runs next at n passed e =
+    let none : drop next runs ≡ [] = drop_all next runs (omega (arith, e)) in
+    record {
+      passed = record {
+        within = passed.within;
+        rising = passed.rising;
+        same = λ i h. passed.same i (omega (arith, h));
+        ahead = subst (EndBehind (at + n)) (sym none) tt;
+      };
+      free = λ i l h. sym (passed.same i l) ∙ ap (λ rs. is_in_runs rs i) none ∙ is_in_runs-none i;
+    }
+
+pub free-before : (runs : List Run) (next at n : ℕ) (run : Run) → ArePassed runs next at → next < length runs → run ≡ get_or runs next run
+    → at + n ≤ run.start → AreFree runs next at n
+free-before runs next at n run passed h is low =
+    let ahead = is_ahead runs next at run passed h is in
+    let rising = ahead.rising in
+    record {
+      passed = record {
+        within = passed.within;
+        rising = passed.rising;
+        same = λ i l. passed.same i (omega (arith, l));
+        ahead = subst (EndBehind (at + n)) (sym ahead.split) (omega (arith, low));
+      };
+      free = λ i l m. sym (passed.same i l) ∙ ap (λ rs. is_in_runs rs i) ahead.split
+          ∙ before-runs run.start ahead.to i (run ∷ drop (next + 1) runs) (omega (arith, m, low)) (omega arith, rising.1, rising.2, rising.3);
+    }
 
 -- ---- the indices that a loop looks at
 

@@ -1,6 +1,6 @@
 -- Runs of N in a piece: where each starts, and how long it is.
 -- Source: this project's own.
-use Rattle.std.specs.Prelude.{◌≡◌, ◌≢◌, ℕ, Bool, true, ◌+◌, ◌-◌, ◌≤◌, ◌&&◌, nat_le, nat_lt, min, max, List, [], ◌∷◌, length, drop}
+use Rattle.std.specs.Prelude.{◌≡◌, ◌≢◌, ℕ, Bool, true, false, ◌+◌, ◌-◌, ◌<◌, ◌≤◌, ◌&&◌, nat_le, nat_lt, min, max, List, [], ◌∷◌, length, drop}
 use Rattle.std.specs.Prelude.{if◌then◌else◌}
 use Rattle.std.specs.List.{list_any}
 use Rattle.kc_word.specs.declared.runs.Run.{Run}
@@ -46,3 +46,8 @@ pub record ArePassed (runs : List Run) (next at : ℕ) : Type 0 where
   pub rising : (to : ℕ) × AreRuns 0 to (drop next runs)
   pub same : (i : ℕ) → at ≤ i → is_in_runs (drop next runs) i ≡ is_in_runs runs i
   pub ahead : EndBehind at (drop next runs)
+
+-- none of so many indices from an index on lies in a run, and the same runs are passed behind them
+pub record AreFree (runs : List Run) (next at n : ℕ) : Type 0 where
+  pub passed : ArePassed runs next (at + n)
+  pub free : (i : ℕ) → at ≤ i → i < at + n → is_in_runs runs i ≡ false

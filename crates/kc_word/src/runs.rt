@@ -1,7 +1,7 @@
 //! Runs of N in a piece.
 ghost use Rattle.std.specs.Prelude.{◌≡◌, ℕ, ◌+◌, ◌^◌, ◌<◌, ◌≤◌, ◌≢◌, length, nat_le, OnOk, OnErr, IfOk};
 ghost use Rattle.std.specs.List.{flat_map};
-ghost use Rattle.kc_word.specs.Runs.{AreRuns, AreExtended, ArePassed, clip, is_in_run, is_in_runs};
+ghost use Rattle.kc_word.specs.Runs.{AreRuns, AreExtended, ArePassed, AreFree, clip, is_in_run, is_in_runs};
 
 use std::alloc::{AllocError, Global};
 
@@ -104,6 +104,24 @@ pub(crate) fn runs_before(runs: &[Run], at: usize) -> usize
         }
     }
     runs.len()
+}
+
+/// How many of the `most` indices from `at` on come before the first one that lies in a run, or fewer where the run
+/// with number `next`, as in `is_next_in_runs`, has already begun.
+#[inline(always)]
+pub(crate) fn free_of_runs(runs: &[Run], next: usize, at: usize, most: usize) -> usize
+    requires { ArePassed runs.now next at }
+    ensures most { result ≤ most }
+    ensures free { AreFree runs.now next at result }
+{
+    if next == runs.len() {
+        return most;
+    }
+    let start = runs[next].start;
+    if start <= at {
+        return 0;
+    }
+    most.min(start - at)
 }
 
 /// Whether the index `at` lies in a run, for one who asks of each index in turn: `next` is the number of the first
