@@ -194,16 +194,6 @@ pub record IsStretched (rule : CountingRule) (bytes : List ℕ) (at taken : ℕ)
   pub words_are : words ++ words_left (record { rule = rule; bytes = bytes; taken = at + taken })
       ≡ before ++ words_left (record { rule = rule; bytes = bytes; taken = at })
 
-pub stretched-none : (rule : CountingRule) (bytes : List ℕ) (at : ℕ) (before words : List ℕ) (forward backward run : ℕ) → words ≡ before
-    → IsWalking (record { rule = rule; bytes = bytes; taken = at }) forward backward run → IsStretched rule bytes at 0 before words forward backward run
-stretched-none rule bytes at before words forward backward run same walked =
-    let here : at ≡ at + 0 = omega arith in
-    record {
-      walking = subst (λ n. IsWalking (record { rule = rule; bytes = bytes; taken = n }) forward backward run) here walked;
-      words_are = ap (λ n. words ++ words_left (record { rule = rule; bytes = bytes; taken = n })) (sym here)
-          ∙ ap (λ ws. ws ++ words_left (record { rule = rule; bytes = bytes; taken = at })) same;
-    }
-
 -- the base that is taken next, and its digit as the code has it
 pub record StretchStep (rule : CountingRule) (bytes : List ℕ) (at taken digit : ℕ) (before words : List ℕ) : Type 0 where
   pub forward : ℕ

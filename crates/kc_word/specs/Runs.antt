@@ -1,7 +1,7 @@
 -- Runs of N in a piece: where each starts, and how long it is.
 -- Source: this project's own.
-use Rattle.std.specs.Prelude.{◌≡◌, ◌≢◌, ℕ, Bool, true, false, ◌+◌, ◌-◌, ◌<◌, ◌≤◌, ◌&&◌, nat_le, nat_lt, min, max, List, [], ◌∷◌, length, drop}
-use Rattle.std.specs.Prelude.{if◌then◌else◌}
+use Rattle.std.specs.Prelude.{◌≡◌, ◌≢◌, ℕ, Bool, true, false, ◌+◌, ◌-◌, ◌<◌}
+use Rattle.std.specs.Prelude.{◌≤◌, ◌&&◌, nat_le, nat_lt, List, [], ◌∷◌, length, drop}
 use Rattle.std.specs.List.{list_any}
 use Rattle.kc_word.specs.declared.runs.Run.{Run}
 
@@ -22,12 +22,10 @@ AreRuns from to [] = Unit {0}
 AreRuns from to (run ∷ runs) =
     (from ≤ run.start) × (1 ≤ run.length) × (run_end run ≤ to) × AreRuns (run_end run + 1) to runs
 
--- what of a run lies from one index to before another, counted from the first: a run, or nothing
-abbrev pub clip : ℕ → ℕ → Run → List Run
-clip from to run =
-    if nat_lt (max run.start from) (min (run_end run) to)
-    then record { start = max run.start from - from; length = min (run_end run) to - max run.start from } ∷ []
-    else []
+-- what of the runs lies from one index to before another, counted from the first
+pub record AreClipped (runs clipped : List Run) (from to : ℕ) : Type 0 where
+  pub rising : AreRuns 0 (to - from) clipped
+  pub same : (i : ℕ) → i < to - from → is_in_runs clipped i ≡ is_in_runs runs (from + i)
 
 -- the runs with one index more, behind all that they have
 pub record AreExtended (runs next : List Run) (at : ℕ) : Type 0 where

@@ -1,7 +1,6 @@
 //! Runs of N in a piece.
 ghost use Rattle.std.specs.Prelude.{◌≡◌, ℕ, ◌+◌, ◌^◌, ◌<◌, ◌≤◌, ◌≢◌, length, nat_le, OnOk, OnErr, IfOk};
-ghost use Rattle.std.specs.List.{flat_map};
-ghost use Rattle.kc_word.specs.Runs.{AreRuns, AreExtended, ArePassed, AreFree, clip, is_in_run, is_in_runs};
+ghost use Rattle.kc_word.specs.Runs.{AreRuns, AreExtended, ArePassed, AreFree, AreClipped, is_in_run, is_in_runs};
 
 use std::alloc::{AllocError, Global};
 
@@ -65,10 +64,16 @@ pub(crate) fn clip_runs(
     from: usize,
     to: usize,
 ) -> Result<Vec<Run>, AllocError>
-    ensures { IfOk result (λ clipped. clipped.items ≡ flat_map (λ run. clip from to run) runs.now) }
+    requires { (end : ℕ) × AreRuns 0 end runs.now }
+    ensures { IfOk result (λ clipped. AreClipped runs.now clipped.items from to) }
 {
     let mut clipped = Vec::new(alloc);
-    for run in runs {
+    let first = runs_before(runs, from);
+    for n in first..runs.len() {
+        let run = runs[n];
+        if run.start >= to {
+            break;
+        }
         let start = run.start.max(from);
         let end = run.start.saturating_add(run.length).min(to);
         if start < end {
@@ -98,12 +103,17 @@ pub(crate) fn runs_before(runs: &[Run], at: usize) -> usize
     requires { (to : ℕ) × AreRuns 0 to runs.now }
     ensures { ArePassed runs.now result at }
 {
-    for n in 0..runs.len() {
-        if !runs[n].ends_by(at) {
-            return n;
+    let mut low = 0;
+    let mut high = runs.len();
+    while low < high {
+        let middle = low + (high - low) / 2;
+        if runs[middle].ends_by(at) {
+            low = middle + 1;
+        } else {
+            high = middle;
         }
     }
-    runs.len()
+    low
 }
 
 /// How many of the `most` indices from `at` on come before the first one that lies in a run, or fewer where the run

@@ -1,7 +1,5 @@
-use Rattle.std.proofs.Common.{◌≡◌, take}
-use Rattle.std.specs.List.{flat_map}
-use Rattle.kc_word.specs.Runs.{clip}
+use Rattle.kc_word.proofs.Clipping.{IsClipping}
 use Rattle.kc_word.proofs.runs.clip_runs.Given as goal
 
-abbrev pub invariant-loop-run : goal.invariant-loop-run
-invariant-loop-run l = l.clipped.items ≡ flat_map (λ run. clip l.from l.to run) (take l.run-index l.runs)
+abbrev pub invariant-loop-n : goal.invariant-loop-n
+invariant-loop-n l = IsClipping l.runs l.clipped.items l.first l.n l.from l.to
