@@ -20,6 +20,7 @@ mod faults;
 pub mod laws;
 mod lines;
 mod parsing;
+mod reading;
 mod reads;
 mod records;
 #[cfg(test)]
