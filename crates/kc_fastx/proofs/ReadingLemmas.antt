@@ -5,13 +5,13 @@ use Rattle.kc_io.specs.Sources.{Seen}
 use Rattle.kc_io.specs.Taking.{TakenSoFar, TakesAll, TakingFails}
 use Rattle.kc_fastx.specs.declared.faults.FastxFault.{FastxFault}
 use Rattle.kc_fastx.specs.declared.faults.FastxFault.TheVariants.{BadStart, BadBase, BadQuality, LongQuality, Truncated, TooLong, Read as ReadFailed, Memory}
-use Rattle.kc_fastx.specs.Reads.{Read}
+use Rattle.kc_fastx.specs.Reads.{Read, base_count}
 use Rattle.kc_fastx.specs.Lines.{Line, Cursor, IsBehind, Passes, HasWhole, lines, line_count, begins_with, next_begins_with, ends_or_begins_with, skip_blanks}
 use Rattle.kc_fastx.specs.Records.{Records, FirstFault}
 use Rattle.kc_fastx.specs.Fasta.{IsFastaRecord, FastaFails, greater_than}
 use Rattle.kc_fastx.specs.Fastq.{IsFastqRecord, FastqFails}
 use Rattle.kc_fastx.specs.Parsing.{text_lines, IsFastq, HasReads, HasFault, GivesReads, RefusesFor}
-use Rattle.kc_fastx.specs.Faults.{UnlessMemory, taking_fault}
+use Rattle.kc_fastx.specs.Faults.{UnlessMemory, is_of_lines, taking_fault}
 use Rattle.kc_io.specs.Intakes.{Unread, Filled}
 use Rattle.kc_io.specs.declared.taking.TakeFault.{TakeFault}
 use Rattle.kc_io.specs.declared.taking.TakeFault.TheVariants as taking
@@ -19,7 +19,9 @@ use Rattle.kc_io.proofs.TakingLemmas.{taken_none, taken_in_vain, taken_then_take
 use Rattle.kc_io.proofs.IntakesLemmas.{filled_none, filled_both, filled_end}
 use Rattle.kc_fastx.specs.Reading.{HasGrown, first_stand, Stand, SaysFasta, SaysFastq, Says, MayCome, HasTaken, AreSaid, HasGiven, HasMet, MeetsFault, is_fasta_next, IsNext, NextFails, IsSure}
 use Rattle.kc_fastx.proofs.RecordsLemmas.{Records-push, passes_both}
-use Rattle.kc_fastx.proofs.ParsingLemmas.{at_true, at_false}
+use Rattle.kc_fastx.proofs.ParsingLemmas.{at_true, at_false, RefusesFor-taking}
+use Rattle.kc_fastx.proofs.ReadsLemmas.{base_count-fasta, base_count-fastq}
+use Rattle.kc_fastx.proofs.FastqLemmas.{length-skip_blanks, length-body}
 use Rattle.kc_fastx.proofs.ClosedLemmas.{lines_behind, none_behind}
 use Rattle.kc_fastx.proofs.TailLemmas.{skip_blanks-again, skip_blanks-append, at_front, skip_blanks-at, fasta_tail, fastq_tail, fasta_fails_tail, fastq_fails_tail, Remains, fails_some, fastq_from, fastq_fails_from}
 
@@ -433,6 +435,28 @@ few_lines stand first blank after taken passes passes_after =
     let long = ap length all.behind.split in
     omega (arith, taken, few, long, length-append all.behind.front after.bytes)
 
+takes_line : (b q : Bool) (ls : List Line) (read : Read) (left : List Line)
+    → MatchBool b (IsFastaRecord ls read left × (q ≡ false)) (IsFastqRecord ls read left × (q ≡ true)) → length left < length ls
+takes_line true q ls read left n =
+    let r = n.0 in
+    let title = ap length r.title.whole in
+    let body = ap length r.sequence.split in
+    omega (arith, title, body, length-append r.sequence.sequence left)
+takes_line false q ls read left n =
+    let r = n.0 in
+    let title = ap length r.title.whole in
+    omega (arith, title, length-skip_blanks ls, length-body r.body read left r.record_body)
+
+-- a record has a line, and a line has a byte
+pub uses_some : (stand : Stand) (first blank after : Cursor) (was : Bool) (read : Read) (q : Bool) → first.taken ≡ stand.lines_used
+    → blank.left ≡ skip_blanks first.left → line_count blank ≡ line_count first → Passes first blank → line_count after ≡ line_count blank → Passes blank after
+    → IsNext was blank.left (Some (read, q)) after.left → length after.bytes < length first.bytes
+uses_some stand first blank after was read q taken left counted passes counted_after passes_after next =
+    let line = takes_line (is_fasta_next was blank.left) q blank.left read after.left next in
+    let few = few_lines stand first blank after taken passes passes_after in
+    let blanks = ap length left in
+    omega (arith, taken, line, few, blanks, length-skip_blanks first.left, counted, counted_after)
+
 pub record Filling (old now : Seen) (before after : Stand) : Type 0 where
   pub filled : Filled old now before.unread after.unread
   pub unended : after.ended ≡ false
@@ -499,3 +523,100 @@ grown_all old mid new before now after f all same = record {
   is_fastq = f.is_fastq;
   unfailed = f.unfailed;
 }
+
+-- ---- all bytes
+
+met_lines : (start now : Seen) (limit : ℕ) (stand : Stand) (fault : FastxFault) → is_of_lines fault ≡ true → MeetsFault start now limit stand fault
+    → HasMet start now limit stand fault
+met_lines start now limit stand (BadStart number) is m = m
+met_lines start now limit stand (BadBase number) is m = m
+met_lines start now limit stand (BadQuality number) is m = m
+met_lines start now limit stand (LongQuality number) is m = m
+met_lines start now limit stand (Truncated number) is m = m
+met_lines start now limit stand TooLong is m = absurd (let no : false ≡ true = is in cc)
+met_lines start now limit stand ReadFailed is m = absurd (let no : false ≡ true = is in cc)
+met_lines start now limit stand Memory is m = absurd (let no : false ≡ true = is in cc)
+
+refused_lines : (start now : Seen) (limit : ℕ) (fault : FastxFault) → is_of_lines fault ≡ true → (bytes : List ℕ) → TakesAll start now limit bytes
+    → HasFault bytes fault → RefusesFor start now limit fault
+refused_lines start now limit (BadStart number) is bytes all has = (bytes, all, has)
+refused_lines start now limit (BadBase number) is bytes all has = (bytes, all, has)
+refused_lines start now limit (BadQuality number) is bytes all has = (bytes, all, has)
+refused_lines start now limit (LongQuality number) is bytes all has = (bytes, all, has)
+refused_lines start now limit (Truncated number) is bytes all has = (bytes, all, has)
+refused_lines start now limit TooLong is bytes all has = absurd (let no : false ≡ true = is in cc)
+refused_lines start now limit ReadFailed is bytes all has = absurd (let no : false ≡ true = is in cc)
+refused_lines start now limit Memory is bytes all has = absurd (let no : false ≡ true = is in cc)
+
+refused_ended : (start now : Seen) (limit : ℕ) (stand : Stand) (fault : FastxFault) → is_of_lines fault ≡ true → stand.ended ≡ true
+    → HasMet start now limit stand fault → RefusesFor start now limit fault
+refused_ended start now limit stand fault is e m =
+    refused_lines start now limit fault is m.bytes (all_taken stand.ended start now limit m.bytes e m.taken.taken)
+    (subst (λ v. HasFault v fault) (append-nil m.bytes) (m.met [] (λ ended. refl)))
+
+base_count-either : (b : Bool) (bytes : List ℕ) (reads : List Read)
+    → MatchBool b (Records IsFastaRecord (text_lines bytes) reads []) (IsFastq (text_lines bytes) reads) → base_count reads ≤ length bytes
+base_count-either true bytes reads h = base_count-fasta bytes reads h
+base_count-either false bytes reads h = base_count-fastq bytes reads h
+
+-- behind a fault of the lines the other bytes were taken
+pub settled : (start now new : Seen) (limit : ℕ) (stand : Stand) (more : List ℕ) (fault : FastxFault) → is_of_lines fault ≡ true → stand.ended ≡ false
+    → MeetsFault start now limit stand fault → TakesAll now new stand.unread.room more → RefusesFor start new limit fault
+settled start now new limit stand more fault is e meets all =
+    let m = met_lines start now limit stand fault is meets in
+    let none : MayCome stand.ended more = λ ended. absurd (let no : true ≡ false = sym ended ∙ e in cc) in
+    refused_lines start new limit fault is (m.bytes ++ more)
+    (taken_then_all (so_far stand.ended start now limit m.bytes e m.taken.taken) all m.taken.room) (m.met more none)
+
+-- all bytes were taken when the fault was met
+pub settled_ended : (start now : Seen) (limit : ℕ) (stand : Stand) (fault : FastxFault) → stand.ended ≡ true
+    → MeetsFault start now limit stand fault → RefusesFor start now limit fault
+settled_ended start now limit stand (BadStart number) e m = refused_ended start now limit stand (BadStart number) refl e m
+settled_ended start now limit stand (BadBase number) e m = refused_ended start now limit stand (BadBase number) refl e m
+settled_ended start now limit stand (BadQuality number) e m = refused_ended start now limit stand (BadQuality number) refl e m
+settled_ended start now limit stand (LongQuality number) e m = refused_ended start now limit stand (LongQuality number) refl e m
+settled_ended start now limit stand (Truncated number) e m = refused_ended start now limit stand (Truncated number) refl e m
+settled_ended start now limit stand TooLong e m = m
+settled_ended start now limit stand ReadFailed e m = m
+settled_ended start now limit stand Memory e m = m
+
+-- the fault is none of the lines
+pub settled_other : (start now : Seen) (limit : ℕ) (stand : Stand) (fault : FastxFault) → is_of_lines fault ≡ false
+    → MeetsFault start now limit stand fault → RefusesFor start now limit fault
+settled_other start now limit stand (BadStart number) e m = absurd (let no : true ≡ false = e in cc)
+settled_other start now limit stand (BadBase number) e m = absurd (let no : true ≡ false = e in cc)
+settled_other start now limit stand (BadQuality number) e m = absurd (let no : true ≡ false = e in cc)
+settled_other start now limit stand (LongQuality number) e m = absurd (let no : true ≡ false = e in cc)
+settled_other start now limit stand (Truncated number) e m = absurd (let no : true ≡ false = e in cc)
+settled_other start now limit stand TooLong e m = m
+settled_other start now limit stand ReadFailed e m = m
+settled_other start now limit stand Memory e m = m
+
+-- the other bytes could not be taken
+pub settled_refused : (start now new : Seen) (limit : ℕ) (stand : Stand) (fault : FastxFault) (why : TakeFault) → is_of_lines fault ≡ true → stand.ended ≡ false
+    → MeetsFault start now limit stand fault → TakingFails now new stand.unread.room why → RefusesFor start new limit (taking_fault why)
+settled_refused start now new limit stand fault why is e meets fails =
+    let m = met_lines start now limit stand fault is meets in
+    RefusesFor-taking start new limit why
+    (taken_then_fails new stand.unread.room why (so_far stand.ended start now limit m.bytes e m.taken.taken) fails m.taken.room)
+
+-- a growth for the reads was refused
+pub given_in_vain : (start now : Seen) (limit : ℕ) (reads : List Read) (stand : Stand) → HasGiven start now limit reads stand → RefusesFor start now limit Memory
+given_in_vain start now limit reads stand given = memory_refused stand.ended start now limit (given.used ++ stand.unread.bytes) given.taken.taken
+
+-- they have no more bases together than the source gave bytes
+pub base_count-gives : (start now : Seen) (limit : ℕ) (reads : List Read) (count : ℕ) → GivesReads start now limit reads count → base_count reads ≤ count
+base_count-gives start now limit reads count gives =
+    let counted = gives.counted in
+    let fits = base_count-either (next_begins_with greater_than (text_lines gives.bytes)) gives.bytes reads gives.has_reads in
+    omega (arith, counted, fits)
+
+-- no block was had
+pub begun_in_vain : (start : Seen) (limit : ℕ) → RefusesFor start start limit Memory
+begun_in_vain start limit = inl (taken_in_vain (taken_none start limit))
+
+pub used_within : (start now : Seen) (limit : ℕ) (reads : List Read) (stand : Stand) → HasGiven start now limit reads stand → stand.used ≤ limit
+used_within start now limit reads stand given =
+    let counted = given.counted in
+    let room = given.taken.room in
+    omega (arith, counted, room, length-append given.used stand.unread.bytes)

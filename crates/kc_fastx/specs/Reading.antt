@@ -86,6 +86,11 @@ pub record HasMet (start now : Seen) (limit : ℕ) (stand : Stand) (fault : Fast
   pub taken : HasTaken start now limit stand bytes
   pub met : (more : List ℕ) → MayCome stand.ended more → HasFault (bytes ++ more) fault
 
+-- what is seen of a reader and its source
+pub record Reader : Type 0 where
+  pub source : Seen
+  pub stand : Stand
+
 -- a FASTA record comes next: no FASTQ was read, and the line begins with `>`
 abbrev pub is_fasta_next : Bool → List Line → Bool
 is_fasta_next is_fastq ls = not is_fastq && next_begins_with greater_than ls
@@ -143,10 +148,11 @@ TellsNext start now limit reads stand (Ok End) = GivesNext start now limit reads
 TellsNext start now limit reads stand (Ok Short) = HasGiven start now limit reads stand
 TellsNext start now limit reads stand (Err fault) = MeetsFault start now limit stand fault
 
--- a reader that wants more stands where it stood, and more may come
-abbrev pub WantsMore : Stand → Stand → Result Next FastxFault → Type 0
-WantsMore old new (Ok Short) = (new ≡ old) × (new.ended ≡ false)
-WantsMore old new answer = ⊤
+-- a read that was given used some bytes; a reader that wants more stands where it stood, and more may come
+abbrev pub Moves : Stand → Stand → Result Next FastxFault → Type 0
+Moves old new (Ok (Given read)) = old.used < new.used
+Moves old new (Ok Short) = (new ≡ old) × (new.ended ≡ false)
+Moves old new answer = ⊤
 
 -- More bytes were taken, and stand behind those that were there: some, or all up to the end; else why none could be.
 abbrev pub Grows : Seen → Seen → Stand → Stand → Result (Unit {0}) TakeFault → Type 0

@@ -1,12 +1,12 @@
 //! The reads that a source says, one after another: of its bytes the reader keeps a block and what a record takes.
 ghost use Rattle.std.specs.Prelude.{◌≡◌, ℕ, List, Bool, true, false, None, [], ◌+◌, ◌≤◌, ◌<◌, ◌^◌, length, drop};
-ghost use Rattle.std.specs.Prelude.{IfOk, IfErr, OnOk};
+ghost use Rattle.std.specs.Prelude.{IfOk, IfErr, OnOk, IfSome};
 ghost use Rattle.kc_io.specs.Sources.{Seen};
 ghost use Rattle.kc_fastx.specs.Reads.{Read};
 ghost use Rattle.kc_fastx.specs.Lines.{line_count, skip_blanks, Passes, HasWhole};
-ghost use Rattle.kc_fastx.specs.Parsing.{most_bytes};
-ghost use Rattle.kc_fastx.specs.Reading.{Stand, first_stand, HasGiven, GivesNext, TellsNext};
-ghost use Rattle.kc_fastx.specs.Reading.{IsNext, NextFails, IsSure, WantsMore, Grows};
+ghost use Rattle.kc_fastx.specs.Parsing.{most_bytes, RefusesFor};
+ghost use Rattle.kc_fastx.specs.Reading.{Stand, first_stand, HasGiven, MeetsFault, GivesNext, TellsNext};
+ghost use Rattle.kc_fastx.specs.Reading.{IsNext, NextFails, IsSure, Moves, Grows};
 ghost use Rattle.kc_fastx.specs.Faults.{UnlessMemory};
 
 use crate::fasta::next_fasta;
@@ -77,9 +77,10 @@ impl Reading {
         alloc: Global,
         source: &mut S,
     ) -> Result<Option<SeqRead>, FastxFault>
-        ensures { (start : Seen) (limit : ℕ) (reads : List Read)
+        ensures given { (start : Seen) (limit : ℕ) (reads : List Read)
             → HasGiven start (S.seen source.old) limit reads self.old
             → GivesNext start (S.seen source.new) limit reads self.new result }
+        ensures used { IfOk result (λ next. IfSome next (λ read. self.old.used < self.new.used)) }
     {
         if let Some(why) = self.failed {
             return Err(FastxFault::from(why));
@@ -90,6 +91,29 @@ impl Reading {
                 Next::End => return Ok(None),
                 Next::Short => self.grow(source)?,
             }
+        }
+    }
+
+    // How many bytes were taken.
+    pub(crate) fn byte_count(&self) -> u64
+        requires { self.now.failed ≡ None }
+        ensures { result ≡ self.now.used + length self.now.unread.bytes }
+    {
+        self.used + self.intake.as_slice().len() as u64
+    }
+
+    // What is answered where all bytes of the source are asked for, and this fault was met. Behind a fault of lines the
+    // other bytes are taken and forgotten: that they are too many, or that a read fails, comes first.
+    pub(crate) fn settle<S: Source>(self, source: &mut S, fault: FastxFault) -> FastxFault
+        ensures { (start : Seen) (limit : ℕ) → MeetsFault start (S.seen source.old) limit self fault
+            → RefusesFor start (S.seen source.new) limit result }
+    {
+        if self.ended || !fault.is_of_lines() {
+            return fault;
+        }
+        match self.intake.skip_rest(source) {
+            Ok(_) => fault,
+            Err(why) => FastxFault::from(why),
         }
     }
 
@@ -123,7 +147,7 @@ impl Reading {
         requires { self.old.failed ≡ None }
         ensures tells { (start now : Seen) (limit : ℕ) (reads : List Read)
             → HasGiven start now limit reads self.old → TellsNext start now limit reads self.new result }
-        ensures more { WantsMore self.old self.new result }
+        ensures moves { Moves self.old self.new result }
     {
         let whole = self.whole_lines();
         let mut lines = LineCursor::behind(self.lines_used, whole);

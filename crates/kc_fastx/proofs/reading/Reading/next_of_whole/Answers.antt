@@ -6,7 +6,7 @@ use Rattle.kc_fastx.specs.Faults.{UnlessMemory}
 use Rattle.kc_fastx.specs.Lines.{Line, lines, line_count, skip_blanks}
 use Rattle.kc_fastx.specs.Reading.{Stand, IsSure, IsNext, HasGiven, MeetsFault, NextFails}
 use Rattle.kc_fastx.proofs.TailLemmas.{skip_blanks-again}
-use Rattle.kc_fastx.proofs.ReadingLemmas.{given_fault, given_more, reaches}
+use Rattle.kc_fastx.proofs.ReadingLemmas.{given_fault, given_more, reaches, uses_some}
 use Rattle.kc_fastx.proofs.reading.Reading.next_of_whole.Goals as goal
 use Rattle.kc_fastx.proofs.reading.Reading.next_of_whole.Goals.{else-not-self-via-then-not-self+else-not-is_sure, else-not-self-via-else-not-self}
 
@@ -61,3 +61,17 @@ returns-clause-tells c = λ start now limit reads h.
     rw (c.use_up.ensures, c.taken-lines_used.ensures)
     (given_more start now limit reads stand whole after c.in-Some.read c.in-Some.is_fastq (length whole - length c.rest.result.now) h c.whole_lines-whole.ensures r next
     (rw (c.in_ok-read.was, c.in-Some.is) at sure) count)
+
+pub returns-clause-moves : goal.returns-clause-moves
+returns-clause-moves c =
+    let stand = c.args.self.now in
+    let first = c.behind-lines.result in
+    let blank = c.pass_blanks.new.self in
+    let after = c.next_record-next.new.lines in
+    let taken : first.taken ≡ stand.lines_used = c.behind-lines.ensures.taken ∙ ap (λ (s : Stand). s.lines_used) c.self.view_is in
+    let next = rw c.in-Some.is at c.in_ok-read.ensures.ok in
+    let some = uses_some stand first blank after c.self.inside.is_fastq c.in-Some.read c.in-Some.is_fastq taken c.pass_blanks.ensures.left
+    c.pass_blanks.ensures.counted c.pass_blanks.ensures.passes c.in_ok-read.ensures.counted c.in_ok-read.ensures.passes next in
+    let whole = ap length c.behind-lines.ensures.bytes in
+    let rest = ap length c.rest.ensures.bytes in
+    rw c.use_up.ensures (omega (arith, some, whole, rest))

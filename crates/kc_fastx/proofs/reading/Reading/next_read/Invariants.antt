@@ -9,6 +9,7 @@ invariant-reading g l = record {
   given : (start : Seen) (limit : ℕ) (reads : List Read)
       → HasGiven start (g.S.Source.seen l.fn.source) limit reads l.fn.self → HasGiven start (g.S.Source.seen l.source) limit reads l.self;
   unfailed : l.self.failed ≡ None;
+  used : l.self.used ≡ l.fn.self.used;
 }
 
 abbrev pub decreases-reading : goal.decreases-reading
