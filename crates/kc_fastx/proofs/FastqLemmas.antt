@@ -236,3 +236,9 @@ length-body body read rest record_body =
     let s = record_body.front.sequence in
     let q = record_body.quality in
     omega (arith, ap length s.split, length-append s.sequence (record_body.front.plus ∷ record_body.after), ap length q.split, length-append q.taken rest)
+
+-- a record has a line
+pub fastq_shorter : (ls : List Line) (read : Read) (rest : List Line) → IsFastqRecord ls read rest → length rest < length ls
+fastq_shorter ls read rest r =
+    let title = ap length r.title.whole in
+    omega (arith, title, length-skip_blanks ls, length-body r.body read rest r.record_body)

@@ -21,7 +21,8 @@ use Rattle.kc_fastx.specs.Reading.{HasGrown, first_stand, Stand, SaysFasta, Says
 use Rattle.kc_fastx.proofs.RecordsLemmas.{Records-push, passes_both}
 use Rattle.kc_fastx.proofs.ParsingLemmas.{at_true, at_false, RefusesFor-taking}
 use Rattle.kc_fastx.proofs.ReadsLemmas.{base_count-fasta, base_count-fastq}
-use Rattle.kc_fastx.proofs.FastqLemmas.{length-skip_blanks, length-body}
+use Rattle.kc_fastx.proofs.FastaLemmas.{fasta_shorter}
+use Rattle.kc_fastx.proofs.FastqLemmas.{fastq_shorter, length-skip_blanks}
 use Rattle.kc_fastx.proofs.ClosedLemmas.{lines_behind, none_behind}
 use Rattle.kc_fastx.proofs.TailLemmas.{skip_blanks-again, skip_blanks-append, at_front, skip_blanks-at, fasta_tail, fastq_tail, fasta_fails_tail, fastq_fails_tail, Remains, fails_some, fastq_from, fastq_fails_from}
 
@@ -437,15 +438,8 @@ few_lines stand first blank after taken passes passes_after =
 
 takes_line : (b q : Bool) (ls : List Line) (read : Read) (left : List Line)
     → MatchBool b (IsFastaRecord ls read left × (q ≡ false)) (IsFastqRecord ls read left × (q ≡ true)) → length left < length ls
-takes_line true q ls read left n =
-    let r = n.0 in
-    let title = ap length r.title.whole in
-    let body = ap length r.sequence.split in
-    omega (arith, title, body, length-append r.sequence.sequence left)
-takes_line false q ls read left n =
-    let r = n.0 in
-    let title = ap length r.title.whole in
-    omega (arith, title, length-skip_blanks ls, length-body r.body read left r.record_body)
+takes_line true q ls read left n = fasta_shorter ls read left n.0
+takes_line false q ls read left n = fastq_shorter ls read left n.0
 
 -- a record has a line, and a line has a byte
 pub uses_some : (stand : Stand) (first blank after : Cursor) (was : Bool) (read : Read) (q : Bool) → first.taken ≡ stand.lines_used

@@ -4,8 +4,10 @@ use Rattle.std.specs.Prelude.{⊤}
 use Rattle.kc_fastx.specs.declared.faults.FastxFault.{FastxFault}
 use Rattle.kc_fastx.specs.declared.faults.FastxFault.TheVariants.{BadStart, BadBase, BadQuality, LongQuality, Truncated, TooLong, Read as ReadFailed, Memory}
 use Rattle.kc_fastx.specs.Reads.{Read}
-use Rattle.kc_fastx.specs.Lines.{Line, begins_with, next_begins_with, ends_or_begins_with, skip_blanks}
-use Rattle.kc_fastx.specs.Records.{BeginsWithSequence, HasBadSequence, IsLineNumber, SequenceFails}
+use Rattle.kc_fastx.proofs.RecordsLemmas.{Records-push}
+use Rattle.kc_fastx.proofs.FastqLemmas.{FastqSoFar}
+use Rattle.kc_fastx.specs.Lines.{Line, Cursor, line_count, begins_with, next_begins_with, ends_or_begins_with, skip_blanks}
+use Rattle.kc_fastx.specs.Records.{FirstFault, BeginsWithSequence, HasBadSequence, IsLineNumber, SequenceFails}
 use Rattle.kc_fastx.specs.Fasta.{IsFastaRecord, BeginsWithFastaTitle, FastaFails, greater_than}
 use Rattle.kc_fastx.specs.Fastq.{IsFastqRecord, BeginsWithFastqTitle, HasPlus, BeginsWithQuality, IsFastqBody, HasShortQuality, QualityFails, FailsBehindPlus, FastqBodyFails, FastqFails, HasBadStart, plus_sign}
 
@@ -205,3 +207,27 @@ fastq_fails_from count ls (Truncated number) h = (h.0, title_from ls h.0 h.1, h.
 fastq_fails_from count ls TooLong h = absurd h.2
 fastq_fails_from count ls ReadFailed h = absurd h.2
 fastq_fails_from count ls Memory h = absurd h.2
+
+-- ---- the next FASTQ record
+
+pub fastq_push : (start now next past : Cursor) (reads : List Read) (read : Read) → FastqSoFar start now reads → IsFastqRecord now.left read next.left
+    → line_count next ≡ line_count now → past.left ≡ skip_blanks next.left → line_count past ≡ line_count next → FastqSoFar start past (reads ++ read ∷ [])
+fastq_push start now next past reads read before one counted past_blanks past_counted =
+    let here = fastq_from before.here read next.left (subst (λ v. IsFastqRecord v read next.left) before.past_blanks one) in
+    record {
+      here = next.left;
+      so_far = Records-push IsFastqRecord start.left reads before.here read next.left before.so_far here;
+      past_blanks = past_blanks;
+      counted = past_counted ∙ counted ∙ before.counted;
+    }
+
+-- a record that fails, behind whole records
+pub fastq_fails_next : (start now : Cursor) (reads : List Read) → FastqSoFar start now reads → (fault : FastxFault) → FastqFails (line_count now) now.left fault
+    → FirstFault IsFastqRecord (FastqFails (line_count start)) start.left fault
+fastq_fails_next start now reads before fault fails = (
+  reads,
+  before.here,
+  before.so_far,
+  fastq_fails_from (line_count start) before.here fault
+      (subst (λ v. FastqFails (line_count start) v fault) before.past_blanks (subst (λ count. FastqFails count now.left fault) before.counted fails)),
+)

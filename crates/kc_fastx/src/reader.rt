@@ -55,8 +55,8 @@ impl<S: Source + Drop> Reads<S> {
     ///
     /// # Errors
     /// The first fault of all bytes, with its line, where the lines that were taken tell it already. `TooLong` where the
-    /// source gave more bytes than the limit, and `Read` where it failed, before the next record was whole. `Memory`
-    /// where a growth was refused. A reader that couldn't take bytes answers the same from then on.
+    /// source gave more bytes than the limit, and `Read` where it failed, while more were taken for the next read.
+    /// `Memory` where a growth was refused. A reader that couldn't take bytes answers the same from then on.
     pub fn next_read(&mut self) -> Result<Option<SeqRead>, FastxFault>
         ensures given { (start : Seen) (limit : ℕ) (reads : List Read)
             → HasGiven start self.old.source limit reads self.old.stand
