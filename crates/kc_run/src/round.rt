@@ -1,6 +1,6 @@
 //! A round of a worker: batches that are cut up, and then booked stripe by stripe, so that the lines of a stripe that
 //! one batch has fetched are still near for the next.
-ghost use Rattle.std.specs.Prelude.{◌≡◌, ◌+◌, ◌*◌, ◌≤◌, ◌<◌, ◌⊎◌, OnOk, length};
+ghost use Rattle.std.specs.Prelude.{◌≡◌, ◌+◌, ◌*◌, ◌%◌, ◌^◌, ◌≤◌, ◌<◌, ◌⊎◌, OnOk, length};
 ghost use Rattle.kc_share.specs.Share.{with_booking};
 ghost use Rattle.kc_stripe.specs.Setup.{stripe_count};
 ghost use Rattle.kc_stripe.specs.Locked.{cut_entry};
@@ -54,7 +54,8 @@ fn position_total(batch: &Batch, k: K) -> u64 {
 /// The stripe with which the rounds of a worker begin, where those of two workers are so far apart.
 pub(crate) fn first_stripe(stripes: u32, apart: u32, number: u32) -> u32
     requires { 1 ≤ stripes }
-    ensures { result < stripes }
+    ensures value { result ≡ number * apart % 2 ^ 32 % stripes }
+    ensures below { result < stripes }
 {
     number.wrapping_mul(apart) % stripes
 }
