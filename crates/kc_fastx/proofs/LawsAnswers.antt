@@ -228,7 +228,7 @@ as_fastq bytes count counted is =
 
 pub answer : (bytes : List ℕ) → (answer : Result (List Read) FastxFault) × IsReadsOf bytes answer
 answer bytes =
-    let start : Cursor = past_blanks (record { taken = 0; left = lines bytes; byte_count = length bytes }) in
+    let start : Cursor = past_blanks (record { taken = 0; left = lines bytes; bytes = bytes }) in
     let counted : line_count start ≡ length (lines bytes) = omega (arith, length-skip_blanks (lines bytes)) in
     ⊎_elim
     (λ (is : next_begins_with greater_than (text_lines bytes) ≡ true).

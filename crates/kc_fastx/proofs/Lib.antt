@@ -4,6 +4,9 @@ pub mod FastaLemmas
 pub mod FastqLemmas
 pub mod ReadsLemmas
 pub mod ParsingLemmas
+pub mod ClosedLemmas
+pub mod TailLemmas
+pub mod ReadingLemmas
 pub mod LawsAnswers
 pub mod LawsPlain
 pub mod LawsOfAll

@@ -1,10 +1,10 @@
 -- The sequence lines and the whole records that were taken so far, and what one more makes of them.
-use Rattle.std.proofs.Common.{◌≡◌, ℕ, ◌+◌, Bool, true, false, ◌&&◌, ◌||◌, List, [], ◌∷◌, ◌++◌, length, refl, sym, ap, subst, ◌∙◌, arith}
+use Rattle.std.proofs.Common.{◌≡◌, ℕ, ◌+◌, ◌<◌, Bool, true, false, ◌&&◌, ◌||◌, List, [], ◌∷◌, ◌++◌, length, refl, sym, ap, subst, ◌∙◌, arith}
 use Rattle.std.specs.List.{concat, list_all, list_any}
 use Rattle.std.proofs.lemmas.Bool.{or_from}
-use Rattle.std.proofs.lemmas.List.{append_assoc, append-nil}
+use Rattle.std.proofs.lemmas.List.{append_assoc, append-nil, length-append}
 use Rattle.std.proofs.lemmas.List.Folds.{concat-append, list_all-append, list_any-append}
-use Rattle.kc_fastx.specs.Lines.{Line, Cursor, begins_with, line_count}
+use Rattle.kc_fastx.specs.Lines.{Line, Cursor, IsBehind, Passes, begins_with, line_count}
 use Rattle.kc_fastx.specs.Reads.{Read, is_sequence_byte}
 use Rattle.kc_fastx.specs.Records.{RecordForm, Records, BeginsWithSequence, SequenceFails}
 use Rattle.kc_fastx.specs.declared.faults.FastxFault.TheVariants.{BadBase}
@@ -30,6 +30,31 @@ pub record TakesSequenceLine (stop : ℕ) (now next : Cursor) (line : Line) (goo
   pub step : TakesLine now next line
   pub goes_on : begins_with stop line ≡ false
   pub accepted : list_all is_sequence_byte line ≡ good
+
+-- ---- the bytes that were passed over
+
+pub passes_none : (now : Cursor) → Passes now now
+passes_none now = record { behind = record { front = []; split = refl }; few = omega arith }
+
+pub passes_both : (a b c : Cursor) → Passes a b → Passes b c → Passes a c
+passes_both a b c p q =
+    let first = p.behind in
+    let second = q.behind in
+    let few = p.few in
+    let more = q.few in
+    record {
+      behind = record {
+        front = first.front ++ second.front;
+        split = first.split ∙ ap (λ v. first.front ++ v) second.split ∙ sym (append_assoc first.front second.front c.bytes);
+      };
+      few = omega (arith, few, more, length-append first.front second.front);
+    }
+
+-- a line has at least one byte, its line end or another
+pub passes_line : (old new : Cursor) → IsBehind old.bytes new.bytes → length new.bytes < length old.bytes → new.taken ≡ old.taken + 1 → Passes old new
+passes_line old new behind shorter taken =
+    let long = ap length behind.split in
+    record { behind = behind; few = omega (arith, long, shorter, taken, length-append behind.front new.bytes) }
 
 pub line_count-more : (now next : Cursor) (line : Line) → TakesLine now next line → line_count next ≡ line_count now
 line_count-more now next line step = omega (arith, ap length step.left, step.taken)

@@ -1,5 +1,5 @@
 -- The numbers of the faults (our formats page), what a contract says of them, and the faults of a source.
-use Rattle.std.specs.Prelude.{ℕ, ⊤}
+use Rattle.std.specs.Prelude.{ℕ, Bool, true, false, ⊤}
 use Rattle.kc_io.specs.declared.taking.TakeFault.{TakeFault}
 use Rattle.kc_io.specs.declared.taking.TakeFault.TheVariants as taking
 use Rattle.kc_fastx.specs.declared.faults.FastxFault.{FastxFault}
@@ -15,6 +15,13 @@ fault_number (Truncated line) = 5
 fault_number TooLong = 6
 fault_number Read = 7
 fault_number Memory = 8
+
+-- the fault is one of the lines
+abbrev pub is_of_lines : FastxFault → Bool
+is_of_lines TooLong = false
+is_of_lines Read = false
+is_of_lines Memory = false
+is_of_lines fault = true
 
 -- memory was refused, of which nothing more is said, or the fault is one that `Is` tells
 abbrev pub UnlessMemory : (FastxFault → Type 0) → FastxFault → Type 0

@@ -1,5 +1,5 @@
 -- The lines of a byte string (our formats page).
-use Rattle.std.specs.Prelude.{ℕ, ◌+◌, Bool, true, false, ◌==◌, List, [], ◌∷◌, length, map}
+use Rattle.std.specs.Prelude.{◌≡◌, ℕ, ◌+◌, ◌≤◌, Bool, true, false, ◌==◌, List, [], ◌∷◌, ◌++◌, length, map, MatchBool}
 use Rattle.std.specs.List.{slice_split}
 use Rattle.std.specs.Str.Lines.{strip_carriage_return}
 
@@ -43,11 +43,33 @@ skip_blanks [] = []
 skip_blanks ([] ∷ ls) = skip_blanks ls
 skip_blanks ((b ∷ bs) ∷ ls) = (b ∷ bs) ∷ ls
 
--- what a reader of lines sees: how many lines it has taken, the lines that are left, and how many bytes these stand in
+-- a line feed is the last of the bytes, if there are any
+abbrev pub ends_lines : List ℕ → Bool
+ends_lines [] = true
+ends_lines (b ∷ []) = b == line_feed
+ends_lines (b ∷ c ∷ bs) = ends_lines (c ∷ bs)
+
+-- the front of the bytes whose lines are known to be whole: all where no byte may come, else up to a line feed
+pub record HasWhole (ended : Bool) (bytes whole : List ℕ) : Type 0 where
+  pub tail : List ℕ
+  pub split : bytes ≡ whole ++ tail
+  pub closed : MatchBool ended (tail ≡ []) (ends_lines whole ≡ true)
+
+-- what a reader of lines sees: how many lines it has taken, the lines that are left, and the bytes that these stand in
 pub record Cursor : Type 0 where
   pub taken : ℕ
   pub left : List Line
-  pub byte_count : ℕ
+  pub bytes : List ℕ
+
+-- the rest comes behind some of the bytes
+pub record IsBehind (bytes rest : List ℕ) : Type 0 where
+  pub front : List ℕ
+  pub split : bytes ≡ front ++ rest
+
+-- the lines that were taken from `old` to `new` are no more than the bytes that were
+pub record Passes (old new : Cursor) : Type 0 where
+  pub behind : IsBehind old.bytes new.bytes
+  pub few : new.taken ≤ old.taken + length behind.front
 
 -- how many lines there are, those that were taken among them
 abbrev pub line_count : Cursor → ℕ

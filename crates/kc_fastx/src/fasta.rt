@@ -1,6 +1,6 @@
 //! FASTA.
-ghost use Rattle.std.specs.Prelude.{◌≡◌, true, [], IfOk, IfErr};
-ghost use Rattle.kc_fastx.specs.Lines.{line_count, ends_or_begins_with};
+ghost use Rattle.std.specs.Prelude.{◌≡◌, true, [], IfOk, IfErr, OnOk, IfSome, IfNone};
+ghost use Rattle.kc_fastx.specs.Lines.{line_count, ends_or_begins_with, Passes};
 ghost use Rattle.kc_fastx.specs.Records.{Records, FirstFault};
 ghost use Rattle.kc_fastx.specs.Fasta.{IsFastaRecord, FastaFails, greater_than};
 ghost use Rattle.kc_fastx.specs.Faults.{UnlessMemory};
@@ -28,4 +28,24 @@ pub(crate) fn parse_fasta(
         reads.push(SeqRead::without_quals(bases))?;
     }
     Ok(reads)
+}
+
+// Takes the next record, where a line is left.
+pub(crate) fn next_fasta(
+    alloc: Global,
+    lines: &mut LineCursor<'_>,
+) -> Result<Option<SeqRead>, FastxFault>
+    requires { ends_or_begins_with greater_than lines.old.left ≡ true }
+    ensures some { IfOk result (λ next. IfSome next (λ read. IsFastaRecord lines.old.left read lines.new.left)) }
+    ensures none { IfOk result (λ next. IfNone next (lines.old.left ≡ [])) }
+    ensures counted { OnOk result (line_count lines.new ≡ line_count lines.old) }
+    ensures passes { OnOk result (Passes lines.old lines.new) }
+    ensures err { IfErr result (UnlessMemory (FastaFails (line_count lines.old) lines.old.left)) }
+{
+    let Some(_title) = lines.next_line() else {
+        return Ok(None);
+    };
+    let room = lines.room_before(alloc, b'>')?;
+    let bases = take_sequence(room, lines, b'>')?;
+    Ok(Some(SeqRead::without_quals(bases)))
 }

@@ -1,6 +1,6 @@
 //! Sanger FASTQ.
-ghost use Rattle.std.specs.Prelude.{◌≡◌, ◌≤◌, [], vec_capacity, IfOk, IfErr, OnOk};
-ghost use Rattle.kc_fastx.specs.Lines.{line_count};
+ghost use Rattle.std.specs.Prelude.{◌≡◌, ◌≤◌, [], length, vec_capacity, IfOk, IfErr, OnOk, IfSome, IfNone};
+ghost use Rattle.kc_fastx.specs.Lines.{line_count, skip_blanks, Passes};
 ghost use Rattle.kc_fastx.specs.Records.{FirstFault};
 ghost use Rattle.kc_fastx.specs.Fastq.{IsFastqRecord, IsFastqBody, FastqFails, FastqBodyFails};
 ghost use Rattle.kc_fastx.specs.Fastq.{BeginsWithQuality, QualityFails};
@@ -34,10 +34,32 @@ pub(crate) fn parse_fastq(
     Ok(reads)
 }
 
+// Takes the next record, where a line is left. Condition: it is no blank one.
+pub(crate) fn next_fastq(
+    alloc: Global,
+    lines: &mut LineCursor<'_>,
+) -> Result<Option<SeqRead>, FastxFault>
+    requires { skip_blanks lines.old.left ≡ lines.old.left }
+    ensures some { IfOk result (λ next. IfSome next (λ read. IsFastqRecord lines.old.left read lines.new.left)) }
+    ensures none { IfOk result (λ next. IfNone next (lines.old.left ≡ [])) }
+    ensures counted { OnOk result (line_count lines.new ≡ line_count lines.old) }
+    ensures passes { OnOk result (Passes lines.old lines.new) }
+    ensures err { IfErr result (UnlessMemory (FastqFails (line_count lines.old) lines.old.left)) }
+{
+    let Some(title) = lines.next_line() else {
+        return Ok(None);
+    };
+    if !does_begin_with(title, b'@') {
+        return Err(FastxFault::BadStart(lines.taken()));
+    }
+    Ok(Some(take_record(alloc, lines)?))
+}
+
 // Takes the sequence, the line with `+` and the quality of a record whose title was taken.
 fn take_record(alloc: Global, lines: &mut LineCursor<'_>) -> Result<SeqRead, FastxFault>
     ensures ok { IfOk result (λ read. IsFastqBody lines.old.left read lines.new.left) }
     ensures counted { OnOk result (line_count lines.new ≡ line_count lines.old) }
+    ensures passes { OnOk result (Passes lines.old lines.new) }
     ensures err { IfErr result (UnlessMemory (FastqBodyFails (line_count lines.old) lines.old.left)) }
 {
     let room = lines.room_before(alloc, b'+')?;
@@ -58,9 +80,10 @@ fn take_quality(
     need: usize,
 ) -> Result<Vec<u8>, FastxFault>
     requires empty { quals.items ≡ [] }
-    requires room { vec_capacity quals ≤ lines.old.byte_count }
+    requires room { vec_capacity quals ≤ length lines.old.bytes }
     ensures ok { IfOk result (λ quals. BeginsWithQuality need lines.old.left quals.items lines.new.left) }
     ensures counted { OnOk result (line_count lines.new ≡ line_count lines.old) }
+    ensures passes { OnOk result (Passes lines.old lines.new) }
     ensures err { IfErr result (UnlessMemory (QualityFails (line_count lines.old) need lines.old.left)) }
 {
     'lines: while quals.len() < need {

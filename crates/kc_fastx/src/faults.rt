@@ -2,7 +2,7 @@
 ghost use Rattle.std.specs.Prelude.{◌≡◌};
 ghost use Rattle.kc_fastx.specs.declared.faults.FastxFault.{FastxFault};
 ghost use Rattle.kc_fastx.specs.declared.faults.FastxFault.TheVariants.{Memory};
-ghost use Rattle.kc_fastx.specs.Faults.{fault_number, taking_fault};
+ghost use Rattle.kc_fastx.specs.Faults.{fault_number, is_of_lines, taking_fault};
 
 use kc_io::TakeFault;
 use std::alloc::{AllocError, AllocFailed};
@@ -52,6 +52,13 @@ impl FastxFault {
             FastxFault::Read => 7,
             FastxFault::Memory => 8,
         }
+    }
+
+    // Whether it is a fault of the lines.
+    pub(crate) fn is_of_lines(&self) -> bool
+        ensures { result ≡ is_of_lines self.now }
+    {
+        self.number() <= 5
     }
 }
 

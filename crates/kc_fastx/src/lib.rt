@@ -20,6 +20,8 @@ mod faults;
 pub mod laws;
 mod lines;
 mod parsing;
+mod reader;
+mod reading;
 mod reads;
 mod records;
 #[cfg(test)]
@@ -28,4 +30,5 @@ mod tests;
 pub use faults::FastxFault;
 pub use kc_io::{Failed, FromBytes, FromRead, Source};
 pub use parsing::{parse, read_all};
+pub use reader::Reads;
 pub use reads::SeqRead;

@@ -8,8 +8,9 @@ use crate::fasta::parse_fasta;
 use crate::fastq::parse_fastq;
 use crate::faults::FastxFault;
 use crate::lines::LineCursor;
+use crate::reading::Reading;
 use crate::reads::SeqRead;
-use kc_io::{Source, take_all};
+use kc_io::Source;
 use std::alloc::Global;
 
 /// The reads of FASTA or FASTQ bytes: the first line that isn't blank decides which.
@@ -30,12 +31,12 @@ pub fn parse(alloc: Global, bytes: &[u8]) -> Result<Vec<SeqRead>, FastxFault>
     }
 }
 
-/// Takes all bytes of the source, and then answers what `parse` answers of them, with their number. It reads at most
-/// `limit + 1` times, and never into an empty slice.
+/// Takes all bytes of the source, and answers what `parse` answers of them, with their number. It reads at most
+/// `limit + 1` times, and never into an empty slice. Of the bytes it keeps a block and what one record takes.
 ///
 /// # Errors
 /// `TooLong` where the source gave more than `limit` bytes, and `Read` where it failed, whichever the reading met
-/// first; these before any line is looked at. Else the first fault of the bytes, with its line. `Memory` where a growth
+/// first; these before any fault of the lines, behind which the source is read to its end. Else the first fault of the bytes, with its line. `Memory` where a growth
 /// was refused.
 pub fn read_all<R: Source>(
     alloc: Global,
@@ -48,7 +49,13 @@ pub fn read_all<R: Source>(
     ensures fault { IfErr result (RefusesFor (R.seen reader.old) (R.seen reader.new) limit) }
     ensures bases { IfOk result (λ answer. base_count answer.0.items ≤ answer.1) }
 {
-    let bytes = take_all(alloc, reader, limit)?;
-    let reads = parse(alloc, &bytes)?;
-    Ok((reads, bytes.len() as u64))
+    let mut reading = Reading::new(alloc, limit)?;
+    let mut reads = Vec::new(alloc);
+    'reads: loop {
+        match reading.next_read(alloc, reader) {
+            Ok(Some(read)) => reads.push(read)?,
+            Ok(None) => return Ok((reads, reading.byte_count())),
+            Err(fault) => return Err(reading.settle(reader, fault)),
+        }
+    }
 }

@@ -1,6 +1,6 @@
 //! What the records of both formats share: their sequence lines.
-ghost use Rattle.std.specs.Prelude.{◌≡◌, ◌≤◌, true, [], vec_capacity, IfOk, IfErr, OnOk};
-ghost use Rattle.kc_fastx.specs.Lines.{line_count, ends_or_begins_with};
+ghost use Rattle.std.specs.Prelude.{◌≡◌, ◌≤◌, true, [], length, vec_capacity, IfOk, IfErr, OnOk};
+ghost use Rattle.kc_fastx.specs.Lines.{line_count, ends_or_begins_with, Passes};
 ghost use Rattle.kc_fastx.specs.Records.{BeginsWithSequence, SequenceFails};
 ghost use Rattle.kc_fastx.specs.Faults.{UnlessMemory};
 
@@ -17,10 +17,11 @@ pub(crate) fn take_sequence(
     stop: u8,
 ) -> Result<Vec<u8>, FastxFault>
     requires empty { bases.items ≡ [] }
-    requires room { vec_capacity bases ≤ lines.old.byte_count }
+    requires room { vec_capacity bases ≤ length lines.old.bytes }
     ensures ok { IfOk result (λ bases. BeginsWithSequence stop lines.old.left bases.items lines.new.left) }
     ensures ends { OnOk result (ends_or_begins_with stop lines.new.left ≡ true) }
     ensures counted { OnOk result (line_count lines.new ≡ line_count lines.old) }
+    ensures passes { OnOk result (Passes lines.old lines.new) }
     ensures err { IfErr result (UnlessMemory (SequenceFails (line_count lines.old) stop lines.old.left)) }
 {
     'lines: while let Some(line) = lines.next_line_before(stop) {

@@ -1,5 +1,5 @@
-use Rattle.std.proofs.Common.{◌≡◌, ◌+◌, ◌-◌, length, take, drop, arith}
-use Rattle.std.proofs.lemmas.List.{take_all, length-drop}
+use Rattle.std.proofs.Common.{◌≡◌, ◌+◌, ◌-◌, ◌++◌, [], length, take, drop, sym, ap, ◌∙◌, append-nil, arith}
+use Rattle.std.proofs.lemmas.List.{take_all, drop_all, length-drop, take-append-drop}
 use Rattle.kc_fastx.proofs.LinesLemmas.{lines-found, lines-last, lines-end}
 use Rattle.kc_fastx.proofs.lines.split_line.Goals as goal
 
@@ -15,3 +15,17 @@ returns-in-None-clause-lines c =
     let last = lines-last c.args.bytes.now c.requires c.in-None.ensures in
     let end = lines-end c.args.bytes.now in
     cc
+
+pub returns-in-Some-clause-behind : goal.returns-in-Some-clause-behind
+returns-in-Some-clause-behind c =
+    let bytes = c.args.bytes.now in
+    let count = c.in-Some.end + 1 in
+    let rest : take (length bytes - count) (drop count bytes) ≡ drop count bytes = take_all _ _ (omega (arith, length-drop count bytes)) in
+    record { front = take count bytes; split = sym (take-append-drop count bytes) ∙ ap (λ v. take count bytes ++ v) (sym rest) }
+
+pub returns-in-None-clause-behind : goal.returns-in-None-clause-behind
+returns-in-None-clause-behind c =
+    let bytes = c.args.bytes.now in
+    let none : take (length bytes - length bytes) (drop (length bytes) bytes) ≡ [] =
+    ap (take (length bytes - length bytes)) (drop_all (length bytes) bytes (omega arith)) ∙ take_all (length bytes - length bytes) [] (omega arith) in
+    record { front = bytes; split = sym (append-nil bytes) ∙ ap (λ v. bytes ++ v) (sym none) }

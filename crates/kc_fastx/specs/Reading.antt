@@ -1,0 +1,160 @@
+-- The reading of a source read by read: what was given so far, and what is still to be read.
+use Rattle.std.specs.Prelude.{◌≡◌, ◌≢◌, ⊤, ℕ, ◌+◌, ◌<◌, ◌&&◌, Bool, true, false, not, List, [], ◌∷◌, ◌++◌, length, MatchBool, ◌⊎◌}
+use Rattle.std.specs.Prelude.{Option, Some, None, Result, Ok, Err}
+use Rattle.kc_io.specs.declared.taking.TakeFault.{TakeFault}
+use Rattle.kc_io.specs.Sources.{Seen}
+use Rattle.kc_io.specs.Taking.{TakenSoFar, TakesAll, TakingFails}
+use Rattle.kc_io.specs.Intakes.{Unread}
+use Rattle.kc_fastx.specs.declared.faults.FastxFault.{FastxFault}
+use Rattle.kc_fastx.specs.declared.faults.FastxFault.TheVariants.{Truncated, TooLong, Read as ReadFailed, Memory}
+use Rattle.kc_fastx.specs.Reads.{Read}
+use Rattle.kc_fastx.specs.Lines.{Line, lines, next_begins_with, ends_or_begins_with, skip_blanks}
+use Rattle.kc_fastx.specs.Records.{Records}
+use Rattle.kc_fastx.specs.declared.reading.Next.{Next}
+use Rattle.kc_fastx.specs.declared.reading.Next.TheVariants.{Given, End, Short}
+use Rattle.kc_fastx.specs.Fasta.{IsFastaRecord, FastaFails, greater_than}
+use Rattle.kc_fastx.specs.Fastq.{IsFastqRecord, FastqFails}
+use Rattle.kc_fastx.specs.Parsing.{HasFault, GivesReads, RefusesFor}
+
+-- where a reader stands
+pub record Stand : Type 0 where
+  -- the bytes that it took and did not use yet, and how many more it may take
+  pub unread : Unread
+  -- how many bytes it used, and how many lines these are
+  pub used : ℕ
+  pub lines_used : ℕ
+  -- the reads that it gave are of FASTQ
+  pub is_fastq : Bool
+  -- the source told its end
+  pub ended : Bool
+  -- why no more bytes could be taken, which is what the reader answers from then on
+  pub failed : Option TakeFault
+
+-- nothing was taken yet, and so many bytes may be
+abbrev pub first_stand : ℕ → Stand
+first_stand limit = record {
+  unread = record { bytes = []; room = limit };
+  used = 0;
+  lines_used = 0;
+  is_fastq = false;
+  ended = false;
+  failed = None;
+}
+
+-- the lines, but for blank ones in front, are FASTA records that say these reads, and then the rest
+abbrev pub SaysFasta : List Line → List Read → List Line → Type 0
+SaysFasta ls reads rest = (next_begins_with greater_than (skip_blanks ls) ≡ true)
+    × Records IsFastaRecord (skip_blanks ls) reads rest × (ends_or_begins_with greater_than rest ≡ true)
+
+-- the same of FASTQ
+abbrev pub SaysFastq : List Line → List Read → List Line → Type 0
+SaysFastq ls reads rest =
+    (next_begins_with greater_than (skip_blanks ls) ≡ false) × Records IsFastqRecord (skip_blanks ls) reads rest
+
+-- the lines are records that say these reads, and then the rest; where no record was read the rest is all of them
+abbrev pub Says : Bool → List Line → List Read → List Line → Type 0
+Says true ls reads rest = SaysFastq ls reads rest
+Says false ls reads rest = ((reads ≡ []) × (rest ≡ ls)) ⊎ SaysFasta ls reads rest
+
+-- what may still come: nothing where the source told its end
+abbrev pub MayCome : Bool → List ℕ → Type 0
+MayCome ended more = ended ≡ true → more ≡ []
+
+-- these bytes were taken: all, where the source told its end
+pub record HasTaken (start now : Seen) (limit : ℕ) (stand : Stand) (bytes : List ℕ) : Type 0 where
+  pub taken : MatchBool stand.ended (TakesAll start now limit bytes) (TakenSoFar start now limit bytes)
+  pub room : length bytes + stand.unread.room ≡ limit
+
+-- the lines of these bytes are records that say these reads, and then the lines of the rest
+pub record AreSaid (stand : Stand) (bytes : List ℕ) (reads : List Read) (rest : List ℕ) : Type 0 where
+  pub counted : length (lines bytes) ≡ stand.lines_used + length (lines rest)
+  pub says : Says stand.is_fastq (lines bytes) reads (lines rest)
+
+-- Of a source that was seen as `start`, a reader with this limit gave these reads: whatever may still come, the lines
+-- of all bytes are records that say them, and then the lines of the bytes that it did not use.
+pub record HasGiven (start now : Seen) (limit : ℕ) (reads : List Read) (stand : Stand) : Type 0 where
+  pub used : List ℕ
+  pub taken : HasTaken start now limit stand (used ++ stand.unread.bytes)
+  pub counted : stand.used ≡ length used
+  pub unfailed : stand.failed ≡ None
+  pub said : (more : List ℕ) → MayCome stand.ended more
+      → AreSaid stand (used ++ stand.unread.bytes ++ more) reads (stand.unread.bytes ++ more)
+
+-- whatever may still come behind the bytes that were taken, this is the first fault of all bytes
+pub record HasMet (start now : Seen) (limit : ℕ) (stand : Stand) (fault : FastxFault) : Type 0 where
+  pub bytes : List ℕ
+  pub taken : HasTaken start now limit stand bytes
+  pub met : (more : List ℕ) → MayCome stand.ended more → HasFault (bytes ++ more) fault
+
+-- what is seen of a reader and its source
+pub record Reader : Type 0 where
+  pub source : Seen
+  pub stand : Stand
+
+-- a FASTA record comes next: no FASTQ was read, and the line begins with `>`
+abbrev pub is_fasta_next : Bool → List Line → Bool
+is_fasta_next is_fastq ls = not is_fastq && next_begins_with greater_than ls
+
+-- the next record of lines of which the first isn't blank, and whether it is of FASTQ; none where there are no lines
+abbrev pub IsNext : Bool → List Line → Option (Read × Bool) → List Line → Type 0
+IsNext is_fastq ls None rest = ls ≡ []
+IsNext is_fastq ls (Some next) rest = MatchBool (is_fasta_next is_fastq ls)
+    (IsFastaRecord ls next.0 rest × (next.1 ≡ false)) (IsFastqRecord ls next.0 rest × (next.1 ≡ true))
+
+-- how it fails, where there are `count` lines in all
+abbrev pub NextFails : Bool → ℕ → List Line → FastxFault → Type 0
+NextFails is_fastq count ls fault =
+    MatchBool (is_fasta_next is_fastq ls) (FastaFails count ls fault) (FastqFails count ls fault)
+
+-- this is so whatever comes behind the lines of which `left` are left: the record that was found is not the last, or a
+-- fault is not that they end
+abbrev pub IsSure : Result (Option (Read × Bool)) FastxFault → List Line → Type 0
+IsSure (Ok (Some next)) left = left ≢ []
+IsSure (Ok None) left = ⊥
+IsSure (Err (Truncated line)) left = ⊥
+IsSure (Err fault) left = ⊤
+
+-- these came behind the bytes that were there
+pub record HasGrown (old new : Seen) (before after : Stand) : Type 0 where
+  pub more : List ℕ
+  pub taken : MatchBool after.ended (TakesAll old new before.unread.room more) (TakenSoFar old new before.unread.room more)
+  pub behind : after.unread.bytes ≡ before.unread.bytes ++ more
+  pub room : before.unread.room ≡ after.unread.room + length more
+  pub some : MatchBool after.ended ⊤ (0 < length more)
+  pub used : after.used ≡ before.used
+  pub lines_used : after.lines_used ≡ before.lines_used
+  pub is_fastq : after.is_fastq ≡ before.is_fastq
+  pub unfailed : after.failed ≡ None
+
+-- why no read is given
+abbrev pub MeetsFault : Seen → Seen → ℕ → Stand → FastxFault → Type 0
+MeetsFault start now limit stand TooLong = RefusesFor start now limit TooLong
+MeetsFault start now limit stand ReadFailed = RefusesFor start now limit ReadFailed
+MeetsFault start now limit stand Memory = RefusesFor start now limit Memory
+MeetsFault start now limit stand fault = HasMet start now limit stand fault
+
+-- What a reader that had given these reads answers: one read more, or the end, where all bytes were taken and those
+-- reads are what they say, or a fault.
+abbrev pub GivesNext : Seen → Seen → ℕ → List Read → Stand → Result (Option Read) FastxFault → Type 0
+GivesNext start now limit reads stand (Ok (Some read)) = HasGiven start now limit (reads ++ read ∷ []) stand
+GivesNext start now limit reads stand (Ok None) =
+    HasGiven start now limit reads stand × GivesReads start now limit reads (stand.used + length stand.unread.bytes)
+GivesNext start now limit reads stand (Err fault) = MeetsFault start now limit stand fault
+
+-- What the unused bytes alone tell of that: nothing yet, where more may come and no whole record is there.
+abbrev pub TellsNext : Seen → Seen → ℕ → List Read → Stand → Result Next FastxFault → Type 0
+TellsNext start now limit reads stand (Ok (Given read)) = GivesNext start now limit reads stand (Ok (Some read))
+TellsNext start now limit reads stand (Ok End) = GivesNext start now limit reads stand (Ok None)
+TellsNext start now limit reads stand (Ok Short) = HasGiven start now limit reads stand
+TellsNext start now limit reads stand (Err fault) = MeetsFault start now limit stand fault
+
+-- a read that was given used some bytes; a reader that wants more stands where it stood, and more may come
+abbrev pub Moves : Stand → Stand → Result Next FastxFault → Type 0
+Moves old new (Ok (Given read)) = old.used < new.used
+Moves old new (Ok Short) = (new ≡ old) × (new.ended ≡ false)
+Moves old new answer = ⊤
+
+-- More bytes were taken, and stand behind those that were there: some, or all up to the end; else why none could be.
+abbrev pub Grows : Seen → Seen → Stand → Stand → Result (Unit {0}) TakeFault → Type 0
+Grows old new before after (Ok done) = HasGrown old new before after
+Grows old new before after (Err why) = TakingFails old new before.unread.room why

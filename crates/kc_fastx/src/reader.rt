@@ -1,0 +1,68 @@
+//! The reads of a source, one after another.
+ghost use Rattle.std.specs.Prelude.{◌≡◌, ◌≤◌, ◌<◌, ℕ, List, [], IfOk, IfSome};
+ghost use Rattle.kc_io.specs.Sources.{Seen};
+ghost use Rattle.kc_fastx.specs.Reads.{Read};
+ghost use Rattle.kc_fastx.specs.Parsing.{most_bytes};
+ghost use Rattle.kc_fastx.specs.Reading.{Reader, first_stand, HasGiven, GivesNext};
+
+use crate::faults::FastxFault;
+use crate::reading::Reading;
+use crate::reads::SeqRead;
+use kc_io::Source;
+use std::alloc::{AllocError, Global};
+use std::marker::Model;
+
+/// The reads that the bytes of a source say, one after another. It keeps a block of the bytes and what one record takes,
+/// whatever came before.
+///
+/// Contracts speak of the reads that were given so far: `HasGiven` with none of them stands behind `new`, `next_read`
+/// adds the read that it gives, and where it answers `None` they are all reads of all bytes.
+#[derive(Drop)]
+pub struct Reads<S: Source + Drop> {
+    alloc: Global,
+    source: S,
+    reading: Reading,
+}
+
+impl<S: Source + Drop> Model for Reads<S> {
+    ghost use Rattle.kc_fastx.specs.Reading.{Reader};
+
+    ghost Value = { Reader };
+
+    ghost view = { λ r. record { source = S.seen r.source; stand = r.reading } };
+}
+
+impl<S: Source + Drop> Reads<S> {
+    /// A reader of the reads of this source, of which at most `limit` bytes are taken. Nothing was taken yet. Condition:
+    /// the limit is at most 2^36.
+    ///
+    /// # Errors
+    /// `AllocError` where the block was refused.
+    pub fn new(alloc: Global, source: S, limit: u64) -> Result<Reads<S>, AllocError>
+        requires { limit ≤ most_bytes }
+        ensures stand { IfOk result (λ reads. reads ≡ record { source = S.seen source; stand = first_stand limit }) }
+        ensures given { IfOk result (λ reads. HasGiven (S.seen source) reads.source limit [] reads.stand) }
+    {
+        let reading = Reading::new(alloc, limit)?;
+        Ok(Reads {
+            alloc,
+            source,
+            reading,
+        })
+    }
+
+    /// The next read, or none where all bytes were taken and no read is left.
+    ///
+    /// # Errors
+    /// The first fault of all bytes, with its line, where the lines that were taken tell it already. `TooLong` where the
+    /// source gave more bytes than the limit, and `Read` where it failed, before the next record was whole. `Memory`
+    /// where a growth was refused. A reader that couldn't take bytes answers the same from then on.
+    pub fn next_read(&mut self) -> Result<Option<SeqRead>, FastxFault>
+        ensures given { (start : Seen) (limit : ℕ) (reads : List Read)
+            → HasGiven start self.old.source limit reads self.old.stand
+            → GivesNext start self.new.source limit reads self.new.stand result }
+        ensures used { IfOk result (λ next. IfSome next (λ read. self.old.stand.used < self.new.stand.used)) }
+    {
+        self.reading.next_read(self.alloc, &mut self.source)
+    }
+}
