@@ -1,9 +1,9 @@
 -- The lines of bytes that end with a line feed, and of other bytes behind them.
-use Rattle.std.proofs.Common.{◌≡◌, ℕ, ◌+◌, ◌<◌, Bool, true, false, eqb, List, [], ◌∷◌, ◌++◌, length, get_or, take, drop, map, refl, sym, ap, ◌∙◌, subst, arith, cond, append_assoc, append-nil, MatchBool}
+use Rattle.std.proofs.Common.{◌≡◌, ℕ, ◌+◌, ◌<◌, Bool, true, false, List, [], ◌∷◌, ◌++◌, length, get_or, take, drop, map, refl, sym, ap, ◌∙◌, subst, cond, append-nil}
 use Rattle.std.specs.List.{slice_split, onto_first}
 use Rattle.std.specs.Str.Lines.{strip_carriage_return}
 use Rattle.std.proofs.lemmas.List.{map-append, take_more, take-append-drop}
-use Rattle.kc_fastx.specs.Lines.{Line, line_feed, lines, without_empty_last, ends_lines, HasWhole}
+use Rattle.kc_fastx.specs.Lines.{lines, without_empty_last, ends_lines, HasWhole}
 use Rattle.kc_fastx.proofs.ParsingLemmas.{at_false}
 use Rattle.kc_fastx.proofs.LinesLemmas.{is_line_feed, split-some, without_empty_last-cons}
 
@@ -37,8 +37,8 @@ closes-one b rest is = record { first = []; more = []; alone = rw is refl; both 
 closes-more : (b : ℕ) (bytes rest : List ℕ) → Closes bytes rest → Closes (b ∷ bytes) rest
 closes-more b bytes rest c =
     let found = elim (is_line_feed b) as (λ t. (first : List ℕ) × (more : List (List ℕ))
-        × (cond t ([] ∷ slice_split is_line_feed bytes) (onto_first b (slice_split is_line_feed bytes)) ≡ (first ∷ more) ++ [] ∷ [])
-        × (cond t ([] ∷ slice_split is_line_feed (bytes ++ rest)) (onto_first b (slice_split is_line_feed (bytes ++ rest))) ≡ (first ∷ more) ++ slice_split is_line_feed rest)) [
+    × (cond t ([] ∷ slice_split is_line_feed bytes) (onto_first b (slice_split is_line_feed bytes)) ≡ (first ∷ more) ++ [] ∷ [])
+    × (cond t ([] ∷ slice_split is_line_feed (bytes ++ rest)) (onto_first b (slice_split is_line_feed (bytes ++ rest))) ≡ (first ∷ more) ++ slice_split is_line_feed rest)) [
       | true ↦ ([], c.first ∷ c.more, ap (λ (v : List (List ℕ)). [] ∷ v) c.alone, ap (λ (v : List (List ℕ)). [] ∷ v) c.both)
       | false ↦ (b ∷ c.first, c.more, ap (onto_first b) c.alone, ap (onto_first b) c.both)
     ] in

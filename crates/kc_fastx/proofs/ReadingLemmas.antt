@@ -1,5 +1,5 @@
 -- The reads that were given so far, and one more, the end, or a fault behind them.
-use Rattle.std.proofs.Common.{◌≡◌, ◌≢◌, ℕ, ◌+◌, ◌-◌, ◌<◌, ◌≤◌, Bool, true, false, List, [], ◌∷◌, ◌++◌, length, take, drop, refl, sym, ap, ◌∙◌, subst, arith, append_assoc, append-nil, length-append, inl, inr, ◌⊎◌, ⊎_elim, Some, None, Ok, Err, MatchBool, Result, Option}
+use Rattle.std.proofs.Common.{◌≡◌, ◌≢◌, ℕ, ◌+◌, ◌-◌, ◌<◌, ◌≤◌, Bool, true, false, List, [], ◌∷◌, ◌++◌, length, take, drop, refl, sym, ap, ◌∙◌, subst, arith, append_assoc, append-nil, length-append, inl, inr, ◌⊎◌, ⊎_elim, Some, None, Err, MatchBool, Option}
 use Rattle.std.proofs.lemmas.List.{take-append-drop, length-take-le}
 use Rattle.kc_io.specs.Sources.{Seen}
 use Rattle.kc_io.specs.Taking.{TakenSoFar, TakesAll, TakingFails}
@@ -7,7 +7,7 @@ use Rattle.kc_fastx.specs.declared.faults.FastxFault.{FastxFault}
 use Rattle.kc_fastx.specs.declared.faults.FastxFault.TheVariants.{BadStart, BadBase, BadQuality, LongQuality, Truncated, TooLong, Read as ReadFailed, Memory}
 use Rattle.kc_fastx.specs.Reads.{Read, base_count}
 use Rattle.kc_fastx.specs.Lines.{Line, Cursor, IsBehind, Passes, HasWhole, lines, line_count, begins_with, next_begins_with, ends_or_begins_with, skip_blanks}
-use Rattle.kc_fastx.specs.Records.{Records, FirstFault}
+use Rattle.kc_fastx.specs.Records.{Records}
 use Rattle.kc_fastx.specs.Fasta.{IsFastaRecord, FastaFails, greater_than}
 use Rattle.kc_fastx.specs.Fastq.{IsFastqRecord, FastqFails}
 use Rattle.kc_fastx.specs.Parsing.{text_lines, IsFastq, HasReads, HasFault, GivesReads, RefusesFor}
@@ -17,7 +17,7 @@ use Rattle.kc_io.specs.declared.taking.TakeFault.{TakeFault}
 use Rattle.kc_io.specs.declared.taking.TakeFault.TheVariants as taking
 use Rattle.kc_io.proofs.TakingLemmas.{taken_none, taken_in_vain, taken_then_taken, taken_then_all, taken_then_fails}
 use Rattle.kc_io.proofs.IntakesLemmas.{filled_none, filled_both, filled_end}
-use Rattle.kc_fastx.specs.Reading.{HasGrown, first_stand, Stand, SaysFasta, SaysFastq, Says, MayCome, HasTaken, AreSaid, HasGiven, HasMet, MeetsFault, is_fasta_next, IsNext, NextFails, IsSure}
+use Rattle.kc_fastx.specs.Reading.{HasGrown, first_stand, Stand, SaysFasta, SaysFastq, Says, MayCome, AreSaid, HasGiven, HasMet, MeetsFault, is_fasta_next, IsNext, NextFails, IsSure}
 use Rattle.kc_fastx.proofs.RecordsLemmas.{Records-push, passes_both}
 use Rattle.kc_fastx.proofs.ParsingLemmas.{at_true, at_false, RefusesFor-taking}
 use Rattle.kc_fastx.proofs.ReadsLemmas.{base_count-fasta, base_count-fastq}

@@ -1,15 +1,15 @@
 -- What lines say with other lines behind them.
-use Rattle.std.proofs.Common.{◌≡◌, ◌≢◌, ℕ, ◌+◌, Bool, true, false, List, [], ◌∷◌, ◌++◌, length, refl, sym, ap, ◌∙◌, subst, arith, append_assoc, append-nil, length-append, inl, inr}
+use Rattle.std.proofs.Common.{◌≡◌, ℕ, ◌+◌, true, false, List, [], ◌∷◌, ◌++◌, length, refl, sym, ap, ◌∙◌, subst, arith, append_assoc, append-nil, length-append}
 use Rattle.std.specs.Prelude.{⊤}
 use Rattle.kc_fastx.specs.declared.faults.FastxFault.{FastxFault}
 use Rattle.kc_fastx.specs.declared.faults.FastxFault.TheVariants.{BadStart, BadBase, BadQuality, LongQuality, Truncated, TooLong, Read as ReadFailed, Memory}
 use Rattle.kc_fastx.specs.Reads.{Read}
 use Rattle.kc_fastx.proofs.RecordsLemmas.{Records-push}
 use Rattle.kc_fastx.proofs.FastqLemmas.{FastqSoFar}
-use Rattle.kc_fastx.specs.Lines.{Line, Cursor, line_count, begins_with, next_begins_with, ends_or_begins_with, skip_blanks}
-use Rattle.kc_fastx.specs.Records.{FirstFault, BeginsWithSequence, HasBadSequence, IsLineNumber, SequenceFails}
+use Rattle.kc_fastx.specs.Lines.{Line, Cursor, line_count, ends_or_begins_with, skip_blanks}
+use Rattle.kc_fastx.specs.Records.{FirstFault, BeginsWithSequence, IsLineNumber, SequenceFails}
 use Rattle.kc_fastx.specs.Fasta.{IsFastaRecord, BeginsWithFastaTitle, FastaFails, greater_than}
-use Rattle.kc_fastx.specs.Fastq.{IsFastqRecord, BeginsWithFastqTitle, HasPlus, BeginsWithQuality, IsFastqBody, HasShortQuality, QualityFails, FailsBehindPlus, FastqBodyFails, FastqFails, HasBadStart, plus_sign}
+use Rattle.kc_fastx.specs.Fastq.{IsFastqRecord, BeginsWithFastqTitle, HasPlus, BeginsWithQuality, HasShortQuality, FastqFails, plus_sign}
 
 -- ---- blank lines
 

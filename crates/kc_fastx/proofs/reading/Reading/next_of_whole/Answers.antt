@@ -1,10 +1,8 @@
-use Rattle.std.proofs.Common.{rules, ◌≡◌, ◌≢◌, ◌-◌, [], ℕ, List, true, false, ap, ◌∙◌, sym, subst, inl, inr, ◌⊎◌, Some, Ok, Err, Result, Option, length, arith, ◌+◌, refl}
+use Rattle.std.proofs.Common.{rules, ◌≡◌, ◌-◌, true, ap, ◌∙◌, sym, subst, inl, inr, ◌⊎◌, Some, length, arith, ◌+◌}
 use Rattle.std.proofs.lemmas.Result.{err_from_is_err_and}
-use Rattle.kc_io.specs.Sources.{Seen}
-use Rattle.kc_fastx.specs.Reads.{Read}
 use Rattle.kc_fastx.specs.Faults.{UnlessMemory}
-use Rattle.kc_fastx.specs.Lines.{Line, lines, line_count, skip_blanks}
-use Rattle.kc_fastx.specs.Reading.{Stand, IsSure, IsNext, HasGiven, MeetsFault, NextFails}
+use Rattle.kc_fastx.specs.Lines.{lines, line_count, skip_blanks}
+use Rattle.kc_fastx.specs.Reading.{Stand, IsSure, IsNext, NextFails}
 use Rattle.kc_fastx.proofs.TailLemmas.{skip_blanks-again}
 use Rattle.kc_fastx.proofs.ReadingLemmas.{given_fault, given_more, reaches, uses_some}
 use Rattle.kc_fastx.proofs.reading.Reading.next_of_whole.Goals as goal
