@@ -1,15 +1,20 @@
 //! Readers of sequence files: FASTA and Sanger FASTQ, from bytes to a list of reads.
 //!
-//! `parse` answers the reads of bytes in memory, and `read_all` those of a `Source`, up to a limit of bytes. A
-//! `SeqRead` has its bases as they stand in the file and, from FASTQ, a quality for each base. A `FastxFault` says why
-//! there are no reads, with its line. What the reads of some bytes are is defined in `specs/` (`Lines`, `Fasta`,
-//! `Fastq`, `Parsing`), and `laws` says that any bytes have one answer.
+//! `parse` answers the reads of bytes in memory, and `read_all` those of a `Source`, up to a limit of bytes. `Reads`
+//! gives the reads of a source one after another. A `SeqRead` has its bases as they stand in the file and, from FASTQ,
+//! a quality for each base. A `FastxFault` says why there are no reads, with its line. What the reads of some bytes are
+//! is defined in `specs/` (`Lines`, `Fasta`, `Fastq`, `Parsing`; `Reading` for those that were given so far), and
+//! `laws` says that any bytes have one answer.
 //!
 //! ```text
 //! let mut source = FromBytes::new(b"@q\nACGT\n+\nII!I\n");
 //! let (reads, byte_count) = read_all(alloc, &mut source, 1 << 36)?;
 //! for read in &reads {
 //!     count(read.bases(), read.quals());    // b"ACGT" and Some(b"II!I")
+//! }
+//! let mut reads = Reads::new(alloc, FromRead::new(file), 1 << 36)?;
+//! while let Some(read) = reads.next_read()? {
+//!     count(read.bases(), read.quals());
 //! }
 //! ```
 #![tactic(auto)]
