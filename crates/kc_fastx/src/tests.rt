@@ -47,7 +47,10 @@ fn fasta_rows(rt: HostRuntime) -> Result<(), Fail> {
     for (bytes, want) in rows {
         let got = shown(rt.alloc(), &parse(rt.alloc(), bytes))?;
         assert_eq!(rt; got.as_slice(), want);
-        let one_by_one = shown(rt.alloc(), &collected(rt.alloc(), FromBytes::new(bytes), 1 << 20))?;
+        let one_by_one = shown(
+            rt.alloc(),
+            &collected(rt.alloc(), FromBytes::new(bytes), 1 << 20),
+        )?;
         assert_eq!(rt; one_by_one.as_slice(), want);
         let slowly = shown(rt.alloc(), &collected_slowly(rt.alloc(), bytes))?;
         assert_eq!(rt; slowly.as_slice(), want);
@@ -81,7 +84,10 @@ fn fastq_rows(rt: HostRuntime) -> Result<(), Fail> {
     for (bytes, want) in rows {
         let got = shown(rt.alloc(), &parse(rt.alloc(), bytes))?;
         assert_eq!(rt; got.as_slice(), want);
-        let one_by_one = shown(rt.alloc(), &collected(rt.alloc(), FromBytes::new(bytes), 1 << 20))?;
+        let one_by_one = shown(
+            rt.alloc(),
+            &collected(rt.alloc(), FromBytes::new(bytes), 1 << 20),
+        )?;
         assert_eq!(rt; one_by_one.as_slice(), want);
         let slowly = shown(rt.alloc(), &collected_slowly(rt.alloc(), bytes))?;
         assert_eq!(rt; slowly.as_slice(), want);
@@ -116,7 +122,11 @@ impl Read for Slow<'_> {
 }
 
 // What a reader gives of this source up to its end or a fault.
-fn collected<S: Source + Drop>(alloc: Global, source: S, limit: u32) -> Result<Vec<SeqRead>, FastxFault> {
+fn collected<S: Source + Drop>(
+    alloc: Global,
+    source: S,
+    limit: u32,
+) -> Result<Vec<SeqRead>, FastxFault> {
     let mut reads = Reads::new(alloc, source, u64::from(limit))?;
     let mut given = Vec::new(alloc);
     for _ in 0..limit {
@@ -205,7 +215,10 @@ fn every_failed_read(rt: HostRuntime) -> Result<(), Fail> {
 #[test]
 fn faults_behind_faults(rt: HostRuntime) -> Result<(), Fail> {
     let bytes = b">r\nA@C\n>s\nAC\n";
-    for (fails_at, want) in [(8u64, b"read failed".as_slice()), (20, b"bad base, line 2".as_slice())] {
+    for (fails_at, want) in [
+        (8u64, b"read failed".as_slice()),
+        (20, b"bad base, line 2".as_slice()),
+    ] {
         let got = shown(rt.alloc(), &read_slowly(rt.alloc(), bytes, fails_at))?;
         assert_eq!(rt; got.as_slice(), want);
         let slow = Slow {
@@ -213,7 +226,10 @@ fn faults_behind_faults(rt: HostRuntime) -> Result<(), Fail> {
             reads: 0,
             fails_at,
         };
-        let one_by_one = shown(rt.alloc(), &collected(rt.alloc(), FromRead::new(slow), 1 << 20))?;
+        let one_by_one = shown(
+            rt.alloc(),
+            &collected(rt.alloc(), FromRead::new(slow), 1 << 20),
+        )?;
         assert_eq!(rt; one_by_one.as_slice(), b"bad base, line 2".as_slice());
     }
     let slow = Slow {

@@ -16,7 +16,8 @@ pub returns-in_err-read-clause-err : goal.returns-in_err-read-clause-err
 returns-in_err-read-clause-err c =
     let start = c.args.lines.now in
     let now = c.records.lines in
-    let fails = unless_memory (FastqFails (line_count now) now.left) (FirstFault IsFastqRecord (FastqFails (line_count start)) start.left)
+    let fails = unless_memory (FastqFails (line_count now) now.left) (FirstFault IsFastqRecord (FastqFails
+    (line_count start)) start.left)
     (fastq_fails_next start now c.records.reads.items c.records.invariant) in
     let p = err_from_is_err_and c.from_residual.result c.from_residual.ensures.1 in
     rw (p.1, p.2) (fails c.in_err-read.field-0.0 c.in_err-read.ensures.err)
@@ -25,7 +26,8 @@ pub records-smaller : goal.records-smaller
 records-smaller c =
     omega (
       arith,
-      fastq_shorter c.records.lines.left c.in-Some.read c.next_fastq.new.lines.left (rw c.in-Some.is at c.in_ok-read.ensures.some),
+      fastq_shorter c.records.lines.left c.in-Some.read c.next_fastq.new.lines.left
+          (rw c.in-Some.is at c.in_ok-read.ensures.some),
       length-skip_blanks c.next_fastq.new.lines.left,
       ap length c.pass_blanks-in-Some.ensures.left,
     )
@@ -34,5 +36,6 @@ pub records-preserved : goal.records-preserved
 records-preserved c =
     let next = rw c.in-Some.is at c.in_ok-read.ensures.some in
     rw c.in_ok-push.ensures.items
-    (fastq_push c.args.lines.now c.records.lines c.next_fastq.new.lines c.pass_blanks-in-Some.new.self c.records.reads.items c.in-Some.read c.records.invariant
+    (fastq_push c.args.lines.now c.records.lines c.next_fastq.new.lines c.pass_blanks-in-Some.new.self
+    c.records.reads.items c.in-Some.read c.records.invariant
     next c.in_ok-read.ensures.counted c.pass_blanks-in-Some.ensures.left c.pass_blanks-in-Some.ensures.counted)
