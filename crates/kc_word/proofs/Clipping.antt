@@ -1,12 +1,15 @@
 -- What of runs lies between two indices: the same indices, counted from the first, and runs that rise.
-use Rattle.std.proofs.Common.{◌≡◌, ℕ, ◌+◌, ◌-◌, ◌<◌, ◌≤◌, ⊎_elim, false, ◌||◌, cond, ltb, List, [], ◌∷◌, ◌++◌, length, get_or, take, drop, refl, ap, sym, ◌∙◌, subst, arith, min, max, lit<}
+use Rattle.std.proofs.Common.{◌≡◌, ℕ, ◌+◌, ◌-◌, ◌<◌, ◌≤◌, ⊎_elim, false, ◌||◌, cond, ltb, List, [], ◌∷◌, ◌++◌, length}
+use Rattle.std.proofs.Common.{get_or, take, drop, refl, ap, sym, ◌∙◌, subst, arith, min, max, lit<}
 use Rattle.std.proofs.lemmas.Bool.{cases_lt, cond-true, cond-false, lt-ltb, le-ltb}
-use Rattle.std.proofs.lemmas.List.{take_more, take_all, take-append-drop, drop_more, length-take-le, length-drop, get_or-take, get_or-drop, ext_get_or, get_or_past, append-nil}
+use Rattle.std.proofs.lemmas.List.{take_more, take_all, take-append-drop, drop_more, length-take-le, length-drop}
+use Rattle.std.proofs.lemmas.List.{get_or-take, get_or-drop, ext_get_or, get_or_past, append-nil}
 use Rattle.std.proofs.lemmas.List.Concat.{flat_map-cons, flat_map-append}
 use Rattle.std.specs.List.{flat_map}
 use Rattle.kc_word.specs.declared.runs.Run.{Run}
 use Rattle.kc_word.specs.Runs.{run_end, is_in_run, is_in_runs, AreRuns, ArePassed, AreClipped}
-use Rattle.kc_word.proofs.RunLemmas.{inside-run, before-run, behind-run, is_in_runs-cons, is_in_runs-none, AreRuns-lower, AreRuns-tail}
+use Rattle.kc_word.proofs.RunLemmas.{inside-run, before-run, behind-run, is_in_runs-cons, is_in_runs-none}
+use Rattle.kc_word.proofs.RunLemmas.{AreRuns-lower, AreRuns-tail}
 use Rattle.kc_word.specs.Letter.{base}
 use Rattle.kc_word.specs.Cutting.{unusable}
 use Rattle.kc_word.specs.PackedPiece.{bytes_of, IsPiece}
@@ -22,7 +25,8 @@ clip from to run =
 clipped-run : ℕ → ℕ → Run → Run
 clipped-run from to run = record { start = max run.start from - from; length = min (run_end run) to - max run.start from }
 
-clip-some : (from to : ℕ) (run : Run) → max run.start from < min (run_end run) to → clip from to run ≡ clipped-run from to run ∷ []
+clip-some : (from to : ℕ) (run : Run) → max run.start from < min (run_end run) to
+    → clip from to run ≡ clipped-run from to run ∷ []
 unfolding clipped-run
 clip-some from to run h = cond-true _ _ [] (lt-ltb (max run.start from) (min (run_end run) to) h)
 
@@ -44,7 +48,8 @@ clipped-gone from to run runs h =
     clipped-cons from to run runs ∙ ap (λ rs. rs ++ flat_map (λ r. clip from to r) runs) (clip-none from to run h)
 
 -- they rise
-pub AreRuns-clipped : (low end from to : ℕ) (runs : List Run) → AreRuns low end runs → AreRuns (low - from) (to - from) (flat_map (λ run. clip from to run) runs)
+pub AreRuns-clipped : (low end from to : ℕ) (runs : List Run) → AreRuns low end runs
+    → AreRuns (low - from) (to - from) (flat_map (λ run. clip from to run) runs)
 unfolding clipped-run
 AreRuns-clipped low end from to [] rising = tt
 AreRuns-clipped low end from to (run ∷ runs) rising =
@@ -69,29 +74,35 @@ in-clipped-run from to i run h within =
     ⊎_elim
     (λ l. before-run (clipped-run from to run) i (omega (arith, l, h)) ∙ sym (before-run run (from + i) l))
     (λ l. ⊎_elim
-    (λ m. inside-run (clipped-run from to run) i (omega (arith, l)) (omega (arith, l, m, h, within)) ∙ sym (inside-run run (from + i) l m))
+    (λ m. inside-run (clipped-run from to run) i (omega (arith, l)) (omega (arith, l, m, h, within))
+    ∙ sym (inside-run run (from + i) l m))
     (λ m. behind-run (clipped-run from to run) i (omega (arith, m, h)) ∙ sym (behind-run run (from + i) m))
     (cases_lt (from + i) (run_end run)))
     (cases_lt (from + i) run.start)
 
-not-in-run : (from to i : ℕ) (run : Run) → min (run_end run) to ≤ max run.start from → i < to - from → is_in_run run (from + i) ≡ false
+not-in-run : (from to i : ℕ) (run : Run) → min (run_end run) to ≤ max run.start from → i < to - from
+    → is_in_run run (from + i) ≡ false
 not-in-run from to i run h within =
     ⊎_elim (λ l. before-run run (from + i) l) (λ l. behind-run run (from + i) (omega (arith, h, within, l))) (cases_lt (from + i) run.start)
 
-pub in-clipped : (from to i : ℕ) (runs : List Run) → i < to - from → is_in_runs (flat_map (λ run. clip from to run) runs) i ≡ is_in_runs runs (from + i)
+pub in-clipped : (from to i : ℕ) (runs : List Run) → i < to - from
+    → is_in_runs (flat_map (λ run. clip from to run) runs) i ≡ is_in_runs runs (from + i)
 in-clipped from to i [] within = is_in_runs-none i ∙ sym (is_in_runs-none (from + i))
 in-clipped from to i (run ∷ runs) within =
     ⊎_elim
-    (λ h. ap (λ rs. is_in_runs rs i) (clipped-here from to run runs h) ∙ is_in_runs-cons (clipped-run from to run) (flat_map (λ r. clip from to r) runs) i
+    (λ h. ap (λ rs. is_in_runs rs i) (clipped-here from to run runs h)
+    ∙ is_in_runs-cons (clipped-run from to run) (flat_map (λ r. clip from to r) runs) i
     ∙ ap (λ b. b || is_in_runs (flat_map (λ r. clip from to r) runs) i) (in-clipped-run from to i run h within)
     ∙ ap (λ b. is_in_run run (from + i) || b) (in-clipped from to i runs within)
     ∙ sym (is_in_runs-cons run runs (from + i)))
     (λ h. ap (λ rs. is_in_runs rs i) (clipped-gone from to run runs h) ∙ in-clipped from to i runs within
-    ∙ sym (is_in_runs-cons run runs (from + i) ∙ ap (λ b. b || is_in_runs runs (from + i)) (not-in-run from to i run h within)))
+    ∙ sym (is_in_runs-cons run runs (from + i)
+    ∙ ap (λ b. b || is_in_runs runs (from + i)) (not-in-run from to i run h within)))
     (cases_lt (max run.start from) (min (run_end run) to))
 
 -- what the code finds of a run
-pub clip-pushed : (from to start end : ℕ) (run : Run) → start ≡ max run.start from → end ≡ min (run_end run) to → start < end
+pub clip-pushed : (from to start end : ℕ) (run : Run) → start ≡ max run.start from → end ≡ min (run_end run) to
+    → start < end
     → clip from to run ≡ record { start = start - from; length = end - start } ∷ []
 unfolding clipped-run
 clip-pushed from to start end run low high h =
@@ -99,15 +110,18 @@ clip-pushed from to start end run low high h =
     let second : min (run_end run) to - max run.start from ≡ end - start = omega (arith, low, high) in
     clip-some from to run (omega (arith, low, high, h)) ∙ (λ i. record { start = first i; length = second i } ∷ [])
 
-pub clip-left : (from to start end : ℕ) (run : Run) → start ≡ max run.start from → end ≡ min (run_end run) to → end ≤ start → clip from to run ≡ []
+pub clip-left : (from to start end : ℕ) (run : Run) → start ≡ max run.start from → end ≡ min (run_end run) to
+    → end ≤ start → clip from to run ≡ []
 clip-left from to start end run low high h = clip-none from to run (omega (arith, low, high, h))
 
 -- nothing lies before an index where the runs begin behind it
-clipped-past : (low end from to : ℕ) (runs : List Run) → to ≤ low → AreRuns low end runs → flat_map (λ run. clip from to run) runs ≡ []
+clipped-past : (low end from to : ℕ) (runs : List Run) → to ≤ low → AreRuns low end runs
+    → flat_map (λ run. clip from to run) runs ≡ []
 clipped-past low end from to [] h rising = refl
 clipped-past low end from to (run ∷ runs) h rising =
     let start = rising.0 in
-    clipped-gone from to run runs (omega (arith, h, start)) ∙ clipped-past (run_end run + 1) end from to runs (omega (arith, h, start)) rising.3
+    clipped-gone from to run runs (omega (arith, h, start))
+    ∙ clipped-past (run_end run + 1) end from to runs (omega (arith, h, start)) rising.3
 
 -- ---- the runs from a number on, one after another
 
@@ -116,8 +130,10 @@ pub record IsClipping (runs clipped : List Run) (first n from to : ℕ) : Type 0
   pub passed : ArePassed runs first from
   pub taken : clipped ≡ flat_map (λ run. clip from to run) (take (n - first) (drop first runs))
 
-pub clipping-more : (runs clipped next : List Run) (first n from to : ℕ) (run : Run) → n < length runs → run ≡ get_or runs n run
-    → IsClipping runs clipped first n from to → next ≡ clipped ++ clip from to run → IsClipping runs next first (n + 1) from to
+pub clipping-more : (runs clipped next : List Run) (first n from to : ℕ) (run : Run) → n < length runs
+    → run ≡ get_or runs n run
+    → IsClipping runs clipped first n from to → next ≡ clipped ++ clip from to run
+    → IsClipping runs next first (n + 1) from to
 clipping-more runs clipped next first n from to run h is before e =
     let order = before.order in
     let place : first + (n - first) ≡ n = omega (arith, order) in
@@ -141,18 +157,22 @@ clipped-all : (runs clipped : List Run) (first from to : ℕ) → ArePassed runs
 clipped-all runs clipped first from to passed e = record {
   rising = subst (AreRuns 0 (to - from)) (sym e)
       (AreRuns-lower (0 - from) (to - from) 0 _ (omega arith) (AreRuns-clipped 0 passed.rising.0 from to (drop first runs) passed.rising.1));
-  same = λ i h. ap (λ rs. is_in_runs rs i) e ∙ in-clipped from to i (drop first runs) h ∙ passed.same (from + i) (omega arith);
+  same = λ i h. ap (λ rs. is_in_runs rs i) e ∙ in-clipped from to i (drop first runs) h
+      ∙ passed.same (from + i) (omega arith);
 }
 
 -- behind the last run
-pub clipping-end : (runs clipped : List Run) (first n from to : ℕ) → length runs ≤ n → IsClipping runs clipped first n from to → AreClipped runs clipped from to
+pub clipping-end : (runs clipped : List Run) (first n from to : ℕ) → length runs ≤ n
+    → IsClipping runs clipped first n from to → AreClipped runs clipped from to
 clipping-end runs clipped first n from to h before =
     let long = length-drop first runs in
     clipped-all runs clipped first from to before.passed
-    (before.taken ∙ ap (flat_map (λ r. clip from to r)) (take_all (n - first) (drop first runs) (omega (arith, long, h))))
+    (before.taken
+    ∙ ap (flat_map (λ r. clip from to r)) (take_all (n - first) (drop first runs) (omega (arith, long, h))))
 
 -- at a run that begins behind the last index
-pub clipping-past : (runs clipped : List Run) (first n from to : ℕ) (run : Run) → n < length runs → run ≡ get_or runs n run → to ≤ run.start
+pub clipping-past : (runs clipped : List Run) (first n from to : ℕ) (run : Run) → n < length runs
+    → run ≡ get_or runs n run → to ≤ run.start
     → IsClipping runs clipped first n from to → AreClipped runs clipped from to
 clipping-past runs clipped first n from to run h is low before =
     let order = before.order in
@@ -179,16 +199,20 @@ pub record IsPieceOf (codes : List ℕ) (runs : List Run) (part : List ℕ) (cli
   pub piece : IsPiece part clipped
   pub bytes : bytes_of part clipped ≡ take (to - from) (drop from (bytes_of codes runs))
 
-length-cut : (codes : List ℕ) (from to : ℕ) → from ≤ to → to ≤ length codes → length (take (to - from) (drop from codes)) ≡ to - from
+length-cut : (codes : List ℕ) (from to : ℕ) → from ≤ to → to ≤ length codes
+    → length (take (to - from) (drop from codes)) ≡ to - from
 length-cut codes from to ordered within =
     let long = length-drop from codes in
     length-take-le (to - from) (drop from codes) (omega (arith, long, ordered, within))
 
-get_or-cut : {X : Type 0} (xs : List X) (from to i : ℕ) (d : X) → i < to - from → get_or (take (to - from) (drop from xs)) i d ≡ get_or xs (from + i) d
+get_or-cut : {X : Type 0} (xs : List X) (from to i : ℕ) (d : X) → i < to - from
+    → get_or (take (to - from) (drop from xs)) i d ≡ get_or xs (from + i) d
 get_or-cut xs from to i d h = get_or-take (to - from) (drop from xs) i d h ∙ get_or-drop from xs i d
 
-pub clipped-piece : (codes part : List ℕ) (runs clipped : List Run) (from to : ℕ) → (from ≤ to) × (to ≤ length codes) → IsPiece codes runs
-    → part ≡ take (to - from) (drop from codes) → AreClipped runs clipped from to → IsPieceOf codes runs part clipped from to
+pub clipped-piece : (codes part : List ℕ) (runs clipped : List Run) (from to : ℕ)
+    → (from ≤ to) × (to ≤ length codes) → IsPiece codes runs
+    → part ≡ take (to - from) (drop from codes) → AreClipped runs clipped from to
+    → IsPieceOf codes runs part clipped from to
 clipped-piece codes part runs clipped from to within piece is are = record {
   piece = record {
     rising = subst (λ n. AreRuns 0 n clipped) (sym long) are.rising;
@@ -205,7 +229,8 @@ clipped-piece codes part runs clipped from to within piece is are = record {
       get_or-bytes_of part clipped i 0 (omega (arith, low, long))
       ∙ ap (λ b. cond b unusable (base (get_or part i 0))) (are.same i low)
       ∙ ap (λ n. cond (is_in_runs runs (from + i)) unusable (base n)) (code i low)
-      ∙ sym (get_or-cut (bytes_of codes runs) from to i 0 low ∙ get_or-bytes_of codes runs (from + i) 0 (omega (arith, low, high))));
+      ∙ sym (get_or-cut (bytes_of codes runs) from to i 0 low
+      ∙ get_or-bytes_of codes runs (from + i) 0 (omega (arith, low, high))));
 }
   where
     long : length part ≡ to - from

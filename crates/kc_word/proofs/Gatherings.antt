@@ -1,5 +1,7 @@
 -- The codes and the gaps of a read, base by base and block by block, and the piece that they are.
-use Rattle.std.proofs.Common.{◌≡◌, ℕ, ◌+◌, ◌-◌, ◌*◌, ◌/◌, ◌%◌, ◌^◌, ◌<◌, ◌≤◌, ⊎_elim, Bool, true, false, ◌&&◌, cond, leb, List, [], ◌++◌, length, get_or, Some, None, refl, ap, sym, ◌∙◌, subst, arith, bit_or, lit<, true≢false}
+use Rattle.std.proofs.Common.{◌≡◌, ℕ, ◌+◌, ◌-◌, ◌*◌, ◌/◌, ◌%◌, ◌^◌, ◌<◌, ◌≤◌, ⊎_elim, Bool, true, false, ◌&&◌, cond}
+use Rattle.std.proofs.Common.{leb, List, [], ◌++◌, length, get_or, Some, None, refl, ap, sym, ◌∙◌, subst, arith}
+use Rattle.std.proofs.Common.{bit_or, lit<, true≢false}
 use Rattle.std.proofs.lemmas.Bool.{cases_Bool, cases_lt, cond-true, cond-false, and_parts, le-leb, lt-leb, and_right}
 use Rattle.std.proofs.lemmas.Nat.{shr-shr, pow-add, le_or_l, le_or_r, pow_pos, mul-le}
 use Rattle.std.proofs.lemmas.List.{ext_get_or, get_or_past}
@@ -24,32 +26,39 @@ use Rattle.kc_word.proofs.Shifting.{code-up, range-joined}
 -- ---- one base
 
 -- the code of a base whose quality passes, and of one whose quality doesn't
-pub usable_code-high : (rule : CountingRule) (read : Read) (j c : ℕ) (bases : List ℕ) → bases ≡ read.bases → passes_floor rule.floor read.quals j ≡ true
-    → c ≡ cond (is_base (to_ascii_uppercase (get_or bases j 0))) (code (to_ascii_uppercase (get_or bases j 0))) 4 → c ≡ usable_code rule read j
+pub usable_code-high : (rule : CountingRule) (read : Read) (j c : ℕ) (bases : List ℕ) → bases ≡ read.bases
+    → passes_floor rule.floor read.quals j ≡ true
+    → c ≡ cond (is_base (to_ascii_uppercase (get_or bases j 0))) (code (to_ascii_uppercase (get_or bases j 0))) 4
+    → c ≡ usable_code rule read j
 unfolding is_usable
 usable_code-high rule read j c bases same high is =
     is ∙ ap (λ xs. cond (is_base (to_ascii_uppercase (get_or xs j 0))) (code (to_ascii_uppercase (get_or xs j 0))) 4) same
     ∙ ap (λ b. cond b (code (to_ascii_uppercase (get_or read.bases j 0))) 4)
-    (sym (ap (λ b. is_base (to_ascii_uppercase (get_or read.bases j 0)) && b) high ∙ and-true (is_base (to_ascii_uppercase (get_or read.bases j 0)))))
+    (sym (ap (λ b. is_base (to_ascii_uppercase (get_or read.bases j 0)) && b) high
+    ∙ and-true (is_base (to_ascii_uppercase (get_or read.bases j 0)))))
   where
     and-true : (b : Bool) → (b && true) ≡ b
     and-true true = refl
     and-true false = refl
 
-pub usable_code-low : (rule : CountingRule) (read : Read) (j : ℕ) → passes_floor rule.floor read.quals j ≡ false → 4 ≡ usable_code rule read j
+pub usable_code-low : (rule : CountingRule) (read : Read) (j : ℕ) → passes_floor rule.floor read.quals j ≡ false
+    → 4 ≡ usable_code rule read j
 unfolding is_usable
 usable_code-low rule read j low =
     sym (cond-false _ (code (to_ascii_uppercase (get_or read.bases j 0))) 4 (and_right (is_base (to_ascii_uppercase (get_or read.bases j 0))) _ low))
 
-pub passes-none : (rule : CountingRule) (read : Read) (j : ℕ) → None ≡ read.quals → passes_floor rule.floor read.quals j ≡ true
+pub passes-none : (rule : CountingRule) (read : Read) (j : ℕ) → None ≡ read.quals
+    → passes_floor rule.floor read.quals j ≡ true
 passes-none rule read j none = ap (λ o. passes_floor rule.floor o j) (sym none)
 
-pub passes-high : (rule : CountingRule) (read : Read) (j floor : ℕ) (quals : List ℕ) → Some quals ≡ read.quals → floor ≡ rule.floor → floor ≤ get_or quals j 0
+pub passes-high : (rule : CountingRule) (read : Read) (j floor : ℕ) (quals : List ℕ) → Some quals ≡ read.quals
+    → floor ≡ rule.floor → floor ≤ get_or quals j 0
     → passes_floor rule.floor read.quals j ≡ true
 passes-high rule read j floor quals some level h =
     ap (λ o. passes_floor rule.floor o j) (sym some) ∙ le-leb rule.floor (get_or quals j 0) (omega (arith, level, h))
 
-pub passes-low : (rule : CountingRule) (read : Read) (j floor : ℕ) (quals : List ℕ) → Some quals ≡ read.quals → floor ≡ rule.floor → get_or quals j 0 < floor
+pub passes-low : (rule : CountingRule) (read : Read) (j floor : ℕ) (quals : List ℕ) → Some quals ≡ read.quals
+    → floor ≡ rule.floor → get_or quals j 0 < floor
     → passes_floor rule.floor read.quals j ≡ false
 passes-low rule read j floor quals some level h =
     ap (λ o. passes_floor rule.floor o j) (sym some) ∙ lt-leb rule.floor (get_or quals j 0) (omega (arith, level, h))
@@ -72,10 +81,13 @@ room-below word taken h below =
     wide : (a b : ℕ) → 0 < b → word < a → word < a * b
     wide a b some h = let more = mul-le a 1 a b (omega arith) some in omega (arith, h, more)
 
-pub taken-more : (rule : CountingRule) (read : Read) (from taken word seen next code : ℕ) → IsTaken rule read from taken word seen
-    → next ≡ word * 4 + code % 4 → code ≡ usable_code rule read (from + taken) → IsTaken rule read from (taken + 1) next (bit_or seen code)
+pub taken-more : (rule : CountingRule) (read : Read) (from taken word seen next code : ℕ)
+    → IsTaken rule read from taken word seen
+    → next ≡ word * 4 + code % 4 → code ≡ usable_code rule read (from + taken)
+    → IsTaken rule read from (taken + 1) next (bit_or seen code)
 taken-more rule read from taken word seen next code before e is = record {
-  below = let power : 2 ^ (2 * (taken + 1)) ≡ 2 ^ (2 * taken) * 4 = ap (λ n. 2 ^ n) (double taken) ∙ pow-add 2 (2 * taken) 2 in
+  below = let power : 2 ^ (2 * (taken + 1)) ≡ 2 ^ (2 * taken) * 4 = ap (λ n. 2 ^ n) (double taken)
+      ∙ pow-add 2 (2 * taken) 2 in
       let small = before.below in
       omega (arith, power, small, e);
   digits = λ j h. ⊎_elim (λ l. earlier j l) (λ l. last j (omega (arith, h, l))) (cases_lt j taken);
@@ -100,10 +112,12 @@ taken-more rule read from taken word seen next code before e is = record {
     last : (j : ℕ) → j ≡ taken → next / 2 ^ (2 * (taken + 1 - 1 - j)) % 4 ≡ usable_code rule read (from + j) % 4
     last j here =
         let place : 2 * (taken + 1 - 1 - j) ≡ 0 = omega (arith, here) in
-        ap (λ n. next / 2 ^ n % 4) place ∙ omega (arith, e) ∙ ap (λ n. n % 4) is ∙ ap (λ i. usable_code rule read (from + i) % 4) (sym here)
+        ap (λ n. next / 2 ^ n % 4) place ∙ omega (arith, e) ∙ ap (λ n. n % 4) is
+        ∙ ap (λ i. usable_code rule read (from + i) % 4) (sym here)
 
 -- the word is shifted to the top
-pub taken-all : (rule : CountingRule) (read : Read) (from count word seen : ℕ) (has_gap : Bool) → count ≤ 32 → IsTaken rule read from count word seen
+pub taken-all : (rule : CountingRule) (read : Read) (from count word seen : ℕ) (has_gap : Bool) → count ≤ 32
+    → IsTaken rule read from count word seen
     → (has_gap ≡ false → seen < 4) → IsBlock rule read from count (word * 2 ^ (64 - 2 * count) % 2 ^ 64) has_gap
 taken-all rule read from count word seen has_gap most taken gap = record {
   codes = λ i h. let place : 64 - 2 * count ≡ 2 * (32 - count) = omega arith in
@@ -121,22 +135,26 @@ gaps-none rule read runs e = record {
   gaps = λ i h. absurd (omega (arith, h));
 }
 
-pub gaps-base : (rule : CountingRule) (read : Read) (n : ℕ) (runs : List Run) → AreGaps rule read n runs → usable_code rule read n < 4 → AreGaps rule read (n + 1) runs
+pub gaps-base : (rule : CountingRule) (read : Read) (n : ℕ) (runs : List Run) → AreGaps rule read n runs
+    → usable_code rule read n < 4 → AreGaps rule read (n + 1) runs
 gaps-base rule read n runs before small = record {
   rising = AreRuns-wider 0 n (n + 1) runs (omega arith) before.rising;
   gaps = λ i h. ⊎_elim (λ l. before.gaps i l)
       (λ l. let here : n ≡ i = omega (arith, h, l) in
-      behind-runs 0 n i runs l before.rising ∙ sym (lt-leb 4 (usable_code rule read i) (subst (λ j. usable_code rule read j < 4) here small)))
+      behind-runs 0 n i runs l before.rising
+      ∙ sym (lt-leb 4 (usable_code rule read i) (subst (λ j. usable_code rule read j < 4) here small)))
       (cases_lt i n);
 }
 
-pub gaps-gap : (rule : CountingRule) (read : Read) (n : ℕ) (runs next : List Run) → AreGaps rule read n runs → 4 ≤ usable_code rule read n
+pub gaps-gap : (rule : CountingRule) (read : Read) (n : ℕ) (runs next : List Run) → AreGaps rule read n runs
+    → 4 ≤ usable_code rule read n
     → AreExtended runs next n → AreGaps rule read (n + 1) next
 gaps-gap rule read n runs next before large extended = record {
   rising = extended.rising;
   gaps = λ i h. ⊎_elim (λ l. extended.others i (omega (arith, l)) ∙ before.gaps i l)
       (λ l. let here : n ≡ i = omega (arith, h, l) in
-      subst (λ j. is_in_runs next j ≡ leb 4 (usable_code rule read j)) here (extended.here ∙ sym (le-leb 4 (usable_code rule read n) large)))
+      subst (λ j. is_in_runs next j ≡ leb 4 (usable_code rule read j)) here (extended.here
+      ∙ sym (le-leb 4 (usable_code rule read n) large)))
       (cases_lt i n);
 }
 
@@ -154,8 +172,10 @@ gaps-block rule read n count runs before usable = record {
 
 -- ---- the codes, block by block
 
-pub codes-block : (rule : CountingRule) (read : Read) (n count word : ℕ) (has_gap : Bool) (codes next : List ℕ) → codes ≡ packed_codes rule read n
-    → next ≡ codes ++ codes_in word count → IsBlock rule read n count word has_gap → next ≡ packed_codes rule read (n + count)
+pub codes-block : (rule : CountingRule) (read : Read) (n count word : ℕ) (has_gap : Bool) (codes next : List ℕ)
+    → codes ≡ packed_codes rule read n
+    → next ≡ codes ++ codes_in word count → IsBlock rule read n count word has_gap
+    → next ≡ packed_codes rule read (n + count)
 unfolding packed_codes codes_in
 codes-block rule read n count word has_gap codes next before e block =
     e ∙ ap (λ xs. xs ++ codes_in word count) before
@@ -166,7 +186,8 @@ pub length-packed_codes : (rule : CountingRule) (read : Read) (n : ℕ) → leng
 unfolding packed_codes
 length-packed_codes rule read n = length-map-range_with_len (λ j. usable_code rule read j % 4) 0 n
 
-get_or-packed_codes : (rule : CountingRule) (read : Read) (n i : ℕ) → i < n → get_or (packed_codes rule read n) i 0 ≡ usable_code rule read i % 4
+get_or-packed_codes : (rule : CountingRule) (read : Read) (n i : ℕ) → i < n
+    → get_or (packed_codes rule read n) i 0 ≡ usable_code rule read i % 4
 unfolding packed_codes
 get_or-packed_codes rule read n i h = get_or-map-range_with_len (λ j. usable_code rule read j % 4) 0 n i i 0 h (omega arith)
 
@@ -193,7 +214,8 @@ byte-cleaned rule read i =
     ∙ sym (cond-false _ (to_ascii_uppercase (get_or read.bases i 0)) unusable h))
     (cases_Bool (is_usable rule read i))
 
-pub gathered : (rule : CountingRule) (read : Read) (n : ℕ) (codes : List ℕ) (runs : List Run) → n ≡ length read.bases → codes ≡ packed_codes rule read n
+pub gathered : (rule : CountingRule) (read : Read) (n : ℕ) (codes : List ℕ) (runs : List Run)
+    → n ≡ length read.bases → codes ≡ packed_codes rule read n
     → AreGaps rule read n runs → IsGathered rule read codes runs
 gathered rule read n codes runs all is gaps = record {
   piece = record {
@@ -201,7 +223,8 @@ gathered rule read n codes runs all is gaps = record {
     below = λ i. ⊎_elim (λ h. let e = here i h in omega (arith, e)) (λ h. subst (λ c. c < 4) (sym (past i h)) (lit< tt)) (cases_lt i n);
     clear = λ i h. ⊎_elim (λ l. here i l ∙ cleared i (sym (gaps.gaps i l) ∙ h)) (λ l. past i l) (cases_lt i n);
   };
-  bytes = ext_get_or 0 (bytes_of codes runs) (cleaned rule read) (length-bytes_of codes runs ∙ long ∙ all ∙ sym (length-cleaned rule read))
+  bytes = ext_get_or 0 (bytes_of codes runs) (cleaned rule read) (length-bytes_of codes runs ∙ long ∙ all
+      ∙ sym (length-cleaned rule read))
       (λ i h. let count = length-bytes_of codes runs in
       let low : i < n = omega (arith, h, count, long) in
       get_or-bytes_of codes runs i 0 (omega (arith, low, long))
@@ -238,9 +261,11 @@ pub record IsGathering (rule : CountingRule) (read : Read) (n : ℕ) (codes : Li
   pub codes_are : codes ≡ packed_codes rule read n
   pub gaps : AreGaps rule read n runs
 
-pub gathering-none : (rule : CountingRule) (read : Read) (codes : List ℕ) (runs : List Run) → codes ≡ [] → runs ≡ [] → IsGathering rule read 0 codes runs
+pub gathering-none : (rule : CountingRule) (read : Read) (codes : List ℕ) (runs : List Run) → codes ≡ [] → runs ≡ []
+    → IsGathering rule read 0 codes runs
 unfolding packed_codes
 gathering-none rule read codes runs none empty = record { codes_are = none; gaps = gaps-none rule read runs empty }
 
-pub length-gathering : (rule : CountingRule) (read : Read) (n : ℕ) (codes : List ℕ) (runs : List Run) → IsGathering rule read n codes runs → length codes ≡ n
+pub length-gathering : (rule : CountingRule) (read : Read) (n : ℕ) (codes : List ℕ) (runs : List Run)
+    → IsGathering rule read n codes runs → length codes ≡ n
 length-gathering rule read n codes runs before = ap length before.codes_are ∙ length-packed_codes rule read n

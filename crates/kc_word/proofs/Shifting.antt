@@ -1,10 +1,12 @@
 -- Words of 64 bits that are shifted, joined and cut off, code by code.
-use Rattle.std.proofs.Common.{◌≡◌, ℕ, zero, suc, ◌+◌, ◌-◌, ◌*◌, ◌/◌, ◌%◌, ◌^◌, ◌<◌, ◌≤◌, ⊎_elim, List, [], ◌∷◌, ◌++◌, map, length, get_or, take, drop, refl, ap, sym, ◌∙◌, subst, arith, bit_or, ◌⊎◌}
+use Rattle.std.proofs.Common.{◌≡◌, ℕ, zero, suc, ◌+◌, ◌-◌, ◌*◌, ◌/◌, ◌%◌, ◌^◌, ◌<◌, ◌≤◌, ⊎_elim, List, [], ◌∷◌, ◌++◌}
+use Rattle.std.proofs.Common.{map, length, get_or, take, drop, refl, ap, sym, ◌∙◌, subst, arith, bit_or, ◌⊎◌}
 use Rattle.std.proofs.lemmas.Bool.{cases_lt}
 use Rattle.std.proofs.lemmas.Nat.{shr_high, shl-shr, shr-shr, mod-pow-add, pow_pos, or_shr, or_mod}
 use Rattle.std.proofs.Math.Pow.{mod-mod-pow}
 use Rattle.std.specs.Int.Bits.{or_zero_l, or_zero_r}
-use Rattle.std.proofs.lemmas.List.{get_or_past, get_or_push, get_or_append_left, length_push, ext_get_or, append_assoc, append-nil, get_or-take, get_or-drop, length-drop, length-take-le}
+use Rattle.std.proofs.lemmas.List.{get_or_past, get_or_push, get_or_append_left, length_push, ext_get_or}
+use Rattle.std.proofs.lemmas.List.{append_assoc, append-nil, get_or-take, get_or-drop, length-drop, length-take-le}
 use Rattle.std.proofs.lemmas.List.FromFn.{map-range_with_len_more, length-map-range_with_len, get_or-map-range_with_len}
 use Rattle.std.specs.List.{range_with_len}
 use Rattle.kc_word.specs.Packed.{code_in, codes_in, code_at, codes_of, ArePacked}
@@ -70,7 +72,8 @@ code-down-none w n i small most h =
     let nothing : w / 2 ^ 64 ≡ 0 = omega (arith, small) in
     let positive = pow_pos (2 * (n - 1 - i)) in
     at-digit (w / 2 ^ (2 * n)) i (omega (arith, h, most))
-    ∙ ap (λ m. m % 4) (shr-shr w (2 * n) (2 * (31 - i)) ∙ ap (λ m. w / 2 ^ m) total ∙ sym (shr-shr w 64 (2 * (n - 1 - i)))
+    ∙ ap (λ m. m % 4) (shr-shr w (2 * n) (2 * (31 - i)) ∙ ap (λ m. w / 2 ^ m) total
+    ∙ sym (shr-shr w 64 (2 * (n - 1 - i)))
     ∙ ap (λ m. m / 2 ^ (2 * (n - 1 - i))) nothing)
     ∙ omega (arith, positive)
 
@@ -80,7 +83,8 @@ pub code-joined : (v w m i : ℕ) → w < 2 ^ 64 → m < 32 → m + i < 32
 code-joined v w m i small most h =
     at-digit _ i (omega (arith, h)) ∙ digit-or (v * 2 ^ (2 * m) % 2 ^ 64) (w / 2 ^ (2 * (32 - m))) (31 - i)
     ∙ ap (λ n. bit_or (v * 2 ^ (2 * m) % 2 ^ 64 / 2 ^ (2 * (31 - i)) % 4) n)
-    (sym (at-digit (w / 2 ^ (2 * (32 - m))) i (omega (arith, h))) ∙ code-down-none w (32 - m) i small (omega arith) (omega (arith, h)))
+    (sym (at-digit (w / 2 ^ (2 * (32 - m))) i (omega (arith, h)))
+    ∙ code-down-none w (32 - m) i small (omega arith) (omega (arith, h)))
     ∙ or_zero_r (v * 2 ^ (2 * m) % 2 ^ 64 / 2 ^ (2 * (31 - i)) % 4)
     ∙ sym (at-digit (v * 2 ^ (2 * m) % 2 ^ 64) i (omega (arith, h))) ∙ code-up v m i h
 
@@ -97,14 +101,16 @@ code-joined-next v w m i most low h =
 
 -- cut off behind the first n codes
 
-pub code-front : (w n i : ℕ) → n ≤ 32 → i < n → code_in (w / 2 ^ (64 - 2 * n) * 2 ^ (64 - 2 * n) % 2 ^ 64) i ≡ code_in w i
+pub code-front : (w n i : ℕ) → n ≤ 32 → i < n
+    → code_in (w / 2 ^ (64 - 2 * n) * 2 ^ (64 - 2 * n) % 2 ^ 64) i ≡ code_in w i
 code-front w n i most h =
     let place : 64 - 2 * n ≡ 2 * (32 - n) = omega arith in
     let same : (32 - n) + i < 32 = omega (arith, h, most) in
     ap (λ e. code_in (w / 2 ^ e * 2 ^ e % 2 ^ 64) i) place ∙ code-up (w / 2 ^ (2 * (32 - n))) (32 - n) i same
     ∙ ap (code_in (w / 2 ^ (2 * (32 - n)))) (omega arith) ∙ code-down w (32 - n) i (omega (arith, h, most))
 
-pub code-behind : (w n i : ℕ) → n ≤ 32 → i < 32 → n ≤ i → code_in (w / 2 ^ (64 - 2 * n) * 2 ^ (64 - 2 * n) % 2 ^ 64) i ≡ 0
+pub code-behind : (w n i : ℕ) → n ≤ 32 → i < 32 → n ≤ i
+    → code_in (w / 2 ^ (64 - 2 * n) * 2 ^ (64 - 2 * n) % 2 ^ 64) i ≡ 0
 code-behind w n i most low h =
     let place : 64 - 2 * n ≡ 2 * (32 - n) = omega arith in
     ap (λ e. code_in (w / 2 ^ e * 2 ^ e % 2 ^ 64) i) place
@@ -116,7 +122,8 @@ pub range-joined : (f g h : ℕ → ℕ) (n m : ℕ) → ((i : ℕ) → i < n �
     → map f (range_with_len 0 (n + m)) ≡ map g (range_with_len 0 n) ++ map h (range_with_len 0 m)
 range-joined f g h n zero front back =
     let none : n + 0 ≡ n = omega arith in
-    ap (λ m. map f (range_with_len 0 m)) none ∙ map-range f g 0 n (λ i h. front i (omega (arith, h))) ∙ sym (append-nil (map g (range_with_len 0 n)))
+    ap (λ m. map f (range_with_len 0 m)) none ∙ map-range f g 0 n (λ i h. front i (omega (arith, h)))
+    ∙ sym (append-nil (map g (range_with_len 0 n)))
 range-joined f g h n (suc m) front back =
     let count : n + suc m ≡ n + m + 1 = omega arith in
     let last : m + 1 ≡ suc m = omega arith in
@@ -124,19 +131,22 @@ range-joined f g h n (suc m) front back =
     ∙ ap (λ xs. xs ++ f (n + m) ∷ []) (range-joined f g h n m front (λ i l. back i (omega (arith, l))))
     ∙ append_assoc (map g (range_with_len 0 n)) (map h (range_with_len 0 m)) (f (n + m) ∷ [])
     ∙ ap (λ x. map g (range_with_len 0 n) ++ (map h (range_with_len 0 m) ++ x ∷ [])) (back m (omega arith))
-    ∙ ap (λ xs. map g (range_with_len 0 n) ++ xs) (sym (map-range_with_len_more h 0 m m (omega arith)) ∙ ap (λ i. map h (range_with_len 0 i)) last)
+    ∙ ap (λ xs. map g (range_with_len 0 n) ++ xs) (sym (map-range_with_len_more h 0 m m (omega arith))
+    ∙ ap (λ i. map h (range_with_len 0 i)) last)
 
 -- the words, of n codes that fill them, with the first codes of one word more
 pub record IsFilled (words next : List ℕ) (n count word : ℕ) : Type 0 where
   pub packed : ArePacked next (n + count)
   pub codes : codes_of next (n + count) ≡ codes_of words n ++ codes_in word count
 
-earlier : (words : List ℕ) (w n i : ℕ) → ArePacked words n → n % 32 ≡ 0 → i < n → code_at (words ++ w ∷ []) i ≡ code_at words i
+earlier : (words : List ℕ) (w n i : ℕ) → ArePacked words n → n % 32 ≡ 0 → i < n
+    → code_at (words ++ w ∷ []) i ≡ code_at words i
 earlier words w n i packed whole h =
     let exact = packed.exact in
     ap (λ x. code_in x (i % 32)) (get_or_append_left words (w ∷ []) 0 (i / 32) (omega (arith, exact, whole, h)))
 
-here : (words : List ℕ) (w n i : ℕ) → ArePacked words n → n % 32 ≡ 0 → i < 32 → code_at (words ++ w ∷ []) (n + i) ≡ code_in w i
+here : (words : List ℕ) (w n i : ℕ) → ArePacked words n → n % 32 ≡ 0 → i < 32
+    → code_at (words ++ w ∷ []) (n + i) ≡ code_in w i
 here words w n i packed whole h =
     let exact = packed.exact in
     let word : (n + i) / 32 ≡ length words = omega (arith, exact, whole, h) in
@@ -148,10 +158,12 @@ later words w n i packed whole h =
     let exact = packed.exact in
     let long = length_push words w in
     let positive = pow_pos (62 - 2 * (i % 32)) in
-    ap (λ x. code_in x (i % 32)) (get_or_past (words ++ w ∷ []) (i / 32) 0 (omega (arith, exact, whole, h, long))) ∙ omega (arith, positive)
+    ap (λ x. code_in x (i % 32)) (get_or_past (words ++ w ∷ []) (i / 32) 0 (omega (arith, exact, whole, h, long)))
+    ∙ omega (arith, positive)
 
 pub filled : (words next : List ℕ) (n count word : ℕ) → ArePacked words n → (n % 32 ≡ 0) × (1 ≤ count) × (count ≤ 32)
-    → next ≡ words ++ (word / 2 ^ (64 - 2 * count) * 2 ^ (64 - 2 * count) % 2 ^ 64) ∷ [] → IsFilled words next n count word
+    → next ≡ words ++ (word / 2 ^ (64 - 2 * count) * 2 ^ (64 - 2 * count) % 2 ^ 64) ∷ []
+    → IsFilled words next n count word
 unfolding codes_of codes_in
 filled words next n count word packed fits e = record {
   packed = subst (λ ws. ArePacked ws (n + count)) (sym e) (record {
@@ -166,7 +178,8 @@ filled words next n count word packed fits e = record {
   codes = ap (λ ws. codes_of ws (n + count)) e
       ∙ range-joined (λ i. code_at (words ++ front ∷ []) i) (λ i. code_at words i) (λ i. code_in word i) n count
       (λ i h. earlier words front n i packed fits.0 h)
-      (λ i h. here words front n i packed fits.0 (let most = fits.2 in omega (arith, h, most)) ∙ code-front word count i fits.2 h);
+      (λ i h. here words front n i packed fits.0 (let most = fits.2 in omega (arith, h, most))
+      ∙ code-front word count i fits.2 h);
 }
   where
     front : ℕ
@@ -183,7 +196,8 @@ filled words next n count word packed fits e = record {
 pub record IsWindow (words : List ℕ) (n at word : ℕ) : Type 0 where
   pub codes : (i : ℕ) → i < 32 → at + i < n → code_in word i ≡ code_at words (at + i)
 
-pub window-of-one : (words : List ℕ) (n at v : ℕ) → v ≡ get_or words (at / 32) 0 → ArePacked words n → ((at % 32 ≡ 0) ⊎ (at / 32 + 1 ≡ length words))
+pub window-of-one : (words : List ℕ) (n at v : ℕ) → v ≡ get_or words (at / 32) 0 → ArePacked words n
+    → ((at % 32 ≡ 0) ⊎ (at / 32 + 1 ≡ length words))
     → IsWindow words n at (v * 2 ^ (2 * (at % 32)) % 2 ^ 64)
 window-of-one words n at v is packed alone = record {
   codes = λ i h l. let inside : at % 32 + i < 32 = ⊎_elim (λ e. omega (arith, e, h)) (λ e. let exact = packed.exact in omega (arith, e, exact, l)) alone in
@@ -193,18 +207,21 @@ window-of-one words n at v is packed alone = record {
       ∙ sym (ap (λ j. code_in (get_or words j 0) ((at + i) % 32)) word ∙ ap (code_in (get_or words (at / 32) 0)) place);
 }
 
-pub window-of-two : (words : List ℕ) (n at v w : ℕ) → v ≡ get_or words (at / 32) 0 → w ≡ get_or words (at / 32 + 1) 0 → w < 2 ^ 64
+pub window-of-two : (words : List ℕ) (n at v w : ℕ) → v ≡ get_or words (at / 32) 0
+    → w ≡ get_or words (at / 32 + 1) 0 → w < 2 ^ 64
     → IsWindow words n at (bit_or (v * 2 ^ (2 * (at % 32)) % 2 ^ 64) (w / 2 ^ (2 * (32 - at % 32))))
 window-of-two words n at v w is other small = record {
   codes = λ i h l. ⊎_elim (same i) (next i h) (cases_lt (at % 32 + i) 32);
 }
   where
-    same : (i : ℕ) → at % 32 + i < 32 → code_in (bit_or (v * 2 ^ (2 * (at % 32)) % 2 ^ 64) (w / 2 ^ (2 * (32 - at % 32)))) i ≡ code_at words (at + i)
+    same : (i : ℕ) → at % 32 + i < 32
+        → code_in (bit_or (v * 2 ^ (2 * (at % 32)) % 2 ^ 64) (w / 2 ^ (2 * (32 - at % 32)))) i ≡ code_at words (at + i)
     same i inside =
         let word : (at + i) / 32 ≡ at / 32 = omega (arith, inside) in
         let place : (at + i) % 32 ≡ at % 32 + i = omega (arith, inside) in
         code-joined v w (at % 32) i small (omega arith) inside ∙ ap (λ x. code_in x (at % 32 + i)) is
-        ∙ sym (ap (λ j. code_in (get_or words j 0) ((at + i) % 32)) word ∙ ap (code_in (get_or words (at / 32) 0)) place)
+        ∙ sym (ap (λ j. code_in (get_or words j 0) ((at + i) % 32)) word
+        ∙ ap (code_in (get_or words (at / 32) 0)) place)
 
     next : (i : ℕ) → i < 32 → 32 ≤ at % 32 + i
         → code_in (bit_or (v * 2 ^ (2 * (at % 32)) % 2 ^ 64) (w / 2 ^ (2 * (32 - at % 32)))) i ≡ code_at words (at + i)
@@ -212,7 +229,8 @@ window-of-two words n at v w is other small = record {
         let word : (at + i) / 32 ≡ at / 32 + 1 = omega (arith, h, beyond) in
         let place : (at + i) % 32 ≡ at % 32 + i - 32 = omega (arith, h, beyond) in
         code-joined-next v w (at % 32) i (omega arith) h beyond ∙ ap (λ x. code_in x (at % 32 + i - 32)) other
-        ∙ sym (ap (λ j. code_in (get_or words j 0) ((at + i) % 32)) word ∙ ap (code_in (get_or words (at / 32 + 1) 0)) place)
+        ∙ sym (ap (λ j. code_in (get_or words j 0) ((at + i) % 32)) word
+        ∙ ap (code_in (get_or words (at / 32 + 1) 0)) place)
 
 -- ---- a part, window by window
 
@@ -221,9 +239,11 @@ pub record IsPart (codes part : List ℕ) (from taken : ℕ) : Type 0 where
   pub is : part ≡ map (λ i. get_or codes (from + i) 0) (range_with_len 0 taken)
 
 pub length-part : (codes part : List ℕ) (from taken : ℕ) → IsPart codes part from taken → length part ≡ taken
-length-part codes part from taken before = ap length before.is ∙ length-map-range_with_len (λ i. get_or codes (from + i) 0) 0 taken
+length-part codes part from taken before = ap length before.is
+    ∙ length-map-range_with_len (λ i. get_or codes (from + i) 0) 0 taken
 
-pub part-more : (codes part next : List ℕ) (from taken count word : ℕ) → IsPart codes part from taken → next ≡ part ++ codes_in word count
+pub part-more : (codes part next : List ℕ) (from taken count word : ℕ) → IsPart codes part from taken
+    → next ≡ part ++ codes_in word count
     → (count ≤ 32) × (from + taken + count ≤ length codes)
     → ((i : ℕ) → i < 32 → from + taken + i < length codes → code_in word i ≡ get_or codes (from + taken + i) 0)
     → IsPart codes next from (taken + count)
@@ -237,7 +257,8 @@ part-more codes part next from taken count word before e fits window = record {
       ap (λ j. get_or codes j 0) place ∙ sym (window i (omega (arith, h, most)) (omega (arith, h, within)))));
 }
 
-pub part-all : (codes part : List ℕ) (from taken : ℕ) → from + taken ≤ length codes → IsPart codes part from taken → part ≡ take taken (drop from codes)
+pub part-all : (codes part : List ℕ) (from taken : ℕ) → from + taken ≤ length codes → IsPart codes part from taken
+    → part ≡ take taken (drop from codes)
 part-all codes part from taken within before =
     before.is
     ∙ ext_get_or 0 _ _ (length-map-range_with_len (λ i. get_or codes (from + i) 0) 0 taken

@@ -4,7 +4,8 @@ use Rattle.kc_word.specs.Gathering.{AreGaps}
 use Rattle.kc_word.specs.Runs.{AreExtended}
 use Rattle.kc_word.proofs.Gatherings.{gaps-base, gaps-gap}
 use Rattle.kc_word.proofs.gathering.mark_gaps.Goals as goal
-use Rattle.kc_word.proofs.gathering.mark_gaps.Goals.{then-usable_code-ge-NO_BASE+in_ok-extend_runs, else-usable_code-ge-NO_BASE}
+use Rattle.kc_word.proofs.gathering.mark_gaps.Goals.{then-usable_code-ge-NO_BASE+in_ok-extend_runs}
+use Rattle.kc_word.proofs.gathering.mark_gaps.Goals.{else-usable_code-ge-NO_BASE}
 
 pub loop-i-preserved : goal.loop-i-preserved
 loop-i-preserved c =

@@ -5,7 +5,8 @@ use Rattle.kc_word.specs.Runs.{run_end}
 use Rattle.kc_word.proofs.RunLemmas.{read-run}
 use Rattle.kc_word.proofs.Clipping.{clip-pushed, clip-left, clipping-more, clipping-end, clipping-past}
 use Rattle.kc_word.proofs.runs.clip_runs.Goals as goal
-use Rattle.kc_word.proofs.runs.clip_runs.Goals.{then-start-end+in_ok-push, else-start-end, else-loop-n-test, then-loop-n-test+then-run-to}
+use Rattle.kc_word.proofs.runs.clip_runs.Goals.{then-start-end+in_ok-push, else-start-end, else-loop-n-test}
+use Rattle.kc_word.proofs.runs.clip_runs.Goals.{then-loop-n-test+then-run-to}
 
 pub loop-n-preserved : goal.loop-n-preserved
 loop-n-preserved c =

@@ -6,14 +6,16 @@ use Rattle.kc_word.proofs.codes.Codes.take_bases.Goals as goal
 
 pub window-word-requires : goal.window-word-requires
 window-word-requires c =
-    let long = sym (length-bytes_of c.self.inside.bases.now c.self.inside.runs.now) ∙ ap (λ r. length r.bytes) c.self.view_is in
+    let long = sym (length-bytes_of c.self.inside.bases.now c.self.inside.runs.now)
+    ∙ ap (λ r. length r.bytes) c.self.view_is in
     let at = ap (λ r. r.taken) c.self.view_is in
     let below = c.requires in
     omega (arith, long, at, below)
 
 pub returns-clause-codes : goal.returns-clause-codes
 returns-clause-codes c = λ i h.
-    let long = sym (length-bytes_of c.self.inside.bases.now c.self.inside.runs.now) ∙ ap (λ r. length r.bytes) c.self.view_is in
+    let long = sym (length-bytes_of c.self.inside.bases.now c.self.inside.runs.now)
+    ∙ ap (λ r. length r.bytes) c.self.view_is in
     let at = ap (λ r. r.taken) c.self.view_is in
     let below = c.requires in
     let most = c.free_of_runs-count.ensures.most in
@@ -27,7 +29,8 @@ returns-clause-codes c = λ i h.
 
 pub returns-clause-within : goal.returns-clause-within
 returns-clause-within c =
-    let long = sym (length-bytes_of c.self.inside.bases.now c.self.inside.runs.now) ∙ ap (λ r. length r.bytes) c.self.view_is in
+    let long = sym (length-bytes_of c.self.inside.bases.now c.self.inside.runs.now)
+    ∙ ap (λ r. length r.bytes) c.self.view_is in
     let at = ap (λ r. r.taken) c.self.view_is in
     let below = c.requires in
     let most = c.free_of_runs-count.ensures.most in

@@ -1,10 +1,12 @@
-use Rattle.std.proofs.Common.{vec_len, ◌≡◌, ◌+◌, ◌-◌, ◌*◌, ◌/◌, ◌%◌, ◌^◌, ◌<◌, ◌⊎◌, inl, inr, length, get_or, bit_or, ap, sym, ◌∙◌, arith, rules}
+use Rattle.std.proofs.Common.{vec_len, ◌≡◌, ◌+◌, ◌-◌, ◌*◌, ◌/◌, ◌%◌, ◌^◌, ◌<◌, ◌⊎◌, inl, inr, length, get_or, bit_or}
+use Rattle.std.proofs.Common.{ap, sym, ◌∙◌, arith, rules}
 use Rattle.std.proofs.lemmas.List.{get_or_read_under}
 use Rattle.kc_word.specs.Packed.{code_in}
 use Rattle.kc_word.proofs.PackedLemmas.{length-codes_of, get_or-codes_of}
 use Rattle.kc_word.proofs.Shifting.{window-of-one, window-of-two}
 use Rattle.kc_word.proofs.packed.Packed.window.Goals as goal
-use Rattle.kc_word.proofs.packed.Packed.window.Goals.{then-shift-eq0-via-then-shift-eq0, then-shift-eq0-via-else-shift-eq0+then-next-len}
+use Rattle.kc_word.proofs.packed.Packed.window.Goals.{then-shift-eq0-via-then-shift-eq0}
+use Rattle.kc_word.proofs.packed.Packed.window.Goals.{then-shift-eq0-via-else-shift-eq0+then-next-len}
 
 pub index-requires : goal.index-requires
 index-requires c =

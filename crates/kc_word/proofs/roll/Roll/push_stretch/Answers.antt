@@ -70,9 +70,11 @@ loop-i-preserved c =
           c.if-run-k.words.items step (let long = w.if-run-k.true in omega (arith, same, value, long))
           (ap (λ v. v.items) w.words-is ∙ w.in_ok-push.ensures.items)
           (elim w.if-both.branch [
-            | then-both v ↦ word-lesser c.args.self.rule.both c.both-both.result _ _ _ (c.both-both.ensures ∙ ap (λ r. r.rule.both) c.self.view_is) v.if-both.true
+            | then-both v ↦ word-lesser c.args.self.rule.both c.both-both.result _ _ _ (c.both-both.ensures
+                ∙ ap (λ r. r.rule.both) c.self.view_is) v.if-both.true
                 (v.push-is ∙ v.min.ensures)
-            | else-both v ↦ word-forward c.args.self.rule.both c.both-both.result _ _ _ (c.both-both.ensures ∙ ap (λ r. r.rule.both) c.self.view_is) v.if-both.false
+            | else-both v ↦ word-forward c.args.self.rule.both c.both-both.result _ _ _ (c.both-both.ensures
+                ∙ ap (λ r. r.rule.both) c.self.view_is) v.if-both.false
                 v.push-is
           ])
       | else-run-k w ↦
