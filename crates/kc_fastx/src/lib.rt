@@ -2,8 +2,8 @@
 //!
 //! `parse` answers the reads of bytes in memory, and `read_all` those of a `Source`, up to a limit of bytes. A
 //! `SeqRead` has its bases as they stand in the file and, from FASTQ, a quality for each base. A `FastxFault` says why
-//! there are no reads, with its line. `Reads` and `Reading` give the reads one after another: `Reads` owns its source, and
-//! `Reading` is handed it, call by call. What the reads of some bytes are is defined in `specs/` (`Lines`, `Fasta`,
+//! there are no reads, with its line. `Reads` and `Reading` give the reads one after another: `Reads` owns its source,
+//! and `Reading` is handed it, call by call. What the reads of some bytes are is defined in `specs/` (`Lines`, `Fasta`,
 //! `Fastq`, `Parsing`, `Reading`), and `laws` says that any bytes have one answer.
 //!
 //! ```text
