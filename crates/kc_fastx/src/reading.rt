@@ -29,12 +29,12 @@ pub enum Next {
     Short,
 }
 
-/// A reader of the reads of a source, one after another, which leaves the source with its caller. It keeps a block of the
-/// bytes and what one record takes, whatever came before.
+/// A reader of the reads of a source, one after another, which leaves the source with its caller. It keeps a block of
+/// the bytes and what one record takes, whatever came before.
 ///
 /// Contracts speak of the reads that were given so far: `HasGiven` with none of them stands behind `new`, `next_read`
-/// adds the read that it gives, and where it answers `None` they are all reads of all bytes. Each call is given the same
-/// source, and nobody else takes bytes of it meanwhile.
+/// adds the read that it gives, and where it answers `None` they are all reads of all bytes. Each call is handed the
+/// same source, of which nobody else takes bytes meanwhile.
 #[derive(Drop)]
 pub struct Reading {
     intake: Intake,
@@ -89,9 +89,9 @@ impl Reading {
     /// there or the source has told its end.
     ///
     /// # Errors
-    /// The first fault of all bytes, with its line, where the lines that were taken tell it already. `TooLong` where the
-    /// source gave more bytes than the limit, and `Read` where it failed, before the next record was whole. `Memory`
-    /// where a growth was refused. A reader that couldn't take bytes answers the same from then on.
+    /// The first fault of all bytes, with its line, where the lines that were taken tell it already. `TooLong` where
+    /// the source gave more bytes than the limit, and `Read` where it failed, before the next record was whole.
+    /// `Memory` where a growth was refused. A reader that couldn't take bytes answers the same from then on.
     pub fn next_read<S: Source>(
         &mut self,
         alloc: Global,
@@ -114,7 +114,8 @@ impl Reading {
         }
     }
 
-    /// How many bytes were taken. Condition: no taking of bytes has failed, as where `next_read` answered a read or none.
+    /// How many bytes were taken. Condition: no taking of bytes has failed, as where `next_read` has answered a read or
+    /// none.
     pub fn byte_count(&self) -> u64
         requires { self.now.failed ≡ None }
         ensures { result ≡ self.now.used + length self.now.unread.bytes }
@@ -122,8 +123,8 @@ impl Reading {
         self.used + self.intake.as_slice().len() as u64
     }
 
-    /// The fault of the source, where all its bytes are asked for and `next_read` has answered this fault. Behind a fault
-    /// of lines the other bytes are taken and forgotten: that they are too many, or that a read fails, comes first.
+    /// The fault of the source, where all its bytes are asked for and `next_read` has answered this fault. Behind a
+    /// fault of lines the other bytes are taken and forgotten: that they are too many, or that a read fails, comes first.
     pub fn settle<S: Source>(self, source: &mut S, fault: FastxFault) -> FastxFault
         ensures { (start : Seen) (limit : ℕ) → MeetsFault start (S.seen source.old) limit self fault
             → RefusesFor start (S.seen source.new) limit result }

@@ -1,5 +1,6 @@
 -- From the tally of batches to the tally of reads, and what a count asks for.
-use Rattle.std.proofs.Common.{◌≡◌, ◌<◌, ◌≤◌, ◌+◌, ◌-◌, ◌*◌, ◌%◌, ◌^◌, ℕ, zero, suc, Bool, true, false, List, [], ◌∷◌, length, refl, ◌∙◌, ap, subst, arith, below_more}
+use Rattle.std.proofs.Common.{◌≡◌, ◌<◌, ◌≤◌, ◌+◌, ◌-◌, ◌*◌, ◌%◌, ◌^◌, ℕ, zero, suc, Bool}
+use Rattle.std.proofs.Common.{true, false, List, [], ◌∷◌, length, refl, ◌∙◌, ap, subst, arith, below_more}
 use Rattle.std.specs.Prelude.{◌==◌, All, sum_by}
 use Rattle.std.proofs.lemmas.Bool.{eqb-false, eqb-true}
 use Rattle.std.proofs.lemmas.List.Elements.{All-cons, All-head, All-nil, All-tail}
@@ -19,8 +20,10 @@ use Rattle.kc_tool.specs.declared.faults.ToolFault.TheVariants.{Fastx, BadHeader
 use Rattle.kc_io.specs.Sources.{Seen}
 
 -- The batches of a cutting have no more positions than the pieces have letters.
-pub small_cutting : (k size : ℕ) (pieces : List (List ℕ)) → 1 ≤ k → 1 ≤ size → position_sum k (cutting k size pieces) ≤ sum_by (λ piece. length piece) pieces
-small_cutting k size pieces some room = rw (cutting-positions k size pieces some room) (position_total-le k pieces some)
+pub small_cutting : (k size : ℕ) (pieces : List (List ℕ)) → 1 ≤ k → 1 ≤ size
+    → position_sum k (cutting k size pieces) ≤ sum_by (λ piece. length piece) pieces
+small_cutting k size pieces some room =
+    rw (cutting-positions k size pieces some room) (position_total-le k pieces some)
 
 grows : (more n : ℕ) → n ≤ (more + 1) * n
 grows more n = omega arith
@@ -29,7 +32,8 @@ not_less : (size n : ℕ) → 1 ≤ size → n ≤ size * n
 not_less size n room = let same : (size - 1) + 1 ≡ size = omega arith in subst (λ v. n ≤ v * n) same (grows (size - 1) n)
 
 -- A cutting has at most one batch more than positions.
-pub few_batches : (k size : ℕ) (pieces : List (List ℕ)) → 1 ≤ k → 1 ≤ size → length (cutting k size pieces) ≤ sum_by (λ piece. length piece) pieces + 1
+pub few_batches : (k size : ℕ) (pieces : List (List ℕ)) → 1 ≤ k → 1 ≤ size
+    → length (cutting k size pieces) ≤ sum_by (λ piece. length piece) pieces + 1
 few_batches k size pieces some room =
     let total = position_total k pieces in
     let within : total + size - 1 ≤ size * (total + 1) = omega (arith, not_less size total room) in

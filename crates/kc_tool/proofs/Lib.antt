@@ -1,4 +1,5 @@
 pub mod ArgumentsLemmas
+pub mod CleaningLemmas
 pub mod CommandLemmas
 pub mod CountingLemmas
 pub mod FaultLinesLemmas

@@ -11,8 +11,8 @@ use std::alloc::Global;
 /// The most bytes that the sources of one count may have together.
 pub const MOST_BYTES: u64 = 1 << 36;
 
-/// The pieces of the reads of all sources, joined in order. Each source is read whole before the next one, and each read
-/// is cleaned before the next one is read, so that the text of one read is in memory at a time.
+/// The pieces of the reads of all sources, joined in order. Each source is read whole before the next one, and each
+/// read is cleaned before the next one is read, so that the text of one read is in memory at a time.
 ///
 /// # Errors
 /// The fault of the first source that has one, with its number from 1, or `Memory` where a growth was refused outside
@@ -23,7 +23,7 @@ pub(crate) fn clean_sources<R: Source + Drop>(
     rule: &Rule,
 ) -> Result<Vec<Piece>, ToolFault>
     ensures pieces { IfOk result (λ pieces. HavePieces R.seen sources.items rule.now pieces.items) }
-    ensures bytes { IfOk result (λ pieces. sum_by (λ piece. length piece) pieces.items ≤ 2 ^ 36) }
+    ensures few { IfOk result (λ pieces. sum_by (λ piece. length piece) pieces.items ≤ 2 ^ 36) }
     ensures fault { IfErr result (RefusesSources R.seen sources.items) }
 {
     let mut pieces = Vec::new(alloc);

@@ -1,4 +1,4 @@
-use Rattle.std.proofs.Common.{◌≡◌, ◌∙◌, ap, sym, length, arith}
+use Rattle.std.proofs.Common.{◌∙◌, ap, sym, length, arith}
 use Rattle.std.proofs.lemmas.List.{length-map}
 use Rattle.kc_tool.proofs.CountingLemmas.{few_batches, small_cutting}
 use Rattle.kc_tool.proofs.counting.tally_of.Goals as goal
@@ -29,4 +29,5 @@ returns-clause-tally g c reads are =
     let cut = rw c.k-2.ensures at c.in_ok-batches.ensures.cutting in
     let pieces = rw (sym c.rule-rule.ensures) at are in
     let gathered = rw (rule, c.deref.ensures.value, cut, pieces) at c.in_ok-tally.ensures.tally in
-    rw (sym c.rule-rule.ensures) (c.tally_of_cutting.ensures c.rule-rule.result c.batch.result reads _ some room gathered)
+    let of_reads = c.tally_of_cutting.ensures c.rule-rule.result c.batch.result reads _ some room gathered in
+    rw (sym c.rule-rule.ensures) of_reads
