@@ -124,7 +124,8 @@ impl Reading {
     }
 
     /// The fault of the source, where all its bytes are asked for and `next_read` has answered this fault. Behind a
-    /// fault of lines the other bytes are taken and forgotten: that they are too many, or that a read fails, comes first.
+    /// fault of lines the other bytes are taken and forgotten: that they are too many, or that a read fails, comes
+    /// first.
     pub fn settle<S: Source>(self, source: &mut S, fault: FastxFault) -> FastxFault
         ensures { (start : Seen) (limit : ℕ) → MeetsFault start (S.seen source.old) limit self fault
             → RefusesFor start (S.seen source.new) limit result }
