@@ -2,8 +2,10 @@
 PREFIX ?= /usr/local
 DESTDIR ?=
 CRATE ?=
+# The crates with a test that tests/memory.sh runs with each growth refused.
+TESTS_OF_MEMORY = kc_report kc_run kc_table kc_stripe kc_gather
 
-.PHONY: build demo check edits memory options examples test bench figures install clean help
+.PHONY: build demo check edits memory files options examples test bench figures install clean help
 
 build: ## proves the program and everything below it, and builds it as bin/kcount
 	cd crates/kcount && rt run -- --version > /dev/null
@@ -19,7 +21,11 @@ edits: ## tries one crate's must-fail edits: make edits CRATE=kc_word (none: all
 	rt must-fail $(CRATE)
 
 memory: build ## refuses each growth of memory in turn
+	for crate in $(TESTS_OF_MEMORY); do (cd crates/$$crate && rt test) || exit 1; done
 	tests/memory.sh
+
+files: build ## runs the program over files that are missing, are directories or are emptied
+	tests/files.sh
 
 options: build ## compares the options of the man page and the completions with the help
 	tests/options.sh
@@ -27,9 +33,8 @@ options: build ## compares the options of the man page and the completions with 
 examples: build ## runs the examples of README.md and docs/USING.md as they are written
 	tests/examples.sh
 
-# Before the gate the growths are refused, the man page is compared and the examples are run, which the gate can't do.
-test: memory options examples ## the gate: every proof from nothing, the edits that must fail, the tests and the program's stored run
-	rt ci
+test: ## the gate: all proofs from nothing, the edits that must fail, the tests, the stored run; then memory, files, options, examples
+	tests/gate.sh
 
 bench: build ## runs the benchmarks and prints the table of docs/STATUS.md
 	bench/all.sh

@@ -29,7 +29,12 @@ pub enum Next {
     Short,
 }
 
-// How far the bytes of a source were taken and used.
+/// A reader of the reads of a source, one after another, which leaves the source with its caller. It keeps a block of
+/// the bytes and what one record takes, whatever came before.
+///
+/// Contracts speak of the reads that were given so far: `HasGiven` with none of them stands behind `new`, `next_read`
+/// adds the read that it gives, and where it answers `None` they are all reads of all bytes. Each call is given the
+/// same source, and nobody else takes bytes of it meanwhile.
 #[derive(Drop)]
 pub struct Reading {
     intake: Intake,
@@ -60,8 +65,12 @@ impl Model for Reading {
 }
 
 impl Reading {
-    // Nothing was taken yet.
-    pub(crate) fn new(alloc: Global, limit: u64) -> Result<Reading, AllocError>
+    /// A reader that takes at most `limit` bytes of its source. Nothing was taken yet. Condition: the limit is at most
+    /// 2^36.
+    ///
+    /// # Errors
+    /// `AllocError` where the block was refused.
+    pub fn new(alloc: Global, limit: u64) -> Result<Reading, AllocError>
         requires { limit ≤ most_bytes }
         ensures { IfOk result (λ reading. reading ≡ first_stand limit) }
     {
@@ -76,8 +85,14 @@ impl Reading {
         })
     }
 
-    // The next read. Blocks are taken until a whole record is there or the source has told its end.
-    pub(crate) fn next_read<S: Source>(
+    /// The next read, or none where all bytes were taken and no read is left. Blocks are taken until a whole record is
+    /// there or the source has told its end.
+    ///
+    /// # Errors
+    /// The first fault of all bytes, with its line, where the lines that were taken tell it already. `TooLong` where
+    /// the source gave more bytes than the limit, and `Read` where it failed, while more were taken for the next read.
+    /// `Memory` where a growth was refused. A reader that couldn't take bytes answers the same from then on.
+    pub fn next_read<S: Source>(
         &mut self,
         alloc: Global,
         source: &mut S,
@@ -99,17 +114,19 @@ impl Reading {
         }
     }
 
-    // How many bytes were taken.
-    pub(crate) fn byte_count(&self) -> u64
+    /// How many bytes were taken. Condition: no taking of bytes has failed, as where `next_read` answered a read or
+    /// none.
+    pub fn byte_count(&self) -> u64
         requires { self.now.failed ≡ None }
         ensures { result ≡ self.now.used + length self.now.unread.bytes }
     {
         self.used + self.intake.as_slice().len() as u64
     }
 
-    // What is answered where all bytes of the source are asked for, and this fault was met. Behind a fault of lines the
-    // other bytes are taken and forgotten: that they are too many, or that a read fails, comes first.
-    pub(crate) fn settle<S: Source>(self, source: &mut S, fault: FastxFault) -> FastxFault
+    /// The fault of the source, where all its bytes are asked for and `next_read` has answered this fault. Behind a
+    /// fault of lines the other bytes are taken and forgotten: that they are too many, or that a read fails, comes
+    /// first.
+    pub fn settle<S: Source>(self, source: &mut S, fault: FastxFault) -> FastxFault
         ensures { (start : Seen) (limit : ℕ) → MeetsFault start (S.seen source.old) limit self fault
             → RefusesFor start (S.seen source.new) limit result }
     {

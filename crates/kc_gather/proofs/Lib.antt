@@ -4,3 +4,4 @@ pub mod Rows
 pub mod PartLemmas
 pub mod Stripes
 pub mod Tallies
+pub mod LawLemmas

@@ -1,3 +1,4 @@
 pub mod Tables
 pub mod Gathering
 pub mod Parts
+pub mod Laws

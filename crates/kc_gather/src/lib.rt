@@ -5,6 +5,7 @@
 mod fault;
 mod gathering;
 mod journal;
+pub mod laws;
 mod parts;
 mod tables;
 

@@ -1,5 +1,5 @@
--- The matrix's array and the hash's inverse are found again from the columns that are seen. These are proofs, which stand
--- in `specs/` since the model of a type takes its names from there alone.
+-- The matrix's array and the hash's inverse are found again from the columns that are seen. These are proofs, which
+-- stand in `specs/` since the model of a type takes its names from there alone.
 use Rattle.std.specs.List.{find, range_with_len}
 use Rattle.std.proofs.Common.{◌≡◌, ℕ, zero, suc, ◌+◌, ◌-◌, ◌<◌, ◌≤◌, ◌^◌, ◌==◌, Bool, true, false, cond, Some}
 use Rattle.std.proofs.Common.{List, ◌++◌, length, take, get_or, replicate, unwrap_or, refl, sym, ◌∙◌, ap, ⊎_elim, arith}
@@ -24,7 +24,8 @@ columns-length bits columns m =
     let fits : bits ≤ 62 = width.at_most in
     length-take-le bits columns (omega arith)
 
-pub padded-take : (bits : ℕ) (columns : List ℕ) → IsMatrix bits columns → take bits columns ++ replicate (62 - length (take bits columns)) 0 ≡ columns
+pub padded-take : (bits : ℕ) (columns : List ℕ) → IsMatrix bits columns →
+    take bits columns ++ replicate (62 - length (take bits columns)) 0 ≡ columns
 padded-take bits columns m =
     let front = take bits columns in
     let zeros : List ℕ = replicate (62 - length front) 0 in

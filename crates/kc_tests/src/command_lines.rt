@@ -1,32 +1,35 @@
 //! Whole command lines, over input, output and errors in memory.
 use kc_tool::program;
+use std::process::Abort;
 use std::rt::Files;
 use std::sync::Wait;
 use std::test::Fail;
 use std::thread::Threads;
 
-/// What a command line wrote, and its exit status.
+// What a command line wrote, and its exit status.
 #[derive(Drop)]
-pub(crate) struct Ran {
-    pub(crate) status: u8,
-    pub(crate) output: Vec<u8>,
-    pub(crate) errors: Vec<u8>,
+struct Ran {
+    status: u8,
+    output: Vec<u8>,
+    errors: Vec<u8>,
 }
 
-/// Runs `kcount` with these arguments, separated by blanks, on this input.
-pub(crate) fn run<H: Files + Threads + Wait + Sync + AllocGlobal>(
+// Runs `kcount` on this input, with the words of a line that are divided by this letter.
+fn run_divided<H: Files + Threads + Wait + Sync + AllocGlobal>(
     rt: &H,
-    arguments: &str,
-    input: &[u8],
+    line: &str,
+    divider: char,
+    input: &str,
 ) -> Result<Ran, Fail> {
     let alloc = rt.alloc();
-    let mut line = vec![in alloc; String::from_str(alloc, "kcount")?]?;
-    for argument in arguments.split(' ') {
-        line.push(String::from_str(alloc, argument)?)?;
+    let mut words = vec![in alloc; String::from_str(alloc, "kcount")?]?;
+    for word in line.split(divider) {
+        words.push(String::from_str(alloc, word)?)?;
     }
     let mut output = Vec::new(alloc);
     let mut errors = Vec::new(alloc);
-    let status = program(rt, alloc, line, input, &mut output, &mut errors);
+    let input = input.as_bytes();
+    let status = program(rt, alloc, words, input, &mut output, &mut errors);
     Ok(Ran {
         status,
         output,
@@ -34,263 +37,260 @@ pub(crate) fn run<H: Files + Threads + Wait + Sync + AllocGlobal>(
     })
 }
 
+// The same, with words that are divided by blanks.
+fn run<H: Files + Threads + Wait + Sync + AllocGlobal>(
+    rt: &H,
+    line: &str,
+    input: &str,
+) -> Result<Ran, Fail> {
+    run_divided(rt, line, ' ', input)
+}
+
+// Asserts that a command line ended with this status, and wrote this to the output and to the errors.
+fn assert_ran<H: Abort>(rt: &H, line: &str, ran: &Ran, status: u8, output: &str, errors: &str) {
+    assert_eq!(rt; ran.errors.as_slice(), errors.as_bytes(), "{line}");
+    assert_eq!(rt; ran.output.as_slice(), output.as_bytes(), "{line}");
+    assert_eq!(rt; ran.status, status, "{line}");
+}
+
+// Asserts that a command line on this input writes this to the output and nothing to the errors.
+fn answers<H: Files + Threads + Wait + Abort + Sync + AllocGlobal>(
+    rt: &H,
+    line: &str,
+    input: &str,
+    output: &str,
+) -> Result<(), Fail> {
+    let ran = run(rt, line, input)?;
+    assert_ran(rt, line, &ran, 0, output, "");
+    Ok(())
+}
+
+// Asserts that a command line on this input ends with this status and this line of errors, and that nothing is written.
+fn refuses<H: Files + Threads + Wait + Abort + Sync + AllocGlobal>(
+    rt: &H,
+    line: &str,
+    input: &str,
+    status: u8,
+    why: &str,
+) -> Result<(), Fail> {
+    let ran = run(rt, line, input)?;
+    let errors = format!(in rt.alloc(); "kcount: {why}\n")?;
+    assert_ran(rt, line, &ran, status, "", errors.as_str());
+    Ok(())
+}
+
+// Options of a count, its input, and the dump of its words in columns.
+const DUMPS: &[(&str, &str, &str)] = &[
+    ("-m 3", ">r1\nACGTA\n", "ACG 1\nCGT 1\nGTA 1\n"),
+    ("-m3", ">r1\nACGTA\n", "ACG 1\nCGT 1\nGTA 1\n"),
+    ("--mer-len=003", ">r1\nACGTA\n", "ACG 1\nCGT 1\nGTA 1\n"),
+    ("-m 3 -C", ">r1\nACGTA\n", "ACG 2\nGTA 1\n"),
+    ("-Cm3", ">r1\nACGTA\n", "ACG 2\nGTA 1\n"),
+    ("-m 2", ">a\nAC\nGT\r\n>b\n\n>c\nac", "AC 2\nCG 1\nGT 1\n"),
+    ("-m 2", ">r\nACNGT\n", "AC 1\nGT 1\n"),
+    ("-m 3", ">r\nACNGT\n", ""),
+    ("-m 5", "", ""),
+    (
+        "-m 31",
+        ">r\nTTTTTTTTTTTTTTTTTTTTTTTTTTTTTTT\n",
+        "TTTTTTTTTTTTTTTTTTTTTTTTTTTTTTT 1\n",
+    ),
+    (
+        "-m 31 -C",
+        ">r\nTTTTTTTTTTTTTTTTTTTTTTTTTTTTTTT\n",
+        "AAAAAAAAAAAAAAAAAAAAAAAAAAAAAAA 1\n",
+    ),
+    ("-m 4 -C", ">r\nACGT\n", "ACGT 1\n"),
+    ("-m 1 -C", ">r\nAACGT\n", "A 3\nC 2\n"),
+    ("-m 2 --min-qual-char #", "@q\nACGT\n+\nII!I\n", "AC 1\n"),
+    (
+        "-m 2 --min-qual-char !",
+        "@q\nACGT\n+\nII!I\n",
+        "AC 1\nCG 1\nGT 1\n",
+    ),
+    ("-m 2 --min-qual-char I", "@q\nACGT\n+\nIIHI\n", "AC 1\n"),
+    ("-m 4", "@q\nAC\nGT\n+q\n@I\nII\n", "ACGT 1\n"),
+    ("-m 2", "@q\n\n+\n\n@r\nAC\n+\nII\n", "AC 1\n"),
+    ("-m 2", "@q\nAC\n+\nI\n\nI\n", "AC 1\n"),
+    ("-m 3 --batch 1", ">r\nAAAAAAAAAA\n", "AAA 8\n"),
+    ("-m 3 --batch 3", ">r\nAAAAAAAAAA\n", "AAA 8\n"),
+    ("-m 3 --batch 7", ">r\nAAAAAAAAAA\n", "AAA 8\n"),
+    ("-m 3 --batch 8", ">r\nAAAAAAAAAA\n", "AAA 8\n"),
+    ("-m 3 --batch 11", ">r\nAAAAAAAAAA\n", "AAA 8\n"),
+    ("-m 3 --batch 68719476736", ">r\nAAAAAAAAAA\n", "AAA 8\n"),
+    (
+        "-m 3 --batch 2",
+        ">a\nACGTA\n>b\nAC\n>c\nNGTN\n",
+        "ACG 1\nCGT 1\nGTA 1\n",
+    ),
+    (
+        "-m 3 -C --batch 2",
+        ">a\nACGTA\n>b\nAC\n>c\nNGTN\n",
+        "ACG 2\nGTA 1\n",
+    ),
+];
+
 // The k-mers are counted and their dump is written.
 #[test]
 fn dumps(rt: HostRuntime) -> Result<(), Fail> {
-    let column = "--print dump --column";
-    let rows: [(&str, &[u8], &[u8]); 27] = [
-        ("-m 3", b">r1\nACGTA\n", b"ACG 1\nCGT 1\nGTA 1\n"),
-        ("-m3", b">r1\nACGTA\n", b"ACG 1\nCGT 1\nGTA 1\n"),
-        ("--mer-len=003", b">r1\nACGTA\n", b"ACG 1\nCGT 1\nGTA 1\n"),
-        ("-m 3 -C", b">r1\nACGTA\n", b"ACG 2\nGTA 1\n"),
-        ("-Cm3", b">r1\nACGTA\n", b"ACG 2\nGTA 1\n"),
-        ("-m 2", b">a\nAC\nGT\r\n>b\n\n>c\nac", b"AC 2\nCG 1\nGT 1\n"),
-        ("-m 2", b">r\nACNGT\n", b"AC 1\nGT 1\n"),
-        ("-m 3", b">r\nACNGT\n", b""),
-        ("-m 5", b"", b""),
-        (
-            "-m 31",
-            b">r\nTTTTTTTTTTTTTTTTTTTTTTTTTTTTTTT\n",
-            b"TTTTTTTTTTTTTTTTTTTTTTTTTTTTTTT 1\n",
-        ),
-        (
-            "-m 31 -C",
-            b">r\nTTTTTTTTTTTTTTTTTTTTTTTTTTTTTTT\n",
-            b"AAAAAAAAAAAAAAAAAAAAAAAAAAAAAAA 1\n",
-        ),
-        ("-m 4 -C", b">r\nACGT\n", b"ACGT 1\n"),
-        ("-m 1 -C", b">r\nAACGT\n", b"A 3\nC 2\n"),
-        ("-m 2 --min-qual-char #", b"@q\nACGT\n+\nII!I\n", b"AC 1\n"),
-        (
-            "-m 2 --min-qual-char !",
-            b"@q\nACGT\n+\nII!I\n",
-            b"AC 1\nCG 1\nGT 1\n",
-        ),
-        ("-m 2 --min-qual-char I", b"@q\nACGT\n+\nIIHI\n", b"AC 1\n"),
-        ("-m 4", b"@q\nAC\nGT\n+q\n@I\nII\n", b"ACGT 1\n"),
-        ("-m 2", b"@q\n\n+\n\n@r\nAC\n+\nII\n", b"AC 1\n"),
-        ("-m 2", b"@q\nAC\n+\nI\n\nI\n", b"AC 1\n"),
-        ("-m 3 --batch 1", b">r\nAAAAAAAAAA\n", b"AAA 8\n"),
-        ("-m 3 --batch 3", b">r\nAAAAAAAAAA\n", b"AAA 8\n"),
-        ("-m 3 --batch 7", b">r\nAAAAAAAAAA\n", b"AAA 8\n"),
-        ("-m 3 --batch 8", b">r\nAAAAAAAAAA\n", b"AAA 8\n"),
-        ("-m 3 --batch 11", b">r\nAAAAAAAAAA\n", b"AAA 8\n"),
-        ("-m 3 --batch 68719476736", b">r\nAAAAAAAAAA\n", b"AAA 8\n"),
-        (
-            "-m 3 --batch 2",
-            b">a\nACGTA\n>b\nAC\n>c\nNGTN\n",
-            b"ACG 1\nCGT 1\nGTA 1\n",
-        ),
-        (
-            "-m 3 -C --batch 2",
-            b">a\nACGTA\n>b\nAC\n>c\nNGTN\n",
-            b"ACG 2\nGTA 1\n",
-        ),
-    ];
-    for (arguments, input, output) in rows {
-        let line = format!(in rt.alloc(); "count {arguments} {column}")?;
-        let got = run(&rt, line.as_str(), input)?;
-        assert_eq!(rt; got.output.as_slice(), output, "{arguments}");
-        assert_eq!(rt; got.errors.len(), 0, "{arguments}");
-        assert_eq!(rt; got.status, 0, "{arguments}");
+    for (options, input, output) in DUMPS {
+        let line = format!(in rt.alloc(); "count {options} --print dump --column")?;
+        answers(&rt, line.as_str(), *input, *output)?;
     }
     Ok(())
 }
 
 #[test]
 fn a_dump_in_lines(rt: HostRuntime) -> Result<(), Fail> {
-    let got = run(&rt, "count -m 3 --print dump", b">r1\nACGTA\n")?;
-    assert_eq!(rt;
-        got.output.as_slice(),
-        b">1\nACG\n>1\nCGT\n>1\nGTA\n".as_slice()
-    );
-    assert_eq!(rt; got.status, 0);
-    Ok(())
+    let lines = ">1\nACG\n>1\nCGT\n>1\nGTA\n";
+    answers(&rt, "count -m 3 --print dump", ">r1\nACGTA\n", lines)
 }
+
+// Options of a count, its input, and why it is refused.
+const REFUSALS: &[(&str, &str, &str)] = &[
+    ("-m 3", ">r\nA@C\n", "2: bad base, source 1, line 2"),
+    ("-m 3", "ACGT\n", "1: bad start, source 1, line 1"),
+    (
+        "-m 3",
+        "@q\nAC\n+\nIII\n",
+        "4: long quality, source 1, line 4",
+    ),
+    ("-m 3", "@q\nACGT\n+\nII", "5: truncated, source 1, line 4"),
+    (
+        "-m 3",
+        "@q\nAC\n+\nI \n",
+        "3: bad quality, source 1, line 4",
+    ),
+    (
+        "-m 3",
+        "@q\nAC\n+\n#I\n@r\n",
+        "5: truncated, source 1, line 5",
+    ),
+    (
+        "-m 3",
+        "@q\nAC\n+\nII\nxx\n",
+        "1: bad start, source 1, line 5",
+    ),
+    (
+        "-m 3",
+        "@q\nAC\n@x\n+\nIIII\n",
+        "2: bad base, source 1, line 3",
+    ),
+    ("-m 3 -C", ">r\nAC\nG!\n", "2: bad base, source 1, line 3"),
+];
 
 // A refusal has its line on standard error and its status, and nothing is written.
 #[test]
 fn refusals(rt: HostRuntime) -> Result<(), Fail> {
-    let dump = "--print dump --column";
-    let rows: [(&str, &str, &[u8], &str, u8); 9] = [
-        (
-            "-m 3",
-            dump,
-            b">r\nA@C\n",
-            "kcount: 2: bad base, source 1, line 2\n",
-            1,
-        ),
-        (
-            "-m 3",
-            dump,
-            b"ACGT\n",
-            "kcount: 1: bad start, source 1, line 1\n",
-            1,
-        ),
-        (
-            "-m 3",
-            dump,
-            b"@q\nAC\n+\nIII\n",
-            "kcount: 4: long quality, source 1, line 4\n",
-            1,
-        ),
-        (
-            "-m 3",
-            dump,
-            b"@q\nACGT\n+\nII",
-            "kcount: 5: truncated, source 1, line 4\n",
-            1,
-        ),
-        (
-            "-m 3",
-            dump,
-            b"@q\nAC\n+\nI \n",
-            "kcount: 3: bad quality, source 1, line 4\n",
-            1,
-        ),
-        (
-            "-m 3",
-            dump,
-            b"@q\nAC\n+\n#I\n@r\n",
-            "kcount: 5: truncated, source 1, line 5\n",
-            1,
-        ),
-        (
-            "-m 3",
-            dump,
-            b"@q\nAC\n+\nII\nxx\n",
-            "kcount: 1: bad start, source 1, line 5\n",
-            1,
-        ),
-        (
-            "-m 3",
-            dump,
-            b"@q\nAC\n@x\n+\nIIII\n",
-            "kcount: 2: bad base, source 1, line 3\n",
-            1,
-        ),
-        (
-            "-m 3 -C",
-            dump,
-            b">r\nAC\nG!\n",
-            "kcount: 2: bad base, source 1, line 3\n",
-            1,
-        ),
-    ];
-    for (arguments, more, input, errors, status) in rows {
-        let line = format!(in rt.alloc(); "count {arguments} {more}")?;
-        let got = run(&rt, line.as_str(), input)?;
-        assert_eq!(rt; got.errors.as_slice(), errors.as_bytes(), "{arguments}");
-        assert_eq!(rt; got.output.len(), 0, "{arguments}");
-        assert_eq!(rt; got.status, status, "{arguments}");
+    for (options, input, why) in REFUSALS {
+        let line = format!(in rt.alloc(); "count {options} --print dump --column")?;
+        refuses(&rt, line.as_str(), *input, 1, *why)?;
     }
     Ok(())
 }
 
-// A value outside its limits refuses the command line under its option's name, whether the option acts or not, before the
-// input is looked at; of several it is the first in the order of the help.
+// Options of a count, and the one that is told of those whose value is outside its limits.
+const BAD_OPTIONS: &[(&str, &str)] = &[
+    ("-m 32", "--mer-len"),
+    ("-m 0", "--mer-len"),
+    ("-m 3x", "--mer-len"),
+    ("-m +3", "--mer-len"),
+    ("-m 18446744073709551619", "--mer-len"),
+    ("-m 3_0", "--mer-len"),
+    ("-m 3k", "--mer-len"),
+    ("-m=", "--mer-len"),
+    ("-C", "--mer-len"),
+    ("-m 3 -s 0", "--size"),
+    ("-m 3 -s 1099511627777", "--size"),
+    ("-m 3 -s 1100G", "--size"),
+    ("-m 3 -s 18446744073709552k", "--size"),
+    ("-m 3 -s k", "--size"),
+    ("-m 3 -s 2K", "--size"),
+    ("-m 3 -s 2g", "--size"),
+    ("-m 3 -s 2kk", "--size"),
+    ("-m 3 --size=", "--size"),
+    ("-m 3 -t 0", "--threads"),
+    ("-m 3 -t 65", "--threads"),
+    ("-m 3 -t 1k", "--threads"),
+    ("-m 3 --min-qual-char ab", "--min-qual-char"),
+    ("-m 3 --min-qual-char=", "--min-qual-char"),
+    ("-m 3 --min-qual-char \x7f", "--min-qual-char"),
+    ("-m 3 --min-qual-char \t", "--min-qual-char"),
+    ("-m 3 --min-qual-char é", "--min-qual-char"),
+    ("-m 3 --stripes 0", "--stripes"),
+    ("-m 3 --stripes 3", "--stripes"),
+    ("-m 3 --stripes 128", "--stripes"),
+    ("-m 1 --stripes 5", "--stripes"),
+    ("-m 3 --batch 0", "--batch"),
+    ("-m 3 --batch 68719476737", "--batch"),
+    ("-m 3 --batch 1k", "--batch"),
+    ("-m 3 --print dumps", "--print"),
+    ("-m 3 --print Table", "--print"),
+    ("-m 3 --print=", "--print"),
+    ("-m 3 --lower-count 4611686018427387905", "--lower-count"),
+    ("-m 3 --lower-count=", "--lower-count"),
+    ("-m 3 --upper-count 4611686018427387905", "--upper-count"),
+    ("-m 3 --high 0", "--high"),
+    ("-m 3 --high 10000001", "--high"),
+    ("--high 0 --batch 0", "--mer-len"),
+    ("-m 3 -t 0 -s 0", "--size"),
+    ("-m 3 --stripes 3 --min-qual-char ab -t 65", "--threads"),
+    (
+        "-m 3 --print x --batch 0 --stripes 0 --min-qual-char ab",
+        "--min-qual-char",
+    ),
+    ("-m 3 --print x --batch 0 --stripes 0", "--stripes"),
+    ("-m 3 --print x --batch 0", "--batch"),
+    (
+        "-m 3 --high 0 --upper-count x --lower-count x --print x",
+        "--print",
+    ),
+    (
+        "-m 3 --high 0 --upper-count x --lower-count x",
+        "--lower-count",
+    ),
+    ("-m 3 --high 0 --upper-count x", "--upper-count"),
+];
+
+// A value outside its limits refuses the command line under its option's name, whether the option acts or not, before
+// the input is looked at; of several it is the first in the order of the help.
 #[test]
 fn bad_options(rt: HostRuntime) -> Result<(), Fail> {
-    let rows = [
-        ("-m 32", "--mer-len"),
-        ("-m 0", "--mer-len"),
-        ("-m 3x", "--mer-len"),
-        ("-m +3", "--mer-len"),
-        ("-m 18446744073709551619", "--mer-len"),
-        ("-m 3_0", "--mer-len"),
-        ("-m 3k", "--mer-len"),
-        ("-m=", "--mer-len"),
-        ("-C", "--mer-len"),
-        ("-m 3 -s 0", "--size"),
-        ("-m 3 -s 1099511627777", "--size"),
-        ("-m 3 -s 1100G", "--size"),
-        ("-m 3 -s 18446744073709552k", "--size"),
-        ("-m 3 -s k", "--size"),
-        ("-m 3 -s 2K", "--size"),
-        ("-m 3 -s 2g", "--size"),
-        ("-m 3 -s 2kk", "--size"),
-        ("-m 3 --size=", "--size"),
-        ("-m 3 -t 0", "--threads"),
-        ("-m 3 -t 65", "--threads"),
-        ("-m 3 -t 1k", "--threads"),
-        ("-m 3 --min-qual-char ab", "--min-qual-char"),
-        ("-m 3 --min-qual-char=", "--min-qual-char"),
-        ("-m 3 --min-qual-char \x7f", "--min-qual-char"),
-        ("-m 3 --min-qual-char \t", "--min-qual-char"),
-        ("-m 3 --min-qual-char é", "--min-qual-char"),
-        ("-m 3 --stripes 0", "--stripes"),
-        ("-m 3 --stripes 3", "--stripes"),
-        ("-m 3 --stripes 128", "--stripes"),
-        ("-m 1 --stripes 5", "--stripes"),
-        ("-m 3 --batch 0", "--batch"),
-        ("-m 3 --batch 68719476737", "--batch"),
-        ("-m 3 --batch 1k", "--batch"),
-        ("-m 3 --print dumps", "--print"),
-        ("-m 3 --print Table", "--print"),
-        ("-m 3 --print=", "--print"),
-        ("-m 3 --lower-count 4611686018427387905", "--lower-count"),
-        ("-m 3 --lower-count=", "--lower-count"),
-        ("-m 3 --upper-count 4611686018427387905", "--upper-count"),
-        ("-m 3 --high 0", "--high"),
-        ("-m 3 --high 10000001", "--high"),
-        ("--high 0 --batch 0", "--mer-len"),
-        ("-m 3 -t 0 -s 0", "--size"),
-        ("-m 3 --stripes 3 --min-qual-char ab -t 65", "--threads"),
-        (
-            "-m 3 --print x --batch 0 --stripes 0 --min-qual-char ab",
-            "--min-qual-char",
-        ),
-        ("-m 3 --print x --batch 0 --stripes 0", "--stripes"),
-        ("-m 3 --print x --batch 0", "--batch"),
-        (
-            "-m 3 --high 0 --upper-count x --lower-count x --print x",
-            "--print",
-        ),
-        (
-            "-m 3 --high 0 --upper-count x --lower-count x",
-            "--lower-count",
-        ),
-        ("-m 3 --high 0 --upper-count x", "--upper-count"),
-    ];
-    for (arguments, name) in rows {
-        let line = format!(in rt.alloc(); "count {arguments}")?;
-        let wanted = format!(in rt.alloc(); "kcount: 51: bad option {name}\n")?;
-        let got = run(&rt, line.as_str(), b"ACGT\n")?;
-        assert_eq!(rt; got.errors.as_slice(), wanted.as_bytes(), "{arguments}");
-        assert_eq!(rt; got.output.len(), 0, "{arguments}");
-        assert_eq!(rt; got.status, 2, "{arguments}");
+    for (options, name) in BAD_OPTIONS {
+        let line = format!(in rt.alloc(); "count {options}")?;
+        let why = format!(in rt.alloc(); "51: bad option {name}")?;
+        refuses(&rt, line.as_str(), "ACGT\n", 2, why.as_str())?;
     }
     Ok(())
 }
+
+// Options of a count, each at a limit of its values or written in another way.
+const LIMITS: &[&str] = &[
+    "-s 1",
+    "-s 2k",
+    "-s 0000000000000000000000000000100",
+    "-t 64",
+    "--threads=01",
+    "--min-qual-char !",
+    "--min-qual-char ~",
+    "--min-qual-char -",
+    "--stripes 1",
+    "--stripes 64",
+    "--batch 1",
+    "--batch 68719476736",
+    "--lower-count 8",
+    "--upper-count 8",
+    "--upper-count 4611686018427387904",
+    "--high 1",
+    "--high 10000000",
+];
 
 // Values at their limits are taken, and what does not act changes nothing.
 #[test]
 fn values_at_their_limits(rt: HostRuntime) -> Result<(), Fail> {
-    let rows = [
-        "-s 1",
-        "-s 2k",
-        "-s 0000000000000000000000000000100",
-        "-t 64",
-        "--threads=01",
-        "--min-qual-char !",
-        "--min-qual-char ~",
-        "--min-qual-char -",
-        "--stripes 1",
-        "--stripes 64",
-        "--batch 1",
-        "--batch 68719476736",
-        "--lower-count 8",
-        "--upper-count 8",
-        "--upper-count 4611686018427387904",
-        "--high 1",
-        "--high 10000000",
-    ];
-    for arguments in rows {
-        let line = format!(in rt.alloc(); "count -m 3 --print dump --column {arguments}")?;
-        let got = run(&rt, line.as_str(), b">r\nAAAAAAAAAA\n")?;
-        assert_eq!(rt; got.output.as_slice(), b"AAA 8\n".as_slice(), "{arguments}");
-        assert_eq!(rt; got.errors.len(), 0, "{arguments}");
-        assert_eq!(rt; got.status, 0, "{arguments}");
+    for option in LIMITS {
+        let line = format!(in rt.alloc(); "count -m 3 --print dump --column {option}")?;
+        answers(&rt, line.as_str(), ">r\nAAAAAAAAAA\n", "AAA 8\n")?;
     }
     Ok(())
 }
@@ -298,51 +298,59 @@ fn values_at_their_limits(rt: HostRuntime) -> Result<(), Fail> {
 // A blank alone is no quality character.
 #[test]
 fn a_blank_floor_is_refused(rt: HostRuntime) -> Result<(), Fail> {
-    let got = run(&rt, "count -m 3 --print dump --min-qual-char= ", b"")?;
-    assert_eq!(rt; got.status, 2);
-    assert_eq!(rt; got.output.len(), 0);
+    let line = "count,-m,3,--min-qual-char, ";
+    let ran = run_divided(&rt, line, ',', "")?;
+    let errors = "kcount: 51: bad option --min-qual-char\n";
+    assert_ran(&rt, line, &ran, 2, "", errors);
     Ok(())
+}
+
+// Command lines that `clap` refuses.
+const UNKNOWN: &[&str] = &[
+    "frob",
+    "count -m 3 --print dump --frob",
+    "count -m",
+    "count -m 3 -m 4",
+    "count -m -3",
+    "count -m 3 -L 2",
+    "count -m 3 --column=yes",
+    "dump first.kct second.kct",
+    "dump -m 3",
+    "histo -n 3",
+    "stats --high 3",
+    "stats a b",
+    "query",
+    "query table",
+];
+
+// Command lines that ask for help or for the version.
+const HELP: &[&str] = &[
+    "help",
+    "help count",
+    "--help",
+    "count --help",
+    "dump --help",
+    "histo -h",
+    "stats --help",
+    "query --help",
+    "--version",
+];
+
+// Asserts that a command line ended with this status, and wrote a text to the output alone, or to the errors alone.
+fn assert_told<H: Abort>(rt: &H, line: &str, ran: &Ran, status: u8, is_answer: bool) {
+    assert_eq!(rt; ran.status, status, "{line}");
+    assert_eq!(rt; ran.output.is_empty(), !is_answer, "{line}");
+    assert_eq!(rt; ran.errors.is_empty(), is_answer, "{line}");
 }
 
 // What `clap` refuses ends with status 2 and says so on standard error alone; help goes to the output.
 #[test]
 fn command_lines_that_clap_refuses(rt: HostRuntime) -> Result<(), Fail> {
-    for arguments in [
-        "frob",
-        "count -m 3 --print dump --frob",
-        "count -m",
-        "count -m 3 -m 4",
-        "count -m -3",
-        "count -m 3 -L 2",
-        "count -m 3 --column=yes",
-        "dump first.kct second.kct",
-        "dump -m 3",
-        "histo -n 3",
-        "stats --high 3",
-        "stats a b",
-        "query",
-        "query table",
-    ] {
-        let got = run(&rt, arguments, b"")?;
-        assert_eq!(rt; got.status, 2, "{arguments}");
-        assert_eq!(rt; got.output.len(), 0, "{arguments}");
-        assert!(rt; !got.errors.is_empty(), "{arguments}");
+    for line in UNKNOWN {
+        assert_told(&rt, *line, &run(&rt, *line, "")?, 2, false);
     }
-    for arguments in [
-        "help",
-        "help count",
-        "--help",
-        "count --help",
-        "dump --help",
-        "histo -h",
-        "stats --help",
-        "query --help",
-        "--version",
-    ] {
-        let got = run(&rt, arguments, b"")?;
-        assert_eq!(rt; got.status, 0, "{arguments}");
-        assert!(rt; !got.output.is_empty(), "{arguments}");
-        assert_eq!(rt; got.errors.len(), 0, "{arguments}");
+    for line in HELP {
+        assert_told(&rt, *line, &run(&rt, *line, "")?, 0, true);
     }
     Ok(())
 }

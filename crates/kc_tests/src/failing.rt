@@ -1,10 +1,12 @@
 //! Lists of sources, and sources and writers that give or take little, or fail.
 use kc_fastx::{FastxFault, FromBytes, FromRead};
 use kc_tool::{
-    Dump, K, OptionName, Options, Print, ToVec, ToWrite, ToolFault, count_reads, write_fault,
+    Dump, K, OptionName, Options, Print, RunFault, ToVec, ToWrite, ToolFault, count_reads,
+    write_fault,
 };
 use std::io;
 use std::io::{Read, Write};
+use std::process::Abort;
 use std::sync::Wait;
 use std::test::Fail;
 use std::thread::Threads;
@@ -70,6 +72,7 @@ impl Write for Narrow {
     }
 }
 
+// To write the dump of the words of this length in columns.
 fn columns(k: u32) -> Option<Options> {
     Some(
         Options::new(K::new(k)?)
@@ -78,95 +81,128 @@ fn columns(k: u32) -> Option<Options> {
     )
 }
 
-// What a count of these inputs answers, and what it wrote.
+// What a count answered, and what it wrote.
+#[derive(Drop)]
+struct Counted {
+    answer: Result<(), ToolFault>,
+    written: Vec<u8>,
+}
+
+// Asserts that a count answered this and wrote this. A failure tells the number of its row, its reads or its room.
+fn assert_counted<H: Abort>(
+    rt: &H,
+    number: usize,
+    counted: &Counted,
+    answer: &Result<(), ToolFault>,
+    text: &[u8],
+) {
+    assert_eq!(rt; &counted.answer, answer, "{number}");
+    assert_eq!(rt; counted.written.as_slice(), text, "{number}");
+}
+
+// The fault of a source, by its number.
+fn fault_of(source: u64, fault: FastxFault) -> ToolFault {
+    ToolFault::Fastx { source, fault }
+}
+
+// Counts the words of these inputs.
 fn count<H: Threads + Wait + Sync + AllocGlobal>(
     rt: &H,
-    inputs: &[&[u8]],
+    inputs: &[&str],
     options: &Options,
-) -> Result<(Result<(), ToolFault>, Vec<u8>), Fail> {
+) -> Result<Counted, Fail> {
     let alloc = rt.alloc();
     let mut sources = Vec::new(alloc);
     for input in inputs {
-        sources.push(FromBytes::new(*input))?;
+        sources.push(FromBytes::new(input.as_bytes()))?;
     }
     let mut writer = ToVec::new(Vec::new(alloc));
     let answer = count_reads(rt, alloc, sources, options, &mut writer);
-    Ok((answer, writer.into_inner()))
+    let written = writer.into_inner();
+    Ok(Counted { answer, written })
 }
+
+// Sources, and the dump of their words.
+const SOURCES: &[(&[&str], &str)] = &[
+    (&[">a\nAC\n", ">b\nCG\n", ""], "AC 1\nCG 1\n"),
+    (&[">a\nAC\n", "@q\nCG\n+\nII\n", ""], "AC 1\nCG 1\n"),
+    (&["", ">a\nAC", ">b\nAC\n"], "AC 2\n"),
+];
 
 #[test]
 fn sources_are_read_in_order(rt: HostRuntime) -> Result<(), Fail> {
     let options = columns(2).ok_or("a length")?;
-    let rows: [([&[u8]; 3], &[u8]); 3] = [
-        ([b">a\nAC\n", b">b\nCG\n", b""], b"AC 1\nCG 1\n"),
-        ([b">a\nAC\n", b"@q\nCG\n+\nII\n", b""], b"AC 1\nCG 1\n"),
-        ([b"", b">a\nAC", b">b\nAC\n"], b"AC 2\n"),
-    ];
-    for (inputs, text) in rows {
-        let (answer, written) = count(&rt, inputs.as_slice(), &options)?;
-        assert_eq!(rt; answer, Ok(()));
-        assert_eq!(rt; written.as_slice(), text);
+    for (row, (inputs, text)) in SOURCES.iter().enumerate() {
+        let counted = count(&rt, *inputs, &options)?;
+        assert_counted(&rt, row, &counted, &Ok(()), text.as_bytes());
     }
     Ok(())
 }
+
+// Sources, and the fault that is told, with the number of its source.
+const FAULTY_SOURCES: &[(&[&str], u64, FastxFault)] = &[
+    (&[">a\nAC\n", "ACGT\n", "@\n"], 2, FastxFault::BadStart(1)),
+    (&[">a\nA C\n", "ACGT\n", ""], 1, FastxFault::BadBase(2)),
+    (
+        &[">a\nAC\n", ">b\nAC\n", "\n@q\nA"],
+        3,
+        FastxFault::Truncated(3),
+    ),
+];
 
 // The first source with a fault decides, whatever the later ones have.
 #[test]
 fn the_first_faulty_source_is_told(rt: HostRuntime) -> Result<(), Fail> {
     let options = columns(2).ok_or("a length")?;
-    let rows: [([&[u8]; 3], u64, FastxFault); 3] = [
-        ([b">a\nAC\n", b"ACGT\n", b"@\n"], 2, FastxFault::BadStart(1)),
-        ([b">a\nA C\n", b"ACGT\n", b""], 1, FastxFault::BadBase(2)),
-        (
-            [b">a\nAC\n", b">b\nAC\n", b"\n@q\nA"],
-            3,
-            FastxFault::Truncated(3),
-        ),
-    ];
-    for (inputs, source, fault) in rows {
-        let (answer, written) = count(&rt, inputs.as_slice(), &options)?;
-        assert_eq!(rt; answer, Err(ToolFault::Fastx { source, fault }));
-        assert_eq!(rt; written.len(), 0);
+    for (row, (inputs, source, fault)) in FAULTY_SOURCES.iter().enumerate() {
+        let counted = count(&rt, *inputs, &options)?;
+        let told = Err(fault_of(*source, *fault));
+        assert_counted(&rt, row, &counted, &told, b"");
     }
     Ok(())
 }
 
-// Read byte by byte the answer is the same; a read that fails is answered as such, and nothing is written.
-#[test]
-fn slow_and_failing_sources(rt: HostRuntime) -> Result<(), Fail> {
+// Counts the words of a source that gives one byte at a time and fails at its n-th read.
+fn count_slowly<H: Threads + Wait + Sync + AllocGlobal>(
+    rt: &H,
+    reads_until_failure: usize,
+) -> Result<Counted, Fail> {
     let alloc = rt.alloc();
     let options = columns(3).ok_or("a length")?;
-    for n in 0..13 {
-        let slow = Slow {
-            left: b">r1\nACGTA\n",
-            reads_until_failure: n,
-        };
-        let mut sources = Vec::new(alloc);
-        sources.push(FromRead::new(slow))?;
-        let mut writer = ToVec::new(Vec::new(alloc));
-        let answer = count_reads(&rt, alloc, sources, &options, &mut writer);
-        let failed = ToolFault::Fastx {
-            source: 1,
-            fault: FastxFault::Read,
-        };
-        let (wanted, text) = if n <= 10 {
-            (Err(failed), b"".as_slice())
-        } else {
-            (Ok(()), b"ACG 1\nCGT 1\nGTA 1\n".as_slice())
-        };
-        assert_eq!(rt; answer, wanted, "{n}");
-        assert_eq!(rt; writer.as_slice(), text, "{n}");
+    let mut sources = Vec::new(alloc);
+    sources.push(FromRead::new(Slow {
+        left: b">r1\nACGTA\n",
+        reads_until_failure,
+    }))?;
+    let mut writer = ToVec::new(Vec::new(alloc));
+    let answer = count_reads(rt, alloc, sources, &options, &mut writer);
+    let written = writer.into_inner();
+    Ok(Counted { answer, written })
+}
+
+// The dump of `>r1\nACGTA\n`.
+const DUMP: &[u8] = b"ACG 1\nCGT 1\nGTA 1\n";
+
+// A read that fails is answered as such, and nothing is written; read byte by byte the answer is the same.
+#[test]
+fn slow_and_failing_sources(rt: HostRuntime) -> Result<(), Fail> {
+    let failed = Err(fault_of(1, FastxFault::Read));
+    for n in 0..11 {
+        assert_counted(&rt, n, &count_slowly(&rt, n)?, &failed, b"");
+    }
+    for n in 11..13 {
+        assert_counted(&rt, n, &count_slowly(&rt, n)?, &Ok(()), DUMP);
     }
     Ok(())
 }
 
-// What a count answers over such a writer, and what the writer took.
+// Counts the words of a source into such a writer.
 fn count_into<H: Threads + Wait + Sync + AllocGlobal>(
     rt: &H,
     room: usize,
     is_silent: bool,
     is_stuck: bool,
-) -> Result<(Result<(), ToolFault>, Vec<u8>), Fail> {
+) -> Result<Counted, Fail> {
     let alloc = rt.alloc();
     let options = columns(3).ok_or("a length")?;
     let mut sources = Vec::new(alloc);
@@ -178,24 +214,21 @@ fn count_into<H: Threads + Wait + Sync + AllocGlobal>(
         is_stuck,
     });
     let answer = count_reads(rt, alloc, sources, &options, &mut writer);
-    Ok((answer, writer.into_inner().taken))
+    let written = writer.into_inner().taken;
+    Ok(Counted { answer, written })
 }
 
 // A writer that fails after n bytes, or takes no more, has exactly the first n bytes of the dump.
 #[test]
 fn narrow_writers(rt: HostRuntime) -> Result<(), Fail> {
-    let text = b"ACG 1\nCGT 1\nGTA 1\n".as_slice();
+    let failed = Err(ToolFault::Write);
     for is_silent in [false, true] {
-        for room in 0..text.len() + 1 {
-            let (answer, taken) = count_into(&rt, room, is_silent, false)?;
-            let wanted = if room < text.len() {
-                Err(ToolFault::Write)
-            } else {
-                Ok(())
-            };
-            assert_eq!(rt; answer, wanted, "{room}");
-            assert_eq!(rt; taken.as_slice(), &text[..room], "{room}");
+        for room in 0..DUMP.len() {
+            let counted = count_into(&rt, room, is_silent, false)?;
+            assert_counted(&rt, room, &counted, &failed, &DUMP[..room]);
         }
+        let counted = count_into(&rt, DUMP.len(), is_silent, false)?;
+        assert_counted(&rt, DUMP.len(), &counted, &Ok(()), DUMP);
     }
     Ok(())
 }
@@ -203,118 +236,144 @@ fn narrow_writers(rt: HostRuntime) -> Result<(), Fail> {
 // A writer that took all and can't hand it on is a failing one.
 #[test]
 fn a_writer_that_cannot_flush(rt: HostRuntime) -> Result<(), Fail> {
-    let (answer, taken) = count_into(&rt, 100, false, true)?;
-    assert_eq!(rt; answer, Err(ToolFault::Write));
-    assert_eq!(rt; taken.as_slice(), b"ACG 1\nCGT 1\nGTA 1\n".as_slice());
+    let counted = count_into(&rt, 100, false, true)?;
+    assert_counted(&rt, 100, &counted, &Err(ToolFault::Write), DUMP);
     Ok(())
 }
+
+// A dump with tabs in its columns.
+const TABS: Dump = Dump {
+    column: true,
+    tab: true,
+    lower: 0,
+    upper: 1,
+};
 
 // Bounds of a dump both count; a tab stands in columns alone.
 #[test]
 fn bounds_and_tabs(rt: HostRuntime) -> Result<(), Fail> {
-    let k = K::new(3).ok_or("a length")?;
-    let mut tabs = Dump::in_columns();
-    tabs.tab = true;
-    let rows: [(Dump, &[u8]); 6] = [
-        (Dump::in_lines().between(2, 1 << 62), b">2\nACG\n"),
-        (Dump::in_columns().between(2, 2), b"ACG 2\n"),
-        (Dump::in_columns().between(0, 1), b"GTA 1\n"),
-        (tabs.between(0, 1), b"GTA\t1\n"),
-        (Dump::in_columns().between(3, 1 << 62), b""),
-        (Dump::in_columns().between(2, 1), b""),
+    let options = Options::new(K::new(3).ok_or("a length")?)
+        .with_both(true)
+        .with_print(Print::Dump);
+    let rows: [(Dump, &str); 6] = [
+        (Dump::in_lines().between(2, 1 << 62), ">2\nACG\n"),
+        (Dump::in_columns().between(2, 2), "ACG 2\n"),
+        (Dump::in_columns().between(0, 1), "GTA 1\n"),
+        (TABS, "GTA\t1\n"),
+        (Dump::in_columns().between(3, 1 << 62), ""),
+        (Dump::in_columns().between(2, 1), ""),
     ];
-    for (dump, text) in rows {
-        let options = Options::new(k)
-            .with_both(true)
-            .with_print(Print::Dump)
-            .with_dump(dump);
-        let (answer, written) = count(&rt, &[b">r1\nACGTA\n".as_slice()], &options)?;
-        assert_eq!(rt; answer, Ok(()));
-        assert_eq!(rt; written.as_slice(), text);
+    for (row, (dump, text)) in rows.iter().enumerate() {
+        let counted = count(&rt, &[">r1\nACGTA\n"], &options.with_dump(*dump))?;
+        assert_counted(&rt, row, &counted, &Ok(()), text.as_bytes());
     }
     Ok(())
 }
 
-// The line that a fault writes.
-fn line_of(rt: &HostRuntime, fault: ToolFault) -> Result<Vec<u8>, Fail> {
+// Asserts that a fault writes this line.
+fn assert_line<H: Abort + AllocGlobal>(rt: &H, fault: &ToolFault, line: &str) {
     let mut writer = ToVec::new(Vec::new(rt.alloc()));
-    write_fault(&mut writer, &fault)?;
-    Ok(writer.into_inner())
+    assert!(rt; write_fault(&mut writer, fault).is_ok(), "{line}");
+    assert_eq!(rt; writer.as_slice(), line.as_bytes(), "{line}");
 }
+
+// Faults of the seventh source, and their lines.
+const SOURCE_FAULTS: &[(FastxFault, &str)] = &[
+    (
+        FastxFault::BadStart(1),
+        "kcount: 1: bad start, source 7, line 1\n",
+    ),
+    (
+        FastxFault::BadBase(22),
+        "kcount: 2: bad base, source 7, line 22\n",
+    ),
+    (
+        FastxFault::BadQuality(333),
+        "kcount: 3: bad quality, source 7, line 333\n",
+    ),
+    (
+        FastxFault::LongQuality(4),
+        "kcount: 4: long quality, source 7, line 4\n",
+    ),
+    (
+        FastxFault::Truncated(5),
+        "kcount: 5: truncated, source 7, line 5\n",
+    ),
+    (FastxFault::TooLong, "kcount: 6: too long, source 7\n"),
+    (FastxFault::Read, "kcount: 7: read failed, source 7\n"),
+    (FastxFault::Memory, "kcount: 8: no memory\n"),
+];
 
 // Each fault of a source has its line.
 #[test]
-fn lines_of_source_faults(rt: HostRuntime) -> Result<(), Fail> {
-    let rows: [(FastxFault, &str); 8] = [
-        (FastxFault::BadStart(1), "1: bad start, source 7, line 1"),
-        (FastxFault::BadBase(22), "2: bad base, source 7, line 22"),
-        (
-            FastxFault::BadQuality(333),
-            "3: bad quality, source 7, line 333",
-        ),
-        (
-            FastxFault::LongQuality(4),
-            "4: long quality, source 7, line 4",
-        ),
-        (FastxFault::Truncated(5), "5: truncated, source 7, line 5"),
-        (FastxFault::TooLong, "6: too long, source 7"),
-        (FastxFault::Read, "7: read failed, source 7"),
-        (FastxFault::Memory, "8: no memory"),
-    ];
-    for (fault, text) in rows {
-        let line = line_of(&rt, ToolFault::Fastx { source: 7, fault })?;
-        let wanted = format!(in rt.alloc(); "kcount: {text}\n")?;
-        assert_eq!(rt; line.as_slice(), wanted.as_bytes());
+fn lines_of_source_faults(rt: HostRuntime) {
+    for (fault, line) in SOURCE_FAULTS {
+        assert_line(&rt, &fault_of(7, *fault), *line);
     }
-    Ok(())
 }
 
-// So has each fault of a table and of a query.
+// So has each fault of a table, of a query, of the writer and of memory.
 #[test]
-fn lines_of_table_and_query_faults(rt: HostRuntime) -> Result<(), Fail> {
-    let rows: [(ToolFault, &str); 6] = [
-        (ToolFault::BadHeader, "41: bad header"),
-        (ToolFault::BadRow(1), "42: bad row, line 1"),
-        (ToolFault::BadEnd, "43: bad end"),
-        (ToolFault::TableTooLong, "44: table too long"),
-        (ToolFault::TableRead, "45: table read failed"),
-        (ToolFault::BadWord(20), "52: bad word 20"),
-    ];
-    for (fault, text) in rows {
-        let line = line_of(&rt, fault)?;
-        let wanted = format!(in rt.alloc(); "kcount: {text}\n")?;
-        assert_eq!(rt; line.as_slice(), wanted.as_bytes());
+fn lines_of_table_and_query_faults(rt: HostRuntime) {
+    for (fault, line) in [
+        (ToolFault::BadHeader, "kcount: 41: bad header\n"),
+        (ToolFault::BadRow(1), "kcount: 42: bad row, line 1\n"),
+        (ToolFault::BadEnd, "kcount: 43: bad end\n"),
+        (ToolFault::TableTooLong, "kcount: 44: table too long\n"),
+        (ToolFault::TableRead, "kcount: 45: table read failed\n"),
+        (ToolFault::BadWord(20), "kcount: 52: bad word 20\n"),
+        (ToolFault::Memory, "kcount: 46: no memory\n"),
+        (ToolFault::Write, "kcount: 53: write failed\n"),
+    ] {
+        assert_line(&rt, &fault, line);
     }
-    Ok(())
 }
+
+// Options whose value can be refused, and their lines.
+const OPTION_FAULTS: &[(OptionName, &str)] = &[
+    (OptionName::MerLen, "kcount: 51: bad option --mer-len\n"),
+    (OptionName::Size, "kcount: 51: bad option --size\n"),
+    (OptionName::Threads, "kcount: 51: bad option --threads\n"),
+    (
+        OptionName::MinQualChar,
+        "kcount: 51: bad option --min-qual-char\n",
+    ),
+    (OptionName::Stripes, "kcount: 51: bad option --stripes\n"),
+    (OptionName::Batch, "kcount: 51: bad option --batch\n"),
+    (OptionName::Print, "kcount: 51: bad option --print\n"),
+    (
+        OptionName::LowerCount,
+        "kcount: 51: bad option --lower-count\n",
+    ),
+    (
+        OptionName::UpperCount,
+        "kcount: 51: bad option --upper-count\n",
+    ),
+    (OptionName::High, "kcount: 51: bad option --high\n"),
+];
+
+// Runs that were refused, and their lines.
+const RUN_FAULTS: &[(RunFault, &str)] = &[
+    (RunFault::Foreign(3), "kcount: 31: foreign stripe 3\n"),
+    (
+        RunFault::NoThread(63),
+        "kcount: 33: no thread for worker 63\n",
+    ),
+    (RunFault::Memory, "kcount: 34: no memory\n"),
+    (RunFault::Full(0), "kcount: 35: stripe 0 is full\n"),
+];
 
 // So has each other fault.
 #[test]
 fn lines_of_other_faults(rt: HostRuntime) -> Result<(), Fail> {
-    let rows: [(ToolFault, &str); 6] = [
-        (ToolFault::Memory, "46: no memory"),
-        (
-            ToolFault::BadOption(OptionName::MerLen),
-            "51: bad option --mer-len",
-        ),
-        (
-            ToolFault::BadOption(OptionName::MinQualChar),
-            "51: bad option --min-qual-char",
-        ),
-        (
-            ToolFault::BadOption(OptionName::Batch),
-            "51: bad option --batch",
-        ),
-        (
-            ToolFault::BadOption(OptionName::Print),
-            "51: bad option --print",
-        ),
-        (ToolFault::Write, "53: write failed"),
-    ];
-    for (fault, text) in rows {
-        let line = line_of(&rt, fault)?;
-        let wanted = format!(in rt.alloc(); "kcount: {text}\n")?;
-        assert_eq!(rt; line.as_slice(), wanted.as_bytes());
+    for (name, line) in OPTION_FAULTS {
+        assert_line(&rt, &ToolFault::BadOption(*name), *line);
     }
+    for (fault, line) in RUN_FAULTS {
+        assert_line(&rt, &ToolFault::Run(*fault), *line);
+    }
+    let name = String::from_str(rt.alloc(), "no such file")?;
+    let line = "kcount: 54: cannot open no such file\n";
+    assert_line(&rt, &ToolFault::OpenFailed(name), line);
     Ok(())
 }

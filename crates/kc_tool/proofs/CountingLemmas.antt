@@ -1,26 +1,16 @@
 -- From the tally of batches to the tally of reads, and what a count asks for.
-use Rattle.std.proofs.Common.{◌≡◌, ◌<◌, ◌≤◌, ◌+◌, ◌-◌, ◌*◌, ◌/◌, ◌%◌, ◌^◌, ℕ, zero, suc, Bool, true, false, List, [], ◌∷◌, length, map, refl, sym, ◌∙◌, ap, subst, arith, below_more}
+use Rattle.std.proofs.Common.{◌≡◌, ◌<◌, ◌≤◌, ◌+◌, ◌-◌, ◌*◌, ◌%◌, ◌^◌, ℕ, zero, suc, Bool, true, false, List, [], ◌∷◌, length, refl, ◌∙◌, ap, subst, arith, below_more}
 use Rattle.std.specs.Prelude.{◌==◌, All, sum_by}
-use Rattle.std.specs.List.{flat_map}
 use Rattle.std.proofs.lemmas.Bool.{eqb-false, eqb-true}
-use Rattle.std.proofs.lemmas.List.{length-map}
 use Rattle.std.proofs.lemmas.List.Elements.{All-cons, All-head, All-nil, All-tail}
-use Rattle.std.proofs.lemmas.List.Sums.{sum_by-append, sum_by-cons}
 use Rattle.std.proofs.Math.Nat.{div-le_of_le-mul}
-use Rattle.kc_fastx.specs.Reads.{Read, base_count}
+use Rattle.kc_fastx.specs.Reads.{Read}
 use Rattle.kc_hash.specs.Product.{IsNonsingular, identity}
 use Rattle.kc_hash.specs.Seeds.{NoneIsNonsingular, turn_columns}
 use Rattle.kc_hash.proofs.Generator.{length-seed_columns}
 use Rattle.kc_hash.proofs.Linear.{length-identity}
-use Rattle.kc_word.specs.Cutting.{NumberedPieces, as_reads, batch_count, cleaned, cutting, position_total}
-use Rattle.kc_word.specs.Laws.{CuttingOccurrences, CuttingPositions, PositionsWithinBytes}
-use Rattle.kc_word.specs.Occurrences.{occurrences, occurrences_in}
-use Rattle.kc_word.specs.Rule.{CountingRule}
-use Rattle.kc_word.specs.Word.{text}
-use Rattle.kc_word.proofs.Cleaning.{length-cleaned}
+use Rattle.kc_word.specs.Cutting.{batch_count, cutting, position_total}
 use Rattle.kc_word.proofs.Cuttings.{cutting-positions, length-cutting, position_total-le}
-use Rattle.kc_tally.specs.Tally.{IsTallyOf, TallySeen}
-use Rattle.kc_stripe.specs.Stripe.{reads_in}
 use Rattle.kc_gather.specs.Gathering.{position_sum}
 use Rattle.kc_tool.specs.Counting.{IsCountingFault}
 use Rattle.kc_tool.specs.Reading.{ReadsSources, RefusesSources}
@@ -28,43 +18,9 @@ use Rattle.kc_tool.specs.declared.faults.ToolFault.{ToolFault}
 use Rattle.kc_tool.specs.declared.faults.ToolFault.TheVariants.{Fastx, BadHeader, BadRow, BadEnd, TableTooLong, TableRead, Memory, BadOption, BadWord, Write, Run, OpenFailed}
 use Rattle.kc_io.specs.Sources.{Seen}
 
--- A word occurs in the batches together as often as in their reads.
-occurrences_joined : (rule : CountingRule) (batches : List NumberedPieces) (word : List ℕ)
-    → occurrences rule (reads_in batches) word ≡ sum_by (λ batch. occurrences rule (as_reads batch.pieces) word) batches
-unfolding occurrences
-occurrences_joined rule [] word = refl
-occurrences_joined rule (batch ∷ batches) word =
-    sum_by-append (λ read. occurrences_in rule read word) (as_reads batch.pieces) (reads_in batches)
-    ∙ ap (λ n. sum_by (λ read. occurrences_in rule read word) (as_reads batch.pieces) + n) (occurrences_joined rule batches word)
-    ∙ sym (sum_by-cons (λ batch. occurrences rule (as_reads batch.pieces) word) batch batches)
-
--- The tally of the batches of a cutting of cleaned reads is the tally of the reads.
-pub tally_of_cutting : CuttingOccurrences → (rule : CountingRule) (size : ℕ) (reads : List Read) (tally : TallySeen) → 1 ≤ rule.k → 1 ≤ size
-    → IsTallyOf rule (reads_in (cutting rule.k size (map (λ read. cleaned rule read) reads))) tally → IsTallyOf rule reads tally
-tally_of_cutting law rule size reads tally some room h = record {
-  k = h.k;
-  both = h.both;
-  rows = record {
-    ordered = h.rows.ordered;
-    counts = λ n below. h.rows.counts n below ∙ occurrences_joined rule (cutting rule.k size (map (λ read. cleaned rule read) reads)) (text rule.k n)
-        ∙ law rule size reads (text rule.k n) some room;
-  };
-}
-
-bases_of_pieces : (rule : CountingRule) (reads : List Read) → sum_by (λ piece. length piece) (map (λ read. cleaned rule read) reads) ≡ base_count reads
-bases_of_pieces rule [] = refl
-bases_of_pieces rule (read ∷ reads) =
-    sum_by-cons (λ piece. length piece) (cleaned rule read) (map (λ read. cleaned rule read) reads)
-    ∙ omega (arith, length-cleaned rule read, bases_of_pieces rule reads, sum_by-cons (λ (read : Read). length read.bases) read reads)
-
--- The pieces of reads have at most as many positions as the reads have bases.
-few_positions : (rule : CountingRule) (reads : List Read) → 1 ≤ rule.k → position_total rule.k (map (λ read. cleaned rule read) reads) ≤ base_count reads
-few_positions rule reads some = omega (arith, position_total-le rule.k (map (λ read. cleaned rule read) reads) some, bases_of_pieces rule reads)
-
--- So have the batches of a cutting of them.
-pub small_cutting : (rule : CountingRule) (size : ℕ) (reads : List Read) → 1 ≤ rule.k → 1 ≤ size
-    → position_sum rule.k (cutting rule.k size (map (λ read. cleaned rule read) reads)) ≤ base_count reads
-small_cutting rule size reads some room = rw (cutting-positions rule.k size (map (λ read. cleaned rule read) reads) some room) (few_positions rule reads some)
+-- The batches of a cutting have no more positions than the pieces have letters.
+pub small_cutting : (k size : ℕ) (pieces : List (List ℕ)) → 1 ≤ k → 1 ≤ size → position_sum k (cutting k size pieces) ≤ sum_by (λ piece. length piece) pieces
+small_cutting k size pieces some room = rw (cutting-positions k size pieces some room) (position_total-le k pieces some)
 
 grows : (more n : ℕ) → n ≤ (more + 1) * n
 grows more n = omega arith
@@ -73,14 +29,12 @@ not_less : (size n : ℕ) → 1 ≤ size → n ≤ size * n
 not_less size n room = let same : (size - 1) + 1 ≡ size = omega arith in subst (λ v. n ≤ v * n) same (grows (size - 1) n)
 
 -- A cutting has at most one batch more than positions.
-pub few_batches : (rule : CountingRule) (size : ℕ) (reads : List Read) → 1 ≤ rule.k → 1 ≤ size
-    → length (cutting rule.k size (map (λ read. cleaned rule read) reads)) ≤ base_count reads + 1
-few_batches rule size reads some room =
-    let pieces = map (λ read. cleaned rule read) reads in
-    let total = position_total rule.k pieces in
+pub few_batches : (k size : ℕ) (pieces : List (List ℕ)) → 1 ≤ k → 1 ≤ size → length (cutting k size pieces) ≤ sum_by (λ piece. length piece) pieces + 1
+few_batches k size pieces some room =
+    let total = position_total k pieces in
     let within : total + size - 1 ≤ size * (total + 1) = omega (arith, not_less size total room) in
-    let batches : batch_count rule.k size pieces ≤ total + 1 = div-le_of_le-mul size within in
-    omega (arith, length-cutting rule.k size pieces, batches, few_positions rule reads some)
+    let batches : batch_count k size pieces ≤ total + 1 = div-le_of_le-mul size within in
+    omega (arith, length-cutting k size pieces, batches, position_total-le k pieces some)
 
 -- What holds of each element by two facts.
 pub All-both : {X : Type 0} (P Q : X → Type 0) (xs : List X) → All P xs → All Q xs → All (λ x. P x × Q x) xs

@@ -5,6 +5,7 @@ pub mod FaultLinesLemmas
 pub mod FilesLemmas
 pub mod NumbersLemmas
 pub mod ReadingLemmas
+pub mod ReportingLemmas
 pub mod RunningLemmas
 pub mod SourcesLemmas
 pub mod TasksLemmas

@@ -128,8 +128,8 @@ two_bad = count_with (codes "-t" ∷ codes "0" ∷ codes "-s" ∷ codes "0" ∷ 
 abbrev pub many_stripes : List Text
 many_stripes = count_with (codes "-m" ∷ codes "1" ∷ codes "--stripes" ∷ codes "64" ∷ [])
 
--- of several bad values the first in the order of the help is told; `--mer-len` has to be given; and stripes are lowered
--- to the number of words
+-- of several bad values the first in the order of the help is told; `--mer-len` has to be given; and stripes are
+-- lowered to the number of words
 pub record JudgesInOrder : Type 0 where
   pub first : first_bad (options_of two_bad) ≡ Some option.Size
   pub mer_len : first_bad (options_of (count_with (codes "--batch=0" ∷ codes "-m32" ∷ []))) ≡ Some option.MerLen

@@ -1,11 +1,13 @@
 -- The reads of all sources of one count: source, our formats page.
-use Rattle.std.specs.Prelude.{◌≤◌, ◌-◌, ℕ, List, [], ◌∷◌, length, ⊤}
+use Rattle.std.specs.Prelude.{◌≡◌, ◌≤◌, ◌-◌, ℕ, List, [], ◌∷◌, ◌++◌, length, map, ⊤}
 use Rattle.std.specs.List.{concat}
 use Rattle.kc_io.specs.Sources.{Seen}
 use Rattle.kc_io.specs.Taking.{TakesAll}
-use Rattle.kc_fastx.specs.Parsing.{HaveReads, IsFirstFaulty, RefusesFor, most_bytes}
+use Rattle.kc_fastx.specs.Parsing.{GivesReads, HaveReads, IsFirstFaulty, RefusesFor, most_bytes}
 use Rattle.kc_fastx.specs.Reads.{Read}
 use Rattle.kc_fastx.specs.declared.faults.FastxFault.{FastxFault}
+use Rattle.kc_word.specs.Cutting.{cleaned}
+use Rattle.kc_word.specs.Rule.{CountingRule}
 use Rattle.kc_tool.specs.declared.faults.ToolFault.{ToolFault}
 use Rattle.kc_tool.specs.declared.faults.ToolFault.TheVariants.{Fastx, Memory, Run}
 
@@ -28,6 +30,24 @@ pub record GaveReads {S : Type 0} (seen : S → Seen) (sources : List S) (inputs
 -- the sources have these reads
 abbrev pub ReadsSources : {S : Type 0} → (S → Seen) → List S → List Read → Type 0
 ReadsSources seen sources reads = (inputs : List (List ℕ)) × GaveReads seen sources inputs reads
+
+-- the pieces are those of the reads that the sources have
+abbrev pub HavePieces : {S : Type 0} → (S → Seen) → List S → CountingRule → List (List ℕ) → Type 0
+HavePieces seen sources rule pieces =
+    (reads : List Read) × ReadsSources seen sources reads × (pieces ≡ map (λ read. cleaned rule read) reads)
+
+-- the source gave `count` bytes, and the pieces of their reads stand behind those that were there
+pub record GivesPieces (old new : Seen) (limit : ℕ) (rule : CountingRule) (count : ℕ) (before after : List (List ℕ))
+    : Type 0 where
+  pub reads : List Read
+  pub given : GivesReads old new limit reads count
+  pub behind : after ≡ before ++ map (λ read. cleaned rule read) reads
+
+-- why the number-th source gave no pieces; of want of memory outside its reader nothing is said
+abbrev pub RefusesSource : Seen → Seen → ℕ → ℕ → ToolFault → Type 0
+RefusesSource old new number limit (Fastx source fault) = (source ≡ number) × RefusesFor old new limit fault
+RefusesSource old new number limit Memory = ⊤
+RefusesSource old new number limit _ = ⊥
 
 -- the source was refused with this fault, where the sources before it gave these inputs
 abbrev pub IsRefusedBehind : {S : Type 0} → (S → Seen) → List (List ℕ) → S → FastxFault → Type 0

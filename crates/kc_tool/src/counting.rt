@@ -1,8 +1,7 @@
-//! Counting words: reads are cleaned, cut into batches, and counted by as many threads as are asked for.
-ghost use Rattle.std.specs.Prelude.{◌≡◌, ◌≤◌, ◌^◌, IfOk, IfErr, map};
-ghost use Rattle.kc_fastx.specs.Reads.{base_count};
-ghost use Rattle.kc_word.specs.Cutting.{cleaned, cutting};
-ghost use Rattle.kc_word.specs.Shared.{values};
+//! Counting words: pieces are cut into batches, and counted by as many threads as are asked for.
+ghost use Rattle.std.specs.Prelude.{◌≡◌, ◌≤◌, ◌^◌, List, length, IfOk, IfErr, map, sum_by};
+ghost use Rattle.kc_fastx.specs.Reads.{Read};
+ghost use Rattle.kc_word.specs.Cutting.{cleaned};
 ghost use Rattle.kc_tally.specs.Tally.{IsTallyOf};
 ghost use Rattle.kc_stripe.specs.Setup.{stripe_count};
 ghost use Rattle.kc_tool.specs.Counting.{IsCountingFault};
@@ -10,20 +9,21 @@ ghost use Rattle.kc_tool.specs.Settings.{rule_of};
 
 use crate::faults::ToolFault;
 use crate::settings::Options;
-use kc_fastx::SeqRead;
+use kc_gather::laws;
 use kc_hash::Hash;
 use kc_run::{NoGate, quotient_tables, run};
 use kc_stripe::Setup;
 use kc_tally::Tally;
-use kc_word::{Batch, Piece, Rule, clean, cut, laws};
-use std::alloc::{AllocError, Global};
-use std::sync::{Arc, Wait};
+use kc_word::{Piece, cut};
+use std::alloc::Global;
+use std::sync::Wait;
 use std::thread::Threads;
 
 /// The seed of the hash that divides the words among the stripes. No report depends on it.
 const SEED: u64 = 1;
 
-/// The tally of reads that have at most 2^36 bases together, counted as the options say.
+/// The tally of the reads that have these pieces, counted as the options say. Condition: the pieces have at most 2^36
+/// letters together.
 ///
 /// # Errors
 /// `Run` where a thread, a place in a table or memory for them was refused. `Memory` where a growth was refused
@@ -31,18 +31,20 @@ const SEED: u64 = 1;
 pub(crate) fn tally_of<H: Threads + Wait + Sync>(
     rt: &H,
     alloc: Global,
-    reads: &[SeqRead],
+    pieces: Vec<Piece>,
     options: &Options,
 ) -> Result<Tally, ToolFault>
-    requires few { base_count reads.now ≤ 2 ^ 36 }
-    ensures tally { IfOk result (IsTallyOf (rule_of options.now) reads.now) }
+    requires few { sum_by (λ piece. length piece) pieces.items ≤ 2 ^ 36 }
+    ensures tally { IfOk result (λ tally. (reads : List Read)
+        → pieces.items ≡ map (λ read. cleaned (rule_of options.now) read) reads
+        → IsTallyOf (rule_of options.now) reads tally) }
     ensures fault { IfErr result IsCountingFault }
 {
     let rule = options.rule();
-    // what is known of a length, and of cuttings
+    // what is known of a length, and of the tally of a cutting
     let _bases = rule.k().get();
-    laws::cutting_occurrences();
-    let batches = batches_of(alloc, reads, &rule, options.batch())?;
+    laws::tally_of_cutting();
+    let batches = cut(alloc, pieces, rule.k(), options.batch())?;
     let setup = setup_of(options);
     let tables = quotient_tables(alloc, &setup, options.size())?;
     let tally = run(
@@ -68,29 +70,4 @@ fn setup_of(options: &Options) -> Setup
         unreachable!()
     };
     setup
-}
-
-// The reads cleaned and cut into batches of `size` positions.
-fn batches_of(
-    alloc: Global,
-    reads: &[SeqRead],
-    rule: &Rule,
-    size: u64,
-) -> Result<Vec<Arc<Batch>>, AllocError>
-    requires { 1 ≤ size }
-    ensures { IfOk result (λ batches. values batches.items
-        ≡ cutting rule.now.k size (map (λ read. cleaned rule.now read) reads.now)) }
-{
-    cut(alloc, clean_all(alloc, reads, rule)?, rule.k(), size)
-}
-
-// The pieces of the reads.
-fn clean_all(alloc: Global, reads: &[SeqRead], rule: &Rule) -> Result<Vec<Piece>, AllocError>
-    ensures { IfOk result (λ pieces. pieces.items ≡ map (λ read. cleaned rule.now read) reads.now) }
-{
-    let mut pieces = Vec::with_capacity(alloc, reads.len())?;
-    for read in reads {
-        pieces.push(clean(alloc, read, rule)?)?;
-    }
-    Ok(pieces)
 }

@@ -5,7 +5,7 @@ ghost use Rattle.kc_tool.specs.Reporting.{IsWritable, WritesText, report_of, rep
 
 use crate::counting::tally_of;
 use crate::faults::ToolFault;
-use crate::reading::read_sources;
+use crate::reading::clean_sources;
 use crate::settings::{Options, Print};
 use kc_io::{Sink, Source};
 use kc_report::{write_dump, write_histo, write_stats, write_table};
@@ -49,8 +49,8 @@ pub fn count_reads<H: Threads + Wait + Sync, R: Source + Drop, W: Sink>(
     ensures refused { IfErr result (λ fault. fault ≢ ToolFault.Write
         → LeavesUnwritten R.seen sources.items (W.seen writer.old) (W.seen writer.new) fault) }
 {
-    let reads = read_sources(alloc, sources)?;
-    let tally = tally_of(rt, alloc, &reads, options)?;
+    let pieces = clean_sources(alloc, sources, &options.rule())?;
+    let tally = tally_of(rt, alloc, pieces, options)?;
     write_report(alloc, writer, &tally, report_of(options))
 }
 

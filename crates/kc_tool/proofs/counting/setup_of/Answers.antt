@@ -1,4 +1,4 @@
-use Rattle.std.proofs.Common.{◌≡◌, ◌∙◌, ◌≤◌, ◌*◌, ◌^◌, ap, sym, subst, true, false}
+use Rattle.std.proofs.Common.{◌≡◌, ◌∙◌, ◌*◌, ap, true, false}
 use Rattle.kc_tool.proofs.CountingLemmas.{seeded_bits}
 use Rattle.kc_tool.proofs.counting.setup_of.Goals as goal
 

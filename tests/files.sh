@@ -1,0 +1,95 @@
+#!/bin/bash
+# Runs the program over files that are missing, that are directories, or that the output empties, and compares what it says,
+# how it ends and what it leaves in the file of its output:
+#   tests/files.sh
+# No contract tells what a file holds, so this is seen here alone. It needs bin/kcount.
+set -euo pipefail
+here=$(cd "$(dirname "$0")" && pwd)
+kcount=$here/../bin/kcount
+[ -x "$kcount" ] || { echo "no bin/kcount: run make build first"; exit 1; }
+work=$(mktemp -d)
+trap 'rm -rf "$work"' EXIT
+mkdir "$work/here" "$work/here/a-directory"
+cd "$work/here"
+
+# The files that each command line finds: two sources, a table of the first, and an output with an old text.
+set_up() {
+    printf '>r1\nACGTA\n' > one.fa
+    printf '@r2\nCCC\n+\nIII\n' > two.fq
+    printf '>r1\nA@C\n' > bad.fa
+    printf 'KCT 1 3 s\nACG 1\nCGT 1\nGTA 1\nEND 3 3\n' > one.kct
+    printf 'old\n' > out
+}
+
+ran=0
+# Runs `kcount` with these arguments, and compares its status, its output, its errors and the file `out`, each of which is
+# written without the line feed at its end.
+wants() {
+    local status=$1 output=$2 errors=$3 left=$4 got=0
+    shift 4
+    set_up
+    "$kcount" "$@" > "$work/output" 2> "$work/errors" < one.fa || got=$?
+    same "its status" "$status" "$got" "$@"
+    same "its output" "$output" "$(cat "$work/output")" "$@"
+    same "its errors" "$errors" "$(cat "$work/errors")" "$@"
+    same "the file out" "$left" "$(cat out)" "$@"
+    ran=$((ran + 1))
+}
+same() {
+    local what=$1 wanted=$2 got=$3
+    shift 3
+    [ "$wanted" = "$got" ] && return
+    printf 'files: %s of kcount %s\nwanted: %s\ngot: %s\n' "$what" "$*" "$wanted" "$got"
+    exit 1
+}
+
+one=$'ACG 1\nCGT 1\nGTA 1'
+table=$'KCT 1 3 s\nACG 1\nCGT 1\nGTA 1\nEND 3 3'
+count=(count -m 3 --print dump --column)
+
+# files are read in order, and standard input only where none is named
+wants 0 "$one" '' old "${count[@]}"
+wants 0 "$one" '' old "${count[@]}" one.fa
+wants 0 $'ACG 1\nCCC 1\nCGT 1\nGTA 1' '' old "${count[@]}" one.fa two.fq
+wants 0 'CCC 2' '' old "${count[@]}" two.fq two.fq
+wants 1 '' 'kcount: 2: bad base, source 2, line 2' old "${count[@]}" one.fa bad.fa two.fq
+wants 0 "$one" '' old dump -c one.kct
+wants 0 'CGT 1' '' old query one.kct cgt
+
+# the file of the output has what would have been printed
+wants 0 '' '' "$one" "${count[@]}" -o out one.fa
+wants 0 '' '' "$table" count -m 3 -o out one.fa
+wants 0 '' '' "$one" dump -c -o out one.kct
+wants 0 '' '' 'ACG 1' query -o out one.kct ACG
+# a fault of the work comes behind its creation
+wants 1 '' 'kcount: 2: bad base, source 1, line 2' '' "${count[@]}" -o out bad.fa
+wants 1 '' 'kcount: 41: bad header' '' dump -o out one.fa
+# a file that is read and written is emptied before it is read
+wants 0 '' '' $'KCT 1 3 s\nEND 0 0' count -m 3 -o out out
+wants 1 '' 'kcount: 41: bad header' '' dump -o out out
+
+# a file that can't be opened is told, the first of several, before the file of the output is emptied
+wants 1 '' 'kcount: 54: cannot open missing' old "${count[@]}" missing
+wants 1 '' 'kcount: 54: cannot open missing' old "${count[@]}" -o out one.fa missing lost bad.fa
+wants 1 '' 'kcount: 54: cannot open missing' old stats -o out missing
+wants 1 '' 'kcount: 54: cannot open missing' old query -o out missing ACG
+wants 1 '' 'kcount: 54: cannot open ' old "${count[@]}" ''
+# so is a file that can't be created, before anything is read
+wants 1 '' 'kcount: 54: cannot open no-such/out' old "${count[@]}" -o no-such/out bad.fa
+wants 1 '' 'kcount: 54: cannot open a-directory' old "${count[@]}" -o a-directory bad.fa
+wants 1 '' 'kcount: 54: cannot open missing' old "${count[@]}" -o no-such/out missing
+# a directory opens, and then can't be read
+wants 1 '' 'kcount: 7: read failed, source 1' old "${count[@]}" a-directory
+wants 1 '' 'kcount: 7: read failed, source 2' '' "${count[@]}" -o out one.fa a-directory
+wants 1 '' 'kcount: 45: table read failed' old stats a-directory
+
+# a bad option is told before a file is looked for
+wants 2 '' 'kcount: 51: bad option --mer-len' old count -m 32 -o out missing
+# an argument that is not UTF-8 refuses the command line
+wants 2 '' 'kcount: an argument is not UTF-8' old "${count[@]}" -o out $'\xff'
+
+# an output that takes nothing
+if [ -c /dev/full ]; then
+    wants 1 '' 'kcount: 53: write failed' old "${count[@]}" -o /dev/full one.fa
+fi
+echo "files: $ran command lines said what they should, and left what they should in the file of the output"
