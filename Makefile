@@ -5,7 +5,7 @@ CRATE ?=
 # The crates with a test that tests/memory.sh runs with each growth refused.
 TESTS_OF_MEMORY = kc_report kc_run kc_table kc_stripe kc_gather
 
-.PHONY: build demo check edits memory options examples test bench figures install clean help
+.PHONY: build demo check edits memory files options examples test bench figures install clean help
 
 build: ## proves the program and everything below it, and builds it as bin/kcount
 	cd crates/kcount && rt run -- --version > /dev/null
@@ -24,13 +24,16 @@ memory: build ## refuses each growth of memory in turn
 	for crate in $(TESTS_OF_MEMORY); do (cd crates/$$crate && rt test) || exit 1; done
 	tests/memory.sh
 
+files: build ## runs the program over files that are missing, are directories or are emptied
+	tests/files.sh
+
 options: build ## compares the options of the man page and the completions with the help
 	tests/options.sh
 
 examples: build ## runs the examples of README.md and docs/USING.md as they are written
 	tests/examples.sh
 
-test: ## the gate: all proofs from nothing, the edits that must fail, the tests, the stored run; then memory, options, examples
+test: ## the gate: all proofs from nothing, the edits that must fail, the tests, the stored run; then memory, files, options, examples
 	tests/gate.sh
 
 bench: build ## runs the benchmarks and prints the table of docs/STATUS.md

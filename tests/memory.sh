@@ -95,23 +95,25 @@ booked_again() {
 booked_again a_refused_growth_leaves_the_stripe 74 "the stripe stays"
 booked_again a_refused_growth_leaves_the_share 39 "the share stays"
 
-# Gathering answers 34 and no tally where memory is refused, and the same tally where it does without, as without a thread.
-# Where a growth outside the gathering is refused, the test ends.
-test=tests::a_refused_growth_gives_no_tally
-answered=0
-passed=0
-for n in $(seq 1 2000); do
-    if refused_test kc_gather "$test" "$n"; then
-        passed=$((passed + 1))
-        [ "$passed" -lt 20 ] || break
-    else
-        passed=0
-        if grep -q 'answered 34' "$work/said"; then
-            answered=$((answered + 1))
+# Gathering and a run answer 34, or 33 for a thread, and no tally where memory is refused, and the same tally where they do
+# without, as without a thread of the sorting. Where a growth outside of that is refused, the test ends.
+tally_or_refused() {
+    local crate=$1 test=$2 answered=0 passed=0 n
+    for n in $(seq 1 2000); do
+        if refused_test "$crate" "$test" "$n"; then
+            passed=$((passed + 1))
+            [ "$passed" -lt 20 ] || break
         else
-            grep -qE 'Alloc(Error|Failed)|^error: Memory$' "$work/said" || { echo "kc_gather, growth $n:"; cat "$work/said"; exit 1; }
+            passed=0
+            if grep -qE 'answered (33|34)' "$work/said"; then
+                answered=$((answered + 1))
+            else
+                grep -qE 'Alloc(Error|Failed)|^error: Memory$' "$work/said" || { echo "$crate, growth $n:"; cat "$work/said"; exit 1; }
+            fi
         fi
-    fi
-done
-[ "$answered" -gt 0 ] && [ "$passed" -ge 20 ] || { echo "kc_gather: no growth of a gathering was refused, or there is no end of them"; exit 1; }
-echo "memory: $answered growths of gatherings refused in turn, each answered 34"
+    done
+    [ "$answered" -gt 0 ] && [ "$passed" -ge 20 ] || { echo "$crate: no growth of $3 was refused, or there is no end of them"; exit 1; }
+    echo "memory: $answered growths of $3 refused in turn, each answered 34, or 33 for a thread"
+}
+tally_or_refused kc_gather tests::a_refused_growth_gives_no_tally gatherings
+tally_or_refused kc_run run_tests::a_refused_growth_gives_no_tally runs

@@ -1,5 +1,6 @@
 -- The whole FASTA records that were taken so far, and how the next one fails.
-use Rattle.std.proofs.Common.{◌≡◌, ℕ, true, List, [], ◌∷◌, ◌++◌, refl, subst, ◌∙◌, None}
+use Rattle.std.proofs.Common.{◌≡◌, ℕ, ◌<◌, true, List, [], ◌∷◌, ◌++◌, length, refl, ap, subst, ◌∙◌, None, arith}
+use Rattle.std.proofs.Common.{length-append}
 use Rattle.kc_fastx.specs.declared.faults.FastxFault.{FastxFault}
 use Rattle.kc_fastx.specs.Lines.{Line, Cursor, ends_or_begins_with, line_count}
 use Rattle.kc_fastx.specs.Reads.{Read, read_of}
@@ -54,3 +55,32 @@ fasta_fails start now next reads fault before t fails = (
     subst (λ count. SequenceFails count greater_than next.left fault) (line_count-more now next t.title t.step ∙ before.counted) fails,
   ),
 )
+
+-- one record more
+pub fasta_push : (start now after : Cursor) (reads : List Read) (read : Read) → FastaSoFar start now reads
+    → TakesRecord IsFastaRecord now after read
+    → FastaSoFar start after (reads ++ read ∷ [])
+fasta_push start now after reads read before taken = record {
+  records = records_more IsFastaRecord start now after reads read before.records taken;
+  at = taken.one.ends;
+}
+
+-- a record that fails, behind whole records
+pub fasta_fails_next : (start now : Cursor) (reads : List Read) → FastaSoFar start now reads → (fault : FastxFault)
+    → FastaFails (line_count now) now.left fault
+    → FirstFault IsFastaRecord (FastaFails (line_count start)) start.left fault
+fasta_fails_next start now reads before fault fails = (
+  reads,
+  now.left,
+  before.records.so_far,
+  subst (λ count. FastaFails count now.left fault) before.records.counted
+      fails,
+)
+
+-- a record has a line
+pub fasta_shorter : (ls : List Line) (read : Read) (rest : List Line) → IsFastaRecord ls read rest
+    → length rest < length ls
+fasta_shorter ls read rest r =
+    let title = ap length r.title.whole in
+    let body = ap length r.sequence.split in
+    omega (arith, title, body, length-append r.sequence.sequence rest)

@@ -196,7 +196,8 @@ fastq_bad_start start now next reads line before step is = (
   ),
 )
 
-pub fastq_fails-body : (count : ℕ) (ls body : List Line) → BeginsWithFastqTitle ls body → (fault : FastxFault) → FastqBodyFails count body fault → FastqFails count ls fault
+pub fastq_fails-body : (count : ℕ) (ls body : List Line) → BeginsWithFastqTitle ls body → (fault : FastxFault)
+    → FastqBodyFails count body fault → FastqFails count ls fault
 fastq_fails-body count ls body title (BadStart number) h = absurd h
 fastq_fails-body count ls body title (BadBase number) h = (body, title, h)
 fastq_fails-body count ls body title (BadQuality number) h = (body, title, h)
@@ -220,9 +221,15 @@ fastq_fails start now next reads before t fault fails = (
 
 -- a record at the front, whose title was taken, fails behind it
 pub next_fastq_fails : (now next : Cursor) → skip_blanks now.left ≡ now.left → TakesTitle at_sign now next
-    → (fault : FastxFault) → FastqBodyFails (line_count next) next.left fault → FastqFails (line_count now) now.left fault
+    → (fault : FastxFault) → FastqBodyFails (line_count next) next.left fault
+    → FastqFails (line_count now) now.left fault
 next_fastq_fails now next no_blanks t fault fails =
-    fastq_fails-body (line_count now) now.left next.left (record { title = t.title; whole = no_blanks ∙ t.step.left; is_title = t.is_title }) fault
+    fastq_fails-body (line_count now) now.left next.left (record {
+      title = t.title;
+      whole = no_blanks
+          ∙ t.step.left;
+      is_title = t.is_title;
+    }) fault
     (subst (λ count. FastqBodyFails count next.left fault) (line_count-more now next t.title t.step) fails)
 
 -- no line is made: blank lines are passed over, and a record's lines are taken
@@ -236,3 +243,10 @@ length-body body read rest record_body =
     let s = record_body.front.sequence in
     let q = record_body.quality in
     omega (arith, ap length s.split, length-append s.sequence (record_body.front.plus ∷ record_body.after), ap length q.split, length-append q.taken rest)
+
+-- a record has a line
+pub fastq_shorter : (ls : List Line) (read : Read) (rest : List Line) → IsFastqRecord ls read rest
+    → length rest < length ls
+fastq_shorter ls read rest r =
+    let title = ap length r.title.whole in
+    omega (arith, title, length-skip_blanks ls, length-body r.body read rest r.record_body)

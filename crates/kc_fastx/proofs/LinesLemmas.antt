@@ -17,7 +17,8 @@ onto_first-some : (b : ℕ) (parts : List (List ℕ)) → (first : List ℕ) × 
 onto_first-some b [] = (b ∷ [], [], refl)
 onto_first-some b (part ∷ parts) = (b ∷ part, parts, refl)
 
-pub split-some : (bytes : List ℕ) → (first : List ℕ) × (more : List (List ℕ)) × (slice_split is_line_feed bytes ≡ first ∷ more)
+pub split-some : (bytes : List ℕ) → (first : List ℕ) × (more : List (List ℕ)) ×
+    (slice_split is_line_feed bytes ≡ first ∷ more)
 split-some [] = ([], [], refl)
 split-some (b ∷ bs) =
     elim (is_line_feed b) as (λ t. (first : List ℕ) × (more : List (List ℕ)) × (cond t ([] ∷ slice_split is_line_feed bs) (onto_first b (slice_split is_line_feed bs)) ≡ first ∷ more)) [
@@ -26,7 +27,8 @@ split-some (b ∷ bs) =
     ]
 
 -- a part that another one follows is kept, empty or not
-pub without_empty_last-cons : (part : List ℕ) (parts : List (List ℕ)) (first : List ℕ) (more : List (List ℕ)) → parts ≡ first ∷ more
+pub without_empty_last-cons : (part : List ℕ) (parts : List (List ℕ)) (first : List ℕ) (more : List (List ℕ))
+    → parts ≡ first ∷ more
     → without_empty_last (part ∷ parts) ≡ part ∷ without_empty_last parts
 without_empty_last-cons [] parts first more e = rw e refl
 without_empty_last-cons (b ∷ bs) parts first more e = rw e refl

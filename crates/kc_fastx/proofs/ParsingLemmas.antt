@@ -1,16 +1,15 @@
 -- What a reader of one format says is what the definition says of the bytes.
-use Rattle.std.proofs.Common.{◌≡◌, ℕ, Bool, true, false, List, length, MatchBool, subst, inl, inr}
+use Rattle.std.proofs.Common.{◌≡◌, ℕ, Bool, true, false, List, length, MatchBool, subst, inl}
 use Rattle.kc_fastx.specs.declared.faults.FastxFault.{FastxFault}
 use Rattle.kc_fastx.specs.Lines.{Cursor, lines, line_count, next_begins_with}
 use Rattle.kc_fastx.specs.Records.{FirstFault}
 use Rattle.kc_fastx.specs.Fastq.{IsFastqRecord, FastqFails}
 use Rattle.kc_io.specs.Sources.{Seen}
-use Rattle.kc_io.specs.Taking.{TakesAll, TakingFails}
+use Rattle.kc_io.specs.Taking.{TakingFails}
 use Rattle.kc_io.specs.declared.taking.TakeFault.{TakeFault}
 use Rattle.kc_io.specs.declared.taking.TakeFault.TheVariants as taking
 use Rattle.kc_fastx.specs.Parsing.{text_lines, HasFault, RefusesFor}
-use Rattle.kc_fastx.specs.Faults.{UnlessMemory, taking_fault}
-use Rattle.kc_fastx.specs.declared.faults.FastxFault.TheVariants.{BadStart, BadBase, BadQuality, LongQuality, Truncated, TooLong, Read as ReadFailed, Memory}
+use Rattle.kc_fastx.specs.Faults.{taking_fault}
 use Rattle.kc_fastx.specs.Fasta.{greater_than}
 
 pub at_true : (b : Bool) (P Q : Type 0) → b ≡ true → P → MatchBool b P Q
@@ -29,31 +28,8 @@ fault-fastq bytes start e counted is fault h =
     (subst (λ ls. FirstFault IsFastqRecord (FastqFails (length (lines bytes))) ls fault) e
     (subst (λ count. FirstFault IsFastqRecord (FastqFails count) start.left fault) counted h))
 
-not_either : (b : Bool) (P Q : Type 0) → (P → ⊥) → (Q → ⊥) → MatchBool b P Q → ⊥
-not_either true P Q p q h = p h
-not_either false P Q p q h = q h
-
--- the faults of the reading are none of the bytes
-no_fault-too_long : (bytes : List ℕ) → HasFault bytes TooLong → ⊥
-no_fault-too_long bytes = not_either (next_begins_with greater_than (text_lines bytes)) _ _ (λ h. h.3.2) (λ h. h.3.2)
-
-no_fault-read : (bytes : List ℕ) → HasFault bytes ReadFailed → ⊥
-no_fault-read bytes = not_either (next_begins_with greater_than (text_lines bytes)) _ _ (λ h. h.3.2) (λ h. h.3.2)
-
 -- a source whose bytes could not be taken gave no reads for that reason
 pub RefusesFor-taking : (old new : Seen) (limit : ℕ) (why : TakeFault) → TakingFails old new limit why → RefusesFor old new limit (taking_fault why)
 RefusesFor-taking old new limit taking.TooLong h = h
 RefusesFor-taking old new limit taking.Read h = h
 RefusesFor-taking old new limit taking.Memory h = inl h
-
--- what `parse` answers of all bytes of a source in place of reads is why it gave none
-pub RefusesFor-parsing : (old new : Seen) (limit : ℕ) (bytes : List ℕ) → TakesAll old new limit bytes → (fault : FastxFault)
-    → UnlessMemory (HasFault bytes) fault → RefusesFor old new limit fault
-RefusesFor-parsing old new limit bytes all (BadStart number) h = (bytes, all, h)
-RefusesFor-parsing old new limit bytes all (BadBase number) h = (bytes, all, h)
-RefusesFor-parsing old new limit bytes all (BadQuality number) h = (bytes, all, h)
-RefusesFor-parsing old new limit bytes all (LongQuality number) h = (bytes, all, h)
-RefusesFor-parsing old new limit bytes all (Truncated number) h = (bytes, all, h)
-RefusesFor-parsing old new limit bytes all TooLong h = absurd (no_fault-too_long bytes h)
-RefusesFor-parsing old new limit bytes all ReadFailed h = absurd (no_fault-read bytes h)
-RefusesFor-parsing old new limit bytes all Memory h = inr (bytes, all)

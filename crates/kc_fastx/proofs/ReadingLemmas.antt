@@ -1,13 +1,17 @@
 -- The reads that were given so far, and one more, the end, or a fault behind them.
-use Rattle.std.proofs.Common.{◌≡◌, ◌≢◌, ℕ, ◌+◌, ◌-◌, ◌<◌, ◌≤◌, Bool, true, false, List, [], ◌∷◌, ◌++◌, length, take, drop, refl, sym, ap, ◌∙◌, subst, arith, append_assoc, append-nil, length-append, inl, inr, ◌⊎◌, ⊎_elim, Some, None, Ok, Err, MatchBool, Result, Option}
+use Rattle.std.proofs.Common.{◌≡◌, ◌≢◌, ℕ, ◌+◌, ◌-◌, ◌<◌, ◌≤◌, Bool, true, false, List, [], ◌∷◌, ◌++◌, length, take}
+use Rattle.std.proofs.Common.{drop, refl, sym, ap, ◌∙◌, subst, arith, append_assoc, append-nil, length-append, inl}
+use Rattle.std.proofs.Common.{inr, ◌⊎◌, ⊎_elim, Some, None, Err, MatchBool, Option}
 use Rattle.std.proofs.lemmas.List.{take-append-drop, length-take-le}
 use Rattle.kc_io.specs.Sources.{Seen}
 use Rattle.kc_io.specs.Taking.{TakenSoFar, TakesAll, TakingFails}
 use Rattle.kc_fastx.specs.declared.faults.FastxFault.{FastxFault}
-use Rattle.kc_fastx.specs.declared.faults.FastxFault.TheVariants.{BadStart, BadBase, BadQuality, LongQuality, Truncated, TooLong, Read as ReadFailed, Memory}
+use Rattle.kc_fastx.specs.declared.faults.FastxFault.TheVariants.{BadStart, BadBase, BadQuality, LongQuality}
+use Rattle.kc_fastx.specs.declared.faults.FastxFault.TheVariants.{Truncated, TooLong, Read as ReadFailed, Memory}
 use Rattle.kc_fastx.specs.Reads.{Read, base_count}
-use Rattle.kc_fastx.specs.Lines.{Line, Cursor, IsBehind, Passes, HasWhole, lines, line_count, begins_with, next_begins_with, ends_or_begins_with, skip_blanks}
-use Rattle.kc_fastx.specs.Records.{Records, FirstFault}
+use Rattle.kc_fastx.specs.Lines.{Line, Cursor, IsBehind, Passes, HasWhole, lines, line_count, begins_with}
+use Rattle.kc_fastx.specs.Lines.{next_begins_with, ends_or_begins_with, skip_blanks}
+use Rattle.kc_fastx.specs.Records.{Records}
 use Rattle.kc_fastx.specs.Fasta.{IsFastaRecord, FastaFails, greater_than}
 use Rattle.kc_fastx.specs.Fastq.{IsFastqRecord, FastqFails}
 use Rattle.kc_fastx.specs.Parsing.{text_lines, IsFastq, HasReads, HasFault, GivesReads, RefusesFor}
@@ -17,13 +21,17 @@ use Rattle.kc_io.specs.declared.taking.TakeFault.{TakeFault}
 use Rattle.kc_io.specs.declared.taking.TakeFault.TheVariants as taking
 use Rattle.kc_io.proofs.TakingLemmas.{taken_none, taken_in_vain, taken_then_taken, taken_then_all, taken_then_fails}
 use Rattle.kc_io.proofs.IntakesLemmas.{filled_none, filled_both, filled_end}
-use Rattle.kc_fastx.specs.Reading.{HasGrown, first_stand, Stand, SaysFasta, SaysFastq, Says, MayCome, HasTaken, AreSaid, HasGiven, HasMet, MeetsFault, is_fasta_next, IsNext, NextFails, IsSure}
+use Rattle.kc_fastx.specs.Reading.{HasGrown, first_stand, Stand, SaysFasta, SaysFastq, Says, MayCome, AreSaid}
+use Rattle.kc_fastx.specs.Reading.{HasGiven, HasMet, MeetsFault, is_fasta_next, IsNext, NextFails, IsSure}
 use Rattle.kc_fastx.proofs.RecordsLemmas.{Records-push, passes_both}
 use Rattle.kc_fastx.proofs.ParsingLemmas.{at_true, at_false, RefusesFor-taking}
 use Rattle.kc_fastx.proofs.ReadsLemmas.{base_count-fasta, base_count-fastq}
-use Rattle.kc_fastx.proofs.FastqLemmas.{length-skip_blanks, length-body}
+use Rattle.kc_fastx.proofs.FastaLemmas.{fasta_shorter}
+use Rattle.kc_fastx.proofs.FastqLemmas.{fastq_shorter, length-skip_blanks}
 use Rattle.kc_fastx.proofs.ClosedLemmas.{lines_behind, none_behind}
-use Rattle.kc_fastx.proofs.TailLemmas.{skip_blanks-again, skip_blanks-append, at_front, skip_blanks-at, fasta_tail, fastq_tail, fasta_fails_tail, fastq_fails_tail, Remains, fails_some, fastq_from, fastq_fails_from}
+use Rattle.kc_fastx.proofs.TailLemmas.{skip_blanks-again, skip_blanks-append, at_front, skip_blanks-at, fasta_tail}
+use Rattle.kc_fastx.proofs.TailLemmas.{fastq_tail, fasta_fails_tail, fastq_fails_tail, Remains, fails_some}
+use Rattle.kc_fastx.proofs.TailLemmas.{fastq_from, fastq_fails_from}
 
 -- ---- lines
 
@@ -35,67 +43,98 @@ NoFastq ls reads rest = ((reads ≡ []) × (rest ≡ ls)) ⊎ SaysFasta ls reads
 abbrev pub StaysBehind : List Line → List Line → Type 0
 StaysBehind left tail = (left ≢ []) ⊎ (tail ≡ [])
 
-ends_tail : (byte : ℕ) (left tail : List Line) → StaysBehind left tail → ends_or_begins_with byte left ≡ true → ends_or_begins_with byte (left ++ tail) ≡ true
+ends_tail : (byte : ℕ) (left tail : List Line) → StaysBehind left tail → ends_or_begins_with byte left ≡ true
+    → ends_or_begins_with byte (left ++ tail) ≡ true
 ends_tail byte [] tail stays h =
     ⊎_elim (λ (some : [] ≢ []). absurd (some refl)) (λ (none : tail ≡ []). ap (ends_or_begins_with byte) none) stays
 ends_tail byte (line ∷ left) tail stays h = h
 
 -- the text begins in these lines
-text_front : (ls w tail : List Line) (line : Line) (more : List Line) → w ++ tail ≡ ls → skip_blanks w ≡ line ∷ more → skip_blanks ls ≡ skip_blanks w ++ tail
+text_front : (ls w tail : List Line) (line : Line) (more : List Line) → w ++ tail ≡ ls
+    → skip_blanks w ≡ line ∷ more → skip_blanks ls ≡ skip_blanks w ++ tail
 text_front ls w tail line more same some = ap skip_blanks (sym same) ∙ skip_blanks-append w tail line more some
 
-begins_tail : (byte : ℕ) (ls tail : List Line) (line : Line) (more : List Line) → ls ≡ line ∷ more → next_begins_with byte (ls ++ tail) ≡ next_begins_with byte ls
-begins_tail byte ls tail line more e = ap (λ v. next_begins_with byte (v ++ tail)) e ∙ sym (ap (next_begins_with byte) e)
+begins_tail : (byte : ℕ) (ls tail : List Line) (line : Line) (more : List Line) → ls ≡ line ∷ more
+    → next_begins_with byte (ls ++ tail) ≡ next_begins_with byte ls
+begins_tail byte ls tail line more e = ap (λ v. next_begins_with byte (v ++ tail)) e
+    ∙ sym (ap (next_begins_with byte) e)
 
 -- lines that stand at a FASTA record, or at the end, have no blank ones in front
-at_record : (ls : List Line) (reads : List Read) (w tail : List Line) → SaysFasta ls reads (w ++ tail) → skip_blanks w ≡ w
+at_record : (ls : List Line) (reads : List Read) (w tail : List Line) → SaysFasta ls reads (w ++ tail)
+    → skip_blanks w ≡ w
 at_record ls reads w tail f = skip_blanks-at greater_than w (at_front greater_than w tail f.2)
 
 -- no other line comes next there
-no_other : (ls : List Line) (reads : List Read) (w tail : List Line) (line : Line) (more : List Line) → SaysFasta ls reads (w ++ tail)
+no_other : (ls : List Line) (reads : List Read) (w tail : List Line) (line : Line) (more : List Line)
+    → SaysFasta ls reads (w ++ tail)
     → next_begins_with greater_than (skip_blanks w) ≡ false → skip_blanks w ≡ line ∷ more → ⊥
 no_other ls reads w tail line more f begins e =
     let here : w ≡ line ∷ more = sym (at_record ls reads w tail f) ∙ e in
-    let yes : begins_with greater_than line ≡ true = subst (λ v. ends_or_begins_with greater_than v ≡ true) here (at_front greater_than w tail f.2) in
+    let yes : begins_with greater_than line ≡ true = subst (λ v. ends_or_begins_with greater_than v ≡ true) here
+    (at_front greater_than w tail f.2) in
     let no : begins_with greater_than line ≡ false = subst (λ v. next_begins_with greater_than v ≡ false) e begins in
     cc
 
-fasta_first : (ls : List Line) (reads : List Read) (w tail : List Line) (read : Read) (left : List Line) → reads ≡ [] → w ++ tail ≡ ls
+fasta_first : (ls : List Line) (reads : List Read) (w tail : List Line) (read : Read) (left : List Line)
+    → reads ≡ [] → w ++ tail ≡ ls
     → IsFastaRecord (skip_blanks w) read left → StaysBehind left tail → SaysFasta ls (reads ++ read ∷ []) (left ++ tail)
 fasta_first ls reads w tail read left none same r stays =
     let front = text_front ls w tail r.title.title r.body same r.title.whole in
     let ends = ends_tail greater_than left tail stays r.ends in (
-      ap (next_begins_with greater_than) front ∙ ap (λ v. next_begins_with greater_than (v ++ tail)) r.title.whole ∙ r.title.is_title,
-      subst (λ v. Records IsFastaRecord (skip_blanks ls) (v ++ read ∷ []) (left ++ tail)) (sym none)
-          (left ++ tail, subst (λ v. IsFastaRecord v read (left ++ tail)) (sym front) (fasta_tail (skip_blanks w) read left tail r ends), refl),
+      ap (next_begins_with greater_than) front ∙ ap (λ v. next_begins_with greater_than (v ++ tail)) r.title.whole
+          ∙ r.title.is_title,
+      subst (λ v. Records IsFastaRecord (skip_blanks ls) (v ++ read ∷ []) (left ++ tail)) (sym none) (
+        left ++ tail,
+        subst (λ v. IsFastaRecord v read (left ++ tail)) (sym front) (fasta_tail
+            (skip_blanks w) read left tail r ends),
+        refl,
+      ),
       ends,
     )
 
-fasta_next : (ls : List Line) (reads : List Read) (w tail : List Line) (read : Read) (left : List Line) → SaysFasta ls reads (w ++ tail)
+fasta_next : (ls : List Line) (reads : List Read) (w tail : List Line) (read : Read) (left : List Line)
+    → SaysFasta ls reads (w ++ tail)
     → IsFastaRecord (skip_blanks w) read left → StaysBehind left tail → SaysFasta ls (reads ++ read ∷ []) (left ++ tail)
 fasta_next ls reads w tail read left f r stays =
     let ends = ends_tail greater_than left tail stays r.ends in
-    let one = subst (λ v. IsFastaRecord v read left) (at_record ls reads w tail f) r in
-    (f.0, Records-push IsFastaRecord (skip_blanks ls) reads (w ++ tail) read (left ++ tail) f.1 (fasta_tail w read left tail one ends), ends)
+    let one = subst (λ v. IsFastaRecord v read left) (at_record ls reads w tail f) r in (
+      f.0,
+      Records-push IsFastaRecord (skip_blanks ls) reads (w ++ tail) read (left ++ tail) f.1
+          (fasta_tail w read left tail one ends),
+      ends,
+    )
 
-fastq_first : (ls : List Line) (reads : List Read) (w tail : List Line) (read : Read) (left : List Line) → reads ≡ [] → w ++ tail ≡ ls
-    → next_begins_with greater_than (skip_blanks w) ≡ false → IsFastqRecord (skip_blanks w) read left → SaysFastq ls (reads ++ read ∷ []) (left ++ tail)
+fastq_first : (ls : List Line) (reads : List Read) (w tail : List Line) (read : Read) (left : List Line)
+    → reads ≡ [] → w ++ tail ≡ ls
+    → next_begins_with greater_than (skip_blanks w) ≡ false → IsFastqRecord (skip_blanks w) read left
+    → SaysFastq ls (reads ++ read ∷ []) (left ++ tail)
 fastq_first ls reads w tail read left none same begins r =
     let some = sym (skip_blanks-again w) ∙ r.title.whole in
     let front = text_front ls w tail r.title.title r.body same some in (
-      ap (next_begins_with greater_than) front ∙ begins_tail greater_than (skip_blanks w) tail r.title.title r.body some ∙ begins,
-      subst (λ v. Records IsFastqRecord (skip_blanks ls) (v ++ read ∷ []) (left ++ tail)) (sym none)
-          (left ++ tail, subst (λ v. IsFastqRecord v read (left ++ tail)) (sym front) (fastq_tail (skip_blanks w) read left tail r), refl),
+      ap (next_begins_with greater_than) front ∙ begins_tail greater_than
+          (skip_blanks w) tail r.title.title r.body some ∙ begins,
+      subst (λ v. Records IsFastqRecord (skip_blanks ls) (v ++ read ∷ []) (left ++ tail)) (sym none) (
+        left ++ tail,
+        subst (λ v. IsFastqRecord v read (left ++ tail)) (sym front) (fastq_tail
+            (skip_blanks w) read left tail r),
+        refl,
+      ),
     )
 
-fastq_next : (ls : List Line) (reads : List Read) (w tail : List Line) (read : Read) (left : List Line) → SaysFastq ls reads (w ++ tail)
+fastq_next : (ls : List Line) (reads : List Read) (w tail : List Line) (read : Read) (left : List Line)
+    → SaysFastq ls reads (w ++ tail)
     → IsFastqRecord (skip_blanks w) read left → SaysFastq ls (reads ++ read ∷ []) (left ++ tail)
-fastq_next ls reads w tail read left s r =
-    (s.0, Records-push IsFastqRecord (skip_blanks ls) reads (w ++ tail) read (left ++ tail) s.1 (fastq_tail w read left tail (fastq_from w read left r)))
+fastq_next ls reads w tail read left s r = (
+  s.0,
+  Records-push IsFastqRecord (skip_blanks ls) reads (w ++ tail) read (left ++ tail) s.1
+      (fastq_tail w read left tail (fastq_from w read left r)),
+)
 
-more_without : (b : Bool) (ls : List Line) (reads : List Read) (w tail : List Line) (read : Read) (q : Bool) (left : List Line)
+more_without : (b : Bool) (ls : List Line) (reads : List Read) (w tail : List Line) (read : Read) (q : Bool)
+    (left : List Line)
     → next_begins_with greater_than (skip_blanks w) ≡ b → NoFastq ls reads (w ++ tail)
-    → MatchBool b (IsFastaRecord (skip_blanks w) read left × (q ≡ false)) (IsFastqRecord (skip_blanks w) read left × (q ≡ true))
+    → MatchBool b (IsFastaRecord (skip_blanks w) read left × (q ≡ false)) (IsFastqRecord (skip_blanks w) read left ×
+    (q ≡ true))
     → StaysBehind left tail → Says q ls (reads ++ read ∷ []) (left ++ tail)
 more_without true ls reads w tail read q left begins before n stays =
     subst (λ q. Says q ls (reads ++ read ∷ []) (left ++ tail)) (sym n.1)
@@ -106,20 +145,26 @@ more_without false ls reads w tail read q left begins before n stays =
     subst (λ q. Says q ls (reads ++ read ∷ []) (left ++ tail)) (sym n.1)
     (⊎_elim
     (λ (p : (reads ≡ []) × (w ++ tail ≡ ls)). fastq_first ls reads w tail read left p.0 p.1 begins n.0)
-    (λ (f : SaysFasta ls reads (w ++ tail)). absurd (no_other ls reads w tail n.0.title.title n.0.body f begins (sym (skip_blanks-again w) ∙ n.0.title.whole))) before)
+    (λ (f : SaysFasta ls reads (w ++ tail)). absurd (no_other ls reads w tail n.0.title.title n.0.body f begins (sym
+    (skip_blanks-again w) ∙ n.0.title.whole))) before)
 
 -- one record more
-pub says_more : (was : Bool) (ls : List Line) (reads : List Read) (w tail : List Line) (read : Read) (q : Bool) (left : List Line)
-    → Says was ls reads (w ++ tail) → IsNext was (skip_blanks w) (Some (read, q)) left → StaysBehind left tail → Says q ls (reads ++ read ∷ []) (left ++ tail)
+pub says_more : (was : Bool) (ls : List Line) (reads : List Read) (w tail : List Line) (read : Read) (q : Bool)
+    (left : List Line)
+    → Says was ls reads (w ++ tail) → IsNext was (skip_blanks w) (Some (read, q)) left → StaysBehind left tail
+    → Says q ls (reads ++ read ∷ []) (left ++ tail)
 says_more true ls reads w tail read q left before n stays =
-    subst (λ q. Says q ls (reads ++ read ∷ []) (left ++ tail)) (sym n.1) (fastq_next ls reads w tail read left before n.0)
+    subst (λ q. Says q ls (reads ++ read ∷ []) (left ++ tail)) (sym n.1)
+    (fastq_next ls reads w tail read left before n.0)
 says_more false ls reads w tail read q left before n stays =
     more_without (next_begins_with greater_than (skip_blanks w)) ls reads w tail read q left refl before n stays
 
 -- no line is left but blank ones
-pub says_all : (was : Bool) (bytes : List ℕ) (reads : List Read) (rest : List Line) → Says was (lines bytes) reads rest → skip_blanks rest ≡ [] → HasReads bytes reads
+pub says_all : (was : Bool) (bytes : List ℕ) (reads : List Read) (rest : List Line)
+    → Says was (lines bytes) reads rest → skip_blanks rest ≡ [] → HasReads bytes reads
 says_all true bytes reads rest s none =
-    at_false (next_begins_with greater_than (text_lines bytes)) _ _ s.0 (record { rest = rest; records = s.1; ends = none })
+    at_false (next_begins_with greater_than (text_lines bytes)) _ _ s.0
+    (record { rest = rest; records = s.1; ends = none })
 says_all false bytes reads rest before none =
     ⊎_elim
     (λ (p : (reads ≡ []) × (rest ≡ lines bytes)).
@@ -128,24 +173,38 @@ says_all false bytes reads rest before none =
     (subst (λ v. IsFastq (text_lines bytes) v) (sym p.0) (record { rest = []; records = text; ends = refl })))
     (λ (f : SaysFasta (lines bytes) reads rest).
     let end : rest ≡ [] = sym (skip_blanks-at greater_than rest f.2) ∙ none in
-    at_true (next_begins_with greater_than (text_lines bytes)) _ _ f.0 (subst (λ v. Records IsFastaRecord (text_lines bytes) reads v) end f.1)) before
+    at_true (next_begins_with greater_than (text_lines bytes)) _ _ f.0 (subst (λ v. Records IsFastaRecord
+    (text_lines bytes) reads v) end f.1)) before
 
 fails_without : (b : Bool) (bytes : List ℕ) (reads : List Read) (w tail : List Line) (count : ℕ) (fault : FastxFault)
-    → next_begins_with greater_than (skip_blanks w) ≡ b → NoFastq (lines bytes) reads (w ++ tail) → length (lines bytes) ≡ count + length tail
-    → MatchBool b (FastaFails count (skip_blanks w) fault) (FastqFails count (skip_blanks w) fault) → Remains fault tail → HasFault bytes fault
+    → next_begins_with greater_than (skip_blanks w) ≡ b → NoFastq (lines bytes) reads (w ++ tail)
+    → length (lines bytes) ≡ count + length tail
+    → MatchBool b (FastaFails count (skip_blanks w) fault) (FastqFails count (skip_blanks w) fault)
+    → Remains fault tail → HasFault bytes fault
 fails_without true bytes reads w tail count fault begins before counted n remains =
     ⊎_elim
     (λ (p : (reads ≡ []) × (w ++ tail ≡ lines bytes)).
     let title = n.1 in
     let front = text_front (lines bytes) w tail title.title n.0 p.1 title.whole in
     let is : next_begins_with greater_than (text_lines bytes) ≡ true =
-    ap (next_begins_with greater_than) front ∙ ap (λ v. next_begins_with greater_than (v ++ tail)) title.whole ∙ title.is_title in
-    at_true (next_begins_with greater_than (text_lines bytes)) _ _ is
-    ([], skip_blanks w ++ tail, front, subst (λ v. FastaFails v (skip_blanks w ++ tail) fault) (sym counted) (fasta_fails_tail count (skip_blanks w) tail fault n)))
+    ap (next_begins_with greater_than) front ∙ ap (λ v. next_begins_with greater_than (v ++ tail)) title.whole
+    ∙ title.is_title in
+    at_true (next_begins_with greater_than (text_lines bytes)) _ _ is (
+      [],
+      skip_blanks w ++ tail,
+      front,
+      subst (λ v. FastaFails v (skip_blanks w ++ tail) fault) (sym counted)
+          (fasta_fails_tail count (skip_blanks w) tail fault n),
+    ))
     (λ (f : SaysFasta (lines bytes) reads (w ++ tail)).
     let here = subst (λ v. FastaFails count v fault) (at_record (lines bytes) reads w tail f) n in
-    at_true (next_begins_with greater_than (text_lines bytes)) _ _ f.0
-    (reads, w ++ tail, f.1, subst (λ v. FastaFails v (w ++ tail) fault) (sym counted) (fasta_fails_tail count w tail fault here))) before
+    at_true (next_begins_with greater_than (text_lines bytes)) _ _ f.0 (
+      reads,
+      w ++ tail,
+      f.1,
+      subst (λ v. FastaFails v (w ++ tail) fault) (sym counted)
+          (fasta_fails_tail count w tail fault here),
+    )) before
 fails_without false bytes reads w tail count fault begins before counted n remains =
     let found = fails_some count (skip_blanks w) fault n in
     let some = sym (skip_blanks-again w) ∙ found.2 in
@@ -153,20 +212,34 @@ fails_without false bytes reads w tail count fault begins before counted n remai
     (λ (p : (reads ≡ []) × (w ++ tail ≡ lines bytes)).
     let front = text_front (lines bytes) w tail found.0 found.1 p.1 some in
     let is : next_begins_with greater_than (text_lines bytes) ≡ false =
-    ap (next_begins_with greater_than) front ∙ begins_tail greater_than (skip_blanks w) tail found.0 found.1 some ∙ begins in
-    at_false (next_begins_with greater_than (text_lines bytes)) _ _ is
-    ([], skip_blanks w ++ tail, front, subst (λ v. FastqFails v (skip_blanks w ++ tail) fault) (sym counted) (fastq_fails_tail count (skip_blanks w) tail fault remains n)))
-    (λ (f : SaysFasta (lines bytes) reads (w ++ tail)). absurd (no_other (lines bytes) reads w tail found.0 found.1 f begins some)) before
+    ap (next_begins_with greater_than) front ∙ begins_tail greater_than (skip_blanks w) tail found.0 found.1 some
+    ∙ begins in
+    at_false (next_begins_with greater_than (text_lines bytes)) _ _ is (
+      [],
+      skip_blanks w ++ tail,
+      front,
+      subst (λ v. FastqFails v (skip_blanks w ++ tail) fault) (sym counted)
+          (fastq_fails_tail count (skip_blanks w) tail fault remains n),
+    ))
+    (λ (f : SaysFasta (lines bytes) reads (w ++ tail)). absurd (no_other
+    (lines bytes) reads w tail found.0 found.1 f begins some)) before
 
 -- a record that fails
 pub says_fault : (was : Bool) (bytes : List ℕ) (reads : List Read) (w tail : List Line) (count : ℕ) (fault : FastxFault)
-    → Says was (lines bytes) reads (w ++ tail) → length (lines bytes) ≡ count + length tail → NextFails was count (skip_blanks w) fault → Remains fault tail
+    → Says was (lines bytes) reads (w ++ tail) → length (lines bytes) ≡ count + length tail
+    → NextFails was count (skip_blanks w) fault → Remains fault tail
     → HasFault bytes fault
 says_fault true bytes reads w tail count fault s counted n remains =
-    at_false (next_begins_with greater_than (text_lines bytes)) _ _ s.0
-    (reads, w ++ tail, s.1, subst (λ v. FastqFails v (w ++ tail) fault) (sym counted) (fastq_fails_tail count w tail fault remains (fastq_fails_from count w fault n)))
+    at_false (next_begins_with greater_than (text_lines bytes)) _ _ s.0 (
+      reads,
+      w ++ tail,
+      s.1,
+      subst (λ v. FastqFails v (w ++ tail) fault) (sym counted)
+          (fastq_fails_tail count w tail fault remains (fastq_fails_from count w fault n)),
+    )
 says_fault false bytes reads w tail count fault before counted n remains =
-    fails_without (next_begins_with greater_than (skip_blanks w)) bytes reads w tail count fault refl before counted n remains
+    fails_without (next_begins_with greater_than (skip_blanks w)) bytes reads w tail count fault refl before counted n
+    remains
 
 -- the faults of the reading are none of a record
 no_fault-either : (b : Bool) (P Q : Type 0) → (P → ⊥) → (Q → ⊥) → MatchBool b P Q → ⊥
@@ -182,10 +255,12 @@ no_next-read was count ls = no_fault-either (is_fasta_next was ls) _ _ (λ h. h.
 -- ---- bytes
 
 -- the unused bytes and what may still come are the whole lines, and then others
-lines_here : (ended : Bool) (bytes whole : List ℕ) (h : HasWhole ended bytes whole) (more : List ℕ) → (ended ≡ true → more ≡ [])
+lines_here : (ended : Bool) (bytes whole : List ℕ) (h : HasWhole ended bytes whole) (more : List ℕ) → (ended ≡ true
+    → more ≡ [])
     → lines (bytes ++ more) ≡ lines whole ++ lines (h.tail ++ more)
 lines_here ended bytes whole h more none =
-    ap (λ v. lines (v ++ more)) h.split ∙ ap lines (append_assoc whole h.tail more) ∙ lines_behind ended bytes whole h [] whole more refl none
+    ap (λ v. lines (v ++ more)) h.split ∙ ap lines (append_assoc whole h.tail more)
+    ∙ lines_behind ended bytes whole h [] whole more refl none
 
 -- `after` stands behind a part of the whole lines
 pub record Reaches (stand : Stand) (whole : List ℕ) (after : Cursor) : Type 0 where
@@ -198,8 +273,10 @@ drop_front [] rest count e = ap (λ n. drop n rest) e
 drop_front (b ∷ front) rest count e = ap (λ n. drop n (b ∷ front ++ rest)) e ∙ drop_front front rest (length front) refl
 
 -- how many bytes were passed over, and what is left behind them
-left_behind : (stand : Stand) (whole : List ℕ) (h : HasWhole stand.ended stand.unread.bytes whole) (after : Cursor) → Reaches stand whole after → (count : ℕ)
-    → count ≡ length whole - length after.bytes → (count ≤ length stand.unread.bytes) × (drop count stand.unread.bytes ≡ after.bytes ++ h.tail)
+left_behind : (stand : Stand) (whole : List ℕ) (h : HasWhole stand.ended stand.unread.bytes whole) (after : Cursor)
+    → Reaches stand whole after → (count : ℕ)
+    → count ≡ length whole - length after.bytes → (count ≤ length stand.unread.bytes) ×
+    (drop count stand.unread.bytes ≡ after.bytes ++ h.tail)
 left_behind stand whole h after r count is =
     let front = r.behind.front in
     let rest = after.bytes in
@@ -208,8 +285,12 @@ left_behind stand whole h after r count is =
     let long = length-append front rest in
     let all_long = length-append whole h.tail in
     let is_front : count ≡ length front = omega (arith, is, parts, long) in
-    let split : stand.unread.bytes ≡ front ++ (rest ++ h.tail) = h.split ∙ ap (λ v. v ++ h.tail) r.behind.split ∙ append_assoc front rest h.tail in
-    (omega (arith, is_front, parts, long, whole_parts, all_long), ap (drop count) split ∙ drop_front front (rest ++ h.tail) count is_front)
+    let split : stand.unread.bytes ≡ front ++ (rest ++ h.tail) = h.split ∙ ap (λ v. v ++ h.tail) r.behind.split
+    ∙ append_assoc front rest h.tail in (
+      omega (arith, is_front, parts, long, whole_parts, all_long),
+      ap (drop count) split
+          ∙ drop_front front (rest ++ h.tail) count is_front,
+    )
 
 -- ---- stands
 
@@ -228,14 +309,18 @@ stand_behind stand count lines_used q = record {
 abbrev pub Sure : Stand → List Line → Type 0
 Sure stand left = (stand.ended ≡ true) ⊎ (left ≢ [])
 
-stays : (stand : Stand) (whole : List ℕ) (h : HasWhole stand.ended stand.unread.bytes whole) (left : List Line) (more : List ℕ) → MayCome stand.ended more → Sure stand left
+stays : (stand : Stand) (whole : List ℕ) (h : HasWhole stand.ended stand.unread.bytes whole) (left : List Line)
+    (more : List ℕ) → MayCome stand.ended more → Sure stand left
     → StaysBehind left (lines (h.tail ++ more))
 stays stand whole h left more none sure =
-    ⊎_elim (λ (e : stand.ended ≡ true). inr (none_behind stand.ended stand.unread.bytes whole h more e none)) (λ (some : left ≢ []). inl some) sure
+    ⊎_elim (λ (e : stand.ended ≡ true). inr (none_behind stand.ended stand.unread.bytes whole h more e none)) (λ
+    (some : left ≢ []). inl some) sure
 
-pub said_more : (stand : Stand) (all whole : List ℕ) (h : HasWhole stand.ended stand.unread.bytes whole) (after : Cursor) (reads : List Read) (read : Read) (q : Bool) (count : ℕ) (more : List ℕ)
+pub said_more : (stand : Stand) (all whole : List ℕ) (h : HasWhole stand.ended stand.unread.bytes whole)
+    (after : Cursor) (reads : List Read) (read : Read) (q : Bool) (count : ℕ) (more : List ℕ)
     → MayCome stand.ended more → AreSaid stand all reads (stand.unread.bytes ++ more) → Reaches stand whole after
-    → IsNext stand.is_fastq (skip_blanks (lines whole)) (Some (read, q)) after.left → Sure stand after.left → count ≡ length whole - length after.bytes
+    → IsNext stand.is_fastq (skip_blanks (lines whole)) (Some (read, q)) after.left → Sure stand after.left
+    → count ≡ length whole - length after.bytes
     → AreSaid (stand_behind stand count after.taken q) all (reads ++ read ∷ []) (drop count stand.unread.bytes ++ more)
 said_more stand all whole h after reads read q count more none before r n sure is =
     let tail = lines (h.tail ++ more) in
@@ -246,7 +331,8 @@ said_more stand all whole h after reads read q count more none before r n sure i
     ∙ ap lines (append_assoc after.bytes h.tail more)
     ∙ lines_behind stand.ended stand.unread.bytes whole h r.behind.front after.bytes more r.behind.split none
     ∙ ap (λ v. v ++ tail) (sym r.left) in
-    let says = says_more stand.is_fastq (lines all) reads (lines whole) tail read q after.left (subst (λ v. Says stand.is_fastq (lines all) reads v) here before.says) n
+    let says = says_more stand.is_fastq (lines all) reads (lines whole) tail read q after.left (subst
+    (λ v. Says stand.is_fastq (lines all) reads v) here before.says) n
     (stays stand whole h after.left more none sure) in
     let old = before.counted in
     let old_long = ap length here in
@@ -259,35 +345,44 @@ said_more stand all whole h after reads read q count more none before r n sure i
       says = subst (λ v. Says q (lines all) (reads ++ read ∷ []) v) (sym there) says;
     }
 
-pub given_more : (start now : Seen) (limit : ℕ) (reads : List Read) (stand : Stand) (whole : List ℕ) (after : Cursor) (read : Read) (q : Bool) (count : ℕ)
+pub given_more : (start now : Seen) (limit : ℕ) (reads : List Read) (stand : Stand) (whole : List ℕ)
+    (after : Cursor) (read : Read) (q : Bool) (count : ℕ)
     → HasGiven start now limit reads stand → HasWhole stand.ended stand.unread.bytes whole → Reaches stand whole after
-    → IsNext stand.is_fastq (skip_blanks (lines whole)) (Some (read, q)) after.left → Sure stand after.left → count ≡ length whole - length after.bytes
+    → IsNext stand.is_fastq (skip_blanks (lines whole)) (Some (read, q)) after.left → Sure stand after.left
+    → count ≡ length whole - length after.bytes
     → HasGiven start now limit (reads ++ read ∷ []) (stand_behind stand count after.taken q)
 given_more start now limit reads stand whole after read q count given h r n sure is =
     let bytes = stand.unread.bytes in
     let used = given.used in
     let left = left_behind stand whole h after r count is in
     let all : used ++ bytes ≡ (used ++ take count bytes) ++ drop count bytes =
-    ap (λ v. used ++ v) (sym (take-append-drop count bytes)) ∙ sym (append_assoc used (take count bytes) (drop count bytes)) in
+    ap (λ v. used ++ v) (sym (take-append-drop count bytes))
+    ∙ sym (append_assoc used (take count bytes) (drop count bytes)) in
     let counted = given.counted in
     record {
       used = used ++ take count bytes;
       taken = record {
-        taken = subst (λ v. MatchBool stand.ended (TakesAll start now limit v) (TakenSoFar start now limit v)) all given.taken.taken;
+        taken = subst (λ v. MatchBool stand.ended (TakesAll start now limit v)
+            (TakenSoFar start now limit v)) all given.taken.taken;
         room = ap (λ v. length v + stand.unread.room) (sym all) ∙ given.taken.room;
       };
       counted = omega (arith, counted, length-append used (take count bytes), length-take-le count bytes left.0);
       unfailed = given.unfailed;
-      said = λ more none. subst (λ v. AreSaid (stand_behind stand count after.taken q) (v ++ more) (reads ++ read ∷ []) (drop count bytes ++ more)) all
-          (said_more stand ((used ++ bytes) ++ more) whole h after reads read q count more none (given.said more none) r n sure is);
+      said = λ more none. subst (λ v. AreSaid (stand_behind stand count after.taken q) (v ++ more)
+          (reads ++ read ∷ []) (drop count bytes ++ more)) all
+          (said_more stand ((used ++ bytes) ++ more) whole h after reads read q count more none
+          (given.said more none) r n sure is);
     }
 
-all_taken : (ended : Bool) (start now : Seen) (limit : ℕ) (bytes : List ℕ) → ended ≡ true → MatchBool ended (TakesAll start now limit bytes) (TakenSoFar start now limit bytes) → TakesAll start now limit bytes
+all_taken : (ended : Bool) (start now : Seen) (limit : ℕ) (bytes : List ℕ) → ended ≡ true
+    → MatchBool ended (TakesAll start now limit bytes) (TakenSoFar start now limit bytes)
+    → TakesAll start now limit bytes
 all_taken true start now limit bytes e taken = taken
 all_taken false start now limit bytes e taken = absurd (let no : false ≡ true = e in cc)
 
 -- all lines are blank that are left of all bytes
-pub given_all : (start now : Seen) (limit : ℕ) (reads : List Read) (stand : Stand) (whole : List ℕ) → HasGiven start now limit reads stand
+pub given_all : (start now : Seen) (limit : ℕ) (reads : List Read) (stand : Stand) (whole : List ℕ)
+    → HasGiven start now limit reads stand
     → HasWhole stand.ended stand.unread.bytes whole → stand.ended ≡ true → skip_blanks (lines whole) ≡ []
     → GivesReads start now limit reads (stand.used + length stand.unread.bytes)
 given_all start now limit reads stand whole given h e none =
@@ -295,10 +390,12 @@ given_all start now limit reads stand whole given h e none =
     let no_more : MayCome stand.ended [] = λ ended. refl in
     let said = given.said [] no_more in
     let here : lines (bytes ++ []) ≡ lines whole =
-    lines_here stand.ended bytes whole h [] no_more ∙ ap (λ v. lines whole ++ v) (none_behind stand.ended bytes whole h [] e no_more) ∙ append-nil (lines whole) in
+    lines_here stand.ended bytes whole h [] no_more ∙ ap (λ v. lines whole ++ v)
+    (none_behind stand.ended bytes whole h [] e no_more) ∙ append-nil (lines whole) in
     let counted = given.counted in
     let says = subst (λ v. HasReads v reads) (append-nil (given.used ++ bytes))
-    (says_all stand.is_fastq ((given.used ++ bytes) ++ []) reads (lines (bytes ++ [])) said.says (ap skip_blanks here ∙ none)) in
+    (says_all stand.is_fastq ((given.used ++ bytes) ++ []) reads (lines (bytes ++ [])) said.says
+    (ap skip_blanks here ∙ none)) in
     record {
       bytes = given.used ++ bytes;
       taken = all_taken stand.ended start now limit (given.used ++ bytes) e given.taken.taken;
@@ -306,9 +403,12 @@ given_all start now limit reads stand whole given h e none =
       counted = omega (arith, counted, length-append given.used bytes);
     }
 
-met : (start now : Seen) (limit : ℕ) (reads : List Read) (stand : Stand) (whole : List ℕ) (fault : FastxFault) → HasGiven start now limit reads stand
-    → (h : HasWhole stand.ended stand.unread.bytes whole) → NextFails stand.is_fastq (stand.lines_used + length (lines whole)) (skip_blanks (lines whole)) fault
-    → ((more : List ℕ) → MayCome stand.ended more → Remains fault (lines (h.tail ++ more))) → HasMet start now limit stand fault
+met : (start now : Seen) (limit : ℕ) (reads : List Read) (stand : Stand) (whole : List ℕ) (fault : FastxFault)
+    → HasGiven start now limit reads stand
+    → (h : HasWhole stand.ended stand.unread.bytes whole) → NextFails stand.is_fastq (stand.lines_used + length
+    (lines whole)) (skip_blanks (lines whole)) fault
+    → ((more : List ℕ) → MayCome stand.ended more → Remains fault (lines (h.tail ++ more)))
+    → HasMet start now limit stand fault
 met start now limit reads stand whole fault given h fails remains =
     let bytes = stand.unread.bytes in
     record {
@@ -320,30 +420,43 @@ met start now limit reads stand whole fault given h fails remains =
           let counted = said.counted in
           let long = ap length here in
           let parts = length-append (lines whole) (lines (h.tail ++ more)) in
-          says_fault stand.is_fastq ((given.used ++ bytes) ++ more) reads (lines whole) (lines (h.tail ++ more)) (stand.lines_used + length (lines whole)) fault
-          (subst (λ v. Says stand.is_fastq (lines ((given.used ++ bytes) ++ more)) reads v) here said.says) (omega (arith, counted, long, parts)) fails (remains more none);
+          says_fault stand.is_fastq ((given.used ++ bytes) ++ more) reads (lines whole) (lines (h.tail ++ more))
+          (stand.lines_used + length (lines whole)) fault
+          (subst (λ v. Says stand.is_fastq (lines ((given.used ++ bytes) ++ more)) reads v) here said.says) (omega
+          (arith, counted, long, parts)) fails (remains more none);
     }
 
-memory_refused : (ended : Bool) (start now : Seen) (limit : ℕ) (bytes : List ℕ) → MatchBool ended (TakesAll start now limit bytes) (TakenSoFar start now limit bytes)
+memory_refused : (ended : Bool) (start now : Seen) (limit : ℕ) (bytes : List ℕ)
+    → MatchBool ended (TakesAll start now limit bytes) (TakenSoFar start now limit bytes)
     → RefusesFor start now limit Memory
 memory_refused true start now limit bytes taken = inr (bytes, taken)
 memory_refused false start now limit bytes taken = inl (taken_in_vain taken)
 
 -- no read is given
-pub given_fault : (start now : Seen) (limit : ℕ) (reads : List Read) (stand : Stand) (whole : List ℕ) (left : List Line) (fault : FastxFault) → HasGiven start now limit reads stand
+pub given_fault : (start now : Seen) (limit : ℕ) (reads : List Read) (stand : Stand) (whole : List ℕ)
+    (left : List Line) (fault : FastxFault) → HasGiven start now limit reads stand
     → HasWhole stand.ended stand.unread.bytes whole
-    → UnlessMemory (NextFails stand.is_fastq (stand.lines_used + length (lines whole)) (skip_blanks (lines whole))) fault
+    → UnlessMemory (NextFails stand.is_fastq (stand.lines_used + length (lines whole)) (skip_blanks
+    (lines whole))) fault
     → (stand.ended ≡ true) ⊎ IsSure (Err fault) left → MeetsFault start now limit stand fault
-given_fault start now limit reads stand whole left (BadStart number) given h fails sure = met start now limit reads stand whole (BadStart number) given h fails (λ more none. tt)
-given_fault start now limit reads stand whole left (BadBase number) given h fails sure = met start now limit reads stand whole (BadBase number) given h fails (λ more none. tt)
-given_fault start now limit reads stand whole left (BadQuality number) given h fails sure = met start now limit reads stand whole (BadQuality number) given h fails (λ more none. tt)
-given_fault start now limit reads stand whole left (LongQuality number) given h fails sure = met start now limit reads stand whole (LongQuality number) given h fails (λ more none. tt)
+given_fault start now limit reads stand whole left (BadStart number) given h fails sure = met start now limit reads
+    stand whole (BadStart number) given h fails (λ more none. tt)
+given_fault start now limit reads stand whole left (BadBase number) given h fails sure = met start now limit reads
+    stand whole (BadBase number) given h fails (λ more none. tt)
+given_fault start now limit reads stand whole left (BadQuality number) given h fails sure = met start now limit reads
+    stand whole (BadQuality number) given h fails (λ more none. tt)
+given_fault start now limit reads stand whole left (LongQuality number) given h fails sure = met start now limit reads
+    stand whole (LongQuality number) given h fails (λ more none. tt)
 given_fault start now limit reads stand whole left (Truncated number) given h fails sure =
     met start now limit reads stand whole (Truncated number) given h fails
-    (λ more none. ⊎_elim (λ (e : stand.ended ≡ true). none_behind stand.ended stand.unread.bytes whole h more e none) (λ (never : ⊥). absurd never) sure)
-given_fault start now limit reads stand whole left TooLong given h fails sure = absurd (no_next-too_long stand.is_fastq (stand.lines_used + length (lines whole)) (skip_blanks (lines whole)) fails)
-given_fault start now limit reads stand whole left ReadFailed given h fails sure = absurd (no_next-read stand.is_fastq (stand.lines_used + length (lines whole)) (skip_blanks (lines whole)) fails)
-given_fault start now limit reads stand whole left Memory given h fails sure = memory_refused stand.ended start now limit (given.used ++ stand.unread.bytes) given.taken.taken
+    (λ more none. ⊎_elim (λ (e : stand.ended ≡ true). none_behind stand.ended stand.unread.bytes whole h more e none)
+    (λ (never : ⊥). absurd never) sure)
+given_fault start now limit reads stand whole left TooLong given h fails sure = absurd
+    (no_next-too_long stand.is_fastq (stand.lines_used + length (lines whole)) (skip_blanks (lines whole)) fails)
+given_fault start now limit reads stand whole left ReadFailed given h fails sure = absurd
+    (no_next-read stand.is_fastq (stand.lines_used + length (lines whole)) (skip_blanks (lines whole)) fails)
+given_fault start now limit reads stand whole left Memory given h fails sure = memory_refused stand.ended start now
+    limit (given.used ++ stand.unread.bytes) given.taken.taken
 
 -- ---- more bytes
 
@@ -356,23 +469,28 @@ given_none start limit = record {
   said = λ more none. record { counted = omega arith; says = inl (refl, refl) };
 }
 
-grown_taken : (ended : Bool) (start old new : Seen) (limit room : ℕ) (bytes more : List ℕ) → TakenSoFar start old limit bytes
+grown_taken : (ended : Bool) (start old new : Seen) (limit room : ℕ) (bytes more : List ℕ)
+    → TakenSoFar start old limit bytes
     → MatchBool ended (TakesAll old new room more) (TakenSoFar old new room more) → length bytes + room ≡ limit
     → MatchBool ended (TakesAll start new limit (bytes ++ more)) (TakenSoFar start new limit (bytes ++ more))
 grown_taken true start old new limit room bytes more before taken fits = taken_then_all before taken fits
 grown_taken false start old new limit room bytes more before taken fits = taken_then_taken before taken fits
 
-so_far : (ended : Bool) (start now : Seen) (limit : ℕ) (bytes : List ℕ) → ended ≡ false → MatchBool ended (TakesAll start now limit bytes) (TakenSoFar start now limit bytes) → TakenSoFar start now limit bytes
+so_far : (ended : Bool) (start now : Seen) (limit : ℕ) (bytes : List ℕ) → ended ≡ false
+    → MatchBool ended (TakesAll start now limit bytes) (TakenSoFar start now limit bytes)
+    → TakenSoFar start now limit bytes
 so_far true start now limit bytes e taken = absurd (let no : true ≡ false = e in cc)
 so_far false start now limit bytes e taken = taken
 
-pub given_grown : (start old new : Seen) (limit : ℕ) (reads : List Read) (before after : Stand) → HasGiven start old limit reads before → before.ended ≡ false
+pub given_grown : (start old new : Seen) (limit : ℕ) (reads : List Read) (before after : Stand)
+    → HasGiven start old limit reads before → before.ended ≡ false
     → HasGrown old new before after → HasGiven start new limit reads after
 given_grown start old new limit reads before after given open_still grown =
     let used = given.used in
     let first = before.unread.bytes in
     let behind = grown.behind in
-    let all : (used ++ first) ++ grown.more ≡ used ++ after.unread.bytes = append_assoc used first grown.more ∙ ap (λ v. used ++ v) (sym behind) in
+    let all : (used ++ first) ++ grown.more ≡ used ++ after.unread.bytes = append_assoc used first grown.more
+    ∙ ap (λ v. used ++ v) (sym behind) in
     let room = given.taken.room in
     let less = grown.room in
     let long = ap length all in
@@ -382,40 +500,52 @@ given_grown start old new limit reads before after given open_still grown =
     record {
       used = used;
       taken = record {
-        taken = subst (λ v. MatchBool after.ended (TakesAll start new limit v) (TakenSoFar start new limit v)) all taken;
+        taken = subst (λ v. MatchBool after.ended (TakesAll start new limit v)
+            (TakenSoFar start new limit v)) all taken;
         room = omega (arith, room, less, long, parts);
       };
       counted = grown.used ∙ given.counted;
       unfailed = grown.unfailed;
       said = λ more none.
-          let said = given.said (grown.more ++ more) (λ ended. absurd (let no : true ≡ false = sym ended ∙ open_still in cc)) in
+          let said = given.said (grown.more ++ more) (λ ended. absurd (let no : true ≡ false = sym ended
+          ∙ open_still in cc)) in
           let whole : (used ++ first) ++ (grown.more ++ more) ≡ (used ++ after.unread.bytes) ++ more =
           sym (append_assoc (used ++ first) grown.more more) ∙ ap (λ v. v ++ more) all in
-          let rest : first ++ (grown.more ++ more) ≡ after.unread.bytes ++ more = sym (append_assoc first grown.more more) ∙ ap (λ v. v ++ more) (sym behind) in
-          let counted = subst (λ v. length (lines v) ≡ before.lines_used + length (lines (first ++ (grown.more ++ more)))) whole said.counted in
+          let rest : first ++ (grown.more ++ more) ≡ after.unread.bytes ++ more = sym
+          (append_assoc first grown.more more) ∙ ap (λ v. v ++ more) (sym behind) in
+          let counted = subst (λ v. length (lines v) ≡ before.lines_used + length (lines (first ++
+          (grown.more ++ more)))) whole said.counted in
           let long_rest = ap (λ v. length (lines v)) rest in
           let same_lines = grown.lines_used in
           record {
             counted = omega (arith, counted, long_rest, same_lines);
-            says = subst (λ q. Says q (lines ((used ++ after.unread.bytes) ++ more)) reads (lines (after.unread.bytes ++ more))) (sym grown.is_fastq)
+            says = subst (λ q. Says q (lines ((used ++ after.unread.bytes) ++ more)) reads (lines
+                (after.unread.bytes ++ more))) (sym grown.is_fastq)
                 (subst (λ v. Says before.is_fastq (lines ((used ++ after.unread.bytes) ++ more)) reads (lines v)) rest
-                (subst (λ v. Says before.is_fastq (lines v) reads (lines (first ++ (grown.more ++ more)))) whole said.says));
+                (subst (λ v. Says before.is_fastq (lines v) reads (lines (first ++
+                (grown.more ++ more)))) whole said.says));
           };
     }
 
-pub given_refused : (start old new : Seen) (limit : ℕ) (reads : List Read) (before after : Stand) (why : TakeFault) → HasGiven start old limit reads before → before.ended ≡ false
+pub given_refused : (start old new : Seen) (limit : ℕ) (reads : List Read) (before after : Stand) (why : TakeFault)
+    → HasGiven start old limit reads before → before.ended ≡ false
     → TakingFails old new before.unread.room why → MeetsFault start new limit after (taking_fault why)
 given_refused start old new limit reads before after taking.TooLong given e fails =
-    taken_then_fails new before.unread.room taking.TooLong (so_far before.ended start old limit (given.used ++ before.unread.bytes) e given.taken.taken) fails given.taken.room
+    taken_then_fails new before.unread.room taking.TooLong (so_far before.ended start old limit
+    (given.used ++ before.unread.bytes) e given.taken.taken) fails given.taken.room
 given_refused start old new limit reads before after taking.Read given e fails =
-    taken_then_fails new before.unread.room taking.Read (so_far before.ended start old limit (given.used ++ before.unread.bytes) e given.taken.taken) fails given.taken.room
+    taken_then_fails new before.unread.room taking.Read (so_far before.ended start old limit
+    (given.used ++ before.unread.bytes) e given.taken.taken) fails given.taken.room
 given_refused start old new limit reads before after taking.Memory given e fails =
-    inl (taken_then_fails new before.unread.room taking.Memory (so_far before.ended start old limit (given.used ++ before.unread.bytes) e given.taken.taken) fails given.taken.room)
+    inl (taken_then_fails new before.unread.room taking.Memory (so_far before.ended start old limit
+    (given.used ++ before.unread.bytes) e given.taken.taken) fails given.taken.room)
 
 -- ---- the steps of the reader
 
-pub reaches : (stand : Stand) (whole : List ℕ) (first blank after : Cursor) → first.taken ≡ stand.lines_used → first.left ≡ lines whole → first.bytes ≡ whole
-    → line_count blank ≡ line_count first → Passes first blank → line_count after ≡ line_count blank → Passes blank after → after.left ≡ lines after.bytes
+pub reaches : (stand : Stand) (whole : List ℕ) (first blank after : Cursor) → first.taken ≡ stand.lines_used
+    → first.left ≡ lines whole → first.bytes ≡ whole
+    → line_count blank ≡ line_count first → Passes first blank → line_count after ≡ line_count blank
+    → Passes blank after → after.left ≡ lines after.bytes
     → Reaches stand whole after
 reaches stand whole first blank after taken left bytes counted passes counted_after passes_after left_after =
     let all = passes_both first blank after passes passes_after in
@@ -427,7 +557,8 @@ reaches stand whole first blank after taken left bytes counted passes counted_af
     }
 
 -- no more lines were used than bytes
-pub few_lines : (stand : Stand) (first blank after : Cursor) → first.taken ≡ stand.lines_used → Passes first blank → Passes blank after
+pub few_lines : (stand : Stand) (first blank after : Cursor) → first.taken ≡ stand.lines_used → Passes first blank
+    → Passes blank after
     → after.taken ≤ stand.lines_used + (length first.bytes - length after.bytes)
 few_lines stand first blank after taken passes passes_after =
     let all = passes_both first blank after passes passes_after in
@@ -436,20 +567,16 @@ few_lines stand first blank after taken passes passes_after =
     omega (arith, taken, few, long, length-append all.behind.front after.bytes)
 
 takes_line : (b q : Bool) (ls : List Line) (read : Read) (left : List Line)
-    → MatchBool b (IsFastaRecord ls read left × (q ≡ false)) (IsFastqRecord ls read left × (q ≡ true)) → length left < length ls
-takes_line true q ls read left n =
-    let r = n.0 in
-    let title = ap length r.title.whole in
-    let body = ap length r.sequence.split in
-    omega (arith, title, body, length-append r.sequence.sequence left)
-takes_line false q ls read left n =
-    let r = n.0 in
-    let title = ap length r.title.whole in
-    omega (arith, title, length-skip_blanks ls, length-body r.body read left r.record_body)
+    → MatchBool b (IsFastaRecord ls read left × (q ≡ false)) (IsFastqRecord ls read left × (q ≡ true))
+    → length left < length ls
+takes_line true q ls read left n = fasta_shorter ls read left n.0
+takes_line false q ls read left n = fastq_shorter ls read left n.0
 
 -- a record has a line, and a line has a byte
-pub uses_some : (stand : Stand) (first blank after : Cursor) (was : Bool) (read : Read) (q : Bool) → first.taken ≡ stand.lines_used
-    → blank.left ≡ skip_blanks first.left → line_count blank ≡ line_count first → Passes first blank → line_count after ≡ line_count blank → Passes blank after
+pub uses_some : (stand : Stand) (first blank after : Cursor) (was : Bool) (read : Read) (q : Bool)
+    → first.taken ≡ stand.lines_used
+    → blank.left ≡ skip_blanks first.left → line_count blank ≡ line_count first → Passes first blank
+    → line_count after ≡ line_count blank → Passes blank after
     → IsNext was blank.left (Some (read, q)) after.left → length after.bytes < length first.bytes
 uses_some stand first blank after was read q taken left counted passes counted_after passes_after next =
     let line = takes_line (is_fasta_next was blank.left) q blank.left read after.left next in
@@ -467,7 +594,14 @@ pub record Filling (old now : Seen) (before after : Stand) : Type 0 where
 
 pub filling_none : (s : Seen) (stand : Stand) → stand.ended ≡ false → stand.failed ≡ None → Filling s s stand stand
 filling_none s stand ended failed =
-    record { filled = filled_none s stand.unread; unended = ended; unfailed = failed; used = refl; lines_used = refl; is_fastq = refl }
+    record {
+      filled = filled_none s stand.unread;
+      unended = ended;
+      unfailed = failed;
+      used = refl;
+      lines_used = refl;
+      is_fastq = refl;
+    }
 
 -- a stand with other unused bytes
 abbrev pub with_unread : Stand → Unread → Bool → Option TakeFault → Stand
@@ -480,7 +614,8 @@ with_unread stand unread ended failed = record {
   failed = failed;
 }
 
-pub filling_more : (old mid new : Seen) (before now : Stand) (after : Unread) → Filling old mid before now → Filled mid new now.unread after
+pub filling_more : (old mid new : Seen) (before now : Stand) (after : Unread) → Filling old mid before now
+    → Filled mid new now.unread after
     → Filling old new before (with_unread now after now.ended now.failed)
 filling_more old mid new before now after f more = record {
   filled = filled_both f.filled more;
@@ -491,13 +626,22 @@ filling_more old mid new before now after f more = record {
   is_fastq = f.is_fastq;
 }
 
-pub grown_some : (old mid new : Seen) (before now : Stand) (after : Unread) → Filling old mid before now → Filled mid new now.unread after
-    → length now.unread.bytes < length after.bytes → HasGrown old new before (with_unread now after now.ended now.failed)
+pub grown_some : (old mid new : Seen) (before now : Stand) (after : Unread) → Filling old mid before now
+    → Filled mid new now.unread after
+    → length now.unread.bytes < length after.bytes → HasGrown old new before
+    (with_unread now after now.ended now.failed)
 grown_some old mid new before now after f more longer =
     let all = filled_both f.filled more in
     let behind = ap length all.behind in
     let first = ap length f.filled.behind in
-    let some : 0 < length all.more = omega (arith, behind, first, longer, length-append before.unread.bytes all.more, length-append before.unread.bytes f.filled.more) in
+    let some : 0 < length all.more = omega (
+      arith,
+      behind,
+      first,
+      longer,
+      length-append before.unread.bytes all.more,
+      length-append before.unread.bytes f.filled.more,
+    ) in
     record {
       more = all.more;
       taken = at_false now.ended _ _ f.unended all.taken;
@@ -510,7 +654,8 @@ grown_some old mid new before now after f more longer =
       unfailed = f.unfailed;
     }
 
-pub grown_all : (old mid new : Seen) (before now : Stand) (after : Unread) → Filling old mid before now → TakesAll mid new now.unread.room [] → after ≡ now.unread
+pub grown_all : (old mid new : Seen) (before now : Stand) (after : Unread) → Filling old mid before now
+    → TakesAll mid new now.unread.room [] → after ≡ now.unread
     → HasGrown old new before (with_unread now after true now.failed)
 grown_all old mid new before now after f all same = record {
   more = f.filled.more;
@@ -526,7 +671,8 @@ grown_all old mid new before now after f all same = record {
 
 -- ---- all bytes
 
-met_lines : (start now : Seen) (limit : ℕ) (stand : Stand) (fault : FastxFault) → is_of_lines fault ≡ true → MeetsFault start now limit stand fault
+met_lines : (start now : Seen) (limit : ℕ) (stand : Stand) (fault : FastxFault) → is_of_lines fault ≡ true
+    → MeetsFault start now limit stand fault
     → HasMet start now limit stand fault
 met_lines start now limit stand (BadStart number) is m = m
 met_lines start now limit stand (BadBase number) is m = m
@@ -537,7 +683,8 @@ met_lines start now limit stand TooLong is m = absurd (let no : false ≡ true =
 met_lines start now limit stand ReadFailed is m = absurd (let no : false ≡ true = is in cc)
 met_lines start now limit stand Memory is m = absurd (let no : false ≡ true = is in cc)
 
-refused_lines : (start now : Seen) (limit : ℕ) (fault : FastxFault) → is_of_lines fault ≡ true → (bytes : List ℕ) → TakesAll start now limit bytes
+refused_lines : (start now : Seen) (limit : ℕ) (fault : FastxFault) → is_of_lines fault ≡ true → (bytes : List ℕ)
+    → TakesAll start now limit bytes
     → HasFault bytes fault → RefusesFor start now limit fault
 refused_lines start now limit (BadStart number) is bytes all has = (bytes, all, has)
 refused_lines start now limit (BadBase number) is bytes all has = (bytes, all, has)
@@ -548,20 +695,24 @@ refused_lines start now limit TooLong is bytes all has = absurd (let no : false 
 refused_lines start now limit ReadFailed is bytes all has = absurd (let no : false ≡ true = is in cc)
 refused_lines start now limit Memory is bytes all has = absurd (let no : false ≡ true = is in cc)
 
-refused_ended : (start now : Seen) (limit : ℕ) (stand : Stand) (fault : FastxFault) → is_of_lines fault ≡ true → stand.ended ≡ true
+refused_ended : (start now : Seen) (limit : ℕ) (stand : Stand) (fault : FastxFault) → is_of_lines fault ≡ true
+    → stand.ended ≡ true
     → HasMet start now limit stand fault → RefusesFor start now limit fault
 refused_ended start now limit stand fault is e m =
     refused_lines start now limit fault is m.bytes (all_taken stand.ended start now limit m.bytes e m.taken.taken)
     (subst (λ v. HasFault v fault) (append-nil m.bytes) (m.met [] (λ ended. refl)))
 
 base_count-either : (b : Bool) (bytes : List ℕ) (reads : List Read)
-    → MatchBool b (Records IsFastaRecord (text_lines bytes) reads []) (IsFastq (text_lines bytes) reads) → base_count reads ≤ length bytes
+    → MatchBool b (Records IsFastaRecord (text_lines bytes) reads []) (IsFastq (text_lines bytes) reads)
+    → base_count reads ≤ length bytes
 base_count-either true bytes reads h = base_count-fasta bytes reads h
 base_count-either false bytes reads h = base_count-fastq bytes reads h
 
 -- behind a fault of the lines the other bytes were taken
-pub settled : (start now new : Seen) (limit : ℕ) (stand : Stand) (more : List ℕ) (fault : FastxFault) → is_of_lines fault ≡ true → stand.ended ≡ false
-    → MeetsFault start now limit stand fault → TakesAll now new stand.unread.room more → RefusesFor start new limit fault
+pub settled : (start now new : Seen) (limit : ℕ) (stand : Stand) (more : List ℕ) (fault : FastxFault)
+    → is_of_lines fault ≡ true → stand.ended ≡ false
+    → MeetsFault start now limit stand fault → TakesAll now new stand.unread.room more
+    → RefusesFor start new limit fault
 settled start now new limit stand more fault is e meets all =
     let m = met_lines start now limit stand fault is meets in
     let none : MayCome stand.ended more = λ ended. absurd (let no : true ≡ false = sym ended ∙ e in cc) in
@@ -571,11 +722,15 @@ settled start now new limit stand more fault is e meets all =
 -- all bytes were taken when the fault was met
 pub settled_ended : (start now : Seen) (limit : ℕ) (stand : Stand) (fault : FastxFault) → stand.ended ≡ true
     → MeetsFault start now limit stand fault → RefusesFor start now limit fault
-settled_ended start now limit stand (BadStart number) e m = refused_ended start now limit stand (BadStart number) refl e m
+settled_ended start now limit stand (BadStart number) e m = refused_ended start now limit stand
+    (BadStart number) refl e m
 settled_ended start now limit stand (BadBase number) e m = refused_ended start now limit stand (BadBase number) refl e m
-settled_ended start now limit stand (BadQuality number) e m = refused_ended start now limit stand (BadQuality number) refl e m
-settled_ended start now limit stand (LongQuality number) e m = refused_ended start now limit stand (LongQuality number) refl e m
-settled_ended start now limit stand (Truncated number) e m = refused_ended start now limit stand (Truncated number) refl e m
+settled_ended start now limit stand (BadQuality number) e m = refused_ended start now limit stand
+    (BadQuality number) refl e m
+settled_ended start now limit stand (LongQuality number) e m = refused_ended start now limit stand
+    (LongQuality number) refl e m
+settled_ended start now limit stand (Truncated number) e m = refused_ended start now limit stand
+    (Truncated number) refl e m
 settled_ended start now limit stand TooLong e m = m
 settled_ended start now limit stand ReadFailed e m = m
 settled_ended start now limit stand Memory e m = m
@@ -593,29 +748,37 @@ settled_other start now limit stand ReadFailed e m = m
 settled_other start now limit stand Memory e m = m
 
 -- the other bytes could not be taken
-pub settled_refused : (start now new : Seen) (limit : ℕ) (stand : Stand) (fault : FastxFault) (why : TakeFault) → is_of_lines fault ≡ true → stand.ended ≡ false
-    → MeetsFault start now limit stand fault → TakingFails now new stand.unread.room why → RefusesFor start new limit (taking_fault why)
+pub settled_refused : (start now new : Seen) (limit : ℕ) (stand : Stand) (fault : FastxFault) (why : TakeFault)
+    → is_of_lines fault ≡ true → stand.ended ≡ false
+    → MeetsFault start now limit stand fault → TakingFails now new stand.unread.room why
+    → RefusesFor start new limit (taking_fault why)
 settled_refused start now new limit stand fault why is e meets fails =
     let m = met_lines start now limit stand fault is meets in
     RefusesFor-taking start new limit why
-    (taken_then_fails new stand.unread.room why (so_far stand.ended start now limit m.bytes e m.taken.taken) fails m.taken.room)
+    (taken_then_fails new stand.unread.room why (so_far stand.ended start now limit m.bytes e m.taken.taken) fails
+    m.taken.room)
 
 -- a growth for the reads was refused
-pub given_in_vain : (start now : Seen) (limit : ℕ) (reads : List Read) (stand : Stand) → HasGiven start now limit reads stand → RefusesFor start now limit Memory
-given_in_vain start now limit reads stand given = memory_refused stand.ended start now limit (given.used ++ stand.unread.bytes) given.taken.taken
+pub given_in_vain : (start now : Seen) (limit : ℕ) (reads : List Read) (stand : Stand)
+    → HasGiven start now limit reads stand → RefusesFor start now limit Memory
+given_in_vain start now limit reads stand given = memory_refused stand.ended start now limit
+    (given.used ++ stand.unread.bytes) given.taken.taken
 
 -- they have no more bases together than the source gave bytes
-pub base_count-gives : (start now : Seen) (limit : ℕ) (reads : List Read) (count : ℕ) → GivesReads start now limit reads count → base_count reads ≤ count
+pub base_count-gives : (start now : Seen) (limit : ℕ) (reads : List Read) (count : ℕ)
+    → GivesReads start now limit reads count → base_count reads ≤ count
 base_count-gives start now limit reads count gives =
     let counted = gives.counted in
-    let fits = base_count-either (next_begins_with greater_than (text_lines gives.bytes)) gives.bytes reads gives.has_reads in
+    let fits = base_count-either (next_begins_with greater_than
+    (text_lines gives.bytes)) gives.bytes reads gives.has_reads in
     omega (arith, counted, fits)
 
 -- no block was had
 pub begun_in_vain : (start : Seen) (limit : ℕ) → RefusesFor start start limit Memory
 begun_in_vain start limit = inl (taken_in_vain (taken_none start limit))
 
-pub used_within : (start now : Seen) (limit : ℕ) (reads : List Read) (stand : Stand) → HasGiven start now limit reads stand → stand.used ≤ limit
+pub used_within : (start now : Seen) (limit : ℕ) (reads : List Read) (stand : Stand)
+    → HasGiven start now limit reads stand → stand.used ≤ limit
 used_within start now limit reads stand given =
     let counted = given.counted in
     let room = given.taken.room in

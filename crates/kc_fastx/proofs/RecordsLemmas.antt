@@ -1,5 +1,6 @@
 -- The sequence lines and the whole records that were taken so far, and what one more makes of them.
-use Rattle.std.proofs.Common.{◌≡◌, ℕ, ◌+◌, ◌<◌, Bool, true, false, ◌&&◌, ◌||◌, List, [], ◌∷◌, ◌++◌, length, refl, sym, ap, subst, ◌∙◌, arith}
+use Rattle.std.proofs.Common.{◌≡◌, ℕ, ◌+◌, ◌<◌, Bool, true, false, ◌&&◌, ◌||◌, List, [], ◌∷◌, ◌++◌, length, refl, sym}
+use Rattle.std.proofs.Common.{ap, subst, ◌∙◌, arith}
 use Rattle.std.specs.List.{concat, list_all, list_any}
 use Rattle.std.proofs.lemmas.Bool.{or_from}
 use Rattle.std.proofs.lemmas.List.{append_assoc, append-nil, length-append}
@@ -45,13 +46,15 @@ passes_both a b c p q =
     record {
       behind = record {
         front = first.front ++ second.front;
-        split = first.split ∙ ap (λ v. first.front ++ v) second.split ∙ sym (append_assoc first.front second.front c.bytes);
+        split = first.split ∙ ap (λ v. first.front ++ v) second.split
+            ∙ sym (append_assoc first.front second.front c.bytes);
       };
       few = omega (arith, few, more, length-append first.front second.front);
     }
 
 -- a line has at least one byte, its line end or another
-pub passes_line : (old new : Cursor) → IsBehind old.bytes new.bytes → length new.bytes < length old.bytes → new.taken ≡ old.taken + 1 → Passes old new
+pub passes_line : (old new : Cursor) → IsBehind old.bytes new.bytes → length new.bytes < length old.bytes
+    → new.taken ≡ old.taken + 1 → Passes old new
 passes_line old new behind shorter taken =
     let long = ap length behind.split in
     record { behind = behind; few = omega (arith, long, shorter, taken, length-append behind.front new.bytes) }

@@ -1,5 +1,6 @@
 -- The reading of a source read by read: what was given so far, and what is still to be read.
-use Rattle.std.specs.Prelude.{◌≡◌, ◌≢◌, ⊤, ℕ, ◌+◌, ◌<◌, ◌&&◌, Bool, true, false, not, List, [], ◌∷◌, ◌++◌, length, MatchBool, ◌⊎◌}
+use Rattle.std.specs.Prelude.{◌≡◌, ◌≢◌, ⊤, ℕ, ◌+◌, ◌<◌, ◌&&◌, Bool, true, false, not, List, [], ◌∷◌, ◌++◌, length}
+use Rattle.std.specs.Prelude.{MatchBool, ◌⊎◌}
 use Rattle.std.specs.Prelude.{Option, Some, None, Result, Ok, Err}
 use Rattle.kc_io.specs.declared.taking.TakeFault.{TakeFault}
 use Rattle.kc_io.specs.Sources.{Seen}
@@ -117,7 +118,8 @@ IsSure (Err fault) left = ⊤
 -- these came behind the bytes that were there
 pub record HasGrown (old new : Seen) (before after : Stand) : Type 0 where
   pub more : List ℕ
-  pub taken : MatchBool after.ended (TakesAll old new before.unread.room more) (TakenSoFar old new before.unread.room more)
+  pub taken : MatchBool after.ended (TakesAll old new before.unread.room more)
+      (TakenSoFar old new before.unread.room more)
   pub behind : after.unread.bytes ≡ before.unread.bytes ++ more
   pub room : before.unread.room ≡ after.unread.room + length more
   pub some : MatchBool after.ended ⊤ (0 < length more)

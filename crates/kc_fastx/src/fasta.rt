@@ -22,15 +22,13 @@ pub(crate) fn parse_fasta(
         IfErr result (UnlessMemory (FirstFault IsFastaRecord Fails lines.old.left)) }
 {
     let mut reads = Vec::new(alloc);
-    'records: while let Some(_title) = lines.next_line() {
-        let room = lines.room_before(alloc, b'>')?;
-        let bases = take_sequence(room, lines, b'>')?;
-        reads.push(SeqRead::without_quals(bases))?;
+    'records: while let Some(read) = next_fasta(alloc, lines)? {
+        reads.push(read)?;
     }
     Ok(reads)
 }
 
-// Takes the next record, where a line is left.
+// Takes the next record, where a line is left, which begins with `>`.
 pub(crate) fn next_fasta(
     alloc: Global,
     lines: &mut LineCursor<'_>,

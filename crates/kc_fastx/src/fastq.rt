@@ -24,17 +24,14 @@ pub(crate) fn parse_fastq(
 {
     let mut reads = Vec::new(alloc);
     lines.pass_blanks();
-    'records: while let Some(title) = lines.next_line() {
-        if !does_begin_with(title, b'@') {
-            return Err(FastxFault::BadStart(lines.taken()));
-        }
-        reads.push(take_record(alloc, lines)?)?;
+    'records: while let Some(read) = next_fastq(alloc, lines)? {
+        reads.push(read)?;
         lines.pass_blanks();
     }
     Ok(reads)
 }
 
-// Takes the next record, where a line is left. Condition: it is no blank one.
+// Takes the next record, where a line is left, which isn't blank.
 pub(crate) fn next_fastq(
     alloc: Global,
     lines: &mut LineCursor<'_>,

@@ -45,10 +45,7 @@ impl<'a> LineCursor<'a> {
         ensures left { result.left ≡ lines bytes.now }
         ensures bytes { result.bytes ≡ bytes.now }
     {
-        LineCursor {
-            left: bytes,
-            taken,
-        }
+        LineCursor { left: bytes, taken }
     }
 
     // The bytes that are left.

@@ -36,8 +36,8 @@ pub fn parse(alloc: Global, bytes: &[u8]) -> Result<Vec<SeqRead>, FastxFault>
 ///
 /// # Errors
 /// `TooLong` where the source gave more than `limit` bytes, and `Read` where it failed, whichever the reading met
-/// first; these before any fault of the lines, behind which the source is read to its end. Else the first fault of the bytes, with its line. `Memory` where a growth
-/// was refused.
+/// first; these before any fault of the lines, behind which the source is read to its end. Else the first fault of the
+/// bytes, with its line. `Memory` where a growth was refused.
 pub fn read_all<R: Source>(
     alloc: Global,
     reader: &mut R,

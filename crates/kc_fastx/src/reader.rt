@@ -12,8 +12,8 @@ use kc_io::Source;
 use std::alloc::{AllocError, Global};
 use std::marker::Model;
 
-/// The reads that the bytes of a source say, one after another. It keeps a block of the bytes and what one record takes,
-/// whatever came before.
+/// The reads that the bytes of a source say, one after another. It keeps a block of the bytes and what one record
+/// takes, whatever came before.
 ///
 /// Contracts speak of the reads that were given so far: `HasGiven` with none of them stands behind `new`, `next_read`
 /// adds the read that it gives, and where it answers `None` they are all reads of all bytes.
@@ -33,8 +33,8 @@ impl<S: Source + Drop> Model for Reads<S> {
 }
 
 impl<S: Source + Drop> Reads<S> {
-    /// A reader of the reads of this source, of which at most `limit` bytes are taken. Nothing was taken yet. Condition:
-    /// the limit is at most 2^36.
+    /// A reader of the reads of this source, of which at most `limit` bytes are taken. Nothing was taken yet.
+    /// Condition: the limit is at most 2^36.
     ///
     /// # Errors
     /// `AllocError` where the block was refused.
@@ -54,9 +54,9 @@ impl<S: Source + Drop> Reads<S> {
     /// The next read, or none where all bytes were taken and no read is left.
     ///
     /// # Errors
-    /// The first fault of all bytes, with its line, where the lines that were taken tell it already. `TooLong` where the
-    /// source gave more bytes than the limit, and `Read` where it failed, before the next record was whole. `Memory`
-    /// where a growth was refused. A reader that couldn't take bytes answers the same from then on.
+    /// The first fault of all bytes, with its line, where the lines that were taken tell it already. `TooLong` where
+    /// the source gave more bytes than the limit, and `Read` where it failed, while more were taken for the next read.
+    /// `Memory` where a growth was refused. A reader that couldn't take bytes answers the same from then on.
     pub fn next_read(&mut self) -> Result<Option<SeqRead>, FastxFault>
         ensures given { (start : Seen) (limit : ℕ) (reads : List Read)
             → HasGiven start self.old.source limit reads self.old.stand

@@ -52,8 +52,13 @@ impl Model for Reading {
     ghost Value = { Stand };
 
     ghost view = { λ r. record {
-        unread = r.intake; used = r.used; lines_used = r.lines_used; is_fastq = r.is_fastq; ended = r.ended;
-        failed = r.failed } };
+      unread = r.intake;
+      used = r.used;
+      lines_used = r.lines_used;
+      is_fastq = r.is_fastq;
+      ended = r.ended;
+      failed = r.failed;
+    } };
 
     ghost invariant = { λ r. (r.lines_used ≤ r.used)
         × (r.failed ≡ None → r.used + (length r.intake.bytes + r.intake.room) < 2 ^ 63) };
@@ -119,7 +124,8 @@ impl Reading {
     }
 
     /// The fault of the source, where all its bytes are asked for and `next_read` has answered this fault. Behind a
-    /// fault of lines the other bytes are taken and forgotten: that they are too many, or that a read fails, comes first.
+    /// fault of lines the other bytes are taken and forgotten: that they are too many, or that a read fails, comes
+    /// first.
     pub fn settle<S: Source>(self, source: &mut S, fault: FastxFault) -> FastxFault
         ensures { (start : Seen) (limit : ℕ) → MeetsFault start (S.seen source.old) limit self fault
             → RefusesFor start (S.seen source.new) limit result }
@@ -201,8 +207,11 @@ impl Reading {
         requires count { count ≤ length self.old.unread.bytes }
         requires lines { lines_used ≤ self.old.lines_used + count }
         ensures { self.new ≡ record self.old {
-            unread = record self.old.unread { bytes = drop count self.old.unread.bytes };
-            used = self.old.used + count; lines_used = lines_used; is_fastq = is_fastq } }
+          unread = record self.old.unread { bytes = drop count self.old.unread.bytes };
+          used = self.old.used + count;
+          lines_used = lines_used;
+          is_fastq = is_fastq;
+        } }
     {
         self.intake.use_up(count);
         self.used += count as u64;

@@ -1,5 +1,5 @@
 //! Worked rows of both formats, and sources that give their bytes slowly or fail.
-use crate::{FastxFault, FromBytes, FromRead, SeqRead, parse, read_all};
+use crate::{FastxFault, FromBytes, FromRead, Reads, SeqRead, Source, parse, read_all};
 use std::alloc::{AllocError, Global};
 use std::io;
 use std::io::Read;
@@ -47,6 +47,13 @@ fn fasta_rows(rt: HostRuntime) -> Result<(), Fail> {
     for (bytes, want) in rows {
         let got = shown(rt.alloc(), &parse(rt.alloc(), bytes))?;
         assert_eq!(rt; got.as_slice(), want);
+        let one_by_one = shown(
+            rt.alloc(),
+            &collected(rt.alloc(), FromBytes::new(bytes), 1 << 20),
+        )?;
+        assert_eq!(rt; one_by_one.as_slice(), want);
+        let slowly = shown(rt.alloc(), &collected_slowly(rt.alloc(), bytes))?;
+        assert_eq!(rt; slowly.as_slice(), want);
     }
     Ok(())
 }
@@ -77,6 +84,13 @@ fn fastq_rows(rt: HostRuntime) -> Result<(), Fail> {
     for (bytes, want) in rows {
         let got = shown(rt.alloc(), &parse(rt.alloc(), bytes))?;
         assert_eq!(rt; got.as_slice(), want);
+        let one_by_one = shown(
+            rt.alloc(),
+            &collected(rt.alloc(), FromBytes::new(bytes), 1 << 20),
+        )?;
+        assert_eq!(rt; one_by_one.as_slice(), want);
+        let slowly = shown(rt.alloc(), &collected_slowly(rt.alloc(), bytes))?;
+        assert_eq!(rt; slowly.as_slice(), want);
     }
     Ok(())
 }
@@ -105,6 +119,33 @@ impl Read for Slow<'_> {
             _ => Ok(0),
         }
     }
+}
+
+// What a reader gives of this source up to its end or a fault.
+fn collected<S: Source + Drop>(
+    alloc: Global,
+    source: S,
+    limit: u32,
+) -> Result<Vec<SeqRead>, FastxFault> {
+    let mut reads = Reads::new(alloc, source, u64::from(limit))?;
+    let mut given = Vec::new(alloc);
+    for _ in 0..limit {
+        match reads.next_read()? {
+            Some(read) => given.push(read)?,
+            None => return Ok(given),
+        }
+    }
+    Ok(given)
+}
+
+// What a reader gives of these bytes, which come one at a time.
+fn collected_slowly(alloc: Global, bytes: &[u8]) -> Result<Vec<SeqRead>, FastxFault> {
+    let slow = Slow {
+        left: bytes,
+        reads: 0,
+        fails_at: u64::MAX,
+    };
+    collected(alloc, FromRead::new(slow), 1 << 20)
 }
 
 // What `read_all` answers of these bytes, given one at a time.
@@ -170,6 +211,102 @@ fn every_failed_read(rt: HostRuntime) -> Result<(), Fail> {
     Ok(())
 }
 
+// A fault of the lines is told at once by a reader, and by `read_all` behind a failed read and a passed limit.
+#[test]
+fn faults_behind_faults(rt: HostRuntime) -> Result<(), Fail> {
+    let bytes = b">r\nA@C\n>s\nAC\n";
+    for (fails_at, want) in [
+        (8u64, b"read failed".as_slice()),
+        (20, b"bad base, line 2".as_slice()),
+    ] {
+        let got = shown(rt.alloc(), &read_slowly(rt.alloc(), bytes, fails_at))?;
+        assert_eq!(rt; got.as_slice(), want);
+        let slow = Slow {
+            left: bytes,
+            reads: 0,
+            fails_at,
+        };
+        let one_by_one = shown(
+            rt.alloc(),
+            &collected(rt.alloc(), FromRead::new(slow), 1 << 20),
+        )?;
+        assert_eq!(rt; one_by_one.as_slice(), b"bad base, line 2".as_slice());
+    }
+    let slow = Slow {
+        left: bytes,
+        reads: 0,
+        fails_at: u64::MAX,
+    };
+    match read_all(rt.alloc(), &mut FromRead::new(slow), 9) {
+        Ok(_) => assert!(rt; false),
+        Err(fault) => assert_eq!(rt; fault, FastxFault::TooLong),
+    }
+    Ok(())
+}
+
+// What a reader answers once more behind the end, and behind a failed read.
+#[test]
+fn asked_again(rt: HostRuntime) -> Result<(), Fail> {
+    let mut reads = Reads::new(rt.alloc(), FromBytes::new(b">r\nAC\n\n"), 8)?;
+    assert!(rt; reads.next_read()?.is_some());
+    assert!(rt; reads.next_read()?.is_none());
+    assert!(rt; reads.next_read()?.is_none());
+    let slow = Slow {
+        left: b"@q\nAC\n+\nII\n@r\nACGTACGT\n",
+        reads: 0,
+        fails_at: 20,
+    };
+    let mut reads = Reads::new(rt.alloc(), FromRead::new(slow), 100)?;
+    assert!(rt; reads.next_read()?.is_some());
+    for _ in 0..2 {
+        match reads.next_read() {
+            Ok(_) => assert!(rt; false),
+            Err(fault) => assert_eq!(rt; fault, FastxFault::Read),
+        }
+    }
+    Ok(())
+}
+
+// A text of 200,000 bytes in lines of so many.
+fn wrapped(alloc: Global, byte: u8, width: usize) -> Result<Vec<u8>, AllocError> {
+    let mut text = Vec::new(alloc);
+    let mut in_line = 0usize;
+    for _ in 0..200_000 {
+        if in_line == width {
+            text.push(b'\n')?;
+            in_line = 0;
+        }
+        text.push(byte)?;
+        in_line = in_line.wrapping_add(1);
+    }
+    text.push(b'\n')?;
+    Ok(text)
+}
+
+// Records that are longer than a block, in one line and in many.
+#[test]
+fn long_records(rt: HostRuntime) -> Result<(), Fail> {
+    for width in [60usize, 200_000] {
+        let bases = wrapped(rt.alloc(), b'A', width)?;
+        let quals = wrapped(rt.alloc(), b'I', width)?;
+        let mut fasta = b">q\n".to_vec(rt.alloc())?;
+        fasta.extend_from_slice(&bases)?;
+        let reads = collected(rt.alloc(), FromBytes::new(&fasta), 1 << 20)?;
+        assert_eq!(rt; reads.len(), 1);
+        assert_eq!(rt; reads[0].bases().len(), 200_000);
+        let mut fastq = b"@q\n".to_vec(rt.alloc())?;
+        fastq.extend_from_slice(&bases)?;
+        fastq.extend_from_slice(b"+\n")?;
+        fastq.extend_from_slice(&quals)?;
+        fastq.extend_from_slice(b"@r\nAC\n+\nII\n")?;
+        let reads = collected(rt.alloc(), FromBytes::new(&fastq), 1 << 20)?;
+        assert_eq!(rt; reads.len(), 2);
+        assert_eq!(rt; reads[0].bases().len(), 200_000);
+        assert_eq!(rt; reads[1].bases(), b"AC".as_slice());
+    }
+    Ok(())
+}
+
 #[test]
 fn limits(rt: HostRuntime) -> Result<(), Fail> {
     let (reads, count) = read_all(rt.alloc(), &mut FromBytes::new(b">r1\nACGTA\n"), 10)?;
@@ -232,6 +369,10 @@ fn memory_or_the_reads(rt: HostRuntime) {
             assert_eq!(rt; reads[0].bases(), b"ACGT".as_slice());
             assert_eq!(rt; reads[1].bases(), b"A".as_slice());
         }
+        Err(fault) => assert_eq!(rt; fault, FastxFault::Memory),
+    }
+    match collected(rt.alloc(), FromBytes::new(b">r\nAC\n"), 7) {
+        Ok(reads) => assert_eq!(rt; reads.len(), 1),
         Err(fault) => assert_eq!(rt; fault, FastxFault::Memory),
     }
 }

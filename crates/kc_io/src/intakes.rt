@@ -104,6 +104,9 @@ fn forget_front(bytes: &mut Vec<u8>, count: usize)
     requires { count ≤ length bytes.old.items }
     ensures { bytes.new.items ≡ drop count bytes.old.items }
 {
+    if count == 0 {
+        return;
+    }
     let len = bytes.len();
     bytes.as_mut_slice().copy_within(count..len, 0);
     bytes.truncate(len - count);

@@ -4,30 +4,14 @@ use Rattle.std.specs.Prelude.{All, Result, Ok, Err, IfOk}
 use Rattle.std.proofs.lemmas.List.{length-map, get_or-map, map-id}
 use Rattle.std.proofs.lemmas.List.Elements.{All-cons, All-push, All-nil}
 use Rattle.std.proofs.lemmas.Option.{slice_get-get_or}
-use Rattle.std.proofs.lemmas.List.FromFn.{length-map-range_with_len, get_or-map-range_with_len}
 use Rattle.std.proofs.lemmas.List.Sums.{sum_by_push}
-use Rattle.kc_word.specs.Cutting.{NumberedPieces}
 use Rattle.kc_share.specs.declared.entry.Plan.{Plan}
 use Rattle.kc_share.specs.Share.{ShareSeen, joined_shares}
-use Rattle.kc_stripe.specs.Setup.{StripeSetup, stripe_count}
-use Rattle.kc_stripe.specs.Cut.{StripeCut, cut_at, cuts_of}
 use Rattle.kc_run.specs.declared.fault.RunFault.{RunFault}
 use Rattle.kc_run.specs.declared.fault.RunFault.TheVariants.{NoThread}
 use Rattle.kc_run.specs.Tickets.{Roll, Drawer, IsSeatOf, IsDone, answers_of}
 use Rattle.kc_run.proofs.EntryLemmas.{entries-joined}
 use Rattle.kc_run.specs.Runs.{IsFreshSeatOf, HasWorked, HaveWorked, IsFirstFault, EndedWell}
-
--- a cut that is read from a batch's cuts at an index is that of the stripe of this number
-pub cut-at_index : (setup : StripeSetup) (batch : NumberedPieces) (cuts : List StripeCut) (i : ℕ) (cut : StripeCut) → cuts ≡ cuts_of setup batch → i < length cuts → cut ≡ get_or cuts i cut
-    → (cut.stripe ≡ i) × (i < stripe_count setup)
-cut-at_index setup batch cuts i cut are within is =
-    let within_stripes : i < stripe_count setup = omega (arith, within, ap length are, length-map-range_with_len (cut_at setup batch) 0 (stripe_count setup)) in (
-      ap (λ (c : StripeCut). c.stripe) (is ∙ ap (λ cs. get_or cs i cut) are ∙ get_or-map-range_with_len (cut_at setup batch) 0 (stripe_count setup) i i cut within_stripes (omega arith)),
-      within_stripes,
-    )
-
-pub cut_count : (setup : StripeSetup) (batch : NumberedPieces) (cuts : List StripeCut) → cuts ≡ cuts_of setup batch → length cuts ≡ stripe_count setup
-cut_count setup batch cuts are = ap length are ∙ length-map-range_with_len (cut_at setup batch) 0 (stripe_count setup)
 
 -- one worker
 pub HaveWorked-one : (roll : Roll) (plan : Plan) (seat : Drawer) (share : ShareSeen) → HasWorked roll plan seat share → HaveWorked roll plan (seat ∷ []) share

@@ -4,4 +4,5 @@ pub mod TicketLemmas
 pub mod LawLemmas
 pub mod CrewLemmas
 pub mod EntryLemmas
+pub mod RoundLemmas
 pub mod GatheringLemmas

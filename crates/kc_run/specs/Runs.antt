@@ -1,14 +1,16 @@
 -- Whole runs: what a worker has at its start and at its end, and with which fault a run ends. They are this project's
 -- own.
-use Rattle.std.specs.Prelude.{◌≡◌, ℕ, ◌+◌, ◌<◌, List, [], All, Some, Result, Ok, Err, IfOk, length, map, sum_by}
+use Rattle.std.specs.Prelude.{◌≡◌, ℕ, ◌+◌, ◌<◌, ◌≤◌, List, [], All, Some, Result, Ok, Err, IfOk, length, map, sum_by}
 use Rattle.std.specs.Prelude.{slice_get}
 use Rattle.kc_share.specs.declared.entry.Plan.{Plan}
 use Rattle.kc_share.specs.declared.entry.Booking.{Booking}
 use Rattle.kc_share.specs.Share.{ShareSeen, share_of, entry_total_in}
 use Rattle.kc_stripe.specs.Setup.{StripeSetup, stripe_count}
+use Rattle.kc_stripe.specs.Cut.{cuts_of}
 use Rattle.kc_stripe.specs.declared.fault.BookFault.{BookFault}
 use Rattle.kc_stripe.specs.declared.fault.BookFault.TheVariants as book
 use Rattle.kc_run.specs.Tickets.{Roll, Drawer, IsSeatOf, IsDone, answers_of}
+use Rattle.kc_run.specs.declared.round.CutBatch.{CutBatch}
 use Rattle.kc_run.specs.declared.fault.RunFault.{RunFault}
 use Rattle.kc_run.specs.declared.fault.RunFault.TheVariants as run
 
@@ -29,10 +31,20 @@ pub record IsReady (roll : Roll) (plan : Plan) (seat : Drawer) (share : ShareSee
   pub seat_fresh : IsFreshSeatOf roll seat
   pub unused : share ≡ share_of plan 1 []
 
+-- the batches of a round are cut up by this setup
+abbrev pub AreCutUp : StripeSetup → List CutBatch → Type 0
+AreCutUp setup round = All (λ it. it.cuts.items ≡ cuts_of setup it.batch.now.value) round
+
 -- in each of so many stripes n batches more were booked
 abbrev pub HaveMore : ℕ → ℕ → List Booking → List Booking → Type 0
 HaveMore stripes n old new =
     (stripe : ℕ) → stripe < stripes → entry_total_in stripe new ≡ entry_total_in stripe old + n
+
+-- n batches more were booked in each stripe from one number to before another, and none in the stripes before and after
+pub record HaveMoreIn (from to n : ℕ) (old new : List Booking) : Type 0 where
+  pub there : (stripe : ℕ) → from ≤ stripe → stripe < to → entry_total_in stripe new ≡ entry_total_in stripe old + n
+  pub before : (stripe : ℕ) → stripe < from → entry_total_in stripe new ≡ entry_total_in stripe old
+  pub behind : (stripe : ℕ) → to ≤ stripe → entry_total_in stripe new ≡ entry_total_in stripe old
 
 -- a worker that has ended well: its seat is done, and its share still has one part, with as many entries in each stripe
 -- as the seat was answered numbers

@@ -24,6 +24,7 @@ mod crew;
 mod fault;
 mod gate;
 pub mod laws;
+mod round;
 mod runs;
 pub mod tickets;
 mod worker;

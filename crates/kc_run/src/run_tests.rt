@@ -1,11 +1,12 @@
 //! Runs with several workers, stripes and batches, and what they answer.
-ghost use Rattle.std.specs.Prelude.{◌≡◌, ◌≤◌, ◌^◌, All, IfOk, length};
+ghost use Rattle.std.specs.Prelude.{◌≡◌, ◌<◌, ◌≤◌, ◌^◌, All, IfOk, length};
 ghost use Rattle.std.specs.FinMap.{empty};
 ghost use Rattle.kc_word.specs.Shared.{values};
 ghost use Rattle.kc_table.specs.QuotientTable.{counts_in};
 ghost use Rattle.kc_stripe.specs.Setup.{stripe_count, key_bits};
 ghost use Rattle.kc_gather.specs.Gathering.{position_sum};
 
+use crate::round::round_len;
 use crate::{Gate, NoGate, RunFault, Tally, plain_tables, run};
 use kc_fastx::SeqRead;
 use kc_hash::{Hash, Matrix};
@@ -103,11 +104,16 @@ fn counted<H: Threads + Wait + Sync, G: Gate + Sync>(
     let Ok(tally) = run_over(rt, alloc, setup, tables, case, gate)? else {
         return Err(Fail::from("no tally"));
     };
+    Ok((rows_of(alloc, &tally)?, tally.total()))
+}
+
+// The rows of a tally as pairs.
+fn rows_of(alloc: Global, tally: &Tally) -> Result<Vec<(u64, u64)>, AllocError> {
     let mut rows = Vec::new(alloc);
     for row in tally.rows() {
         rows.push((row.word, row.count))?;
     }
-    Ok((rows, tally.total()))
+    Ok(rows)
 }
 
 #[test]
@@ -332,4 +338,99 @@ fn two_workers_book_at_once(rt: HostRuntime) -> Result<(), Fail> {
         ([(6, 1), (27, 1), (44, 1), (49, 1)].as_slice(), 4)
     );
     Ok(())
+}
+
+// A gate that counts the calls, in four bits for each batch, and the calls after a batch that was not begun once.
+#[derive(Drop)]
+struct Told {
+    before: AtomicU64,
+    after: AtomicU64,
+    unbegun: AtomicU64,
+}
+
+// Below the four bits of a batch.
+fn bits_below(batch: u64) -> u64
+    ensures { result < 64 }
+{
+    4 * (batch % 16)
+}
+
+impl Gate for Told {
+    fn before_book(&self, _worker: u32, batch: u64) {
+        self.before
+            .fetch_add(1 << bits_below(batch), Ordering::SeqCst);
+    }
+
+    fn after_book(&self, _worker: u32, batch: u64) {
+        if (self.before.load(Ordering::SeqCst) >> bits_below(batch)) % 16 != 1 {
+            self.unbegun.fetch_add(1, Ordering::SeqCst);
+        }
+        self.after
+            .fetch_add(1 << bits_below(batch), Ordering::SeqCst);
+    }
+}
+
+#[test]
+fn the_gate_is_told_of_each_batch_before_and_after(rt: HostRuntime) -> Result<(), Fail> {
+    let setup = setup_of(3, 4).ok_or("no setup")?;
+    for workers in [1, 2] {
+        let gate = Told {
+            before: AtomicU64::new(0),
+            after: AtomicU64::new(0),
+            unbegun: AtomicU64::new(0),
+        };
+        // eight batches: one worker has rounds of two
+        let case = Case {
+            bases: b"AAAAAAAAAA",
+            size: 1,
+            workers,
+        };
+        counted(&rt, rt.alloc(), &setup, &case, &gate)?;
+        let order = Ordering::SeqCst;
+        assert_eq!(rt;
+            (gate.before.load(order), gate.after.load(order)),
+            (0x1111_1111, 0x1111_1111)
+        );
+        assert_eq!(rt; gate.unbegun.load(order), 0);
+    }
+    Ok(())
+}
+
+#[test]
+fn a_round_leaves_each_worker_four(rt: HostRuntime) -> Result<(), Fail> {
+    let setup = setup_of(3, 1).ok_or("no setup")?;
+    let k = setup.rule().k();
+    let batches = batches_of(rt.alloc(), &setup, b"AAAAAAAAAAAAAAAAAA", 1)?;
+    assert_eq!(rt; batches.len(), 16);
+    for (workers, want) in [(1, 4), (2, 2), (3, 1), (64, 1)] {
+        assert_eq!(rt; round_len(&batches, k, workers), want);
+    }
+    assert_eq!(rt; round_len(&[], k, 1), 1);
+    Ok(())
+}
+
+// Run with each growth refused in turn, by `make memory`: no other fault is answered, and no other tally.
+#[test]
+fn a_refused_growth_gives_no_tally(rt: HostRuntime) -> Result<(), Fail> {
+    let alloc = rt.alloc();
+    let setup = setup_of(3, 4).ok_or("no setup")?;
+    let case = Case {
+        bases: b"ACGTAC",
+        size: 1,
+        workers: 2,
+    };
+    let tables = plain_tables(alloc, &setup)?;
+    match run_over(&rt, alloc, &setup, tables, &case, &NoGate)? {
+        Ok(tally) => {
+            let rows = rows_of(alloc, &tally)?;
+            assert_eq!(rt;
+                rows.as_slice(),
+                [(6, 1), (27, 1), (44, 1), (49, 1)].as_slice()
+            );
+            Ok(())
+        }
+        Err(RunFault::Memory) => Err(Fail::from("answered 34")),
+        Err(RunFault::NoThread(_)) => Err(Fail::from("answered 33")),
+        Err(_) => Err(Fail::from("another fault")),
+    }
 }

@@ -11,6 +11,7 @@ ghost use Rattle.kc_gather.specs.Gathering.{position_sum};
 use crate::crew::{joined, work_all, workers_of};
 use crate::fault::RunFault;
 use crate::gate::Gate;
+use crate::round::round_len;
 use crate::tickets::Tickets;
 use crate::worker::Job;
 use kc_gather::{GatherFault, gather_in_parallel};
@@ -28,7 +29,8 @@ use std::thread::Threads;
 /// workers, the stripes and the order in which threads are served. A refused run gives no tally.
 ///
 /// Each worker, in a thread of its own, draws numbers until there is none left, and books the batch of each number into
-/// every stripe. The gate is called before the first and after the last booking of a batch.
+/// every stripe. It does so in rounds of some 4 million positions: it cuts up all batches of a round, and books them
+/// stripe by stripe. The gate is called before the first and after the last booking of a batch.
 ///
 /// Conditions: 1 to 64 workers; at most 2^40 batches, with together at most 2^62 positions; a table for each stripe,
 /// with nothing stored and keys of the setup's `key_bits`.
@@ -104,6 +106,8 @@ fn run_named<
         plan,
         tickets: &tickets,
         gate,
+        round_len: round_len(batches, setup.rule().k(), workers),
+        stripes_apart: (setup.stripes() / workers).max(1),
     };
     let ended = work_all(rt, alloc, &job, ready)?;
     let (seats, share) = joined(alloc, &stripes, ended)?;

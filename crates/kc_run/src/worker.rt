@@ -1,18 +1,20 @@
 //! One worker of a run: it draws numbers, and books the batch of each number into every stripe.
-ghost use Rattle.std.specs.Prelude.{◌≡◌, ◌<◌, length, IfOk, OnOk};
-ghost use Rattle.kc_share.specs.Share.{with_booking};
+ghost use Rattle.std.specs.Prelude.{◌≡◌, ◌+◌, ◌<◌, ◌≤◌, ◌⊎◌, IfOk, IfSome, IsNone, MatchOption};
+ghost use Rattle.std.specs.Prelude.{length};
 ghost use Rattle.kc_stripe.specs.Setup.{stripe_count};
-ghost use Rattle.kc_stripe.specs.Locked.{cut_entry};
-ghost use Rattle.kc_run.specs.Runs.{IsJob, IsReady, HasWorked, HaveMore};
+ghost use Rattle.kc_stripe.specs.Cut.{cuts_of};
+ghost use Rattle.kc_run.specs.Tickets.{IsSeatOf, IsDone, answers_of};
+ghost use Rattle.kc_run.specs.Runs.{IsJob, IsReady, HasWorked, AreCutUp};
 
 use crate::fault::RunFault;
 use crate::gate::Gate;
+use crate::round::{CutBatch, book_round, first_stripe};
 use crate::tickets::{Seat, Tickets};
 use kc_share::{Books, Plan, Share};
-use kc_stripe::{Cut, Stripes, cut_up};
+use kc_stripe::{Stripes, cut_up};
 use kc_table::Counts;
 use kc_word::Batch;
-use std::alloc::Global;
+use std::alloc::{AllocError, Global};
 use std::sync::{Arc, Wait};
 
 /// What the workers of a run share.
@@ -24,6 +26,10 @@ pub(crate) struct Job<'a, C: Counts, N: Books, G: Gate> {
     pub plan: Plan,
     pub tickets: &'a Tickets,
     pub gate: &'a G,
+    /// How many batches make a round.
+    pub round_len: u64,
+    /// How far apart the rounds of two workers begin, so that they don't wait for the lock of one stripe.
+    pub stripes_apart: u32,
 }
 
 /// A worker: its seat of the tickets, and its share.
@@ -48,50 +54,90 @@ impl<N: Books> Worker<N> {
         ensures { IfOk result (λ worker.
             HasWorked job.now.tickets.now job.now.plan worker.seat worker.share) }
     {
-        while let Some(drawn) = job.tickets.draw(&mut self.seat) {
-            let batch = &job.batches[drawn as usize];
-            self.book_batch(rt, alloc, job, number, batch)?;
+        let first = first_stripe(job.stripes.setup().stripes(), job.stripes_apart, number);
+        while let Some(drawn) = self.draw(job.tickets) {
+            let round = self.draw_round(alloc, job, drawn)?;
+            tell_before(job.gate, number, &round);
+            book_round(rt, job.stripes, &round, first, &mut self.share)?;
+            tell_after(job.gate, number, &round);
         }
         Ok(self)
     }
 
-    // Books a batch into every stripe.
-    fn book_batch<H: Wait, C: Counts, G: Gate>(
-        &mut self,
-        rt: &H,
-        alloc: Global,
-        job: &Job<C, N, G>,
-        number: u32,
-        batch: &Arc<Batch>,
-    ) -> Result<(), RunFault>
-        ensures seat { self.new.seat ≡ self.old.seat }
-        ensures share { (self.new.share.parts ≡ self.old.share.parts) × (self.new.share.plan ≡ self.old.share.plan) }
-        ensures booked { OnOk result (HaveMore (stripe_count job.now.stripes.now.setup) 1
-            self.old.share.booked self.new.share.booked) }
+    // Draws the next number, where the seat is not done.
+    fn draw(&mut self, tickets: &Tickets) -> Option<u64>
+        requires { IsSeatOf tickets.now self.old.seat }
+        ensures own { IsSeatOf tickets.now self.new.seat }
+        ensures share { self.new.share ≡ self.old.share }
+        ensures done { IsNone result → IsDone self.new.seat }
+        ensures below { IfSome result (λ number. number < tickets.now.limit) }
+        ensures answered { MatchOption result
+            (length (answers_of self.new.seat) ≡ length (answers_of self.old.seat))
+            (λ _. (length (answers_of self.new.seat) ≡ length (answers_of self.old.seat) + 1)
+            × (length (answers_of self.new.seat) ≤ tickets.now.limit)) }
     {
-        let cuts = cut_up(alloc, job.stripes.setup(), batch)?;
-        job.gate.before_book(number, batch.number());
-        for cut in &cuts {
-            book_cut(rt, job.stripes, cut, &mut self.share)?;
+        if self.seat.is_done() {
+            return None;
         }
-        job.gate.after_book(number, batch.number());
-        Ok(())
+        tickets.draw(&mut self.seat)
+    }
+
+    // The batches of a round, cut up: that of a number that was drawn, and those of as many more as a round has, or as
+    // there are.
+    fn draw_round<'a, C: Counts, G: Gate>(
+        &mut self,
+        alloc: Global,
+        job: &Job<'a, C, N, G>,
+        drawn: u64,
+    ) -> Result<Vec<CutBatch<'a>>, AllocError>
+        requires own { IsSeatOf job.now.tickets.now self.old.seat }
+        requires limit { job.now.tickets.now.limit ≡ length job.now.batches.now }
+        requires drawn { drawn < length job.now.batches.now }
+        ensures own { IsSeatOf job.now.tickets.now self.new.seat }
+        ensures share { self.new.share ≡ self.old.share }
+        ensures answered { IfOk result (λ round.
+            length (answers_of self.new.seat) + 1 ≡ length (answers_of self.old.seat) + length round.items) }
+        ensures some { IfOk result (λ round. 1 ≤ length round.items) }
+        ensures few { IfOk result (λ round.
+            (length round.items ≡ 1) ⊎ (length round.items ≤ job.now.round_len)) }
+        ensures cut_up { IfOk result (λ round. AreCutUp job.now.stripes.now.setup round.items) }
+    {
+        let mut round = Vec::new(alloc);
+        round.push(cut_batch(alloc, job, drawn)?)?;
+        for _ in 1..job.round_len {
+            let Some(drawn) = self.draw(job.tickets) else {
+                return Ok(round);
+            };
+            round.push(cut_batch(alloc, job, drawn)?)?;
+        }
+        Ok(round)
     }
 }
 
-// Books a batch into the stripe of its cut.
-fn book_cut<H: Wait, C: Counts, N: Books>(
-    rt: &H,
-    stripes: &Stripes<C, N>,
-    cut: &Cut,
-    share: &mut Share<N>,
-) -> Result<(), RunFault>
-    requires { cut.now.stripe < stripe_count stripes.now.setup }
-    ensures kept { (share.new.parts ≡ share.old.parts) × (share.new.plan ≡ share.old.plan) }
-    ensures booked { OnOk result (share.new ≡ with_booking share.old cut.now.stripe (cut_entry cut.now)) }
+// The batch of this number, cut up.
+fn cut_batch<'a, C: Counts, N: Books, G: Gate>(
+    alloc: Global,
+    job: &Job<'a, C, N, G>,
+    number: u64,
+) -> Result<CutBatch<'a>, AllocError>
+    requires { number < length job.now.batches.now }
+    ensures { IfOk result (λ it. it.cuts.items ≡ cuts_of job.now.stripes.now.setup it.batch.now.value) }
 {
-    match stripes.book(rt, share, cut) {
-        Ok(()) => Ok(()),
-        Err(fault) => Err(RunFault::of_booking(cut.stripe(), fault)),
+    let batch = &job.batches[number as usize];
+    let cuts = cut_up(alloc, job.stripes.setup(), batch)?;
+    Ok(CutBatch { batch, cuts })
+}
+
+// Tells the gate of the batches that are to be booked.
+fn tell_before<G: Gate>(gate: &G, worker: u32, round: &[CutBatch<'_>]) {
+    for it in round {
+        gate.before_book(worker, it.batch.number());
+    }
+}
+
+// Tells the gate of the batches that were booked.
+fn tell_after<G: Gate>(gate: &G, worker: u32, round: &[CutBatch<'_>]) {
+    for it in round {
+        gate.after_book(worker, it.batch.number());
     }
 }

@@ -88,7 +88,7 @@ struct Counted {
     written: Vec<u8>,
 }
 
-// Asserts that a count of this number answered this and wrote this.
+// Asserts that a count answered this and wrote this. A failure tells the number of its row, its reads or its room.
 fn assert_counted<H: Abort>(
     rt: &H,
     number: usize,
@@ -132,9 +132,9 @@ const SOURCES: &[(&[&str], &str)] = &[
 #[test]
 fn sources_are_read_in_order(rt: HostRuntime) -> Result<(), Fail> {
     let options = columns(2).ok_or("a length")?;
-    for (inputs, text) in SOURCES {
+    for (row, (inputs, text)) in SOURCES.iter().enumerate() {
         let counted = count(&rt, *inputs, &options)?;
-        assert_counted(&rt, inputs.len(), &counted, &Ok(()), text.as_bytes());
+        assert_counted(&rt, row, &counted, &Ok(()), text.as_bytes());
     }
     Ok(())
 }
@@ -154,10 +154,10 @@ const FAULTY_SOURCES: &[(&[&str], u64, FastxFault)] = &[
 #[test]
 fn the_first_faulty_source_is_told(rt: HostRuntime) -> Result<(), Fail> {
     let options = columns(2).ok_or("a length")?;
-    for (inputs, source, fault) in FAULTY_SOURCES {
+    for (row, (inputs, source, fault)) in FAULTY_SOURCES.iter().enumerate() {
         let counted = count(&rt, *inputs, &options)?;
         let told = Err(fault_of(*source, *fault));
-        assert_counted(&rt, inputs.len(), &counted, &told, b"");
+        assert_counted(&rt, row, &counted, &told, b"");
     }
     Ok(())
 }
@@ -263,9 +263,9 @@ fn bounds_and_tabs(rt: HostRuntime) -> Result<(), Fail> {
         (Dump::in_columns().between(3, 1 << 62), ""),
         (Dump::in_columns().between(2, 1), ""),
     ];
-    for (dump, text) in rows {
-        let counted = count(&rt, &[">r1\nACGTA\n"], &options.with_dump(dump))?;
-        assert_counted(&rt, text.len(), &counted, &Ok(()), text.as_bytes());
+    for (row, (dump, text)) in rows.iter().enumerate() {
+        let counted = count(&rt, &[">r1\nACGTA\n"], &options.with_dump(*dump))?;
+        assert_counted(&rt, row, &counted, &Ok(()), text.as_bytes());
     }
     Ok(())
 }
@@ -312,7 +312,7 @@ fn lines_of_source_faults(rt: HostRuntime) {
     }
 }
 
-// So has each fault of a table and of a query.
+// So has each fault of a table, of a query, of the writer and of memory.
 #[test]
 fn lines_of_table_and_query_faults(rt: HostRuntime) {
     for (fault, line) in [

@@ -1,20 +1,19 @@
 -- A cleaned read: as long as the read, with the same words at the same positions.
-use Rattle.std.proofs.Common.{◌≡◌, ℕ, zero, suc, ◌+◌, ◌-◌, ◌<◌, ◌≤◌, ⊎_elim, Bool, true, false, ◌&&◌, ◌||◌, cond, eqb, leb, List, [], ◌∷◌, ◌++◌, map, length, get_or, take, drop, Some, None, option_map, filter_map, sum_by, count_by, Result, Ok, Err, IfOk, eqb-true, refl, ap, sym, ◌∙◌, arith}
-use Rattle.std.proofs.lemmas.Bool.{cases_Bool, cases_lt, cond-true, cond-false, cond_both, and_parts, and_from, and_left, and_right, or_left, le-leb, lt-leb}
-use Rattle.std.proofs.lemmas.List.{length-map, get_or-map, drop_more}
+use Rattle.std.proofs.Common.{◌≡◌, ℕ, zero, suc, ◌+◌, ◌<◌, ◌≤◌, ⊎_elim, Bool, true, false, ◌&&◌, ◌||◌, cond, eqb, leb, List, [], ◌∷◌, ◌++◌, map, length, get_or, take, drop, Some, None, option_map, filter_map, sum_by, count_by, refl, ap, sym, ◌∙◌, arith}
+use Rattle.std.proofs.lemmas.Bool.{cases_Bool, cases_lt, cond-true, cond-false, cond_both, and_parts, and_from, and_left, or_left, lt-leb}
+use Rattle.std.proofs.lemmas.List.{drop_more}
 use Rattle.std.proofs.lemmas.List.Sums.{sum_by-cons}
 use Rattle.std.specs.Option.{option_map_or}
 use Rattle.std.specs.Str.{bytes_eq}
-use Rattle.std.proofs.lemmas.List.FromFn.{fill_by_all, length-map-range_with_len, get_or-map-range_with_len, map-range_with_len_more}
+use Rattle.std.proofs.lemmas.List.FromFn.{length-map-range_with_len, get_or-map-range_with_len}
 use Rattle.std.specs.List.{list_all, range_with_len, flat_map}
 use Rattle.std.specs.Char.{to_ascii_uppercase}
-use Rattle.kc_fastx.specs.Reads.{Read, read_of, IsRead, has_quality_each}
-use Rattle.kc_base.proofs.Lists.{list_all-drop, list_all-take}
+use Rattle.kc_fastx.specs.Reads.{Read, read_of}
 use Rattle.kc_word.specs.Letter.{is_base}
 use Rattle.kc_word.specs.Word.{number, form}
 use Rattle.kc_word.specs.Rule.{CountingRule}
 use Rattle.kc_word.specs.Occurrences.{is_usable, passes_floor, word_at, form_at, positions, position_count, counts_under, occurrences_in, occurrences, words_in, words_of}
-use Rattle.kc_word.specs.Cutting.{unusable, are_piece_bytes, cleaned_letter, cleaned_base, cleaned, as_reads}
+use Rattle.kc_word.specs.Cutting.{unusable, are_piece_bytes, cleaned_base, cleaned, as_reads}
 use Rattle.kc_word.proofs.WordLemmas.{at_base}
 
 upper-base : (byte : ℕ) → is_base byte ≡ true → to_ascii_uppercase byte ≡ byte
@@ -24,7 +23,7 @@ pub length-cleaned : (rule : CountingRule) (read : Read) → length (cleaned rul
 unfolding cleaned
 length-cleaned rule read = length-map-range_with_len (λ j. cleaned_base rule read j) 0 (length read.bases)
 
-get_or-cleaned : (rule : CountingRule) (read : Read) (j : ℕ) → j < length read.bases → get_or (cleaned rule read) j 0 ≡ cleaned_base rule read j
+pub get_or-cleaned : (rule : CountingRule) (read : Read) (j : ℕ) → j < length read.bases → get_or (cleaned rule read) j 0 ≡ cleaned_base rule read j
 unfolding cleaned
 get_or-cleaned rule read j h = get_or-map-range_with_len (λ i. cleaned_base rule read i) 0 (length read.bases) j j 0 h (omega arith)
 
@@ -43,50 +42,6 @@ are_piece_bytes-cleaned rule read =
     (and_parts (is_base (to_ascii_uppercase (get_or read.bases j 0))) (passes_floor rule.floor read.quals j) h).0)
     (λ _. refl))
     (range_with_len 0 (length read.bases))
-
--- without qualities each base is cleaned by itself
-pub cleaned-none : (rule : CountingRule) (bases : List ℕ) → map cleaned_letter bases ≡ cleaned rule (read_of bases None)
-unfolding cleaned is_usable
-cleaned-none rule bases =
-    fill_by_all (λ j. cleaned_base rule (read_of bases None) j) (map cleaned_letter bases) (length bases) 0 (length-map bases cleaned_letter)
-    (λ j h. get_or-map cleaned_letter bases j 0 0 h
-    ∙ ap (λ b. cond b (to_ascii_uppercase (get_or bases j 0)) unusable) (sym (and-true (is_base (to_ascii_uppercase (get_or bases j 0))))))
-  where
-    and-true : (b : Bool) → (b && true) ≡ b
-    and-true true = refl
-    and-true false = refl
-
--- with qualities a base is cleaned by itself where its quality reaches the floor, and is N elsewhere
-pub cleaned_base-high : (rule : CountingRule) (bases quals : List ℕ) (j floor : ℕ) → floor ≡ rule.floor → floor ≤ get_or quals j 0
-    → cleaned_letter (get_or bases j 0) ≡ cleaned_base rule (read_of bases (Some quals)) j
-unfolding is_usable
-cleaned_base-high rule bases quals j floor e h =
-    ap (λ b. cond b (to_ascii_uppercase (get_or bases j 0)) unusable)
-    (sym (ap (λ b. is_base (to_ascii_uppercase (get_or bases j 0)) && b) (le-leb rule.floor (get_or quals j 0) (omega (arith, e, h)))
-    ∙ and-true (is_base (to_ascii_uppercase (get_or bases j 0)))))
-  where
-    and-true : (b : Bool) → (b && true) ≡ b
-    and-true true = refl
-    and-true false = refl
-
-pub cleaned_base-low : (rule : CountingRule) (bases quals : List ℕ) (j floor : ℕ) → floor ≡ rule.floor → get_or quals j 0 < floor
-    → unusable ≡ cleaned_base rule (read_of bases (Some quals)) j
-unfolding is_usable
-cleaned_base-low rule bases quals j floor e h =
-    sym (cond-false _ (to_ascii_uppercase (get_or bases j 0)) unusable
-    (and_right (is_base (to_ascii_uppercase (get_or bases j 0))) _ (lt-leb rule.floor (get_or quals j 0) (omega (arith, e, h)))))
-
-pub cleaned-more : {xs ys : List ℕ} (rule : CountingRule) (read : Read) (i letter : ℕ) → xs ≡ map (λ j. cleaned_base rule read j) (range_with_len 0 i)
-    → ys ≡ xs ++ letter ∷ []
-    → letter ≡ cleaned_base rule read i → ys ≡ map (λ j. cleaned_base rule read j) (range_with_len 0 (i + 1))
-cleaned-more rule read i letter e push is =
-    push ∙ ap (λ zs. zs ++ letter ∷ []) e ∙ ap (λ b. map (λ j. cleaned_base rule read j) (range_with_len 0 i) ++ b ∷ []) is
-    ∙ sym (map-range_with_len_more (λ j. cleaned_base rule read j) 0 i i (omega arith))
-
-pub cleaned-all : (rule : CountingRule) (read : Read) (i : ℕ) (xs : List ℕ) → i ≤ length read.bases → length read.bases ≤ i
-    → xs ≡ map (λ j. cleaned_base rule read j) (range_with_len 0 i) → xs ≡ cleaned rule read
-unfolding cleaned
-cleaned-all rule read i xs most least e = e ∙ ap (λ n. map (λ j. cleaned_base rule read j) (range_with_len 0 n)) (omega (arith, most, least))
 
 -- ---- the words of a cleaned read
 
@@ -158,35 +113,6 @@ form_at-cleaned rule read p = ap (option_map (form rule.both)) (word_at-cleaned 
 
 -- ---- the contract of `clean`
 
-pub are_piece_bytes-letters : (bases : List ℕ) → are_piece_bytes (map cleaned_letter bases) ≡ true
-unfolding is_base
-are_piece_bytes-letters bases =
-    list_all-map-all _ cleaned_letter (λ byte. cond_both (is_base (to_ascii_uppercase byte)) (to_ascii_uppercase byte) unusable
-    (λ b. (is_base b || eqb b unusable) ≡ true)
-    (λ h. or_left (is_base (to_ascii_uppercase byte)) _ h) (λ _. refl)) bases
-
-pub clean-none : {E : Type 0} (rule : CountingRule) (read : Read) (bases : List ℕ) (r : Result (List ℕ) E) → bases ≡ read.bases → None ≡ read.quals
-    → IfOk r (λ piece. piece ≡ map cleaned_letter bases) → IfOk r (λ piece. piece ≡ cleaned rule read)
-clean-none rule read bases (Ok piece) e none h =
-    h ∙ cleaned-none rule bases ∙ ap (λ xs. cleaned rule (read_of xs None)) e ∙ ap (λ o. cleaned rule (read_of read.bases o)) none
-clean-none rule read bases (Err x) e none h = tt
-
-pub clean-some : {E : Type 0} (rule : CountingRule) (read : Read) (bases quals : List ℕ) (r : Result (List ℕ) E) → bases ≡ read.bases
-    → Some quals ≡ read.quals → IfOk r (λ piece. piece ≡ cleaned rule (read_of bases (Some quals))) → IfOk r (λ piece. piece ≡ cleaned rule read)
-clean-some rule read bases quals (Ok piece) e some h =
-    h ∙ ap (λ xs. cleaned rule (read_of xs (Some quals))) e ∙ ap (λ o. cleaned rule (read_of read.bases o)) some
-clean-some rule read bases quals (Err x) e some h = tt
-
-pub clean-length : {E : Type 0} (rule : CountingRule) (read : Read) (r : Result (List ℕ) E) → IfOk r (λ piece. piece ≡ cleaned rule read)
-    → IfOk r (λ piece. length piece ≡ length read.bases)
-clean-length rule read (Ok piece) h = ap length h ∙ length-cleaned rule read
-clean-length rule read (Err x) h = tt
-
--- a read that has qualities has one for each base
-pub quals-long : (read : Read) (quals : List ℕ) → IsRead read → Some quals ≡ read.quals → length quals ≡ length read.bases
-quals-long read quals lawful e =
-    eqb-true _ _ (and_parts (eqb (length quals) (length read.bases)) _ (ap (has_quality_each read.bases) e ∙ lawful.quals)).0
-
 -- ---- the words and the occurrences of a cleaned read
 
 pub words_in-cleaned : (rule : CountingRule) (read : Read) → words_in rule (read_of (cleaned rule read) None) ≡ words_in rule read
@@ -223,6 +149,3 @@ words_of-cleaned rule (read ∷ reads) =
     ∙ ap (λ xs. words_in rule read ++ xs) (words_of-cleaned rule reads)
 
 -- ---- a part of a piece
-
-pub are_piece_bytes-part : (bytes : List ℕ) (from to : ℕ) → are_piece_bytes bytes ≡ true → are_piece_bytes (take (to - from) (drop from bytes)) ≡ true
-are_piece_bytes-part bytes from to h = list_all-take _ (to - from) (drop from bytes) (list_all-drop _ from bytes h)

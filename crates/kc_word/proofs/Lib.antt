@@ -18,3 +18,6 @@ pub mod PackedLemmas
 pub mod RunLemmas
 pub mod PieceLemmas
 pub mod WalkLemmas
+pub mod Shifting
+pub mod Clipping
+pub mod Gatherings

@@ -1,21 +1,21 @@
 -- Runs that rise: where no index lies in one, what one index more changes, and that runs with the same indices are the same.
-use Rattle.std.proofs.Common.{◌≡◌, ◌≢◌, ℕ, suc, ◌+◌, ◌<◌, ◌≤◌, ⊎_elim, Bool, true, false, ◌&&◌, ◌||◌, leb, List, [], ◌∷◌, ◌++◌, length, get_or, take, drop, set, refl, ap, sym, ◌∙◌, subst, arith, true≢false, Decides, eqb, eqb-true, eq-eqb}
+use Rattle.std.proofs.Common.{◌≡◌, ◌≢◌, ℕ, zero, suc, ◌+◌, ◌<◌, ◌≤◌, ⊎_elim, Bool, true, false, ◌&&◌, ◌||◌, leb, List, [], ◌∷◌, ◌++◌, length, get_or, take, drop, set, refl, ap, sym, ◌∙◌, subst, arith, true≢false, Decides, eqb, eqb-true, eq-eqb}
 use Rattle.std.proofs.lemmas.Bool.{cases_lt, and_parts, and_from, and_left, and_right, or_left, or_right, le-leb, lt-leb, lt-ltb, le-ltb}
 use Rattle.std.proofs.lemmas.List.{take_more, take_all, set_at, length-take-le, drop_all, drop_more, get_or_default}
 use Rattle.std.proofs.lemmas.List.Folds.{list_any-append, list_any_at}
 use Rattle.std.specs.List.{list_any}
 use Rattle.kc_word.specs.declared.runs.Run.{Run}
-use Rattle.kc_word.specs.Runs.{run_end, is_in_run, is_in_runs, AreRuns, AreExtended, EndBehind, ArePassed}
+use Rattle.kc_word.specs.Runs.{run_end, is_in_run, is_in_runs, AreRuns, AreExtended, EndBehind, ArePassed, AreFree}
 
 -- ---- whether an index lies in a run
 
-inside-run : (run : Run) (i : ℕ) → run.start ≤ i → i < run_end run → is_in_run run i ≡ true
+pub inside-run : (run : Run) (i : ℕ) → run.start ≤ i → i < run_end run → is_in_run run i ≡ true
 inside-run run i low high = and_from _ _ (le-leb run.start i low) (lt-ltb i (run_end run) high)
 
-before-run : (run : Run) (i : ℕ) → i < run.start → is_in_run run i ≡ false
+pub before-run : (run : Run) (i : ℕ) → i < run.start → is_in_run run i ≡ false
 before-run run i h = and_left _ _ (lt-leb run.start i h)
 
-behind-run : (run : Run) (i : ℕ) → run_end run ≤ i → is_in_run run i ≡ false
+pub behind-run : (run : Run) (i : ℕ) → run_end run ≤ i → is_in_run run i ≡ false
 behind-run run i h = and_right (leb run.start i) _ (le-ltb i (run_end run) h)
 
 or-false : (a b : Bool) → a ≡ false → b ≡ false → (a || b) ≡ false
@@ -336,6 +336,37 @@ behind-next runs next at run passed h is end =
     next-ahead from to i [] l r = tt
     next-ahead from to i (run ∷ rs) l r = let start = r.0 in omega (arith, l, start)
 
+-- ---- indices before the next run
+
+pub free-behind : (runs : List Run) (next at n : ℕ) → ArePassed runs next at → next ≡ length runs → AreFree runs next at n
+free-behind runs next at n passed e =
+    let none : drop next runs ≡ [] = drop_all next runs (omega (arith, e)) in
+    record {
+      passed = record {
+        within = passed.within;
+        rising = passed.rising;
+        same = λ i h. passed.same i (omega (arith, h));
+        ahead = subst (EndBehind (at + n)) (sym none) tt;
+      };
+      free = λ i l h. sym (passed.same i l) ∙ ap (λ rs. is_in_runs rs i) none ∙ is_in_runs-none i;
+    }
+
+pub free-before : (runs : List Run) (next at n : ℕ) (run : Run) → ArePassed runs next at → next < length runs → run ≡ get_or runs next run
+    → at + n ≤ run.start → AreFree runs next at n
+free-before runs next at n run passed h is low =
+    let ahead = is_ahead runs next at run passed h is in
+    let rising = ahead.rising in
+    record {
+      passed = record {
+        within = passed.within;
+        rising = passed.rising;
+        same = λ i l. passed.same i (omega (arith, l));
+        ahead = subst (EndBehind (at + n)) (sym ahead.split) (omega (arith, low));
+      };
+      free = λ i l m. sym (passed.same i l) ∙ ap (λ rs. is_in_runs rs i) ahead.split
+          ∙ before-runs run.start ahead.to i (run ∷ drop (next + 1) runs) (omega (arith, m, low)) (omega arith, rising.1, rising.2, rising.3);
+    }
+
 -- ---- the indices that a loop looks at
 
 pub is_in_runs-more : (runs : List Run) (i n : ℕ) (run : Run) → n < length runs → run ≡ get_or runs n run → is_in_run run i ≡ false
@@ -410,3 +441,61 @@ AreDropped-all runs n at e dropped = record {
   same = dropped.same;
   ahead = subst (EndBehind at) (sym (drop_all n runs (omega (arith, e)))) tt;
 }
+
+-- the runs from a number on
+pub AreRuns-tail : (from to n : ℕ) (runs : List Run) → AreRuns from to runs → AreRuns from to (drop n runs)
+AreRuns-tail from to zero runs rising = rising
+AreRuns-tail from to (suc n) [] rising = tt
+AreRuns-tail from to (suc n) (run ∷ runs) rising =
+    let start = rising.0 in
+    AreRuns-lower (run_end run + 1) to from (drop n runs) (omega (arith, start)) (AreRuns-tail (run_end run + 1) to n runs rising.3)
+
+-- with a run all before it are dropped
+dropped-with : (from to n at : ℕ) (runs : List Run) (run : Run) → AreRuns from to runs → n < length runs → run ≡ get_or runs n run → run_end run ≤ at
+    → AreDropped runs (n + 1) at × (from ≤ run.start)
+dropped-with from to n at [] run rising h is end = absurd (omega (arith, h))
+dropped-with from to zero at (r ∷ runs) run rising h is end = (
+  AreDropped-more (r ∷ runs) 0 at run h is end (AreDropped-none (r ∷ runs) at (to, AreRuns-lower from to 0 (r ∷ runs) (omega arith) rising)),
+  subst (λ s. from ≤ s) (sym (ap (λ x. x.start) is)) rising.0,
+)
+dropped-with from to (suc n) at (r ∷ runs) run rising h is end =
+    let rest = dropped-with (run_end r + 1) to n at runs run rising.3 (omega (arith, h)) is end in
+    let above = rest.1 in
+    let start = rising.0 in
+    let count : suc (n + 1) ≡ suc n + 1 = omega arith in (
+      subst (λ m. AreDropped (r ∷ runs) m at) count (record {
+        rising = rest.0.rising;
+        same = λ i l. rest.0.same i l ∙ sym (is_in_runs-cons r runs i ∙ or-second (is_in_run r i) _ (behind-run r i (omega (arith, l, end, above))));
+      }),
+      omega (arith, above, start),
+    )
+
+-- ---- a search for the first run that ends behind an index
+
+pub record IsSearch (runs : List Run) (low high at : ℕ) : Type 0 where
+  pub rising : (to : ℕ) × AreRuns 0 to runs
+  pub dropped : AreDropped runs low at
+  pub order : low ≤ high
+  pub within : high ≤ length runs
+  pub ends : (run : Run) → high < length runs → run ≡ get_or runs high run → at < run_end run
+
+pub search-above : (runs : List Run) (low high middle at : ℕ) (run : Run) → IsSearch runs low high at → middle < high → run ≡ get_or runs middle run
+    → run_end run ≤ at → IsSearch runs (middle + 1) high at
+search-above runs low high middle at run before h is end = record {
+  rising = before.rising;
+  dropped = (dropped-with 0 before.rising.0 middle at runs run before.rising.1 (let within = before.within in omega (arith, h, within)) is end).0;
+  order = omega (arith, h);
+  within = before.within;
+  ends = before.ends;
+}
+
+pub search-done : (runs : List Run) (low high at : ℕ) → IsSearch runs low high at → high ≤ low → ArePassed runs low at
+search-done runs low high at before h =
+    let order = before.order in
+    let within = before.within in
+    let same : high ≡ low = omega (arith, order, h) in
+    ⊎_elim
+    (λ l. AreDropped-here runs low at _ l (read-run runs low l)
+    (subst (λ m. (run : Run) → m < length runs → run ≡ get_or runs m run → at < run_end run) same before.ends _ l (read-run runs low l)) before.dropped)
+    (λ l. AreDropped-all runs low at (omega (arith, l, same, within)) before.dropped)
+    (cases_lt low (length runs))

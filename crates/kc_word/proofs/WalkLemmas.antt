@@ -1,6 +1,7 @@
 -- The words of a piece that are left, byte by byte, and the pieces that are left behind it.
 use Rattle.std.proofs.Common.{◌≡◌, ℕ, zero, suc, ◌+◌, ◌-◌, ◌*◌, ◌/◌, ◌%◌, ◌^◌, ◌<◌, ◌≤◌, min, ⊎_elim, cond, bit_and, List, [], ◌∷◌, ◌++◌, length, get_or, take, drop, None, Some, option_to_list, refl, ap, sym, ◌∙◌, subst, arith}
 use Rattle.std.proofs.lemmas.Bool.{cases_lt}
+use Rattle.std.proofs.lemmas.Nat.{and_mask}
 use Rattle.std.proofs.lemmas.List.{take_more, take_all, drop_at, drop_all, append-nil, append_assoc, append_cancel_left}
 use Rattle.kc_fastx.specs.Reads.{read_of}
 use Rattle.kc_word.specs.Rule.{CountingRule}
@@ -184,6 +185,109 @@ pub code-no-word : (walking : Walking) (s : CodeStep walking) → IsWalking walk
     → words_left (record { rule = walking.rule; bytes = walking.bytes; taken = walking.taken + 1 }) ≡ words_left walking
 unfolding walk_step
 code-no-word walking s walked h = no-word-taken walking (walk_step walking s) walked h
+
+-- ---- a stretch of bases, base by base
+
+-- the words so far, behind those of before, and the numbers and the run, once so many bases of the stretch are taken
+pub record IsStretched (rule : CountingRule) (bytes : List ℕ) (at taken : ℕ) (before words : List ℕ) (forward backward run : ℕ) : Type 0 where
+  pub walking : IsWalking (record { rule = rule; bytes = bytes; taken = at + taken }) forward backward run
+  pub words_are : words ++ words_left (record { rule = rule; bytes = bytes; taken = at + taken })
+      ≡ before ++ words_left (record { rule = rule; bytes = bytes; taken = at })
+
+-- the base that is taken next, and its digit as the code has it
+pub record StretchStep (rule : CountingRule) (bytes : List ℕ) (at taken digit : ℕ) (before words : List ℕ) : Type 0 where
+  pub forward : ℕ
+  pub backward : ℕ
+  pub run : ℕ
+  pub found : ℕ
+  pub bases : ℕ
+  pub bases_are : bases ≡ rule.k
+  pub some : 1 ≤ rule.k
+  pub most : rule.k ≤ 31
+  pub within : at + taken < length bytes
+  pub small : found < 4
+  pub found_is : found
+      ≡ cond (is_base (to_ascii_uppercase (get_or bytes (at + taken) 0))) (code (to_ascii_uppercase (get_or bytes (at + taken) 0))) 4
+  pub digit_is : digit ≡ found
+  pub stretched : IsStretched rule bytes at taken before words forward backward run
+
+code_step : (rule : CountingRule) (bytes : List ℕ) (at taken digit : ℕ) (before words : List ℕ) → StretchStep rule bytes at taken digit before words
+    → CodeStep (record { rule = rule; bytes = bytes; taken = at + taken })
+code_step rule bytes at taken digit before words s = record {
+  found = s.found;
+  forward = s.forward;
+  backward = s.backward;
+  run = s.run;
+  next_run = s.run + 1;
+  bases = s.bases;
+  bases_are = s.bases_are;
+  some = s.some;
+  most = s.most;
+  within = s.within;
+  found_is = s.found_is;
+  grows = λ _. refl;
+  breaks = λ h. let small = s.small in absurd (omega (arith, h, small));
+}
+
+digit-masked : (rule : CountingRule) (bytes : List ℕ) (at taken digit : ℕ) (before words : List ℕ) (s : StretchStep rule bytes at taken digit before words)
+    → bit_and s.found 3 ≡ digit
+digit-masked rule bytes at taken digit before words s =
+    let is = s.digit_is in
+    let small = s.small in
+    and_mask s.found 2 ∙ omega (arith, is, small)
+
+next-walked : (rule : CountingRule) (bytes : List ℕ) (at taken digit : ℕ) (before words : List ℕ) (s : StretchStep rule bytes at taken digit before words)
+    → IsWalking (record { rule = rule; bytes = bytes; taken = at + (taken + 1) })
+    (bit_and (s.forward * 4 + digit) (1 * 2 ^ (2 * s.bases) % 2 ^ 64 - 1))
+    (s.backward / 4 + (3 - digit) * 2 ^ (2 * (s.bases - 1)) % 2 ^ 64) (s.run + 1)
+unfolding code_step
+next-walked rule bytes at taken digit before words s =
+    let place : at + taken + 1 ≡ at + (taken + 1) = omega arith in
+    subst (λ n. IsWalking (record { rule = rule; bytes = bytes; taken = n })
+    (bit_and (s.forward * 4 + digit) (1 * 2 ^ (2 * s.bases) % 2 ^ 64 - 1))
+    (s.backward / 4 + (3 - digit) * 2 ^ (2 * (s.bases - 1)) % 2 ^ 64) (s.run + 1)) place
+    (subst (λ d. IsWalking (record { rule = rule; bytes = bytes; taken = at + taken + 1 })
+    (bit_and (s.forward * 4 + d) (1 * 2 ^ (2 * s.bases) % 2 ^ 64 - 1))
+    (s.backward / 4 + (3 - d) * 2 ^ (2 * (s.bases - 1)) % 2 ^ 64) (s.run + 1)) (digit-masked rule bytes at taken digit before words s)
+    (code-walked (record { rule = rule; bytes = bytes; taken = at + taken }) (code_step rule bytes at taken digit before words s) s.stretched.walking))
+
+-- no word ends in it
+pub stretched-on : (rule : CountingRule) (bytes : List ℕ) (at taken digit : ℕ) (before words next : List ℕ) (s : StretchStep rule bytes at taken digit before words)
+    → s.run + 1 < rule.k → next ≡ words
+    → IsStretched rule bytes at (taken + 1) before next (bit_and (s.forward * 4 + digit) (1 * 2 ^ (2 * s.bases) % 2 ^ 64 - 1))
+    (s.backward / 4 + (3 - digit) * 2 ^ (2 * (s.bases - 1)) % 2 ^ 64) (s.run + 1)
+unfolding code_step
+stretched-on rule bytes at taken digit before words next s short same = record {
+  walking = next-walked rule bytes at taken digit before words s;
+  words_are = let place : at + (taken + 1) ≡ at + taken + 1 = omega arith in
+      ap (λ ws. ws ++ words_left (record { rule = rule; bytes = bytes; taken = at + (taken + 1) })) same
+      ∙ ap (λ n. words ++ words_left (record { rule = rule; bytes = bytes; taken = n })) place
+      ∙ ap (λ ws. words ++ ws) (code-no-word (record { rule = rule; bytes = bytes; taken = at + taken })
+      (code_step rule bytes at taken digit before words s) s.stretched.walking short)
+      ∙ s.stretched.words_are;
+}
+
+-- a word ends in it
+pub stretched-word : (rule : CountingRule) (bytes : List ℕ) (at taken digit word : ℕ) (before words next : List ℕ)
+    (s : StretchStep rule bytes at taken digit before words) → rule.k ≤ s.run + 1 → next ≡ words ++ word ∷ []
+    → word ≡ cond rule.both (min (s.backward / 4 + (3 - digit) * 2 ^ (2 * (s.bases - 1)) % 2 ^ 64)
+    (bit_and (s.forward * 4 + digit) (1 * 2 ^ (2 * s.bases) % 2 ^ 64 - 1))) (bit_and (s.forward * 4 + digit) (1 * 2 ^ (2 * s.bases) % 2 ^ 64 - 1))
+    → IsStretched rule bytes at (taken + 1) before next (bit_and (s.forward * 4 + digit) (1 * 2 ^ (2 * s.bases) % 2 ^ 64 - 1))
+    (s.backward / 4 + (3 - digit) * 2 ^ (2 * (s.bases - 1)) % 2 ^ 64) (s.run + 1)
+unfolding code_step
+stretched-word rule bytes at taken digit word before words next s long pushed is = record {
+  walking = next-walked rule bytes at taken digit before words s;
+  words_are = let place : at + (taken + 1) ≡ at + taken + 1 = omega arith in
+      let masked = sym (digit-masked rule bytes at taken digit before words s) in
+      let value = is ∙ ap (λ d. cond rule.both (min (s.backward / 4 + (3 - d) * 2 ^ (2 * (s.bases - 1)) % 2 ^ 64)
+      (bit_and (s.forward * 4 + d) (1 * 2 ^ (2 * s.bases) % 2 ^ 64 - 1))) (bit_and (s.forward * 4 + d) (1 * 2 ^ (2 * s.bases) % 2 ^ 64 - 1))) masked in
+      ap (λ ws. ws ++ words_left (record { rule = rule; bytes = bytes; taken = at + (taken + 1) })) pushed
+      ∙ ap (λ n. words ++ word ∷ [] ++ words_left (record { rule = rule; bytes = bytes; taken = n })) place
+      ∙ append_assoc words (word ∷ []) (words_left (record { rule = rule; bytes = bytes; taken = at + taken + 1 }))
+      ∙ ap (λ ws. words ++ ws) (sym (code-word (record { rule = rule; bytes = bytes; taken = at + taken })
+      (code_step rule bytes at taken digit before words s) word s.stretched.walking long value))
+      ∙ s.stretched.words_are;
+}
 
 -- ---- one piece after another
 

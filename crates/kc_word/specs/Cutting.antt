@@ -23,10 +23,6 @@ is_piece_byte byte = is_base byte || byte == unusable
 abbrev pub are_piece_bytes : List ℕ → Bool
 are_piece_bytes bytes = list_all is_piece_byte bytes
 
--- a base in upper case, and N for any other byte
-abbrev pub cleaned_letter : ℕ → ℕ
-cleaned_letter byte = if is_base (to_ascii_uppercase byte) then to_ascii_uppercase byte else unusable
-
 -- the base j of a read as it stands in its piece: in upper case where it is usable, and else N
 abbrev pub cleaned_base : CountingRule → Read → ℕ → ℕ
 cleaned_base rule read j = if is_usable rule read j then to_ascii_uppercase (slice_index read.bases j) else unusable

@@ -11,3 +11,4 @@ pub mod Packed
 pub mod Runs
 pub mod PackedPiece
 pub mod Walking
+pub mod Gathering

@@ -7,9 +7,17 @@ use Rattle.std.specs.List.{range_with_len}
 abbrev pub word_count : ℕ → ℕ
 word_count n = (n + 31) / 32
 
--- the code of base i: the two bits of its word that have those of the later bases below them; 0 past the last word
+-- code i of a word, from 0 to 31: the two bits that have those of the later bases below them
+abbrev pub code_in : ℕ → ℕ → ℕ
+code_in word i = word / 2 ^ (62 - 2 * i) % 4
+
+-- the first n codes of a word
+unfoldable pub codes_in : ℕ → ℕ → List ℕ
+codes_in word n = map (λ i. code_in word i) (range_with_len 0 n)
+
+-- the code of base i; 0 past the last word
 abbrev pub code_at : List ℕ → ℕ → ℕ
-code_at words i = slice_index words (i / 32) / 2 ^ (62 - 2 * (i % 32)) % 4
+code_at words i = code_in (slice_index words (i / 32)) (i % 32)
 
 -- the codes of the first n bases
 unfoldable pub codes_of : List ℕ → ℕ → List ℕ

@@ -1,6 +1,6 @@
 -- A piece as it is kept: the codes of its bases, and where it has N.
 -- Source: this project's own.
-use Rattle.std.specs.Prelude.{◌≡◌, ℕ, true, ◌^◌, ◌<◌, ◌≤◌, List, length, map, slice_index, nat_lt, if◌then◌else◌}
+use Rattle.std.specs.Prelude.{◌≡◌, ℕ, true, ◌^◌, ◌<◌, ◌≤◌, List, length, map, slice_index, if◌then◌else◌}
 use Rattle.std.specs.List.{range_with_len}
 use Rattle.kc_word.specs.Letter.{base}
 use Rattle.kc_word.specs.Cutting.{unusable}
@@ -10,10 +10,6 @@ use Rattle.kc_word.specs.Runs.{is_in_runs, AreRuns, ArePassed}
 -- the byte at index i: N in a run, and elsewhere the base that has the code
 abbrev pub byte_at : List ℕ → List Run → ℕ → ℕ
 byte_at codes runs i = if is_in_runs runs i then unusable else base (slice_index codes i)
-
--- the byte of a code: N where it is 4
-abbrev pub letter_of : ℕ → ℕ
-letter_of code = if nat_lt code 4 then base code else unusable
 
 -- the bytes of a piece
 unfoldable pub bytes_of : List ℕ → List Run → List ℕ

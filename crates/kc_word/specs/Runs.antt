@@ -1,6 +1,7 @@
 -- Runs of N in a piece: where each starts, and how long it is.
 -- Source: this project's own.
-use Rattle.std.specs.Prelude.{◌≡◌, ◌≢◌, ℕ, Bool, true, ◌+◌, ◌≤◌, ◌&&◌, nat_le, nat_lt, List, [], ◌∷◌, length, drop}
+use Rattle.std.specs.Prelude.{◌≡◌, ◌≢◌, ℕ, Bool, true, false, ◌+◌, ◌-◌, ◌<◌}
+use Rattle.std.specs.Prelude.{◌≤◌, ◌&&◌, nat_le, nat_lt, List, [], ◌∷◌, length, drop}
 use Rattle.std.specs.List.{list_any}
 use Rattle.kc_word.specs.declared.runs.Run.{Run}
 
@@ -21,6 +22,11 @@ AreRuns from to [] = Unit {0}
 AreRuns from to (run ∷ runs) =
     (from ≤ run.start) × (1 ≤ run.length) × (run_end run ≤ to) × AreRuns (run_end run + 1) to runs
 
+-- what of the runs lies from one index to before another, counted from the first
+pub record AreClipped (runs clipped : List Run) (from to : ℕ) : Type 0 where
+  pub rising : AreRuns 0 (to - from) clipped
+  pub same : (i : ℕ) → i < to - from → is_in_runs clipped i ≡ is_in_runs runs (from + i)
+
 -- the runs with one index more, behind all that they have
 pub record AreExtended (runs next : List Run) (at : ℕ) : Type 0 where
   pub rising : AreRuns 0 (at + 1) next
@@ -38,3 +44,8 @@ pub record ArePassed (runs : List Run) (next at : ℕ) : Type 0 where
   pub rising : (to : ℕ) × AreRuns 0 to (drop next runs)
   pub same : (i : ℕ) → at ≤ i → is_in_runs (drop next runs) i ≡ is_in_runs runs i
   pub ahead : EndBehind at (drop next runs)
+
+-- none of so many indices from an index on lies in a run, and the same runs are passed behind them
+pub record AreFree (runs : List Run) (next at n : ℕ) : Type 0 where
+  pub passed : ArePassed runs next (at + n)
+  pub free : (i : ℕ) → at ≤ i → i < at + n → is_in_runs runs i ≡ false

@@ -1,4 +1,5 @@
--- The laws of the equality of batches. They are proofs, and stand in specs/ since an `impl` may name only what stands there.
+-- The laws of the equality of batches. They are proofs, and stand in specs/ since an `impl` may name only what stands
+-- there.
 use Rattle.std.specs.Cmp.{IsEquivalence, IsPartialEquivalence, partial_equiv_from_equiv, nat_eq_equiv, on_equiv}
 use Rattle.std.specs.Cmp.{and_equiv}
 use Rattle.std.specs.Cmp.Lexicographic.{nat_list_eq_equiv, lists_equiv}

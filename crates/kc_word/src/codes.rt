@@ -1,14 +1,24 @@
 //! The codes of a piece, one after another.
-ghost use Rattle.std.specs.Prelude.{◌≡◌, ◌+◌, ◌<◌, ◌≤◌, length, slice_index, nat_le, IsTrue, if◌then◌else◌};
+ghost use Rattle.std.specs.Prelude.{◌≡◌, ℕ, ◌+◌, ◌<◌, ◌≤◌, length, slice_index, nat_le};
+ghost use Rattle.std.specs.Prelude.{if◌then◌else◌};
+ghost use Rattle.kc_word.specs.Packed.{code_in};
 ghost use Rattle.std.specs.Char.{to_ascii_uppercase};
 ghost use Rattle.kc_word.specs.Letter.{is_base, code};
-ghost use Rattle.kc_word.specs.Cutting.{is_piece_byte};
 ghost use Rattle.kc_word.specs.PackedPiece.{bytes_of, IsPiece};
 
 use crate::letter::NO_BASE;
-use crate::packed::Packed;
-use crate::runs::{Run, is_next_in_runs, runs_before};
+use crate::packed::{BASES, Packed};
+use crate::runs::{Run, free_of_runs, is_next_in_runs, runs_before};
 use std::marker::Model;
+
+/// Bases of a piece without an N among them.
+#[derive(Clone, Copy)]
+pub(crate) struct Stretch {
+    /// Their codes, the first one in the highest bits.
+    pub(crate) word: u64,
+    /// How many they are.
+    pub(crate) count: usize,
+}
 
 /// A place in a piece, seen as the bytes of the piece and how many of them were taken.
 #[derive(Drop)]
@@ -54,13 +64,33 @@ impl<'a> Codes<'a> {
         self.bases.len() <= self.at
     }
 
+    /// Takes the next bases, at most 32 and up to an N: their codes, the first one in the highest bits of a word, and
+    /// how many they are. Condition: not all bytes were taken.
+    #[inline(always)]
+    pub(crate) fn take_bases(&mut self) -> Stretch
+        requires { self.old.taken < length self.old.bytes }
+        ensures codes { (i : ℕ) → i < result.count → let byte =
+            to_ascii_uppercase (slice_index self.old.bytes (self.old.taken + i)) in
+            code_in result.word i ≡ (if is_base byte then code byte else 4) }
+        ensures most { result.count ≤ 32 }
+        ensures within { self.old.taken + result.count ≤ length self.old.bytes }
+        ensures taken { self.new
+            ≡ record { bytes = self.old.bytes; taken = self.old.taken + result.count } }
+    {
+        let at = self.at;
+        let left = self.bases.len() - at;
+        let count = free_of_runs(self.runs, self.next, at, left.min(BASES));
+        let word = self.bases.window(at);
+        self.at = at + count;
+        Stretch { word, count }
+    }
+
     /// The code of the next byte, and `NO_BASE` for N. Condition: not all bytes were taken.
     #[inline(always)]
     pub(crate) fn take(&mut self) -> u64
         requires { self.old.taken < length self.old.bytes }
         ensures value { let byte = to_ascii_uppercase (slice_index self.old.bytes self.old.taken) in
             result ≡ (if is_base byte then code byte else 4) }
-        ensures letter { IsTrue (is_piece_byte (slice_index self.old.bytes self.old.taken)) }
         ensures taken { self.new ≡ record { bytes = self.old.bytes; taken = self.old.taken + 1 } }
     {
         let at = self.at;

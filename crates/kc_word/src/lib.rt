@@ -21,6 +21,7 @@
 
 mod batch;
 mod codes;
+mod gathering;
 mod k;
 pub mod laws;
 mod letter;

@@ -1,14 +1,14 @@
 //! Codes of bases packed into words of 64 bits, 32 in each.
-ghost use Rattle.std.specs.Prelude.{◌≡◌, ◌+◌, ◌^◌, ◌<◌, ◌≤◌, ◌++◌, ◌∷◌, [], if◌then◌else◌, IfOk, All, length};
-ghost use Rattle.std.specs.Prelude.{slice_index, is_ok};
+ghost use Rattle.std.specs.Prelude.{◌≡◌, ℕ, ◌+◌, ◌%◌, ◌^◌, ◌<◌, ◌≤◌, ◌++◌, [], IfOk, OnOk, length};
+ghost use Rattle.std.specs.Prelude.{slice_index, slice_range};
 ghost use Rattle.std.specs.Vec.{vec_capacity};
-ghost use Rattle.kc_word.specs.Packed.{word_count};
+ghost use Rattle.kc_word.specs.Packed.{word_count, code_in, codes_in};
 
 use std::alloc::{AllocError, Global};
 use std::marker::Model;
 
 /// How many bases a word has.
-const BASES: usize = 32;
+pub(crate) const BASES: usize = 32;
 
 /// Codes of bases, seen as their list: two bits each, the first one in the highest bits of its word. The bits
 /// behind the last one are 0, so that equal lists have equal words.
@@ -38,17 +38,6 @@ impl Packed {
         Ok(Packed { words, len: 0 })
     }
 
-    /// The same codes.
-    pub(crate) fn copy(&self, alloc: Global) -> Result<Packed, AllocError>
-        ensures { IfOk result (λ packed. packed ≡ self.now) }
-    {
-        let words = Vec::from_slice(alloc, &self.words)?;
-        Ok(Packed {
-            words,
-            len: self.len,
-        })
-    }
-
     /// The number of codes.
     #[inline(always)]
     pub(crate) fn len(&self) -> usize
@@ -67,22 +56,51 @@ impl Packed {
         (self.words[i / BASES] >> (62 - 2 * (i % BASES))) & 3
     }
 
-    /// Appends a code. Conditions: the code is below 4, and the length stays below 2^64. After a refusal the
-    /// codes are as they were.
+    /// The 32 codes from index `at` on, or all that are left, as a word. Condition: `at` is below the length.
     #[inline(always)]
-    pub(crate) fn push(&mut self, code: u64) -> Result<(), AllocError>
-        requires below { code < 4 }
-        requires fits { length self.old + 1 < 2 ^ 64 }
-        ensures { self.new ≡ (if is_ok result then self.old ++ code ∷ [] else self.old) }
+    pub(crate) fn window(&self, at: usize) -> u64
+        requires { at < length self.now }
+        ensures { (i : ℕ) → i < 32 → at + i < length self.now → code_in result i ≡ slice_index self.now (at + i) }
     {
-        let place = self.len % BASES;
-        let bits = code << (62 - 2 * place);
-        if place == 0 {
-            self.words.push(bits)?;
-        } else {
-            self.words[self.len / BASES] |= bits;
+        let place = at / BASES;
+        let shift = 2 * (at % BASES);
+        let high = self.words[place] << shift;
+        let next = place + 1;
+        if shift == 0 || next == self.words.len() {
+            return high;
         }
-        self.len += 1;
+        high | (self.words[next] >> (64 - shift))
+    }
+
+    /// The codes from index `from` to before `to`. Condition: these are in order, and at most the length.
+    pub(crate) fn part(&self, alloc: Global, from: usize, to: usize) -> Result<Packed, AllocError>
+        requires ordered { from ≤ to }
+        requires within { to ≤ length self.now }
+        ensures { IfOk result (λ part. part ≡ slice_range self.now from to) }
+    {
+        let count = to - from;
+        let mut part = Packed::with_capacity(alloc, count)?;
+        for j in 0..count.div_ceil(BASES) {
+            let taken = j * BASES;
+            let word = self.window(from + taken);
+            part.push_word(word, (count - taken).min(BASES))?;
+        }
+        Ok(part)
+    }
+
+    /// Appends the first `count` codes of a word, behind whole words. Conditions: the count is 1 to 32, the length is
+    /// a multiple of 32, and it stays below 2^64.
+    #[inline(always)]
+    pub(crate) fn push_word(&mut self, word: u64, count: usize) -> Result<(), AllocError>
+        requires some { 1 ≤ count }
+        requires most { count ≤ 32 }
+        requires whole { length self.old % 32 ≡ 0 }
+        requires fits { length self.old + count < 2 ^ 64 }
+        ensures { OnOk result (self.new ≡ self.old ++ codes_in word count) }
+    {
+        let behind = 64 - 2 * count;
+        self.words.push((word >> behind) << behind)?;
+        self.len += count;
         Ok(())
     }
 }

@@ -1,18 +1,15 @@
 //! Reads cleaned into pieces.
-ghost use Rattle.std.specs.Prelude.{◌≡◌, ◌+◌, ◌^◌, ◌<◌, ◌↔◌, length, slice_index, slice_range, ◌≤◌, map, Some, IfOk};
-ghost use Rattle.std.specs.Prelude.{IsTrue, [], ◌∷◌, ◌++◌, OnOk};
-ghost use Rattle.kc_fastx.specs.Reads.{read_of};
+ghost use Rattle.std.specs.Prelude.{◌≡◌, ◌^◌, ◌<◌, ◌↔◌, length, slice_index, slice_range, ◌≤◌, IfOk, IsTrue};
 ghost use Rattle.kc_word.specs.Occurrences.{position_count};
-ghost use Rattle.kc_word.specs.Cutting.{cleaned, cleaned_letter, is_piece_byte, unusable};
-ghost use Rattle.kc_word.specs.Letter.{base};
-ghost use Rattle.kc_word.specs.PackedPiece.{letter_of};
+ghost use Rattle.kc_word.specs.Cutting.{cleaned, is_piece_byte};
 
 use crate::codes::Codes;
+use crate::gathering::{gather, mark_gaps};
 use crate::k::K;
-use crate::letter::{NO_BASE, UNUSABLE, base_of, code_of};
-use crate::packed::Packed;
+use crate::letter::{UNUSABLE, base_of};
+use crate::packed::{BASES, Packed};
 use crate::rule::Rule;
-use crate::runs::{Run, extend_runs, is_in_runs};
+use crate::runs::{Run, clip_runs, is_in_runs};
 use kc_fastx::SeqRead;
 use std::alloc::{AllocError, Global};
 use std::marker::Model;
@@ -81,15 +78,9 @@ impl Piece {
         requires within { to ≤ length self.now }
         ensures { IfOk result (λ part. part ≡ slice_range self.now from to) }
     {
-        if from == 0 && to as u64 == self.len() {
-            return self.copy(alloc);
-        }
-        let mut part = Piece::with_capacity(alloc, to - from)?;
-        let mut codes = self.codes(from);
-        for i in from..to {
-            part.push_code(codes.take())?;
-        }
-        Ok(part)
+        let bases = self.bases.part(alloc, from, to)?;
+        let runs = clip_runs(alloc, &self.runs, from, to)?;
+        Ok(Piece { bases, runs })
     }
 
     /// The codes of the bytes from index `from` on. Condition: the index is at most the length.
@@ -98,68 +89,6 @@ impl Piece {
         ensures { result ≡ record { bytes = self.now; taken = from } }
     {
         Codes::new(&self.bases, &self.runs, from)
-    }
-
-    // the same bytes
-    fn copy(&self, alloc: Global) -> Result<Piece, AllocError>
-        ensures { IfOk result (λ piece. piece ≡ self.now) }
-    {
-        let bases = self.bases.copy(alloc)?;
-        let runs = Vec::from_slice(alloc, &self.runs)?;
-        Ok(Piece { bases, runs })
-    }
-
-    // no bytes, with room for `count`
-    fn with_capacity(alloc: Global, count: usize) -> Result<Piece, AllocError>
-        ensures { IfOk result (λ piece. piece ≡ []) }
-    {
-        let bases = Packed::with_capacity(alloc, count)?;
-        let runs = Vec::new(alloc);
-        Ok(Piece { bases, runs })
-    }
-
-    // appends a base in either case as the upper-case one, and any other byte as N
-    #[inline(always)]
-    fn push(&mut self, byte: u8) -> Result<(), AllocError>
-        requires { length self.old + 1 < 2 ^ 64 }
-        ensures { OnOk result (self.new ≡ self.old ++ cleaned_letter byte ∷ []) }
-    {
-        self.push_code(code_of(byte) as u64)
-    }
-
-    // appends the base of a code, and N for any other number
-    #[inline(always)]
-    fn push_code(&mut self, code: u64) -> Result<(), AllocError>
-        requires { length self.old + 1 < 2 ^ 64 }
-        ensures { OnOk result (self.new ≡ self.old ++ letter_of code ∷ []) }
-    {
-        if code < NO_BASE as u64 {
-            self.push_base(code)
-        } else {
-            self.push_gap()
-        }
-    }
-
-    // appends the base of a code
-    #[inline(always)]
-    fn push_base(&mut self, code: u64) -> Result<(), AllocError>
-        requires below { code < 4 }
-        requires fits { length self.old + 1 < 2 ^ 64 }
-        ensures { OnOk result (self.new ≡ self.old ++ base code ∷ []) }
-    {
-        self.bases.push(code)?;
-        Ok(())
-    }
-
-    // appends N
-    fn push_gap(&mut self) -> Result<(), AllocError>
-        requires { length self.old + 1 < 2 ^ 64 }
-        ensures { OnOk result (self.new ≡ self.old ++ unusable ∷ []) }
-    {
-        let at = self.bases.len();
-        self.bases.push(0)?;
-        extend_runs(&mut self.runs, at)?;
-        Ok(())
     }
 }
 
@@ -189,38 +118,17 @@ pub fn clean(alloc: Global, read: &SeqRead, rule: &Rule) -> Result<Piece, AllocE
     ensures cleaned { IfOk result (λ piece. piece ≡ cleaned rule.now read.now) }
     ensures long { IfOk result (λ piece. length piece ≡ length read.now.bases) }
 {
-    match read.quals() {
-        None => clean_bases(alloc, read.bases()),
-        Some(quals) => clean_by_quality(alloc, read.bases(), quals, rule),
+    let count = read.bases().len();
+    let mut bases = Packed::with_capacity(alloc, count)?;
+    let mut runs = Vec::new(alloc);
+    for j in 0..count.div_ceil(BASES) {
+        let from = j * BASES;
+        let taken = (count - from).min(BASES);
+        let block = gather(read, rule, from, taken);
+        bases.push_word(block.word, taken)?;
+        if block.has_gap {
+            mark_gaps(read, rule, from, taken, &mut runs)?;
+        }
     }
-}
-
-// bases without qualities, cleaned
-fn clean_bases(alloc: Global, bases: &[u8]) -> Result<Piece, AllocError>
-    ensures { IfOk result (λ piece. piece ≡ map cleaned_letter bases.now) }
-{
-    let mut cleaned = Piece::with_capacity(alloc, bases.len())?;
-    for base in bases {
-        cleaned.push(*base)?;
-    }
-    Ok(cleaned)
-}
-
-// bases with a quality each, cleaned
-fn clean_by_quality(
-    alloc: Global,
-    bases: &[u8],
-    quals: &[u8],
-    rule: &Rule,
-) -> Result<Piece, AllocError>
-    requires { length quals.now ≡ length bases.now }
-    ensures { IfOk result (λ piece. piece ≡ cleaned rule.now (read_of bases.now (Some quals.now))) }
-{
-    let floor = rule.floor();
-    let mut cleaned = Piece::with_capacity(alloc, bases.len())?;
-    for (i, base) in bases.iter().enumerate() {
-        let byte = if quals[i] >= floor { *base } else { UNUSABLE };
-        cleaned.push(byte)?;
-    }
-    Ok(cleaned)
+    Ok(Piece { bases, runs })
 }

@@ -69,10 +69,11 @@ fn push_words(piece: &Piece, rule: Rule, words: &mut Vec<u64>) -> Result<(), All
 {
     let _some = rule.k().get();
     let mut roll = Roll::new(piece, rule);
-    for i in 0..piece.len() {
+    while !roll.is_done() {
         if let Some(word) = roll.step() {
             words.push(word)?;
         }
+        roll = roll.push_stretch(words)?;
     }
     Ok(())
 }
@@ -160,6 +161,46 @@ impl<'a> Roll<'a> {
         let word = if both { backward.min(forward) } else { forward };
         Some(word)
     }
+
+    // Takes the next bases, at most 32 and up to an N, and appends the words that end in them.
+    #[inline(always)]
+    fn push_stretch(self, words: &mut Vec<u64>) -> Result<Roll<'a>, AllocError>
+        ensures rule { IfOk result (λ next. next.rule ≡ self.entry.rule) }
+        ensures bytes { IfOk result (λ next. next.bytes ≡ self.entry.bytes) }
+        ensures taken { IfOk result (λ next. self.entry.taken ≤ next.taken) }
+        ensures words { IfOk result (λ next.
+            words.new.items ++ words_left next ≡ words.old.items ++ words_left self.entry) }
+    {
+        if self.is_done() {
+            return Ok(self);
+        }
+        let rule = self.rule;
+        let k = rule.k().get();
+        let both = rule.both();
+        let mask = (1u64 << (2 * k)) - 1;
+        let mut forward = self.forward;
+        let mut backward = self.backward;
+        let mut run = self.run;
+        let mut codes = self.codes;
+        let stretch = codes.take_bases();
+        for i in 0..stretch.count {
+            let digit = (stretch.word >> (62 - 2 * i)) & 3;
+            forward = (forward * 4 + digit) & mask;
+            backward = (backward >> 2) + ((3 - digit) << (2 * (k - 1)));
+            run += 1;
+            if run >= k as usize {
+                words.push(if both { backward.min(forward) } else { forward })?;
+            }
+        }
+        Ok(Roll {
+            codes,
+            rule,
+            forward,
+            backward,
+            run,
+        })
+    }
+
     /// Takes bytes up to the end of the next word, or all that are left where no word ends in them.
     #[inline(always)]
     pub(crate) fn next_word(&mut self) -> Option<u64>

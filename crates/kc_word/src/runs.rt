@@ -1,8 +1,8 @@
 //! Runs of N in a piece.
-ghost use Rattle.std.specs.Prelude.{◌≡◌, ℕ, ◌+◌, ◌^◌, ◌<◌, ◌≤◌, ◌≢◌, length, nat_le, OnOk, OnErr};
-ghost use Rattle.kc_word.specs.Runs.{AreRuns, AreExtended, ArePassed, is_in_run, is_in_runs};
+ghost use Rattle.std.specs.Prelude.{◌≡◌, ℕ, ◌+◌, ◌^◌, ◌<◌, ◌≤◌, ◌≢◌, length, nat_le, OnOk, OnErr, IfOk};
+ghost use Rattle.kc_word.specs.Runs.{AreRuns, AreExtended, ArePassed, AreFree, AreClipped, is_in_run, is_in_runs};
 
-use std::alloc::AllocError;
+use std::alloc::{AllocError, Global};
 
 /// A run of N: where it starts, and how long it is.
 #[derive(Clone, Copy, PartialEq, Eq, Debug)]
@@ -57,6 +57,35 @@ pub(crate) fn extend_runs(runs: &mut Vec<Run>, at: usize) -> Result<(), AllocErr
     Ok(())
 }
 
+/// What of the runs lies from `from` to before `to`, counted from `from`.
+pub(crate) fn clip_runs(
+    alloc: Global,
+    runs: &[Run],
+    from: usize,
+    to: usize,
+) -> Result<Vec<Run>, AllocError>
+    requires { (end : ℕ) × AreRuns 0 end runs.now }
+    ensures { IfOk result (λ clipped. AreClipped runs.now clipped.items from to) }
+{
+    let mut clipped = Vec::new(alloc);
+    let first = runs_before(runs, from);
+    for n in first..runs.len() {
+        let run = runs[n];
+        if run.start >= to {
+            break;
+        }
+        let start = run.start.max(from);
+        let end = run.start.saturating_add(run.length).min(to);
+        if start < end {
+            clipped.push(Run {
+                start: start - from,
+                length: end - start,
+            })?;
+        }
+    }
+    Ok(clipped)
+}
+
 /// Whether the index lies in one of the runs.
 pub(crate) fn is_in_runs(runs: &[Run], i: usize) -> bool
     ensures { result ≡ is_in_runs runs.now i }
@@ -74,12 +103,35 @@ pub(crate) fn runs_before(runs: &[Run], at: usize) -> usize
     requires { (to : ℕ) × AreRuns 0 to runs.now }
     ensures { ArePassed runs.now result at }
 {
-    for n in 0..runs.len() {
-        if !runs[n].ends_by(at) {
-            return n;
+    let mut low = 0;
+    let mut high = runs.len();
+    while low < high {
+        let middle = low + (high - low) / 2;
+        if runs[middle].ends_by(at) {
+            low = middle + 1;
+        } else {
+            high = middle;
         }
     }
-    runs.len()
+    low
+}
+
+/// How many of the `most` indices from `at` on come before the first one that lies in a run, or fewer where the run
+/// with number `next`, as in `is_next_in_runs`, has already begun.
+#[inline(always)]
+pub(crate) fn free_of_runs(runs: &[Run], next: usize, at: usize, most: usize) -> usize
+    requires { ArePassed runs.now next at }
+    ensures most { result ≤ most }
+    ensures free { AreFree runs.now next at result }
+{
+    if next == runs.len() {
+        return most;
+    }
+    let start = runs[next].start;
+    if start <= at {
+        return 0;
+    }
+    most.min(start - at)
 }
 
 /// Whether the index `at` lies in a run, for one who asks of each index in turn: `next` is the number of the first

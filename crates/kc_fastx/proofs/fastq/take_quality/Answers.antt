@@ -11,10 +11,12 @@ lines-preserved c =
     let good : list_all is_quality_byte c.in-Some.line.now ≡ true = cc in
     let short : length c.lines.quals.items < c.args.need = omega arith in
     let fits : length c.lines.quals.items + length c.in-Some.line.now ≤ c.args.need = omega arith in
-    let more = quality_more c.args.need c.args.lines.now c.lines.lines c.next_line.new.self c.lines.quals.items c.in-Some.line.now
+    let more = quality_more c.args.need c.args.lines.now c.lines.lines c.next_line.new.self c.lines.quals.items
+    c.in-Some.line.now
     c.lines.invariant.so_far (record { short = short; step = step; accepted = good; fits = fits }) in
     rw c.in_ok-extend_from_slice.ensures.items
     (record {
       so_far = more;
-      passes = passes_both c.args.lines.now c.lines.lines c.next_line.new.self c.lines.invariant.passes c.in-Some.ensures.passes;
+      passes = passes_both c.args.lines.now c.lines.lines c.next_line.new.self c.lines.invariant.passes
+          c.in-Some.ensures.passes;
     })

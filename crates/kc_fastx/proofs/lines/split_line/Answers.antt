@@ -20,12 +20,18 @@ pub returns-in-Some-clause-behind : goal.returns-in-Some-clause-behind
 returns-in-Some-clause-behind c =
     let bytes = c.args.bytes.now in
     let count = c.in-Some.end + 1 in
-    let rest : take (length bytes - count) (drop count bytes) ≡ drop count bytes = take_all _ _ (omega (arith, length-drop count bytes)) in
-    record { front = take count bytes; split = sym (take-append-drop count bytes) ∙ ap (λ v. take count bytes ++ v) (sym rest) }
+    let rest : take (length bytes - count) (drop count bytes) ≡ drop count bytes = take_all _ _ (omega
+    (arith, length-drop count bytes)) in
+    record {
+      front = take count bytes;
+      split = sym (take-append-drop count bytes)
+          ∙ ap (λ v. take count bytes ++ v) (sym rest);
+    }
 
 pub returns-in-None-clause-behind : goal.returns-in-None-clause-behind
 returns-in-None-clause-behind c =
     let bytes = c.args.bytes.now in
     let none : take (length bytes - length bytes) (drop (length bytes) bytes) ≡ [] =
-    ap (take (length bytes - length bytes)) (drop_all (length bytes) bytes (omega arith)) ∙ take_all (length bytes - length bytes) [] (omega arith) in
+    ap (take (length bytes - length bytes)) (drop_all (length bytes) bytes (omega arith))
+    ∙ take_all (length bytes - length bytes) [] (omega arith) in
     record { front = bytes; split = sym (append-nil bytes) ∙ ap (λ v. bytes ++ v) (sym none) }

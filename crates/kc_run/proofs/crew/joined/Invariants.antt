@@ -5,8 +5,8 @@ use Rattle.kc_run.specs.Tickets.{Roll}
 use Rattle.kc_run.specs.Runs.{HasWorked, HaveWorked}
 use Rattle.kc_run.proofs.crew.joined.Given as goal
 
-abbrev pub invariant-loop-seat : goal.invariant-loop-seat
-invariant-loop-seat g l = record {
+abbrev pub invariant-loop-worker : goal.invariant-loop-worker
+invariant-loop-worker g l = record {
   counted : vec_len l.seats + vec_len l.workers ≡ vec_len l.fn.workers;
   left : (roll : Roll) (plan : Plan) → All (λ worker. HasWorked roll plan worker.seat worker.share) l.fn.workers.items
       → All (λ worker. HasWorked roll plan worker.seat worker.share) l.workers.items;
@@ -14,5 +14,5 @@ invariant-loop-seat g l = record {
       → HaveWorked roll plan l.seats.items l.share;
 }
 
-abbrev pub decreases-loop-seat : goal.decreases-loop-seat
-decreases-loop-seat g l = vec_len l.workers
+abbrev pub decreases-loop-worker : goal.decreases-loop-worker
+decreases-loop-worker g l = vec_len l.workers

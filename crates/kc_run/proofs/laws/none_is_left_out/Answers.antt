@@ -1,4 +1,4 @@
-use Rattle.kc_run.proofs.LawLemmas.{none_left_out}
+use Rattle.kc_base.proofs.Numbers.{none_left_out}
 use Rattle.kc_run.proofs.laws.none_is_left_out.Goals as goal
 
 pub returns : goal.returns

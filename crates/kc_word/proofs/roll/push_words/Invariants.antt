@@ -1,12 +1,14 @@
-use Rattle.std.proofs.Common.{◌≡◌, ◌++◌, None}
+use Rattle.std.proofs.Common.{◌≡◌, ◌++◌, ◌-◌, length, None}
 use Rattle.kc_fastx.specs.Reads.{read_of}
 use Rattle.kc_word.specs.Occurrences.{words_in}
 use Rattle.kc_word.specs.Walking.{words_left}
 use Rattle.kc_word.proofs.roll.push_words.Given as goal
 
-abbrev pub invariant-loop-i : goal.invariant-loop-i
-invariant-loop-i l = record {
-  words : l.words.items ++ words_left l.roll ≡ l.initial.words.items ++ words_in l.fn.rule (read_of l.piece None);
+abbrev pub invariant-loop-roll : goal.invariant-loop-roll
+invariant-loop-roll l = record {
+  words : l.words.items ++ words_left l.roll ≡ l.fn.words.items ++ words_in l.fn.rule (read_of l.piece None);
   bytes : l.roll.bytes ≡ l.piece;
-  taken : l.roll.taken ≡ l.i;
 }
+
+abbrev pub decreases-loop-roll : goal.decreases-loop-roll
+decreases-loop-roll l = length l.roll.bytes - l.roll.taken

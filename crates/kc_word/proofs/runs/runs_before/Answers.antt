@@ -1,24 +1,18 @@
-use Rattle.std.proofs.Common.{◌≡◌, ◌<◌, length, sym, ◌∙◌, arith, rules}
-use Rattle.std.proofs.lemmas.Bool.{leb-true, leb-false}
-use Rattle.kc_word.proofs.RunLemmas.{AreDropped-none, AreDropped-more, AreDropped-here, AreDropped-all, read-run}
+use Rattle.std.proofs.Common.{◌+◌, ◌-◌, ◌/◌, ◌<◌, length, sym, ◌∙◌, arith}
+use Rattle.std.proofs.lemmas.Bool.{leb-true}
+use Rattle.kc_word.proofs.RunLemmas.{search-above, search-done, read-run}
 use Rattle.kc_word.proofs.runs.runs_before.Goals as goal
 
-pub loop-n-init : goal.loop-n-init
-loop-n-init c = AreDropped-none c.args.runs.now c.args.at c.requires
-
-pub returns-then-not-ends_by : goal.returns-then-not-ends_by
-returns-then-not-ends_by c =
-    let within : c.loop-n.n < length c.args.runs.now = omega arith in
-    AreDropped-here c.args.runs.now c.loop-n.n c.args.at _ within (read-run c.args.runs.now c.loop-n.n within)
-    (leb-false _ c.args.at (sym c.ends_by.ensures ∙ c.if-not-ends_by.true)) c.loop-n.invariant
-
-pub loop-n-preserved : goal.loop-n-preserved
-loop-n-preserved c =
-    let within : c.loop-n.n < length c.args.runs.now = omega arith in
-    AreDropped-more c.args.runs.now c.loop-n.n c.args.at _ within (read-run c.args.runs.now c.loop-n.n within)
-    (leb-true _ c.args.at (sym c.ends_by.ensures ∙ c.if-not-ends_by.false)) c.loop-n.invariant
+pub loop-low-preserved-then-ends_by : goal.loop-low-preserved-then-ends_by
+loop-low-preserved-then-ends_by c =
+    let test = c.loop-low-test.true in
+    let within = c.loop-low.invariant.within in
+    let below : c.loop-low.low + (c.loop-low.high - c.loop-low.low) / 2 < c.loop-low.high = omega (arith, test) in
+    let inside : c.loop-low.low + (c.loop-low.high - c.loop-low.low) / 2 < length c.args.runs.now = omega (arith, below, within) in
+    search-above c.args.runs.now c.loop-low.low c.loop-low.high _ c.args.at _ c.loop-low.invariant below (read-run c.args.runs.now _ inside)
+    (leb-true _ c.args.at (sym c.ends_by.ensures ∙ c.if-ends_by.true))
 
 pub returns : goal.returns
 returns c =
-    let same : c.loop-n.n ≡ length c.args.runs.now = omega arith in
-    search (rules, AreDropped-all c.args.runs.now c.loop-n.n c.args.at same c.loop-n.invariant)
+    let test = c.loop-low-test.false in
+    search-done c.args.runs.now c.loop-low.low c.loop-low.high c.args.at c.loop-low.invariant (omega (arith, test))

@@ -13,4 +13,5 @@ filling-init g c =
     })
 
 pub returns-in-Err : goal.returns-in-Err
-returns-in-Err g c = filled_fails (g.S.Source.seen c.fill.new.source) c.in-Err.why c.filling.invariant.filling.filled c.in-Err.ensures
+returns-in-Err g c = filled_fails (g.S.Source.seen c.fill.new.source) c.in-Err.why c.filling.invariant.filling.filled
+    c.in-Err.ensures

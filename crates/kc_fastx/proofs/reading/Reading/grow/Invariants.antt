@@ -1,5 +1,4 @@
-use Rattle.kc_fastx.proofs.ReadingLemmas.{Filling, with_unread}
-use Rattle.kc_fastx.specs.Reading.{Stand}
+use Rattle.kc_fastx.proofs.ReadingLemmas.{Filling}
 use Rattle.std.proofs.Common.{◌≤◌, ◌<◌, ◌+◌, length}
 use Rattle.kc_fastx.proofs.reading.Reading.grow.Given as goal
 

@@ -7,7 +7,8 @@ use Rattle.kc_fastx.proofs.reading.Reading.next_read.Given as goal
 abbrev pub invariant-reading : goal.invariant-reading
 invariant-reading g l = record {
   given : (start : Seen) (limit : ℕ) (reads : List Read)
-      → HasGiven start (g.S.Source.seen l.fn.source) limit reads l.fn.self → HasGiven start (g.S.Source.seen l.source) limit reads l.self;
+      → HasGiven start (g.S.Source.seen l.fn.source) limit reads l.fn.self
+      → HasGiven start (g.S.Source.seen l.source) limit reads l.self;
   unfailed : l.self.failed ≡ None;
   used : l.self.used ≡ l.fn.self.used;
 }

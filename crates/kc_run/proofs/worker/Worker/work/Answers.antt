@@ -1,4 +1,4 @@
-use Rattle.std.proofs.Common.{◌≡◌, ℕ, List, length, filter, nat_lt, ap, sym, ◌∙◌, rules}
+use Rattle.std.proofs.Common.{◌≡◌, ℕ, List, length, filter, nat_lt, ap, sym, ◌∙◌, arith}
 use Rattle.kc_share.specs.Share.{ShareSeen, entry_total_in}
 use Rattle.kc_run.proofs.EntryLemmas.{no_entries}
 use Rattle.kc_run.proofs.worker.Worker.work.Goals as goal
@@ -9,9 +9,23 @@ loop-drawn-init g c =
     let ready = c.requires.ready in
     record {
       own = ready.seat_fresh.own;
-      more = search rules;
       one_part = ap (λ (share : ShareSeen). share.parts) ready.unused;
       same_plan = ap (λ (share : ShareSeen). share.plan) ready.unused;
       booked = λ stripe less. ap (λ (share : ShareSeen). entry_total_in stripe share.booked) ready.unused ∙ no_entries stripe
           ∙ sym (ap (λ (drawn : List ℕ). length (filter (λ number. nat_lt number seat.limit) drawn)) ready.seat_fresh.fresh);
+    }
+
+pub loop-drawn-preserved : goal.loop-drawn-preserved
+loop-drawn-preserved g c =
+    let i = c.loop-drawn.invariant in
+    let same : c.draw_round.new.self.share ≡ c.loop-drawn.self.share = c.draw_round.ensures.share ∙ c.draw.ensures.share in
+    record {
+      own = c.draw_round.ensures.own;
+      one_part = c.book_round.ensures.kept.0 ∙ ap (λ (share : ShareSeen). share.parts) same ∙ i.one_part;
+      same_plan = c.book_round.ensures.kept.1 ∙ ap (λ (share : ShareSeen). share.plan) same ∙ i.same_plan;
+      booked = λ stripe less.
+          let more = c.in_ok-book_round.ensures.booked stripe (omega (arith, less, c.requires.job.stripes)) in
+          let before = ap (λ (share : ShareSeen). entry_total_in stripe share.booked) same in
+          let long = ap length c.deref-in-Some.ensures.value in
+          omega (arith, more, before, long, i.booked stripe less, c.in-Some.ensures.answered.0, c.in_ok-round.ensures.answered);
     }

@@ -1,12 +1,11 @@
 use Rattle.std.proofs.Common.{◌≡◌, ℕ, ◌-◌, ◌<◌, length}
 use Rattle.kc_share.specs.Share.{entry_total_in}
-use Rattle.kc_run.specs.Tickets.{IsSeatOf, IsDone, answers_of}
+use Rattle.kc_run.specs.Tickets.{IsSeatOf, answers_of}
 use Rattle.kc_run.proofs.worker.Worker.work.Given as goal
 
 abbrev pub invariant-loop-drawn : goal.invariant-loop-drawn
 invariant-loop-drawn g l = record {
   own : IsSeatOf l.job.tickets.now l.self.seat;
-  more : ¬ IsDone l.self.seat;
   one_part : l.self.share.parts ≡ 1;
   same_plan : l.self.share.plan ≡ l.job.plan;
   booked : (stripe : ℕ) → stripe < l.job.plan.stripes → entry_total_in stripe l.self.share.booked ≡ length (answers_of l.self.seat);

@@ -1,8 +1,7 @@
 use Rattle.std.proofs.Common.{cond, length, get_or, ap, sym, ◌∙◌, arith}
 use Rattle.std.specs.Char.{to_ascii_uppercase}
 use Rattle.kc_word.specs.Letter.{is_base, code}
-use Rattle.kc_word.specs.Cutting.{is_piece_byte}
-use Rattle.kc_word.proofs.PieceLemmas.{length-bytes_of, get_or-bytes_of, byte_at-letter, code-of-byte, code-of-gap}
+use Rattle.kc_word.proofs.PieceLemmas.{length-bytes_of, code-of-byte, code-of-gap}
 use Rattle.kc_word.proofs.codes.Codes.take.Goals as goal
 
 pub is_next_in_runs-is_gap-requires-clause-fits : goal.is_next_in_runs-is_gap-requires-clause-fits
@@ -69,21 +68,3 @@ returns-clause-value c =
     code-of-byte c.self.inside.bases.now c.self.inside.runs.now c.self.inside.at c.code.result c.self.invariant.piece (omega (arith, long, at, below))
     (sym c.is_next_in_runs-is_gap.ensures.value ∙ c.if-is_gap.false) c.code.ensures.value
     ∙ ap (λ r. cond (is_base (to_ascii_uppercase (get_or r.bytes r.taken 0))) (code (to_ascii_uppercase (get_or r.bytes r.taken 0))) 4) c.self.view_is
-
-pub returns-then-is_gap-clause-letter : goal.returns-then-is_gap-clause-letter
-returns-then-is_gap-clause-letter c =
-    let long = sym (length-bytes_of c.self.inside.bases.now c.self.inside.runs.now) ∙ ap (λ r. length r.bytes) c.self.view_is in
-    let at = ap (λ r. r.taken) c.self.view_is in
-    let below = c.requires in
-    sym (ap (λ r. is_piece_byte (get_or r.bytes r.taken 0)) c.self.view_is)
-    ∙ ap is_piece_byte (get_or-bytes_of c.self.inside.bases.now c.self.inside.runs.now c.self.inside.at 0 (omega (arith, long, at, below)))
-    ∙ byte_at-letter c.self.inside.bases.now c.self.inside.runs.now c.self.inside.at (c.self.invariant.piece.below c.self.inside.at)
-
-pub returns-clause-letter : goal.returns-clause-letter
-returns-clause-letter c =
-    let long = sym (length-bytes_of c.self.inside.bases.now c.self.inside.runs.now) ∙ ap (λ r. length r.bytes) c.self.view_is in
-    let at = ap (λ r. r.taken) c.self.view_is in
-    let below = c.requires in
-    sym (ap (λ r. is_piece_byte (get_or r.bytes r.taken 0)) c.self.view_is)
-    ∙ ap is_piece_byte (get_or-bytes_of c.self.inside.bases.now c.self.inside.runs.now c.self.inside.at 0 (omega (arith, long, at, below)))
-    ∙ byte_at-letter c.self.inside.bases.now c.self.inside.runs.now c.self.inside.at (c.self.invariant.piece.below c.self.inside.at)

@@ -1,0 +1,15 @@
+use Rattle.std.proofs.Common.{◌≡◌, ◌+◌, ◌≤◌, ◌⊎◌, length}
+use Rattle.kc_run.specs.Tickets.{IsSeatOf, answers_of}
+use Rattle.kc_run.specs.Runs.{AreCutUp}
+use Rattle.kc_run.proofs.worker.Worker.draw_round.Given as goal
+
+abbrev pub invariant-loop : goal.invariant-loop
+invariant-loop g l = record {
+  own : IsSeatOf l.job.tickets.now l.self.seat;
+  share : l.self.share ≡ l.initial.self.share;
+  answered : length (answers_of l.self.seat) + 1 ≡ length (answers_of l.initial.self.seat) + length l.round.items;
+  few : length l.round.items ≤ l.counter;
+  bounded : (length l.round.items ≡ 1) ⊎ (length l.round.items ≤ l.job.round_len);
+  some : 1 ≤ length l.round.items;
+  cut_up : AreCutUp l.job.stripes.now.setup l.round.items;
+}

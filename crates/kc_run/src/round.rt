@@ -1,0 +1,136 @@
+//! A round of a worker: batches that are cut up, and then booked stripe by stripe, so that the lines of a stripe that
+//! one batch has fetched are still near for the next.
+ghost use Rattle.std.specs.Prelude.{◌≡◌, ◌+◌, ◌*◌, ◌%◌, ◌^◌, ◌≤◌, ◌<◌, ◌⊎◌, OnOk, length};
+ghost use Rattle.kc_share.specs.Share.{with_booking};
+ghost use Rattle.kc_stripe.specs.Setup.{stripe_count};
+ghost use Rattle.kc_stripe.specs.Locked.{cut_entry};
+ghost use Rattle.kc_run.specs.Runs.{AreCutUp, HaveMore, HaveMoreIn};
+
+use crate::fault::RunFault;
+use kc_share::{Books, Share};
+use kc_stripe::{Cut, Stripes};
+use kc_table::Counts;
+use kc_word::{Batch, K};
+use std::sync::{Arc, Wait};
+
+// How many positions make a round.
+const POSITIONS: u64 = 4_000_000;
+
+// How many rounds each worker has at the least, where there are so many batches.
+const ROUNDS: u64 = 4;
+
+/// A batch that is cut up.
+#[derive(Drop)]
+pub(crate) struct CutBatch<'a> {
+    pub batch: &'a Arc<Batch>,
+    pub cuts: Vec<Cut>,
+}
+
+/// How many batches make a round, where all have as many positions as the first: some 4 million positions, or fewer,
+/// so that each worker has four rounds; one at the least.
+pub(crate) fn round_len(batches: &[Arc<Batch>], k: K, workers: u32) -> u64
+    requires { 1 ≤ workers }
+    ensures some { 1 ≤ result }
+    ensures four { (result ≡ 1) ⊎ (result * (4 * workers) ≤ length batches.now) }
+{
+    let Some(first) = batches.first() else {
+        return 1;
+    };
+    let most = batches.len() as u64 / (ROUNDS * u64::from(workers));
+    let wanted = POSITIONS / position_total(first, k).max(1);
+    wanted.min(most).max(1)
+}
+
+// How many words of k bases begin in the pieces of a batch, at most 2^64 - 1.
+fn position_total(batch: &Batch, k: K) -> u64 {
+    let before_last = u64::from(k.get() - 1);
+    let mut total = 0u64;
+    for piece in batch.pieces() {
+        total = total.saturating_add(piece.len().saturating_sub(before_last));
+    }
+    total
+}
+
+/// The stripe with which the rounds of a worker begin, where those of two workers are so far apart.
+pub(crate) fn first_stripe(stripes: u32, apart: u32, number: u32) -> u32
+    requires { 1 ≤ stripes }
+    ensures value { result ≡ number * apart % 2 ^ 32 % stripes }
+    ensures below { result < stripes }
+{
+    number.wrapping_mul(apart) % stripes
+}
+
+/// Books the batches of a round into every stripe: those from the first one on, and then those before it.
+pub(crate) fn book_round<H: Wait, C: Counts, N: Books>(
+    rt: &H,
+    stripes: &Stripes<C, N>,
+    round: &[CutBatch<'_>],
+    first: u32,
+    share: &mut Share<N>,
+) -> Result<(), RunFault>
+    requires cut_up { AreCutUp stripes.now.setup round.now }
+    requires first { first ≤ stripe_count stripes.now.setup }
+    ensures kept { (share.new.parts ≡ share.old.parts) × (share.new.plan ≡ share.old.plan) }
+    ensures booked { OnOk result (HaveMore (stripe_count stripes.now.setup) (length round.now)
+        share.old.booked share.new.booked) }
+{
+    book_range(rt, stripes, round, first, stripes.setup().stripes(), share)?;
+    book_range(rt, stripes, round, 0, first, share)
+}
+
+// Books the batches of a round into the stripes from one number to before another.
+fn book_range<H: Wait, C: Counts, N: Books>(
+    rt: &H,
+    stripes: &Stripes<C, N>,
+    round: &[CutBatch<'_>],
+    from: u32,
+    to: u32,
+    share: &mut Share<N>,
+) -> Result<(), RunFault>
+    requires cut_up { AreCutUp stripes.now.setup round.now }
+    requires range { (from ≤ to) × (to ≤ stripe_count stripes.now.setup) }
+    ensures kept { (share.new.parts ≡ share.old.parts) × (share.new.plan ≡ share.old.plan) }
+    ensures booked { OnOk result (HaveMoreIn from to (length round.now) share.old.booked share.new.booked) }
+{
+    for stripe in from..to {
+        book_stripe(rt, stripes, round, stripe, share)?;
+    }
+    Ok(())
+}
+
+// Books the batches of a round into the stripe of this number.
+fn book_stripe<H: Wait, C: Counts, N: Books>(
+    rt: &H,
+    stripes: &Stripes<C, N>,
+    round: &[CutBatch<'_>],
+    stripe: u32,
+    share: &mut Share<N>,
+) -> Result<(), RunFault>
+    requires cut_up { AreCutUp stripes.now.setup round.now }
+    requires stripe { stripe < stripe_count stripes.now.setup }
+    ensures kept { (share.new.parts ≡ share.old.parts) × (share.new.plan ≡ share.old.plan) }
+    ensures booked { OnOk result (HaveMoreIn stripe (stripe + 1) (length round.now)
+        share.old.booked share.new.booked) }
+{
+    for it in round {
+        book_cut(rt, stripes, &it.cuts[stripe as usize], share)?;
+    }
+    Ok(())
+}
+
+// Books a batch into the stripe of its cut.
+fn book_cut<H: Wait, C: Counts, N: Books>(
+    rt: &H,
+    stripes: &Stripes<C, N>,
+    cut: &Cut,
+    share: &mut Share<N>,
+) -> Result<(), RunFault>
+    requires { cut.now.stripe < stripe_count stripes.now.setup }
+    ensures kept { (share.new.parts ≡ share.old.parts) × (share.new.plan ≡ share.old.plan) }
+    ensures booked { OnOk result (share.new ≡ with_booking share.old cut.now.stripe (cut_entry cut.now)) }
+{
+    match stripes.book(rt, share, cut) {
+        Ok(()) => Ok(()),
+        Err(fault) => Err(RunFault::of_booking(cut.stripe(), fault)),
+    }
+}
