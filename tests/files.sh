@@ -1,6 +1,6 @@
 #!/bin/bash
-# Runs the program over files that are missing, that are directories, or that the output empties, and compares what it says,
-# how it ends and what it leaves in the file of its output:
+# Runs the program over files that are missing, that are directories, or that the output empties, and into a closed pipe, and
+# compares what it says, how it ends and what it leaves in the file of its output:
 #   tests/files.sh
 # No contract tells what a file holds, so this is seen here alone. It needs bin/kcount.
 set -euo pipefail
@@ -92,4 +92,13 @@ wants 2 '' 'kcount: an argument is not UTF-8' old "${count[@]}" -o out $'\xff'
 if [ -c /dev/full ]; then
     wants 1 '' 'kcount: 53: write failed' old "${count[@]}" -o /dev/full one.fa
 fi
+# a pipe whose reader goes after one line, while far more is to be written than a pipe holds
+awk 'BEGIN { srand(1); print ">r"; for (i = 0; i < 60000; i++) print substr("ACGT", int(rand() * 4) + 1, 1) }' > many.fa
+set +o pipefail
+{ "$kcount" count -m 15 --print dump --column many.fa 2> "$work/errors" || echo $? > "$work/status"; } | head -n 1 > "$work/output"
+set -o pipefail
+same "its status" 1 "$(cat "$work/status")" "into a closed pipe"
+same "its errors" 'kcount: 53: write failed' "$(cat "$work/errors")" "into a closed pipe"
+same "the lines that were read" 1 "$(wc -l < "$work/output")" "into a closed pipe"
+ran=$((ran + 1))
 echo "files: $ran command lines said what they should, and left what they should in the file of the output"
