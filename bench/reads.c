@@ -1,5 +1,6 @@
-// Seeded reads on standard output, as Sanger FASTQ: reads BASES COVERAGE LENGTH ERRORS SEED. A genome of so many random bases is
-// read from both strands, each base so often in the mean, in reads of this length with so many wrong bases in a thousand.
+// Seeded reads on standard output, as Sanger FASTQ: reads BASES COVERAGE LENGTH ERRORS SEED [QUALITIES]. A genome of so many random
+// bases is read from both strands, each base so often in the mean, in reads of this length with so many wrong bases in a thousand.
+// Qualities are 40 each, or, where so many of them are asked for, any of 0 to one below that number.
 #include <stdint.h>
 #include <stdio.h>
 #include <stdlib.h>
@@ -15,10 +16,11 @@ static uint64_t next(void) {
 }
 
 int main(int argc, char **argv) {
-    if (argc != 6) return 2;
+    if (argc != 6 && argc != 7) return 2;
     const size_t bases = strtoull(argv[1], 0, 10), coverage = strtoull(argv[2], 0, 10), length = strtoull(argv[3], 0, 10);
     const unsigned errors = strtoul(argv[4], 0, 10);
     state = strtoull(argv[5], 0, 10);
+    const unsigned qualities = argc == 7 ? strtoul(argv[6], 0, 10) : 0;
     unsigned char *genome = malloc(bases);
     char *read = malloc(length + 1), *quality = malloc(length + 1);
     if (!genome || !read || !quality || length == 0 || bases < length) return 1;
@@ -33,6 +35,7 @@ int main(int argc, char **argv) {
             const uint64_t chance = next();
             if (chance % 1000 < errors) base = (base + 1 + (chance >> 40) % 3) & 3;
             read[i] = "ACGT"[base];
+            if (qualities) quality[i] = 33 + (chance >> 16) % qualities;
         }
         printf("@read%zu\n%s\n+\n%s\n", n, read, quality);
     }
