@@ -108,16 +108,15 @@ whole_found ended bytes k e lt is =
     }
 
 -- What comes behind: the lines of the bytes that are not whole, and of those that come after them, where nothing comes
--- after the
--- end. They are the same behind each rest of the whole lines.
-pub lines_behind : (ended : Bool) (bytes whole : List ℕ) (h : HasWhole ended bytes whole)
+-- after the end. They are the same behind each rest of the whole lines.
+pub lines_behind : (ended : Bool) {bytes whole : List ℕ} (h : HasWhole ended bytes whole)
     (front rest more : List ℕ) → whole ≡ front ++ rest
     → (ended ≡ true → more ≡ []) → lines (rest ++ (h.tail ++ more)) ≡ lines rest ++ lines (h.tail ++ more)
-lines_behind true bytes whole h front rest more e none =
+lines_behind true h front rest more e none =
     let nothing : h.tail ++ more ≡ [] = ap (λ v. v ++ more) h.closed ∙ none refl in
     ap (λ v. lines (rest ++ v)) nothing ∙ ap lines (append-nil rest) ∙ sym (append-nil (lines rest))
     ∙ ap (λ v. lines rest ++ lines v) (sym nothing)
-lines_behind false bytes whole h front rest more e none =
+lines_behind false h front rest more e none =
     lines-closed rest (h.tail ++ more) (ends_lines-behind front rest (subst (λ v. ends_lines v ≡ true) e h.closed))
 
 -- no line comes behind the end

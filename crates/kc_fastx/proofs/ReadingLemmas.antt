@@ -64,26 +64,50 @@ at_record : (ls : List Line) (reads : List Read) (w tail : List Line) → SaysFa
     → skip_blanks w ≡ w
 at_record ls reads w tail f = skip_blanks-at greater_than w (at_front greater_than w tail f.2)
 
--- no other line comes next there
-no_other : (ls : List Line) (reads : List Read) (w tail : List Line) (line : Line) (more : List Line)
-    → SaysFasta ls reads (w ++ tail)
-    → next_begins_with greater_than (skip_blanks w) ≡ false → skip_blanks w ≡ line ∷ more → ⊥
-no_other ls reads w tail line more f begins e =
-    let here : w ≡ line ∷ more = sym (at_record ls reads w tail f) ∙ e in
-    let yes : begins_with greater_than line ≡ true = subst (λ v. ends_or_begins_with greater_than v ≡ true) here
+-- a line comes next, and it is no title of FASTA
+record OtherComes (w : List Line) : Type 0 where
+  line : Line
+  more : List Line
+  whole : skip_blanks w ≡ line ∷ more
+  no_title : next_begins_with greater_than (skip_blanks w) ≡ false
+
+-- none comes there
+no_other : (ls : List Line) (reads : List Read) (w tail : List Line) → SaysFasta ls reads (w ++ tail) → OtherComes w → ⊥
+no_other ls reads w tail f other =
+    let here : w ≡ other.line ∷ other.more = sym (at_record ls reads w tail f) ∙ other.whole in
+    let yes : begins_with greater_than other.line ≡ true = subst (λ v. ends_or_begins_with greater_than v ≡ true) here
     (at_front greater_than w tail f.2) in
-    let no : begins_with greater_than line ≡ false = subst (λ v. next_begins_with greater_than v ≡ false) e begins in
+    let no : begins_with greater_than other.line ≡ false = subst (λ v. next_begins_with greater_than v ≡ false)
+    other.whole other.no_title in
     cc
 
+-- a FASTA record comes next, and a line is left behind it, or none comes
+record FastaComes (w tail : List Line) (read : Read) (left : List Line) : Type 0 where
+  one : IsFastaRecord (skip_blanks w) read left
+  stays : StaysBehind left tail
+
+-- a FASTQ record comes next, and no title of FASTA
+record FastqComes (w : List Line) (read : Read) (left : List Line) : Type 0 where
+  one : IsFastqRecord (skip_blanks w) read left
+  no_title : next_begins_with greater_than (skip_blanks w) ≡ false
+
+other_comes : (w : List Line) (read : Read) (left : List Line) → FastqComes w read left → OtherComes w
+other_comes w read left comes = record {
+  line = comes.one.title.title;
+  more = comes.one.body;
+  whole = sym (skip_blanks-again w) ∙ comes.one.title.whole;
+  no_title = comes.no_title;
+}
+
 fasta_first : (ls : List Line) (reads : List Read) (w tail : List Line) (read : Read) (left : List Line)
-    → reads ≡ [] → w ++ tail ≡ ls
-    → IsFastaRecord (skip_blanks w) read left → StaysBehind left tail → SaysFasta ls (reads ++ read ∷ []) (left ++ tail)
-fasta_first ls reads w tail read left none same r stays =
-    let front = text_front ls w tail r.title.title r.body same r.title.whole in
-    let ends = ends_tail greater_than left tail stays r.ends in (
+    → (reads ≡ []) × (w ++ tail ≡ ls) → FastaComes w tail read left → SaysFasta ls (reads ++ read ∷ []) (left ++ tail)
+fasta_first ls reads w tail read left first comes =
+    let r = comes.one in
+    let front = text_front ls w tail r.title.title r.body first.1 r.title.whole in
+    let ends = ends_tail greater_than left tail comes.stays r.ends in (
       ap (next_begins_with greater_than) front ∙ ap (λ v. next_begins_with greater_than (v ++ tail)) r.title.whole
           ∙ r.title.is_title,
-      subst (λ v. Records IsFastaRecord (skip_blanks ls) (v ++ read ∷ []) (left ++ tail)) (sym none) (
+      subst (λ v. Records IsFastaRecord (skip_blanks ls) (v ++ read ∷ []) (left ++ tail)) (sym first.0) (
         left ++ tail,
         subst (λ v. IsFastaRecord v read (left ++ tail)) (sym front) (fasta_tail
             (skip_blanks w) read left tail r ends),
@@ -93,11 +117,10 @@ fasta_first ls reads w tail read left none same r stays =
     )
 
 fasta_next : (ls : List Line) (reads : List Read) (w tail : List Line) (read : Read) (left : List Line)
-    → SaysFasta ls reads (w ++ tail)
-    → IsFastaRecord (skip_blanks w) read left → StaysBehind left tail → SaysFasta ls (reads ++ read ∷ []) (left ++ tail)
-fasta_next ls reads w tail read left f r stays =
-    let ends = ends_tail greater_than left tail stays r.ends in
-    let one = subst (λ v. IsFastaRecord v read left) (at_record ls reads w tail f) r in (
+    → SaysFasta ls reads (w ++ tail) → FastaComes w tail read left → SaysFasta ls (reads ++ read ∷ []) (left ++ tail)
+fasta_next ls reads w tail read left f comes =
+    let ends = ends_tail greater_than left tail comes.stays comes.one.ends in
+    let one = subst (λ v. IsFastaRecord v read left) (at_record ls reads w tail f) comes.one in (
       f.0,
       Records-push IsFastaRecord (skip_blanks ls) reads (w ++ tail) read (left ++ tail) f.1
           (fasta_tail w read left tail one ends),
@@ -105,15 +128,14 @@ fasta_next ls reads w tail read left f r stays =
     )
 
 fastq_first : (ls : List Line) (reads : List Read) (w tail : List Line) (read : Read) (left : List Line)
-    → reads ≡ [] → w ++ tail ≡ ls
-    → next_begins_with greater_than (skip_blanks w) ≡ false → IsFastqRecord (skip_blanks w) read left
-    → SaysFastq ls (reads ++ read ∷ []) (left ++ tail)
-fastq_first ls reads w tail read left none same begins r =
+    → (reads ≡ []) × (w ++ tail ≡ ls) → FastqComes w read left → SaysFastq ls (reads ++ read ∷ []) (left ++ tail)
+fastq_first ls reads w tail read left first comes =
+    let r = comes.one in
     let some = sym (skip_blanks-again w) ∙ r.title.whole in
-    let front = text_front ls w tail r.title.title r.body same some in (
+    let front = text_front ls w tail r.title.title r.body first.1 some in (
       ap (next_begins_with greater_than) front ∙ begins_tail greater_than
-          (skip_blanks w) tail r.title.title r.body some ∙ begins,
-      subst (λ v. Records IsFastqRecord (skip_blanks ls) (v ++ read ∷ []) (left ++ tail)) (sym none) (
+          (skip_blanks w) tail r.title.title r.body some ∙ comes.no_title,
+      subst (λ v. Records IsFastqRecord (skip_blanks ls) (v ++ read ∷ []) (left ++ tail)) (sym first.0) (
         left ++ tail,
         subst (λ v. IsFastqRecord v read (left ++ tail)) (sym front) (fastq_tail
             (skip_blanks w) read left tail r),
@@ -130,34 +152,49 @@ fastq_next ls reads w tail read left s r = (
       (fastq_tail w read left tail (fastq_from w read left r)),
 )
 
-more_without : (b : Bool) (ls : List Line) (reads : List Read) (w tail : List Line) (read : Read) (q : Bool)
-    (left : List Line)
-    → next_begins_with greater_than (skip_blanks w) ≡ b → NoFastq ls reads (w ++ tail)
-    → MatchBool b (IsFastaRecord (skip_blanks w) read left × (q ≡ false)) (IsFastqRecord (skip_blanks w) read left ×
-    (q ≡ true))
-    → StaysBehind left tail → Says q ls (reads ++ read ∷ []) (left ++ tail)
-more_without true ls reads w tail read q left begins before n stays =
-    subst (λ q. Says q ls (reads ++ read ∷ []) (left ++ tail)) (sym n.1)
+-- the next record of a reader that gave no read of FASTQ, by whether a title of FASTA comes next
+record ComesWithout (b : Bool) (ls : List Line) (reads : List Read) (w tail : List Line) (next : Read × Bool)
+    (left : List Line) : Type 0 where
+  begins : next_begins_with greater_than (skip_blanks w) ≡ b
+  before : NoFastq ls reads (w ++ tail)
+  one : MatchBool b (IsFastaRecord (skip_blanks w) next.0 left × (next.1 ≡ false))
+      (IsFastqRecord (skip_blanks w) next.0 left × (next.1 ≡ true))
+  stays : StaysBehind left tail
+
+more_without : (b : Bool) (ls : List Line) (reads : List Read) (w tail : List Line) (next : Read × Bool)
+    (left : List Line) → ComesWithout b ls reads w tail next left
+    → Says next.1 ls (reads ++ next.0 ∷ []) (left ++ tail)
+more_without true ls reads w tail next left h =
+    let comes : FastaComes w tail next.0 left = record { one = h.one.0; stays = h.stays } in
+    subst (λ q. Says q ls (reads ++ next.0 ∷ []) (left ++ tail)) (sym h.one.1)
     (⊎_elim
-    (λ (p : (reads ≡ []) × (w ++ tail ≡ ls)). inr (fasta_first ls reads w tail read left p.0 p.1 n.0 stays))
-    (λ (f : SaysFasta ls reads (w ++ tail)). inr (fasta_next ls reads w tail read left f n.0 stays)) before)
-more_without false ls reads w tail read q left begins before n stays =
-    subst (λ q. Says q ls (reads ++ read ∷ []) (left ++ tail)) (sym n.1)
+    (λ (p : (reads ≡ []) × (w ++ tail ≡ ls)). inr (fasta_first ls reads w tail next.0 left p comes))
+    (λ (f : SaysFasta ls reads (w ++ tail)). inr (fasta_next ls reads w tail next.0 left f comes)) h.before)
+more_without false ls reads w tail next left h =
+    let comes : FastqComes w next.0 left = record { one = h.one.0; no_title = h.begins } in
+    subst (λ q. Says q ls (reads ++ next.0 ∷ []) (left ++ tail)) (sym h.one.1)
     (⊎_elim
-    (λ (p : (reads ≡ []) × (w ++ tail ≡ ls)). fastq_first ls reads w tail read left p.0 p.1 begins n.0)
-    (λ (f : SaysFasta ls reads (w ++ tail)). absurd (no_other ls reads w tail n.0.title.title n.0.body f begins (sym
-    (skip_blanks-again w) ∙ n.0.title.whole))) before)
+    (λ (p : (reads ≡ []) × (w ++ tail ≡ ls)). fastq_first ls reads w tail next.0 left p comes)
+    (λ (f : SaysFasta ls reads (w ++ tail)). absurd (no_other ls reads w tail f (other_comes w next.0 left comes)))
+    h.before)
+
+-- the lines `ls` say these reads and then `w ++ tail`, and the next record of `w` says this read
+pub record ComesNext (was : Bool) (ls : List Line) (reads : List Read) (w tail : List Line) (next : Read × Bool)
+    (left : List Line) : Type 0 where
+  pub before : Says was ls reads (w ++ tail)
+  pub one : IsNext was (skip_blanks w) (Some next) left
+  pub stays : StaysBehind left tail
 
 -- one record more
-pub says_more : (was : Bool) (ls : List Line) (reads : List Read) (w tail : List Line) (read : Read) (q : Bool)
-    (left : List Line)
-    → Says was ls reads (w ++ tail) → IsNext was (skip_blanks w) (Some (read, q)) left → StaysBehind left tail
-    → Says q ls (reads ++ read ∷ []) (left ++ tail)
-says_more true ls reads w tail read q left before n stays =
-    subst (λ q. Says q ls (reads ++ read ∷ []) (left ++ tail)) (sym n.1)
-    (fastq_next ls reads w tail read left before n.0)
-says_more false ls reads w tail read q left before n stays =
-    more_without (next_begins_with greater_than (skip_blanks w)) ls reads w tail read q left refl before n stays
+pub says_more : (was : Bool) (ls : List Line) (reads : List Read) (w tail : List Line) (next : Read × Bool)
+    (left : List Line) → ComesNext was ls reads w tail next left
+    → Says next.1 ls (reads ++ next.0 ∷ []) (left ++ tail)
+says_more true ls reads w tail next left h =
+    subst (λ q. Says q ls (reads ++ next.0 ∷ []) (left ++ tail)) (sym h.one.1)
+    (fastq_next ls reads w tail next.0 left h.before h.one.0)
+says_more false ls reads w tail next left h =
+    more_without (next_begins_with greater_than (skip_blanks w)) ls reads w tail next left
+    (record { begins = refl; before = h.before; one = h.one; stays = h.stays })
 
 -- no line is left but blank ones
 pub says_all : (was : Bool) (bytes : List ℕ) (reads : List Read) (rest : List Line)
@@ -176,16 +213,22 @@ says_all false bytes reads rest before none =
     at_true (next_begins_with greater_than (text_lines bytes)) _ _ f.0 (subst (λ v. Records IsFastaRecord
     (text_lines bytes) reads v) end f.1)) before
 
+-- the next record of a reader that gave no read of FASTQ fails, by whether a title of FASTA comes next
+record FailsWithout (b : Bool) (bytes : List ℕ) (reads : List Read) (w tail : List Line) (count : ℕ)
+    (fault : FastxFault) : Type 0 where
+  begins : next_begins_with greater_than (skip_blanks w) ≡ b
+  before : NoFastq (lines bytes) reads (w ++ tail)
+  counted : length (lines bytes) ≡ count + length tail
+  fails : MatchBool b (FastaFails count (skip_blanks w) fault) (FastqFails count (skip_blanks w) fault)
+  remains : Remains fault tail
+
 fails_without : (b : Bool) (bytes : List ℕ) (reads : List Read) (w tail : List Line) (count : ℕ) (fault : FastxFault)
-    → next_begins_with greater_than (skip_blanks w) ≡ b → NoFastq (lines bytes) reads (w ++ tail)
-    → length (lines bytes) ≡ count + length tail
-    → MatchBool b (FastaFails count (skip_blanks w) fault) (FastqFails count (skip_blanks w) fault)
-    → Remains fault tail → HasFault bytes fault
-fails_without true bytes reads w tail count fault begins before counted n remains =
+    → FailsWithout b bytes reads w tail count fault → HasFault bytes fault
+fails_without true bytes reads w tail count fault h =
     ⊎_elim
     (λ (p : (reads ≡ []) × (w ++ tail ≡ lines bytes)).
-    let title = n.1 in
-    let front = text_front (lines bytes) w tail title.title n.0 p.1 title.whole in
+    let title = h.fails.1 in
+    let front = text_front (lines bytes) w tail title.title h.fails.0 p.1 title.whole in
     let is : next_begins_with greater_than (text_lines bytes) ≡ true =
     ap (next_begins_with greater_than) front ∙ ap (λ v. next_begins_with greater_than (v ++ tail)) title.whole
     ∙ title.is_title in
@@ -193,53 +236,60 @@ fails_without true bytes reads w tail count fault begins before counted n remain
       [],
       skip_blanks w ++ tail,
       front,
-      subst (λ v. FastaFails v (skip_blanks w ++ tail) fault) (sym counted)
-          (fasta_fails_tail count (skip_blanks w) tail fault n),
+      subst (λ v. FastaFails v (skip_blanks w ++ tail) fault) (sym h.counted)
+          (fasta_fails_tail count (skip_blanks w) tail fault h.fails),
     ))
     (λ (f : SaysFasta (lines bytes) reads (w ++ tail)).
-    let here = subst (λ v. FastaFails count v fault) (at_record (lines bytes) reads w tail f) n in
+    let here = subst (λ v. FastaFails count v fault) (at_record (lines bytes) reads w tail f) h.fails in
     at_true (next_begins_with greater_than (text_lines bytes)) _ _ f.0 (
       reads,
       w ++ tail,
       f.1,
-      subst (λ v. FastaFails v (w ++ tail) fault) (sym counted)
+      subst (λ v. FastaFails v (w ++ tail) fault) (sym h.counted)
           (fasta_fails_tail count w tail fault here),
-    )) before
-fails_without false bytes reads w tail count fault begins before counted n remains =
-    let found = fails_some count (skip_blanks w) fault n in
+    )) h.before
+fails_without false bytes reads w tail count fault h =
+    let found = fails_some count (skip_blanks w) fault h.fails in
     let some = sym (skip_blanks-again w) ∙ found.2 in
+    let other : OtherComes w = record { line = found.0; more = found.1; whole = some; no_title = h.begins } in
     ⊎_elim
     (λ (p : (reads ≡ []) × (w ++ tail ≡ lines bytes)).
     let front = text_front (lines bytes) w tail found.0 found.1 p.1 some in
     let is : next_begins_with greater_than (text_lines bytes) ≡ false =
     ap (next_begins_with greater_than) front ∙ begins_tail greater_than (skip_blanks w) tail found.0 found.1 some
-    ∙ begins in
+    ∙ h.begins in
     at_false (next_begins_with greater_than (text_lines bytes)) _ _ is (
       [],
       skip_blanks w ++ tail,
       front,
-      subst (λ v. FastqFails v (skip_blanks w ++ tail) fault) (sym counted)
-          (fastq_fails_tail count (skip_blanks w) tail fault remains n),
+      subst (λ v. FastqFails v (skip_blanks w ++ tail) fault) (sym h.counted)
+          (fastq_fails_tail count (skip_blanks w) tail fault h.remains h.fails),
     ))
-    (λ (f : SaysFasta (lines bytes) reads (w ++ tail)). absurd (no_other
-    (lines bytes) reads w tail found.0 found.1 f begins some)) before
+    (λ (f : SaysFasta (lines bytes) reads (w ++ tail)). absurd (no_other (lines bytes) reads w tail f other)) h.before
+
+-- the lines say these reads and then `w ++ tail`, `count` of them stand in front of the tail, and the next record of
+-- `w` fails
+pub record FailsNext (was : Bool) (bytes : List ℕ) (reads : List Read) (w tail : List Line) (count : ℕ)
+    (fault : FastxFault) : Type 0 where
+  pub before : Says was (lines bytes) reads (w ++ tail)
+  pub counted : length (lines bytes) ≡ count + length tail
+  pub fails : NextFails was count (skip_blanks w) fault
+  pub remains : Remains fault tail
 
 -- a record that fails
 pub says_fault : (was : Bool) (bytes : List ℕ) (reads : List Read) (w tail : List Line) (count : ℕ) (fault : FastxFault)
-    → Says was (lines bytes) reads (w ++ tail) → length (lines bytes) ≡ count + length tail
-    → NextFails was count (skip_blanks w) fault → Remains fault tail
-    → HasFault bytes fault
-says_fault true bytes reads w tail count fault s counted n remains =
-    at_false (next_begins_with greater_than (text_lines bytes)) _ _ s.0 (
+    → FailsNext was bytes reads w tail count fault → HasFault bytes fault
+says_fault true bytes reads w tail count fault h =
+    at_false (next_begins_with greater_than (text_lines bytes)) _ _ h.before.0 (
       reads,
       w ++ tail,
-      s.1,
-      subst (λ v. FastqFails v (w ++ tail) fault) (sym counted)
-          (fastq_fails_tail count w tail fault remains (fastq_fails_from count w fault n)),
+      h.before.1,
+      subst (λ v. FastqFails v (w ++ tail) fault) (sym h.counted)
+          (fastq_fails_tail count w tail fault h.remains (fastq_fails_from count w fault h.fails)),
     )
-says_fault false bytes reads w tail count fault before counted n remains =
-    fails_without (next_begins_with greater_than (skip_blanks w)) bytes reads w tail count fault refl before counted n
-    remains
+says_fault false bytes reads w tail count fault h =
+    fails_without (next_begins_with greater_than (skip_blanks w)) bytes reads w tail count fault
+    (record { begins = refl; before = h.before; counted = h.counted; fails = h.fails; remains = h.remains })
 
 -- the faults of the reading are none of a record
 no_fault-either : (b : Bool) (P Q : Type 0) → (P → ⊥) → (Q → ⊥) → MatchBool b P Q → ⊥
@@ -260,7 +310,7 @@ lines_here : (ended : Bool) (bytes whole : List ℕ) (h : HasWhole ended bytes w
     → lines (bytes ++ more) ≡ lines whole ++ lines (h.tail ++ more)
 lines_here ended bytes whole h more none =
     ap (λ v. lines (v ++ more)) h.split ∙ ap lines (append_assoc whole h.tail more)
-    ∙ lines_behind ended bytes whole h [] whole more refl none
+    ∙ lines_behind ended h [] whole more refl none
 
 -- `after` stands behind a part of the whole lines
 pub record Reaches (stand : Stand) (whole : List ℕ) (after : Cursor) : Type 0 where
@@ -316,63 +366,68 @@ stays stand whole h left more none sure =
     ⊎_elim (λ (e : stand.ended ≡ true). inr (none_behind stand.ended stand.unread.bytes whole h more e none)) (λ
     (some : left ≢ []). inl some) sure
 
-pub said_more : (stand : Stand) (all whole : List ℕ) (h : HasWhole stand.ended stand.unread.bytes whole)
-    (after : Cursor) (reads : List Read) (read : Read) (q : Bool) (count : ℕ) (more : List ℕ)
-    → MayCome stand.ended more → AreSaid stand all reads (stand.unread.bytes ++ more) → Reaches stand whole after
-    → IsNext stand.is_fastq (skip_blanks (lines whole)) (Some (read, q)) after.left → Sure stand after.left
-    → count ≡ length whole - length after.bytes
-    → AreSaid (stand_behind stand count after.taken q) all (reads ++ read ∷ []) (drop count stand.unread.bytes ++ more)
-said_more stand all whole h after reads read q count more none before r n sure is =
-    let tail = lines (h.tail ++ more) in
-    let here = lines_here stand.ended stand.unread.bytes whole h more none in
-    let left = left_behind stand whole h after r count is in
-    let there : lines (drop count stand.unread.bytes ++ more) ≡ after.left ++ tail =
-    ap (λ v. lines (v ++ more)) left.1
-    ∙ ap lines (append_assoc after.bytes h.tail more)
-    ∙ lines_behind stand.ended stand.unread.bytes whole h r.behind.front after.bytes more r.behind.split none
-    ∙ ap (λ v. v ++ tail) (sym r.left) in
-    let says = says_more stand.is_fastq (lines all) reads (lines whole) tail read q after.left (subst
-    (λ v. Says stand.is_fastq (lines all) reads v) here before.says) n
-    (stays stand whole h after.left more none sure) in
-    let old = before.counted in
-    let old_long = ap length here in
-    let old_parts = length-append (lines whole) tail in
-    let new_long = ap length there in
-    let new_parts = length-append after.left tail in
-    let passed = r.counted in
-    record {
-      counted = omega (arith, old, old_long, old_parts, new_long, new_parts, passed);
-      says = subst (λ v. Says q (lines all) (reads ++ read ∷ []) v) (sym there) says;
-    }
+-- the next record of the whole lines was read, `after` stands behind it, and so many bytes are used
+pub record IsRead (stand : Stand) (whole : List ℕ) (after : Cursor) (next : Read × Bool) (count : ℕ) : Type 0 where
+  pub has_whole : HasWhole stand.ended stand.unread.bytes whole
+  pub reaches : Reaches stand whole after
+  pub one : IsNext stand.is_fastq (skip_blanks (lines whole)) (Some next) after.left
+  pub sure : Sure stand after.left
+  pub used : count ≡ length whole - length after.bytes
 
-pub given_more : (start now : Seen) (limit : ℕ) (reads : List Read) (stand : Stand) (whole : List ℕ)
-    (after : Cursor) (read : Read) (q : Bool) (count : ℕ)
-    → HasGiven start now limit reads stand → HasWhole stand.ended stand.unread.bytes whole → Reaches stand whole after
-    → IsNext stand.is_fastq (skip_blanks (lines whole)) (Some (read, q)) after.left → Sure stand after.left
-    → count ≡ length whole - length after.bytes
-    → HasGiven start now limit (reads ++ read ∷ []) (stand_behind stand count after.taken q)
-given_more start now limit reads stand whole after read q count given h r n sure is =
-    let bytes = stand.unread.bytes in
-    let used = given.used in
-    let left = left_behind stand whole h after r count is in
-    let all : used ++ bytes ≡ (used ++ take count bytes) ++ drop count bytes =
-    ap (λ v. used ++ v) (sym (take-append-drop count bytes))
-    ∙ sym (append_assoc used (take count bytes) (drop count bytes)) in
-    let counted = given.counted in
-    record {
-      used = used ++ take count bytes;
-      taken = record {
-        taken = subst (λ v. MatchBool stand.ended (TakesAll start now limit v)
-            (TakenSoFar start now limit v)) all given.taken.taken;
-        room = ap (λ v. length v + stand.unread.room) (sym all) ∙ given.taken.room;
-      };
-      counted = omega (arith, counted, length-append used (take count bytes), length-take-le count bytes left.0);
-      unfailed = given.unfailed;
-      said = λ more none. subst (λ v. AreSaid (stand_behind stand count after.taken q) (v ++ more)
-          (reads ++ read ∷ []) (drop count bytes ++ more)) all
-          (said_more stand ((used ++ bytes) ++ more) whole h after reads read q count more none
-          (given.said more none) r n sure is);
-    }
+module _ {stand : Stand} {whole : List ℕ} {after : Cursor} {next : Read × Bool} {count : ℕ} (read : IsRead stand whole after next count) where
+  said_more : (all : List ℕ) (reads : List Read) (more : List ℕ) → MayCome stand.ended more
+      → AreSaid stand all reads (stand.unread.bytes ++ more)
+      → AreSaid (stand_behind stand count after.taken next.1) all (reads ++ next.0 ∷ [])
+      (drop count stand.unread.bytes ++ more)
+  said_more all reads more none before =
+      let h = read.has_whole in
+      let tail = lines (h.tail ++ more) in
+      let here = lines_here stand.ended stand.unread.bytes whole h more none in
+      let left = left_behind stand whole h after read.reaches count read.used in
+      let there : lines (drop count stand.unread.bytes ++ more) ≡ after.left ++ tail =
+      ap (λ v. lines (v ++ more)) left.1
+      ∙ ap lines (append_assoc after.bytes h.tail more)
+      ∙ lines_behind stand.ended h read.reaches.behind.front after.bytes more read.reaches.behind.split none
+      ∙ ap (λ v. v ++ tail) (sym read.reaches.left) in
+      let says = says_more stand.is_fastq (lines all) reads (lines whole) tail next after.left (record {
+        before = subst (λ v. Says stand.is_fastq (lines all) reads v) here before.says;
+        one = read.one;
+        stays = stays stand whole h after.left more none read.sure;
+      }) in
+      let old = before.counted in
+      let old_long = ap length here in
+      let old_parts = length-append (lines whole) tail in
+      let new_long = ap length there in
+      let new_parts = length-append after.left tail in
+      let passed = read.reaches.counted in
+      record {
+        counted = omega (arith, old, old_long, old_parts, new_long, new_parts, passed);
+        says = subst (λ v. Says next.1 (lines all) (reads ++ next.0 ∷ []) v) (sym there) says;
+      }
+
+  pub given_more : (start now : Seen) (limit : ℕ) (reads : List Read) → HasGiven start now limit reads stand
+      → HasGiven start now limit (reads ++ next.0 ∷ []) (stand_behind stand count after.taken next.1)
+  given_more start now limit reads given =
+      let bytes = stand.unread.bytes in
+      let used = given.used in
+      let left = left_behind stand whole read.has_whole after read.reaches count read.used in
+      let all : used ++ bytes ≡ (used ++ take count bytes) ++ drop count bytes =
+      ap (λ v. used ++ v) (sym (take-append-drop count bytes))
+      ∙ sym (append_assoc used (take count bytes) (drop count bytes)) in
+      let counted = given.counted in
+      record {
+        used = used ++ take count bytes;
+        taken = record {
+          taken = subst (λ v. MatchBool stand.ended (TakesAll start now limit v)
+              (TakenSoFar start now limit v)) all given.taken.taken;
+          room = ap (λ v. length v + stand.unread.room) (sym all) ∙ given.taken.room;
+        };
+        counted = omega (arith, counted, length-append used (take count bytes), length-take-le count bytes left.0);
+        unfailed = given.unfailed;
+        said = λ more none. subst (λ v. AreSaid (stand_behind stand count after.taken next.1) (v ++ more)
+            (reads ++ next.0 ∷ []) (drop count bytes ++ more)) all
+            (said_more ((used ++ bytes) ++ more) reads more none (given.said more none));
+      }
 
 all_taken : (ended : Bool) (start now : Seen) (limit : ℕ) (bytes : List ℕ) → ended ≡ true
     → MatchBool ended (TakesAll start now limit bytes) (TakenSoFar start now limit bytes)
@@ -380,50 +435,60 @@ all_taken : (ended : Bool) (start now : Seen) (limit : ℕ) (bytes : List ℕ) �
 all_taken true start now limit bytes e taken = taken
 all_taken false start now limit bytes e taken = absurd (let no : false ≡ true = e in cc)
 
--- all lines are blank that are left of all bytes
+-- all bytes were taken, and all lines that are left are blank
+pub record IsOver (stand : Stand) (whole : List ℕ) : Type 0 where
+  pub has_whole : HasWhole stand.ended stand.unread.bytes whole
+  pub ended : stand.ended ≡ true
+  pub blank : skip_blanks (lines whole) ≡ []
+
 pub given_all : (start now : Seen) (limit : ℕ) (reads : List Read) (stand : Stand) (whole : List ℕ)
-    → HasGiven start now limit reads stand
-    → HasWhole stand.ended stand.unread.bytes whole → stand.ended ≡ true → skip_blanks (lines whole) ≡ []
+    → HasGiven start now limit reads stand → IsOver stand whole
     → GivesReads start now limit reads (stand.used + length stand.unread.bytes)
-given_all start now limit reads stand whole given h e none =
+given_all start now limit reads stand whole given over =
     let bytes = stand.unread.bytes in
     let no_more : MayCome stand.ended [] = λ ended. refl in
     let said = given.said [] no_more in
     let here : lines (bytes ++ []) ≡ lines whole =
-    lines_here stand.ended bytes whole h [] no_more ∙ ap (λ v. lines whole ++ v)
-    (none_behind stand.ended bytes whole h [] e no_more) ∙ append-nil (lines whole) in
+    lines_here stand.ended bytes whole over.has_whole [] no_more ∙ ap (λ v. lines whole ++ v)
+    (none_behind stand.ended bytes whole over.has_whole [] over.ended no_more) ∙ append-nil (lines whole) in
     let counted = given.counted in
     let says = subst (λ v. HasReads v reads) (append-nil (given.used ++ bytes))
     (says_all stand.is_fastq ((given.used ++ bytes) ++ []) reads (lines (bytes ++ [])) said.says
-    (ap skip_blanks here ∙ none)) in
+    (ap skip_blanks here ∙ over.blank)) in
     record {
       bytes = given.used ++ bytes;
-      taken = all_taken stand.ended start now limit (given.used ++ bytes) e given.taken.taken;
+      taken = all_taken stand.ended start now limit (given.used ++ bytes) over.ended given.taken.taken;
       has_reads = says;
       counted = omega (arith, counted, length-append given.used bytes);
     }
 
-met : (start now : Seen) (limit : ℕ) (reads : List Read) (stand : Stand) (whole : List ℕ) (fault : FastxFault)
-    → HasGiven start now limit reads stand
-    → (h : HasWhole stand.ended stand.unread.bytes whole) → NextFails stand.is_fastq (stand.lines_used + length
-    (lines whole)) (skip_blanks (lines whole)) fault
-    → ((more : List ℕ) → MayCome stand.ended more → Remains fault (lines (h.tail ++ more)))
-    → HasMet start now limit stand fault
-met start now limit reads stand whole fault given h fails remains =
+-- the next record of the whole lines fails, whatever may still come
+record IsFaulty (stand : Stand) (whole : List ℕ) (fault : FastxFault) : Type 0 where
+  has_whole : HasWhole stand.ended stand.unread.bytes whole
+  fails : NextFails stand.is_fastq (stand.lines_used + length (lines whole)) (skip_blanks (lines whole)) fault
+  remains : (more : List ℕ) → MayCome stand.ended more → Remains fault (lines (has_whole.tail ++ more))
+
+met : {start now : Seen} {limit : ℕ} {reads : List Read} {stand : Stand} → HasGiven start now limit reads stand
+    → (whole : List ℕ) (fault : FastxFault) → IsFaulty stand whole fault → HasMet start now limit stand fault
+met {reads = reads} {stand = stand} given whole fault faulty =
     let bytes = stand.unread.bytes in
     record {
       bytes = given.used ++ bytes;
       taken = given.taken;
       met = λ more none.
+          let h = faulty.has_whole in
           let said = given.said more none in
           let here = lines_here stand.ended bytes whole h more none in
           let counted = said.counted in
           let long = ap length here in
           let parts = length-append (lines whole) (lines (h.tail ++ more)) in
           says_fault stand.is_fastq ((given.used ++ bytes) ++ more) reads (lines whole) (lines (h.tail ++ more))
-          (stand.lines_used + length (lines whole)) fault
-          (subst (λ v. Says stand.is_fastq (lines ((given.used ++ bytes) ++ more)) reads v) here said.says) (omega
-          (arith, counted, long, parts)) fails (remains more none);
+          (stand.lines_used + length (lines whole)) fault (record {
+            before = subst (λ v. Says stand.is_fastq (lines ((given.used ++ bytes) ++ more)) reads v) here said.says;
+            counted = omega (arith, counted, long, parts);
+            fails = faulty.fails;
+            remains = faulty.remains more none;
+          });
     }
 
 memory_refused : (ended : Bool) (start now : Seen) (limit : ℕ) (bytes : List ℕ)
@@ -433,30 +498,33 @@ memory_refused true start now limit bytes taken = inr (bytes, taken)
 memory_refused false start now limit bytes taken = inl (taken_in_vain taken)
 
 -- no read is given
-pub given_fault : (start now : Seen) (limit : ℕ) (reads : List Read) (stand : Stand) (whole : List ℕ)
-    (left : List Line) (fault : FastxFault) → HasGiven start now limit reads stand
+pub given_fault : {start now : Seen} {limit : ℕ} {reads : List Read} {stand : Stand}
+    → HasGiven start now limit reads stand → (whole : List ℕ) (left : List Line) (fault : FastxFault)
     → HasWhole stand.ended stand.unread.bytes whole
     → UnlessMemory (NextFails stand.is_fastq (stand.lines_used + length (lines whole)) (skip_blanks
     (lines whole))) fault
     → (stand.ended ≡ true) ⊎ IsSure (Err fault) left → MeetsFault start now limit stand fault
-given_fault start now limit reads stand whole left (BadStart number) given h fails sure = met start now limit reads
-    stand whole (BadStart number) given h fails (λ more none. tt)
-given_fault start now limit reads stand whole left (BadBase number) given h fails sure = met start now limit reads
-    stand whole (BadBase number) given h fails (λ more none. tt)
-given_fault start now limit reads stand whole left (BadQuality number) given h fails sure = met start now limit reads
-    stand whole (BadQuality number) given h fails (λ more none. tt)
-given_fault start now limit reads stand whole left (LongQuality number) given h fails sure = met start now limit reads
-    stand whole (LongQuality number) given h fails (λ more none. tt)
-given_fault start now limit reads stand whole left (Truncated number) given h fails sure =
-    met start now limit reads stand whole (Truncated number) given h fails
-    (λ more none. ⊎_elim (λ (e : stand.ended ≡ true). none_behind stand.ended stand.unread.bytes whole h more e none)
-    (λ (never : ⊥). absurd never) sure)
-given_fault start now limit reads stand whole left TooLong given h fails sure = absurd
+given_fault given whole left (BadStart number) h fails sure =
+    met given whole (BadStart number) (record { has_whole = h; fails = fails; remains = λ more none. tt })
+given_fault given whole left (BadBase number) h fails sure =
+    met given whole (BadBase number) (record { has_whole = h; fails = fails; remains = λ more none. tt })
+given_fault given whole left (BadQuality number) h fails sure =
+    met given whole (BadQuality number) (record { has_whole = h; fails = fails; remains = λ more none. tt })
+given_fault given whole left (LongQuality number) h fails sure =
+    met given whole (LongQuality number) (record { has_whole = h; fails = fails; remains = λ more none. tt })
+given_fault {stand = stand} given whole left (Truncated number) h fails sure =
+    met given whole (Truncated number) (record {
+      has_whole = h;
+      fails = fails;
+      remains = λ more none. ⊎_elim (λ (e : stand.ended ≡ true). none_behind stand.ended stand.unread.bytes whole h more
+          e none) (λ (never : ⊥). absurd never) sure;
+    })
+given_fault {stand = stand} given whole left TooLong h fails sure = absurd
     (no_next-too_long stand.is_fastq (stand.lines_used + length (lines whole)) (skip_blanks (lines whole)) fails)
-given_fault start now limit reads stand whole left ReadFailed given h fails sure = absurd
+given_fault {stand = stand} given whole left ReadFailed h fails sure = absurd
     (no_next-read stand.is_fastq (stand.lines_used + length (lines whole)) (skip_blanks (lines whole)) fails)
-given_fault start now limit reads stand whole left Memory given h fails sure = memory_refused stand.ended start now
-    limit (given.used ++ stand.unread.bytes) given.taken.taken
+given_fault {start = start} {now = now} {limit = limit} {stand = stand} given whole left Memory h fails sure =
+    memory_refused stand.ended start now limit (given.used ++ stand.unread.bytes) given.taken.taken
 
 -- ---- more bytes
 
@@ -469,12 +537,16 @@ given_none start limit = record {
   said = λ more none. record { counted = omega arith; says = inl (refl, refl) };
 }
 
-grown_taken : (ended : Bool) (start old new : Seen) (limit room : ℕ) (bytes more : List ℕ)
-    → TakenSoFar start old limit bytes
-    → MatchBool ended (TakesAll old new room more) (TakenSoFar old new room more) → length bytes + room ≡ limit
+-- these bytes were taken, and so many more may be
+record HasRoom (start old : Seen) (limit room : ℕ) (bytes : List ℕ) : Type 0 where
+  taken : TakenSoFar start old limit bytes
+  fits : length bytes + room ≡ limit
+
+grown_taken : (ended : Bool) {start old : Seen} {limit room : ℕ} {bytes : List ℕ} → HasRoom start old limit room bytes
+    → (new : Seen) (more : List ℕ) → MatchBool ended (TakesAll old new room more) (TakenSoFar old new room more)
     → MatchBool ended (TakesAll start new limit (bytes ++ more)) (TakenSoFar start new limit (bytes ++ more))
-grown_taken true start old new limit room bytes more before taken fits = taken_then_all before taken fits
-grown_taken false start old new limit room bytes more before taken fits = taken_then_taken before taken fits
+grown_taken true before new more taken = taken_then_all before.taken taken before.fits
+grown_taken false before new more taken = taken_then_taken before.taken taken before.fits
 
 so_far : (ended : Bool) (start now : Seen) (limit : ℕ) (bytes : List ℕ) → ended ≡ false
     → MatchBool ended (TakesAll start now limit bytes) (TakenSoFar start now limit bytes)
@@ -482,89 +554,72 @@ so_far : (ended : Bool) (start now : Seen) (limit : ℕ) (bytes : List ℕ) → 
 so_far true start now limit bytes e taken = absurd (let no : true ≡ false = e in cc)
 so_far false start now limit bytes e taken = taken
 
-pub given_grown : (start old new : Seen) (limit : ℕ) (reads : List Read) (before after : Stand)
-    → HasGiven start old limit reads before → before.ended ≡ false
-    → HasGrown old new before after → HasGiven start new limit reads after
-given_grown start old new limit reads before after given open_still grown =
-    let used = given.used in
-    let first = before.unread.bytes in
-    let behind = grown.behind in
-    let all : (used ++ first) ++ grown.more ≡ used ++ after.unread.bytes = append_assoc used first grown.more
-    ∙ ap (λ v. used ++ v) (sym behind) in
-    let room = given.taken.room in
-    let less = grown.room in
-    let long = ap length all in
-    let parts = length-append (used ++ first) grown.more in
-    let taken = grown_taken after.ended start old new limit before.unread.room (used ++ first) grown.more
-    (so_far before.ended start old limit (used ++ first) open_still given.taken.taken) grown.taken room in
-    record {
-      used = used;
-      taken = record {
-        taken = subst (λ v. MatchBool after.ended (TakesAll start new limit v)
-            (TakenSoFar start new limit v)) all taken;
-        room = omega (arith, room, less, long, parts);
-      };
-      counted = grown.used ∙ given.counted;
-      unfailed = grown.unfailed;
-      said = λ more none.
-          let said = given.said (grown.more ++ more) (λ ended. absurd (let no : true ≡ false = sym ended
-          ∙ open_still in cc)) in
-          let whole : (used ++ first) ++ (grown.more ++ more) ≡ (used ++ after.unread.bytes) ++ more =
-          sym (append_assoc (used ++ first) grown.more more) ∙ ap (λ v. v ++ more) all in
-          let rest : first ++ (grown.more ++ more) ≡ after.unread.bytes ++ more = sym
-          (append_assoc first grown.more more) ∙ ap (λ v. v ++ more) (sym behind) in
-          let counted = subst (λ v. length (lines v) ≡ before.lines_used + length (lines (first ++
-          (grown.more ++ more)))) whole said.counted in
-          let long_rest = ap (λ v. length (lines v)) rest in
-          let same_lines = grown.lines_used in
-          record {
-            counted = omega (arith, counted, long_rest, same_lines);
-            says = subst (λ q. Says q (lines ((used ++ after.unread.bytes) ++ more)) reads (lines
-                (after.unread.bytes ++ more))) (sym grown.is_fastq)
-                (subst (λ v. Says before.is_fastq (lines ((used ++ after.unread.bytes) ++ more)) reads (lines v)) rest
-                (subst (λ v. Says before.is_fastq (lines v) reads (lines (first ++
-                (grown.more ++ more)))) whole said.says));
-          };
-    }
+-- more may come
+pub record IsOpen (start now : Seen) (limit : ℕ) (reads : List Read) (stand : Stand) : Type 0 where
+  pub given : HasGiven start now limit reads stand
+  pub unended : stand.ended ≡ false
 
-pub given_refused : (start old new : Seen) (limit : ℕ) (reads : List Read) (before after : Stand) (why : TakeFault)
-    → HasGiven start old limit reads before → before.ended ≡ false
-    → TakingFails old new before.unread.room why → MeetsFault start new limit after (taking_fault why)
-given_refused start old new limit reads before after taking.TooLong given e fails =
-    taken_then_fails new before.unread.room taking.TooLong (so_far before.ended start old limit
-    (given.used ++ before.unread.bytes) e given.taken.taken) fails given.taken.room
-given_refused start old new limit reads before after taking.Read given e fails =
-    taken_then_fails new before.unread.room taking.Read (so_far before.ended start old limit
-    (given.used ++ before.unread.bytes) e given.taken.taken) fails given.taken.room
-given_refused start old new limit reads before after taking.Memory given e fails =
-    inl (taken_then_fails new before.unread.room taking.Memory (so_far before.ended start old limit
-    (given.used ++ before.unread.bytes) e given.taken.taken) fails given.taken.room)
+module _ {start now : Seen} {limit : ℕ} {reads : List Read} {stand : Stand} (before : IsOpen start now limit reads stand) where
+  has_room : HasRoom start now limit stand.unread.room (before.given.used ++ stand.unread.bytes)
+  has_room = record {
+    taken = so_far stand.ended start now limit (before.given.used ++ stand.unread.bytes) before.unended
+        before.given.taken.taken;
+    fits = before.given.taken.room;
+  }
+
+  pub given_grown : (new : Seen) (after : Stand) → HasGrown now new stand after → HasGiven start new limit reads after
+  given_grown new after grown =
+      let given = before.given in
+      let used = given.used in
+      let first = stand.unread.bytes in
+      let behind = grown.behind in
+      let all : (used ++ first) ++ grown.more ≡ used ++ after.unread.bytes = append_assoc used first grown.more
+      ∙ ap (λ v. used ++ v) (sym behind) in
+      let room = given.taken.room in
+      let less = grown.room in
+      let long = ap length all in
+      let parts = length-append (used ++ first) grown.more in
+      let taken = grown_taken after.ended has_room new grown.more grown.taken in
+      record {
+        used = used;
+        taken = record {
+          taken = subst (λ v. MatchBool after.ended (TakesAll start new limit v)
+              (TakenSoFar start new limit v)) all taken;
+          room = omega (arith, room, less, long, parts);
+        };
+        counted = grown.used ∙ given.counted;
+        unfailed = grown.unfailed;
+        said = λ more none.
+            let said = given.said (grown.more ++ more) (λ ended. absurd (let no : true ≡ false = sym ended
+            ∙ before.unended in cc)) in
+            let whole : (used ++ first) ++ (grown.more ++ more) ≡ (used ++ after.unread.bytes) ++ more =
+            sym (append_assoc (used ++ first) grown.more more) ∙ ap (λ v. v ++ more) all in
+            let rest : first ++ (grown.more ++ more) ≡ after.unread.bytes ++ more = sym
+            (append_assoc first grown.more more) ∙ ap (λ v. v ++ more) (sym behind) in
+            let counted = subst (λ v. length (lines v) ≡ stand.lines_used + length (lines (first ++
+            (grown.more ++ more)))) whole said.counted in
+            let long_rest = ap (λ v. length (lines v)) rest in
+            let same_lines = grown.lines_used in
+            record {
+              counted = omega (arith, counted, long_rest, same_lines);
+              says = subst (λ q. Says q (lines ((used ++ after.unread.bytes) ++ more)) reads (lines
+                  (after.unread.bytes ++ more))) (sym grown.is_fastq)
+                  (subst (λ v. Says stand.is_fastq (lines ((used ++ after.unread.bytes) ++ more)) reads (lines v)) rest
+                  (subst (λ v. Says stand.is_fastq (lines v) reads (lines (first ++
+                  (grown.more ++ more)))) whole said.says));
+            };
+      }
+
+  pub given_refused : (new : Seen) (after : Stand) (why : TakeFault) → TakingFails now new stand.unread.room why
+      → MeetsFault start new limit after (taking_fault why)
+  given_refused new after taking.TooLong fails =
+      taken_then_fails new stand.unread.room taking.TooLong has_room.taken fails has_room.fits
+  given_refused new after taking.Read fails =
+      taken_then_fails new stand.unread.room taking.Read has_room.taken fails has_room.fits
+  given_refused new after taking.Memory fails =
+      inl (taken_then_fails new stand.unread.room taking.Memory has_room.taken fails has_room.fits)
 
 -- ---- the steps of the reader
-
-pub reaches : (stand : Stand) (whole : List ℕ) (first blank after : Cursor) → first.taken ≡ stand.lines_used
-    → first.left ≡ lines whole → first.bytes ≡ whole
-    → line_count blank ≡ line_count first → Passes first blank → line_count after ≡ line_count blank
-    → Passes blank after → after.left ≡ lines after.bytes
-    → Reaches stand whole after
-reaches stand whole first blank after taken left bytes counted passes counted_after passes_after left_after =
-    let all = passes_both first blank after passes passes_after in
-    let long = ap length left in
-    record {
-      behind = record { front = all.behind.front; split = sym bytes ∙ all.behind.split };
-      left = left_after;
-      counted = omega (arith, taken, long, counted, counted_after);
-    }
-
--- no more lines were used than bytes
-pub few_lines : (stand : Stand) (first blank after : Cursor) → first.taken ≡ stand.lines_used → Passes first blank
-    → Passes blank after
-    → after.taken ≤ stand.lines_used + (length first.bytes - length after.bytes)
-few_lines stand first blank after taken passes passes_after =
-    let all = passes_both first blank after passes passes_after in
-    let few = all.few in
-    let long = ap length all.behind.split in
-    omega (arith, taken, few, long, length-append all.behind.front after.bytes)
 
 takes_line : (b q : Bool) (ls : List Line) (read : Read) (left : List Line)
     → MatchBool b (IsFastaRecord ls read left × (q ≡ false)) (IsFastqRecord ls read left × (q ≡ true))
@@ -572,17 +627,49 @@ takes_line : (b q : Bool) (ls : List Line) (read : Read) (left : List Line)
 takes_line true q ls read left n = fasta_shorter ls read left n.0
 takes_line false q ls read left n = fastq_shorter ls read left n.0
 
--- a record has a line, and a line has a byte
-pub uses_some : (stand : Stand) (first blank after : Cursor) (was : Bool) (read : Read) (q : Bool)
-    → first.taken ≡ stand.lines_used
-    → blank.left ≡ skip_blanks first.left → line_count blank ≡ line_count first → Passes first blank
-    → line_count after ≡ line_count blank → Passes blank after
-    → IsNext was blank.left (Some (read, q)) after.left → length after.bytes < length first.bytes
-uses_some stand first blank after was read q taken left counted passes counted_after passes_after next =
-    let line = takes_line (is_fasta_next was blank.left) q blank.left read after.left next in
-    let few = few_lines stand first blank after taken passes passes_after in
-    let blanks = ap length left in
-    omega (arith, taken, line, few, blanks, length-skip_blanks first.left, counted, counted_after)
+-- the lines begin where the reader stands; blank ones are passed over, and then others
+pub record ArePassed (stand : Stand) (first blank after : Cursor) : Type 0 where
+  pub taken : first.taken ≡ stand.lines_used
+  pub counted_blank : line_count blank ≡ line_count first
+  pub passes_blank : Passes first blank
+  pub counted : line_count after ≡ line_count blank
+  pub passes : Passes blank after
+
+module _ {stand : Stand} {first blank after : Cursor} (passed : ArePassed stand first blank after) where
+  pub reaches : (whole : List ℕ) → first.left ≡ lines whole → first.bytes ≡ whole → after.left ≡ lines after.bytes
+      → Reaches stand whole after
+  reaches whole left bytes left_after =
+      let all = passes_both first blank after passed.passes_blank passed.passes in
+      let taken = passed.taken in
+      let long = ap length left in
+      let counted = passed.counted_blank in
+      let counted_after = passed.counted in
+      record {
+        behind = record { front = all.behind.front; split = sym bytes ∙ all.behind.split };
+        left = left_after;
+        counted = omega (arith, taken, long, counted, counted_after);
+      }
+
+  -- no more lines were used than bytes
+  pub few_lines : after.taken ≤ stand.lines_used + (length first.bytes - length after.bytes)
+  few_lines =
+      let all = passes_both first blank after passed.passes_blank passed.passes in
+      let taken = passed.taken in
+      let few = all.few in
+      let long = ap length all.behind.split in
+      omega (arith, taken, few, long, length-append all.behind.front after.bytes)
+
+  -- a record has a line, and a line has a byte
+  pub uses_some : (was : Bool) (next : Read × Bool) → blank.left ≡ skip_blanks first.left
+      → IsNext was blank.left (Some next) after.left → length after.bytes < length first.bytes
+  uses_some was next left one =
+      let line = takes_line (is_fasta_next was blank.left) next.1 blank.left next.0 after.left one in
+      let few = few_lines in
+      let blanks = ap length left in
+      let taken = passed.taken in
+      let counted = passed.counted_blank in
+      let counted_after = passed.counted in
+      omega (arith, taken, line, few, blanks, length-skip_blanks first.left, counted, counted_after)
 
 pub record Filling (old now : Seen) (before after : Stand) : Type 0 where
   pub filled : Filled old now before.unread after.unread
@@ -614,60 +701,58 @@ with_unread stand unread ended failed = record {
   failed = failed;
 }
 
-pub filling_more : (old mid new : Seen) (before now : Stand) (after : Unread) → Filling old mid before now
-    → Filled mid new now.unread after
-    → Filling old new before (with_unread now after now.ended now.failed)
-filling_more old mid new before now after f more = record {
-  filled = filled_both f.filled more;
-  unended = f.unended;
-  unfailed = f.unfailed;
-  used = f.used;
-  lines_used = f.lines_used;
-  is_fastq = f.is_fastq;
-}
+module _ {old mid : Seen} {before now : Stand} (f : Filling old mid before now) where
+  pub filling_more : (new : Seen) (after : Unread) → Filled mid new now.unread after
+      → Filling old new before (with_unread now after now.ended now.failed)
+  filling_more new after more = record {
+    filled = filled_both f.filled more;
+    unended = f.unended;
+    unfailed = f.unfailed;
+    used = f.used;
+    lines_used = f.lines_used;
+    is_fastq = f.is_fastq;
+  }
 
-pub grown_some : (old mid new : Seen) (before now : Stand) (after : Unread) → Filling old mid before now
-    → Filled mid new now.unread after
-    → length now.unread.bytes < length after.bytes → HasGrown old new before
-    (with_unread now after now.ended now.failed)
-grown_some old mid new before now after f more longer =
-    let all = filled_both f.filled more in
-    let behind = ap length all.behind in
-    let first = ap length f.filled.behind in
-    let some : 0 < length all.more = omega (
-      arith,
-      behind,
-      first,
-      longer,
-      length-append before.unread.bytes all.more,
-      length-append before.unread.bytes f.filled.more,
-    ) in
-    record {
-      more = all.more;
-      taken = at_false now.ended _ _ f.unended all.taken;
-      behind = all.behind;
-      room = all.room;
-      some = at_false now.ended _ _ f.unended some;
-      used = f.used;
-      lines_used = f.lines_used;
-      is_fastq = f.is_fastq;
-      unfailed = f.unfailed;
-    }
+  pub grown_some : (new : Seen) (after : Unread) → Filled mid new now.unread after
+      → length now.unread.bytes < length after.bytes
+      → HasGrown old new before (with_unread now after now.ended now.failed)
+  grown_some new after more longer =
+      let all = filled_both f.filled more in
+      let behind = ap length all.behind in
+      let first = ap length f.filled.behind in
+      let some : 0 < length all.more = omega (
+        arith,
+        behind,
+        first,
+        longer,
+        length-append before.unread.bytes all.more,
+        length-append before.unread.bytes f.filled.more,
+      ) in
+      record {
+        more = all.more;
+        taken = at_false now.ended _ _ f.unended all.taken;
+        behind = all.behind;
+        room = all.room;
+        some = at_false now.ended _ _ f.unended some;
+        used = f.used;
+        lines_used = f.lines_used;
+        is_fastq = f.is_fastq;
+        unfailed = f.unfailed;
+      }
 
-pub grown_all : (old mid new : Seen) (before now : Stand) (after : Unread) → Filling old mid before now
-    → TakesAll mid new now.unread.room [] → after ≡ now.unread
-    → HasGrown old new before (with_unread now after true now.failed)
-grown_all old mid new before now after f all same = record {
-  more = f.filled.more;
-  taken = filled_end f.filled all;
-  behind = ap (λ u. u.bytes) same ∙ f.filled.behind;
-  room = let room = f.filled.room in let same_room = ap (λ u. u.room) same in omega (arith, room, same_room);
-  some = tt;
-  used = f.used;
-  lines_used = f.lines_used;
-  is_fastq = f.is_fastq;
-  unfailed = f.unfailed;
-}
+  pub grown_all : (new : Seen) (after : Unread) → TakesAll mid new now.unread.room [] → after ≡ now.unread
+      → HasGrown old new before (with_unread now after true now.failed)
+  grown_all new after all same = record {
+    more = f.filled.more;
+    taken = filled_end f.filled all;
+    behind = ap (λ u. u.bytes) same ∙ f.filled.behind;
+    room = let room = f.filled.room in let same_room = ap (λ u. u.room) same in omega (arith, room, same_room);
+    some = tt;
+    used = f.used;
+    lines_used = f.lines_used;
+    is_fastq = f.is_fastq;
+    unfailed = f.unfailed;
+  }
 
 -- ---- all bytes
 
@@ -708,16 +793,33 @@ base_count-either : (b : Bool) (bytes : List ℕ) (reads : List Read)
 base_count-either true bytes reads h = base_count-fasta bytes reads h
 base_count-either false bytes reads h = base_count-fastq bytes reads h
 
--- behind a fault of the lines the other bytes were taken
-pub settled : (start now new : Seen) (limit : ℕ) (stand : Stand) (more : List ℕ) (fault : FastxFault)
-    → is_of_lines fault ≡ true → stand.ended ≡ false
-    → MeetsFault start now limit stand fault → TakesAll now new stand.unread.room more
-    → RefusesFor start new limit fault
-settled start now new limit stand more fault is e meets all =
-    let m = met_lines start now limit stand fault is meets in
-    let none : MayCome stand.ended more = λ ended. absurd (let no : true ≡ false = sym ended ∙ e in cc) in
-    refused_lines start new limit fault is (m.bytes ++ more)
-    (taken_then_all (so_far stand.ended start now limit m.bytes e m.taken.taken) all m.taken.room) (m.met more none)
+-- a fault of the lines was met, and more bytes may come
+pub record IsMetEarly (start now : Seen) (limit : ℕ) (stand : Stand) (fault : FastxFault) : Type 0 where
+  pub of_lines : is_of_lines fault ≡ true
+  pub unended : stand.ended ≡ false
+  pub meets : MeetsFault start now limit stand fault
+
+module _ {start now : Seen} {limit : ℕ} {stand : Stand} {fault : FastxFault} (early : IsMetEarly start now limit stand fault) where
+  fault_met : HasMet start now limit stand fault
+  fault_met = met_lines start now limit stand fault early.of_lines early.meets
+
+  bytes_before : TakenSoFar start now limit fault_met.bytes
+  bytes_before = so_far stand.ended start now limit fault_met.bytes early.unended fault_met.taken.taken
+
+  -- the other bytes were taken
+  pub settled : (new : Seen) (more : List ℕ) → TakesAll now new stand.unread.room more
+      → RefusesFor start new limit fault
+  settled new more all =
+      let none : MayCome stand.ended more = λ ended. absurd (let no : true ≡ false = sym ended ∙ early.unended in cc) in
+      refused_lines start new limit fault early.of_lines (fault_met.bytes ++ more)
+      (taken_then_all bytes_before all fault_met.taken.room) (fault_met.met more none)
+
+  -- they could not be taken
+  pub settled_refused : (new : Seen) (why : TakeFault) → TakingFails now new stand.unread.room why
+      → RefusesFor start new limit (taking_fault why)
+  settled_refused new why fails =
+      RefusesFor-taking start new limit why
+      (taken_then_fails new stand.unread.room why bytes_before fails fault_met.taken.room)
 
 -- all bytes were taken when the fault was met
 pub settled_ended : (start now : Seen) (limit : ℕ) (stand : Stand) (fault : FastxFault) → stand.ended ≡ true
@@ -746,17 +848,6 @@ settled_other start now limit stand (Truncated number) e m = absurd (let no : tr
 settled_other start now limit stand TooLong e m = m
 settled_other start now limit stand ReadFailed e m = m
 settled_other start now limit stand Memory e m = m
-
--- the other bytes could not be taken
-pub settled_refused : (start now new : Seen) (limit : ℕ) (stand : Stand) (fault : FastxFault) (why : TakeFault)
-    → is_of_lines fault ≡ true → stand.ended ≡ false
-    → MeetsFault start now limit stand fault → TakingFails now new stand.unread.room why
-    → RefusesFor start new limit (taking_fault why)
-settled_refused start now new limit stand fault why is e meets fails =
-    let m = met_lines start now limit stand fault is meets in
-    RefusesFor-taking start new limit why
-    (taken_then_fails new stand.unread.room why (so_far stand.ended start now limit m.bytes e m.taken.taken) fails
-    m.taken.room)
 
 -- a growth for the reads was refused
 pub given_in_vain : (start now : Seen) (limit : ℕ) (reads : List Read) (stand : Stand)

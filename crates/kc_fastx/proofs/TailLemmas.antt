@@ -274,18 +274,23 @@ fastq_fails_from count ls Memory h = absurd h.2
 
 -- ---- the next FASTQ record
 
+-- the next record, and the blank lines behind it that are passed over
+pub record IsPassed (now next past : Cursor) (read : Read) : Type 0 where
+  pub one : IsFastqRecord now.left read next.left
+  pub counted : line_count next ≡ line_count now
+  pub past_blanks : past.left ≡ skip_blanks next.left
+  pub past_counted : line_count past ≡ line_count next
+
 pub fastq_push : (start now next past : Cursor) (reads : List Read) (read : Read) → FastqSoFar start now reads
-    → IsFastqRecord now.left read next.left
-    → line_count next ≡ line_count now → past.left ≡ skip_blanks next.left → line_count past ≡ line_count next
-    → FastqSoFar start past (reads ++ read ∷ [])
-fastq_push start now next past reads read before one counted past_blanks past_counted =
+    → IsPassed now next past read → FastqSoFar start past (reads ++ read ∷ [])
+fastq_push start now next past reads read before passed =
     let here = fastq_from before.here read next.left (subst (λ v. IsFastqRecord v read next.left) before.past_blanks
-    one) in
+    passed.one) in
     record {
       here = next.left;
       so_far = Records-push IsFastqRecord start.left reads before.here read next.left before.so_far here;
-      past_blanks = past_blanks;
-      counted = past_counted ∙ counted ∙ before.counted;
+      past_blanks = passed.past_blanks;
+      counted = passed.past_counted ∙ passed.counted ∙ before.counted;
     }
 
 -- a record that fails, behind whole records

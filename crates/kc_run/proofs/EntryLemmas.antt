@@ -23,15 +23,24 @@ none_elsewhere : (stripe other : ℕ) (entry : Entry) → other ≢ stripe → e
 unfolding entries_in
 none_elsewhere stripe other entry apart = ap (λ b. length (map (λ (booking : Booking). booking.entry) (cond b (booking_of other entry ∷ []) []))) (ne_eqb other stripe apart)
 
+-- an entry was booked into this stripe
+pub record IsBookedInto (stripe at : ℕ) (entry : Entry) (share new : ShareSeen) : Type 0 where
+  pub is : new ≡ with_booking share at entry
+  pub here : at ≡ stripe
+
 -- one booking more into the one stripe
-pub HaveMoreIn-more : (old : List Booking) (share new : ShareSeen) (stripe n at : ℕ) (entry : Entry) → new ≡ with_booking share at entry → at ≡ stripe
+pub HaveMoreIn-more : (old : List Booking) (share new : ShareSeen) (stripe n at : ℕ) (entry : Entry)
+    → IsBookedInto stripe at entry share new
     → HaveMoreIn stripe (stripe + 1) n old share.booked → HaveMoreIn stripe (stripe + 1) (n + 1) old new.booked
-HaveMoreIn-more old share new stripe n at entry is same before =
-    let one_more = λ (other : ℕ). ap (λ (share : ShareSeen). entry_total_in other share.booked) is ∙ entries-joined other share.booked (booking_of at entry ∷ []) in
+HaveMoreIn-more old share new stripe n at entry booked before =
+    let same = booked.here in
+    let one_more = λ (other : ℕ). ap (λ (share : ShareSeen). entry_total_in other share.booked) booked.is
+    ∙ entries-joined other share.booked (booking_of at entry ∷ []) in
     record {
       there = λ other low high.
           let here : at ≡ other = omega (arith, same, low, high) in
-          let one : entry_total_in other (booking_of at entry ∷ []) ≡ 1 = subst (λ k. entry_total_in other (booking_of k entry ∷ []) ≡ 1) (sym here) (one_there other entry) in
+          let one : entry_total_in other (booking_of at entry ∷ []) ≡ 1 =
+          subst (λ k. entry_total_in other (booking_of k entry ∷ []) ≡ 1) (sym here) (one_there other entry) in
           omega (arith, one_more other, one, before.there other low high);
       before = λ other less.
           let apart : at ≢ other = λ here. absurd (omega (arith, here, same, less)) in

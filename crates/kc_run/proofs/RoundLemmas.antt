@@ -10,19 +10,27 @@ use Rattle.kc_run.specs.Runs.{AreCutUp}
 cut_count : (setup : StripeSetup) (batch : NumberedPieces) → length (cuts_of setup batch) ≡ stripe_count setup
 cut_count setup batch = length-map-range_with_len (cut_at setup batch) 0 (stripe_count setup)
 
-cuts_at : (setup : StripeSetup) (round : List CutBatch) (i : ℕ) (it : CutBatch) → AreCutUp setup round → i < length round → it ≡ get_or round i it
-    → it.cuts.items ≡ cuts_of setup it.batch.now.value
-cuts_at setup round i it all within is = subst (λ (it : CutBatch). it.cuts.items ≡ cuts_of setup it.batch.now.value) (sym is) (all i it within)
+-- a batch of a round that was cut up
+pub record IsCutIn (setup : StripeSetup) (round : List CutBatch) (i : ℕ) (it : CutBatch) : Type 0 where
+  pub cut_up : AreCutUp setup round
+  pub within : i < length round
+  pub is : it ≡ get_or round i it
 
--- a batch of a round has a cut for each stripe
-pub cut_there : (setup : StripeSetup) (round : List CutBatch) (i : ℕ) (it : CutBatch) (stripe : ℕ) → AreCutUp setup round → i < length round → it ≡ get_or round i it
-    → stripe < stripe_count setup → stripe < length it.cuts.items
-cut_there setup round i it stripe all within is less = omega (arith, less, ap length (cuts_at setup round i it all within is), cut_count setup it.batch.now.value)
+module _ {setup : StripeSetup} {round : List CutBatch} {i : ℕ} {it : CutBatch} (found : IsCutIn setup round i it) where
+  cuts_at : it.cuts.items ≡ cuts_of setup it.batch.now.value
+  cuts_at =
+      subst (λ (it : CutBatch). it.cuts.items ≡ cuts_of setup it.batch.now.value) (sym found.is)
+      (found.cut_up i it found.within)
 
--- and it is that stripe's
-pub stripe_of_cut : (setup : StripeSetup) (round : List CutBatch) (i : ℕ) (it : CutBatch) (stripe : ℕ) (cut : StripeCut) → AreCutUp setup round → i < length round
-    → it ≡ get_or round i it → stripe < stripe_count setup → cut ≡ get_or it.cuts.items stripe cut → cut.stripe ≡ stripe
-stripe_of_cut setup round i it stripe cut all within is less found =
-    let batch = it.batch.now.value in
-    let same = found ∙ ap (λ cuts. get_or cuts stripe cut) (cuts_at setup round i it all within is) ∙ get_or-map-range_with_len (cut_at setup batch) 0 (stripe_count setup) stripe stripe cut less (omega arith) in
-    ap (λ (c : StripeCut). c.stripe) same
+  -- it has a cut for each stripe
+  pub cut_there : (stripe : ℕ) → stripe < stripe_count setup → stripe < length it.cuts.items
+  cut_there stripe less = omega (arith, less, ap length cuts_at, cut_count setup it.batch.now.value)
+
+  -- and it is that stripe's
+  pub stripe_of_cut : (stripe : ℕ) (cut : StripeCut) → stripe < stripe_count setup
+      → cut ≡ get_or it.cuts.items stripe cut → cut.stripe ≡ stripe
+  stripe_of_cut stripe cut less is =
+      let same = is ∙ ap (λ cuts. get_or cuts stripe cut) cuts_at
+      ∙ get_or-map-range_with_len (cut_at setup it.batch.now.value) 0 (stripe_count setup) stripe stripe cut less
+      (omega arith) in
+      ap (λ (c : StripeCut). c.stripe) same

@@ -81,51 +81,49 @@ room-below word taken h below =
     wide : (a b : ℕ) → 0 < b → word < a → word < a * b
     wide a b some h = let more = mul-le a 1 a b (omega arith) some in omega (arith, h, more)
 
-pub taken-more : (rule : CountingRule) (read : Read) (from taken word seen next code : ℕ)
-    → IsTaken rule read from taken word seen
-    → next ≡ word * 4 + code % 4 → code ≡ usable_code rule read (from + taken)
-    → IsTaken rule read from (taken + 1) next (bit_or seen code)
-taken-more rule read from taken word seen next code before e is = record {
-  below = let power : 2 ^ (2 * (taken + 1)) ≡ 2 ^ (2 * taken) * 4 = ap (λ n. 2 ^ n) (double taken)
-      ∙ pow-add 2 (2 * taken) 2 in
-      let small = before.below in
-      omega (arith, power, small, e);
-  digits = λ j h. ⊎_elim (λ l. earlier j l) (λ l. last j (omega (arith, h, l))) (cases_lt j taken);
-  usable = λ s j h. let low = le_or_l seen code in
-      let right = le_or_r seen code in
-      ⊎_elim (λ l. before.usable (omega (arith, s, low)) j l)
-      (λ l. let place : taken ≡ j = omega (arith, h, l) in
-      subst (λ n. n < 4) (is ∙ ap (λ i. usable_code rule read (from + i)) place) (omega (arith, s, right)))
-      (cases_lt j taken);
-}
-  where
-    double : (n : ℕ) → 2 * (n + 1) ≡ 2 * n + 2
-    double n = omega arith
+module _ {rule : CountingRule} {read : Read} {from taken word seen : ℕ} (before : IsTaken rule read from taken word seen) where
+  pub taken-more : (next code : ℕ) → next ≡ word * 4 + code % 4 → code ≡ usable_code rule read (from + taken)
+      → IsTaken rule read from (taken + 1) next (bit_or seen code)
+  taken-more next code e is = record {
+    below = let power : 2 ^ (2 * (taken + 1)) ≡ 2 ^ (2 * taken) * 4 = ap (λ n. 2 ^ n) (double taken)
+        ∙ pow-add 2 (2 * taken) 2 in
+        let small = before.below in
+        omega (arith, power, small, e);
+    digits = λ j h. ⊎_elim (λ l. earlier j l) (λ l. last j (omega (arith, h, l))) (cases_lt j taken);
+    usable = λ s j h. let low = le_or_l seen code in
+        let right = le_or_r seen code in
+        ⊎_elim (λ l. before.usable (omega (arith, s, low)) j l)
+        (λ l. let place : taken ≡ j = omega (arith, h, l) in
+        subst (λ n. n < 4) (is ∙ ap (λ i. usable_code rule read (from + i)) place) (omega (arith, s, right)))
+        (cases_lt j taken);
+  }
+    where
+      double : (n : ℕ) → 2 * (n + 1) ≡ 2 * n + 2
+      double n = omega arith
 
-    earlier : (j : ℕ) → j < taken → next / 2 ^ (2 * (taken + 1 - 1 - j)) % 4 ≡ usable_code rule read (from + j) % 4
-    earlier j l =
-        let place : 2 * (taken + 1 - 1 - j) ≡ 2 + 2 * (taken - 1 - j) = omega (arith, l) in
-        let quarter : next / 2 ^ 2 ≡ word = omega (arith, e) in
-        ap (λ n. next / 2 ^ n % 4) place ∙ ap (λ n. n % 4) (sym (shr-shr next 2 (2 * (taken - 1 - j))))
-        ∙ ap (λ n. n / 2 ^ (2 * (taken - 1 - j)) % 4) quarter ∙ before.digits j l
+      earlier : (j : ℕ) → j < taken → next / 2 ^ (2 * (taken + 1 - 1 - j)) % 4 ≡ usable_code rule read (from + j) % 4
+      earlier j l =
+          let place : 2 * (taken + 1 - 1 - j) ≡ 2 + 2 * (taken - 1 - j) = omega (arith, l) in
+          let quarter : next / 2 ^ 2 ≡ word = omega (arith, e) in
+          ap (λ n. next / 2 ^ n % 4) place ∙ ap (λ n. n % 4) (sym (shr-shr next 2 (2 * (taken - 1 - j))))
+          ∙ ap (λ n. n / 2 ^ (2 * (taken - 1 - j)) % 4) quarter ∙ before.digits j l
 
-    last : (j : ℕ) → j ≡ taken → next / 2 ^ (2 * (taken + 1 - 1 - j)) % 4 ≡ usable_code rule read (from + j) % 4
-    last j here =
-        let place : 2 * (taken + 1 - 1 - j) ≡ 0 = omega (arith, here) in
-        ap (λ n. next / 2 ^ n % 4) place ∙ omega (arith, e) ∙ ap (λ n. n % 4) is
-        ∙ ap (λ i. usable_code rule read (from + i) % 4) (sym here)
+      last : (j : ℕ) → j ≡ taken → next / 2 ^ (2 * (taken + 1 - 1 - j)) % 4 ≡ usable_code rule read (from + j) % 4
+      last j here =
+          let place : 2 * (taken + 1 - 1 - j) ≡ 0 = omega (arith, here) in
+          ap (λ n. next / 2 ^ n % 4) place ∙ omega (arith, e) ∙ ap (λ n. n % 4) is
+          ∙ ap (λ i. usable_code rule read (from + i) % 4) (sym here)
 
--- the word is shifted to the top
-pub taken-all : (rule : CountingRule) (read : Read) (from count word seen : ℕ) (has_gap : Bool) → count ≤ 32
-    → IsTaken rule read from count word seen
-    → (has_gap ≡ false → seen < 4) → IsBlock rule read from count (word * 2 ^ (64 - 2 * count) % 2 ^ 64) has_gap
-taken-all rule read from count word seen has_gap most taken gap = record {
-  codes = λ i h. let place : 64 - 2 * count ≡ 2 * (32 - count) = omega arith in
-      let top : 62 - 2 * (32 - count + i) ≡ 2 * (count - 1 - i) = omega (arith, h, most) in
-      ap (λ n. code_in (word * 2 ^ n % 2 ^ 64) i) place ∙ code-up word (32 - count) i (omega (arith, h, most))
-      ∙ ap (λ n. word / 2 ^ n % 4) top ∙ taken.digits i h;
-  usable = λ g i h. taken.usable (gap g) i h;
-}
+  -- the word is shifted to the top
+  pub taken-all : (has_gap : Bool) → taken ≤ 32 → (has_gap ≡ false → seen < 4)
+      → IsBlock rule read from taken (word * 2 ^ (64 - 2 * taken) % 2 ^ 64) has_gap
+  taken-all has_gap most gap = record {
+    codes = λ i h. let place : 64 - 2 * taken ≡ 2 * (32 - taken) = omega arith in
+        let top : 62 - 2 * (32 - taken + i) ≡ 2 * (taken - 1 - i) = omega (arith, h, most) in
+        ap (λ n. code_in (word * 2 ^ n % 2 ^ 64) i) place ∙ code-up word (32 - taken) i (omega (arith, h, most))
+        ∙ ap (λ n. word / 2 ^ n % 4) top ∙ before.digits i h;
+    usable = λ g i h. before.usable (gap g) i h;
+  }
 
 -- ---- the gaps
 
@@ -172,12 +170,11 @@ gaps-block rule read n count runs before usable = record {
 
 -- ---- the codes, block by block
 
-pub codes-block : (rule : CountingRule) (read : Read) (n count word : ℕ) (has_gap : Bool) (codes next : List ℕ)
-    → codes ≡ packed_codes rule read n
-    → next ≡ codes ++ codes_in word count → IsBlock rule read n count word has_gap
-    → next ≡ packed_codes rule read (n + count)
+pub codes-block : {rule : CountingRule} {read : Read} {n count word : ℕ} {has_gap : Bool}
+    → IsBlock rule read n count word has_gap → (codes next : List ℕ) → codes ≡ packed_codes rule read n
+    → next ≡ codes ++ codes_in word count → next ≡ packed_codes rule read (n + count)
 unfolding packed_codes codes_in
-codes-block rule read n count word has_gap codes next before e block =
+codes-block {rule = rule} {read = read} {n = n} {count = count} {word = word} block codes next before e =
     e ∙ ap (λ xs. xs ++ codes_in word count) before
     ∙ sym (range-joined (λ j. usable_code rule read j % 4) (λ j. usable_code rule read j % 4) (λ i. code_in word i) n count
     (λ i h. refl) (λ i h. sym (block.codes i h)))

@@ -242,13 +242,13 @@ pub length-part : (codes part : List ℕ) (from taken : ℕ) → IsPart codes pa
 length-part codes part from taken before = ap length before.is
     ∙ length-map-range_with_len (λ i. get_or codes (from + i) 0) 0 taken
 
-pub part-more : (codes part next : List ℕ) (from taken count word : ℕ) → IsPart codes part from taken
-    → next ≡ part ++ codes_in word count
+pub part-more : {codes part : List ℕ} {from taken : ℕ} → IsPart codes part from taken
+    → (next : List ℕ) (count word : ℕ) → next ≡ part ++ codes_in word count
     → (count ≤ 32) × (from + taken + count ≤ length codes)
     → ((i : ℕ) → i < 32 → from + taken + i < length codes → code_in word i ≡ get_or codes (from + taken + i) 0)
     → IsPart codes next from (taken + count)
 unfolding codes_in
-part-more codes part next from taken count word before e fits window = record {
+part-more {codes = codes} {from = from} {taken = taken} before next count word e fits window = record {
   is = e ∙ ap (λ xs. xs ++ codes_in word count) before.is
       ∙ sym (range-joined (λ i. get_or codes (from + i) 0) (λ i. get_or codes (from + i) 0) (λ i. code_in word i) taken count
       (λ i h. refl) (λ i h. let most = fits.0 in

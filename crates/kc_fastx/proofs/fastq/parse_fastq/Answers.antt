@@ -37,5 +37,9 @@ records-preserved c =
     let next = rw c.in-Some.is at c.in_ok-read.ensures.some in
     rw c.in_ok-push.ensures.items
     (fastq_push c.args.lines.now c.records.lines c.next_fastq.new.lines c.pass_blanks-in-Some.new.self
-    c.records.reads.items c.in-Some.read c.records.invariant
-    next c.in_ok-read.ensures.counted c.pass_blanks-in-Some.ensures.left c.pass_blanks-in-Some.ensures.counted)
+    c.records.reads.items c.in-Some.read c.records.invariant (record {
+      one = next;
+      counted = c.in_ok-read.ensures.counted;
+      past_blanks = c.pass_blanks-in-Some.ensures.left;
+      past_counted = c.pass_blanks-in-Some.ensures.counted;
+    }))

@@ -9,14 +9,13 @@ loop-i-preserved c =
     let most = c.requires.most in
     let room = room-below c.loop-i.word c.loop-i.i (omega (arith, test, most)) c.loop-i.invariant.below in
     let low = and_mask c.usable_code-code.result 2 in
-    taken-more c.args.rule.now c.args.read.now c.args.from c.loop-i.i c.loop-i.word c.loop-i.seen _ c.usable_code-code.result c.loop-i.invariant
-    (omega (arith, room, low)) c.usable_code-code.ensures
+    taken-more c.loop-i.invariant _ c.usable_code-code.result (omega (arith, room, low)) c.usable_code-code.ensures
 
 pub returns : goal.returns
 returns c =
     let test = c.loop-i-test.false in
     let end = c.loop-i.auto.i-end in
     let all : c.loop-i.i ≡ c.args.count = omega (arith, test, end) in
-    taken-all c.args.rule.now c.args.read.now c.args.from c.args.count c.loop-i.word c.loop-i.seen _ c.requires.most
-    (subst (λ n. IsTaken c.args.rule.now c.args.read.now c.args.from n c.loop-i.word c.loop-i.seen) all c.loop-i.invariant)
-    (few-seen c.loop-i.seen)
+    let taken = subst (λ n. IsTaken c.args.rule.now c.args.read.now c.args.from n c.loop-i.word c.loop-i.seen) all
+    c.loop-i.invariant in
+    taken-all taken _ c.requires.most (few-seen c.loop-i.seen)

@@ -46,8 +46,8 @@ loop-j-preserved c =
     let next : c.loop-j.j * 32 + c.min-taken.result ≡ min ((c.loop-j.j + 1) * 32) (length c.bases-count.result.now) = omega (arith, test, end, taken) in
     let before = subst (λ n. IsGathering c.args.rule.now c.args.read.now n c.loop-j.bases c.loop-j.runs.items) from c.loop-j.invariant in
     subst (λ n. IsGathering c.args.rule.now c.args.read.now n c.push_word.new.self c.if-block.runs.items) next (record {
-      codes_are = codes-block c.args.rule.now c.args.read.now (c.loop-j.j * 32) c.min-taken.result c.gather-block.result.word c.gather-block.result.has_gap
-          c.loop-j.bases c.push_word.new.self before.codes_are c.in_ok-push_word.ensures c.gather-block.ensures;
+      codes_are = codes-block c.gather-block.ensures c.loop-j.bases c.push_word.new.self before.codes_are
+          c.in_ok-push_word.ensures;
       gaps = elim c.if-block.branch [
         | then-block+in_ok-mark_gaps w ↦
             subst (λ (rs : List Run). AreGaps c.args.rule.now c.args.read.now (c.loop-j.j * 32 + c.min-taken.result) rs) (sym (ap (λ v. v.items) w.runs-is))

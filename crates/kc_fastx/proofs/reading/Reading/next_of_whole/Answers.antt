@@ -4,7 +4,7 @@ use Rattle.kc_fastx.specs.Faults.{UnlessMemory}
 use Rattle.kc_fastx.specs.Lines.{lines, line_count, skip_blanks}
 use Rattle.kc_fastx.specs.Reading.{Stand, IsSure, IsNext, NextFails}
 use Rattle.kc_fastx.proofs.TailLemmas.{skip_blanks-again}
-use Rattle.kc_fastx.proofs.ReadingLemmas.{given_fault, given_more, reaches, uses_some}
+use Rattle.kc_fastx.proofs.ReadingLemmas.{ArePassed, IsRead, given_fault, given_more, reaches, uses_some}
 use Rattle.kc_fastx.proofs.reading.Reading.next_of_whole.Goals as goal
 use Rattle.kc_fastx.proofs.reading.Reading.next_of_whole.Goals.{else-not-self-via-then-not-self+else-not-is_sure}
 use Rattle.kc_fastx.proofs.reading.Reading.next_of_whole.Goals.{else-not-self-via-else-not-self}
@@ -40,8 +40,7 @@ returns-in_err-read-clause-tells c = λ start now limit reads h.
     (subst (λ q. UnlessMemory (NextFails q (line_count c.pass_blanks.new.self) c.pass_blanks.new.self.left)
     c.in_err-read.field-0.0) is_fastq c.in_err-read.ensures.err)) in
     let p = err_from_is_err_and c.from_residual.result c.from_residual.ensures.1 in
-    rw (p.1, p.2) (given_fault start now limit reads stand whole left c.in_err-read.field-0.0 h
-    c.whole_lines-whole.ensures fails (rw c.in_err-read.was at sure))
+    rw (p.1, p.2) (given_fault h whole left c.in_err-read.field-0.0 c.whole_lines-whole.ensures fails (rw c.in_err-read.was at sure))
 
 pub returns-clause-tells : goal.returns-clause-tells
 returns-clause-tells c = λ start now limit reads h.
@@ -58,20 +57,27 @@ returns-clause-tells c = λ start now limit reads h.
     let is_fastq = ap (λ (s : Stand). s.is_fastq) c.self.view_is in
     let taken : first.taken ≡ stand.lines_used = c.behind-lines.ensures.taken
     ∙ ap (λ (s : Stand). s.lines_used) c.self.view_is in
-    let r = reaches stand whole first blank after taken c.behind-lines.ensures.left c.behind-lines.ensures.bytes
-    c.pass_blanks.ensures.counted c.pass_blanks.ensures.passes c.in_ok-read.ensures.counted
-    c.in_ok-read.ensures.passes left in
+    let passed : ArePassed stand first blank after = record {
+      taken = taken;
+      counted_blank = c.pass_blanks.ensures.counted;
+      passes_blank = c.pass_blanks.ensures.passes;
+      counted = c.in_ok-read.ensures.counted;
+      passes = c.in_ok-read.ensures.passes;
+    } in
     let blank_left : blank.left ≡ skip_blanks (lines whole) = c.pass_blanks.ensures.left
     ∙ ap skip_blanks c.behind-lines.ensures.left in
     let next = subst (λ q. IsNext q (skip_blanks (lines whole)) (Some
     (c.in-Some.read, c.in-Some.is_fastq)) after.left) is_fastq
     (rw (blank_left, c.in-Some.is) at c.in_ok-read.ensures.ok) in
-    let count : length whole - length c.rest.result.now ≡ length whole - length after.bytes = ap
-    (λ v. length whole - length v) c.rest.ensures.bytes in
-    rw (c.use_up.ensures, c.taken-lines_used.ensures)
-    (given_more start now limit reads stand whole after c.in-Some.read c.in-Some.is_fastq
-    (length whole - length c.rest.result.now) h c.whole_lines-whole.ensures r next
-    (rw (c.in_ok-read.was, c.in-Some.is) at sure) count)
+    let one : IsRead stand whole after (c.in-Some.read, c.in-Some.is_fastq)
+    (length whole - length c.rest.result.now) = record {
+      has_whole = c.whole_lines-whole.ensures;
+      reaches = reaches passed whole c.behind-lines.ensures.left c.behind-lines.ensures.bytes left;
+      one = next;
+      sure = rw (c.in_ok-read.was, c.in-Some.is) at sure;
+      used = ap (λ v. length whole - length v) c.rest.ensures.bytes;
+    } in
+    rw (c.use_up.ensures, c.taken-lines_used.ensures) (given_more one start now limit reads h)
 
 pub returns-clause-moves : goal.returns-clause-moves
 returns-clause-moves c =
@@ -82,10 +88,15 @@ returns-clause-moves c =
     let taken : first.taken ≡ stand.lines_used = c.behind-lines.ensures.taken
     ∙ ap (λ (s : Stand). s.lines_used) c.self.view_is in
     let next = rw c.in-Some.is at c.in_ok-read.ensures.ok in
-    let some = uses_some stand first blank after c.self.inside.is_fastq c.in-Some.read c.in-Some.is_fastq taken
-    c.pass_blanks.ensures.left
-    c.pass_blanks.ensures.counted c.pass_blanks.ensures.passes c.in_ok-read.ensures.counted
-    c.in_ok-read.ensures.passes next in
+    let passed : ArePassed stand first blank after = record {
+      taken = taken;
+      counted_blank = c.pass_blanks.ensures.counted;
+      passes_blank = c.pass_blanks.ensures.passes;
+      counted = c.in_ok-read.ensures.counted;
+      passes = c.in_ok-read.ensures.passes;
+    } in
+    let some = uses_some passed c.self.inside.is_fastq (c.in-Some.read, c.in-Some.is_fastq) c.pass_blanks.ensures.left
+    next in
     let whole = ap length c.behind-lines.ensures.bytes in
     let rest = ap length c.rest.ensures.bytes in
     rw c.use_up.ensures (omega (arith, some, whole, rest))

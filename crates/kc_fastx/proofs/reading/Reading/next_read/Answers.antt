@@ -1,7 +1,7 @@
 use Rattle.std.proofs.Common.{ap, ◌∙◌}
 use Rattle.kc_fastx.specs.Reading.{Stand}
 use Rattle.std.proofs.lemmas.Result.{err_from_is_err_and}
-use Rattle.kc_fastx.proofs.ReadingLemmas.{given_grown, given_refused}
+use Rattle.kc_fastx.proofs.ReadingLemmas.{IsOpen, given_grown, given_refused}
 use Rattle.kc_fastx.proofs.reading.Reading.next_read.Goals as goal
 
 pub returns-in_err-read-clause-given : goal.returns-in_err-read-clause-given
@@ -25,8 +25,11 @@ reading-preserved g c =
       given = λ start limit reads h.
           let tells = rw c.in-Short.is at c.in_ok-read.ensures.tells start (seen c.reading.source) limit reads
           (c.reading.invariant.given start limit reads h) in
-          given_grown start (seen c.reading.source) (seen c.grow.new.source) limit reads before c.grow.new.self tells
-          more.1 grown;
+          let still : IsOpen start (seen c.reading.source) limit reads before = record {
+            given = tells;
+            unended = more.1;
+          } in
+          given_grown still (seen c.grow.new.source) c.grow.new.self grown;
       unfailed = grown.unfailed;
       used = grown.used ∙ ap (λ (s : Stand). s.used) more.0 ∙ c.reading.invariant.used;
     }
@@ -40,6 +43,6 @@ returns-in_err-grow-in-Short-clause-given g c = λ start limit reads h.
     (c.reading.invariant.given start limit reads h) in
     let p = err_from_is_err_and c.from_residual-in_err-grow-in-Short.result
     c.from_residual-in_err-grow-in-Short.ensures.1 in
-    rw (p.1, p.2) (given_refused start (seen c.reading.source)
-    (seen c.grow.new.source) limit reads before c.grow.new.self c.in_err-grow-in-Short.field-0.0 tells more.1
+    let still : IsOpen start (seen c.reading.source) limit reads before = record { given = tells; unended = more.1 } in
+    rw (p.1, p.2) (given_refused still (seen c.grow.new.source) c.grow.new.self c.in_err-grow-in-Short.field-0.0
     c.in_err-grow-in-Short.ensures)

@@ -28,8 +28,8 @@ loop-j-preserved c =
     let taken : min (c.loop-j.j * 32) (c.args.to - c.args.from) ≡ c.loop-j.j * 32 = omega (arith, test, end) in
     let more : c.loop-j.j * 32 + c.min.result ≡ min ((c.loop-j.j + 1) * 32) (c.args.to - c.args.from) = omega (arith, test, end, count) in
     subst (IsPart c.args.self.now c.push_word.new.self c.args.from) more
-    (part-more c.args.self.now c.loop-j.part c.push_word.new.self c.args.from (c.loop-j.j * 32) c.min.result c.window-word.result
-    (subst (IsPart c.args.self.now c.loop-j.part c.args.from) taken c.loop-j.invariant) c.in_ok-push_word.ensures
+    (part-more (subst (IsPart c.args.self.now c.loop-j.part c.args.from) taken c.loop-j.invariant) c.push_word.new.self
+    c.min.result c.window-word.result c.in_ok-push_word.ensures
     (omega (arith, count), omega (arith, test, end, count, within, ordered)) c.window-word.ensures)
 
 pub returns : goal.returns
