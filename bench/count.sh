@@ -8,7 +8,8 @@
 #   COVERAGE    reads over each base (20)
 #   REPORTS     "dump histo"
 #   OPTIONS     more options of kcount, as "--stripes 64"
-# It needs bin/kcount. The peers are Debian's (apt-get install jellyfish kmc time); one that is missing is left out.
+# It needs bin/kcount. The peers are Debian's (apt-get install jellyfish kmc time); one that is missing is left out. Where perf is there
+# (linux-perf), a second table says where kcount's processor time goes, by the functions that its samples fell in.
 . "$(dirname "$0")/lib.sh"
 genome=${1:-4900000}
 k=${2:-21}
@@ -70,3 +71,34 @@ done
 for peer in jellyfish kmc; do
     [ ! -e "$work/$peer.txt" ] || tr '\t' ' ' < "$work/$peer.txt" | cmp -s - "$work/kcount.txt" || fail "the dumps of kcount and $peer differ"
 done
+
+# the shares of the processor time of a dump by so many threads
+steps() {
+    perf record -q -e cpu-clock -o "$work/perf.data" "$kcount" count -m $k -C -t "$1" ${OPTIONS:-} --print dump --column \
+        -o "$work/kcount.txt" "$reads" > "$work/perf.log" 2>&1
+    perf report -i "$work/perf.data" --no-children --sort sym -F overhead,sym --stdio 2> "$work/perf.log" | awk -v threads="$1" '
+        $1 !~ /^[0-9.]+%$/ { next }
+        {
+            step = $2 == "[k]" ? "kernel: pages and files" \
+                : /kc_fastx|kc_io|memchr|first_by/ ? "read" \
+                : /piece::clean|gathering::(gather|mark)|kc_tool::reading/ ? "clean" \
+                : /kc_word::(cutting|pieces|packed|runs)/ ? "cut" \
+                : /cut_batch|kc_stripe::cut|cut_up/ ? "cut up" \
+                : /book/ ? "book" \
+                : /sort/ ? "sort" \
+                : /kc_gather|gathered|kc_tally/ ? "rows" \
+                : /kc_report|itoa/ ? "text" \
+                : "C library and others"
+            shares[step] += $1
+        }
+        END {
+            count = split("read,clean,cut,cut up,book,rows,sort,text,C library and others,kernel: pages and files", order, ",")
+            for (i = 1; i <= count; i++) printf "| %s | %s | %.1f %% |\n", threads, order[i], shares[order[i]]
+        }'
+}
+if command -v perf > "$work/which"; then
+    echo
+    echo "| Threads | Step of the dump | Share of kcount's processor time |"
+    echo "|---|---|---|"
+    for threads in ${THREADS:-1 4}; do steps "$threads"; done
+fi
