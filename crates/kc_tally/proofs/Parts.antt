@@ -1,9 +1,10 @@
 -- Rows in parts, one part after another.
-use Rattle.std.proofs.Common.{◌≡◌, ℕ, ◌+◌, ◌^◌, ◌<◌, ◌≤◌, Bool, true, false, cond, List, [], ◌∷◌, ◌++◌, length, get_or, take, drop, filter, All, Vec, Global, refl, ap, sym, ◌∙◌, arith}
+use Rattle.std.proofs.Common.{◌≡◌, ℕ, ◌+◌, ◌-◌, ◌^◌, ◌<◌, ◌≤◌, Bool, true, false, cond, List, [], ◌∷◌, ◌++◌, length, get_or, take, drop, filter, All, Vec, Global, refl, ap, sym, ◌∙◌, arith}
 use Rattle.std.specs.Prelude.{nat_lt}
 use Rattle.std.specs.List.{flat_map}
 use Rattle.std.proofs.lemmas.Bool.Decides.{nat_tests}
-use Rattle.std.proofs.lemmas.List.{take-append-drop, length-append, length-map, map-append}
+use Rattle.std.proofs.lemmas.List.{take-append-drop, append-nil, length-append, length-map, map-append}
+use Rattle.std.proofs.Math.Seq.{take-add}
 use Rattle.std.proofs.lemmas.List.Concat.{flat_map-append}
 use Rattle.std.proofs.lemmas.List.Elements.{filter_passes, All-weaker}
 use Rattle.std.proofs.lemmas.List.Sums.{sum_by-append}
@@ -27,6 +28,14 @@ joined-split parts i = ap joined (sym (take-append-drop i parts)) ∙ flat_map-a
 pub joined-next : (parts : List Part) (i : ℕ) (d : Part) → i < length parts
     → joined (take (i + 1) parts) ≡ joined (take i parts) ++ (get_or parts i d).items
 joined-next parts i d h = flat_map_take_more (λ part. part.items) parts i d h
+
+-- one part more, of the rows up to an end
+pub joined-on : (parts : List Part) (part : Part) (rows : List Row) (at end : ℕ) → at ≤ end → joined parts ≡ take at rows
+    → part.items ≡ take (end - at) (drop at rows) → joined (parts ++ part ∷ []) ≡ take end rows
+joined-on parts part rows at end le so_far is =
+    flat_map-append (λ p. p.items) parts (part ∷ []) ∙ ap (λ xs. joined parts ++ xs) (append-nil part.items ∙ is)
+    ∙ ap (λ xs. xs ++ take (end - at) (drop at rows)) so_far ∙ sym (take-add at (end - at) rows)
+    ∙ ap (λ n. take n rows) (omega (arith, le))
 
 -- ---- how many rows there are, and what they count
 
