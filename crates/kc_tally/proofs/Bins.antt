@@ -288,18 +288,64 @@ joined-fits old others new s fits joined =
 
 -- ---- the histogram of rows
 
-pub bins_of-row : (rows : List Row) (i : ℕ) (d : Row) → i < length rows → counted_in (bins_of (counts_of (take i rows))) (get_or rows i d).count ≡ bins_of (counts_of (take (i + 1) rows))
-bins_of-row rows i d h =
-    bins_of-push (counts_of (take i rows)) (get_or rows i d).count
-    ∙ ap bins_of (sym (map_push (λ (row : Row). row.count) (take i rows) (get_or rows i d)) ∙ ap counts_of (sym (take_more rows i d h)))
+-- bins as many words fuller as there are counts, and one count more
+joined-push : (old counts : List ℕ) (count : ℕ) → length old ≡ last_bin
+    → counted_in (joined_bins old (bins_of counts)) count ≡ joined_bins old (bins_of (counts ++ count ∷ []))
+joined-push old counts count long =
+    let same : length old ≡ length (bins_of counts) = long ∙ sym (length-bins_of counts) in
+    let more : length old ≡ length (bins_of (counts ++ count ∷ [])) = long ∙ sym (length-bins_of (counts ++ count ∷ [])) in
+    let wide = length-joined_bins old (bins_of counts) same ∙ long in
+    ext_get_or 0 (counted_in (joined_bins old (bins_of counts)) count) (joined_bins old (bins_of (counts ++ count ∷ [])))
+    (length-counted_in (joined_bins old (bins_of counts)) count ∙ wide ∙ sym (length-joined_bins old (bins_of (counts ++ count ∷ [])) more ∙ long))
+    (λ i h.
+    let kept = length-counted_in (joined_bins old (bins_of counts)) count in
+    let within : i < last_bin = omega (arith, h, kept, wide) in
+    let step = counted_in-at (joined_bins old (bins_of counts)) count i wide in
+    let before = get_or-joined_bins old (bins_of counts) i same in
+    let after = get_or-joined_bins old (bins_of (counts ++ count ∷ [])) i more in
+    let first = get_or-bins_of counts i within in
+    let second = get_or-bins_of (counts ++ count ∷ []) i within in
+    let both = bin_size-append counts (count ∷ []) (i + 1) in
+    let last = bin_size-cons count [] (i + 1) in
+    let none = bin_size-nil (i + 1) in
+    omega (arith, step, before, after, first, second, both, last, none))
 
-pub room-for-row : (rows : List Row) (bins : List ℕ) (i bin : ℕ) → i < length rows → length rows < 2 ^ 64 → bin ≤ last_bin → bins ≡ bins_of (counts_of (take i rows)) → bin_at bins bin + 1 < 2 ^ 64
-room-for-row rows bins i bin h few within is =
+pub joined-row : (old : List ℕ) (rows : List Row) (i : ℕ) (d : Row) → length old ≡ last_bin → i < length rows
+    → counted_in (joined_bins old (bins_of (counts_of (take i rows)))) (get_or rows i d).count ≡ joined_bins old (bins_of (counts_of (take (i + 1) rows)))
+joined-row old rows i d long h =
+    joined-push old (counts_of (take i rows)) (get_or rows i d).count long
+    ∙ ap (λ counts. joined_bins old (bins_of counts))
+    (sym (map_push (λ (row : Row). row.count) (take i rows) (get_or rows i d)) ∙ ap counts_of (sym (take_more rows i d h)))
+
+pub joined-none : (old : List ℕ) → length old ≡ last_bin → old ≡ joined_bins old (bins_of [])
+joined-none old long =
+    let same : length old ≡ length (bins_of []) = long ∙ sym (length-bins_of []) in
+    ext_get_or 0 old (joined_bins old (bins_of [])) (sym (length-joined_bins old (bins_of []) same)) (λ i h.
+    let is = get_or-joined_bins old (bins_of []) i same in
+    let none = get_or-bins_of [] i (omega (arith, h, long)) in
+    let zero_ = bin_size-nil (i + 1) in
+    omega (arith, is, none, zero_))
+
+pub room-for-row : (old bins : List ℕ) (rows : List Row) (i bin : ℕ) → length old ≡ last_bin → All (λ size. size + length rows < 2 ^ 64) old
+    → i < length rows → bin ≤ last_bin → bins ≡ joined_bins old (bins_of (counts_of (take i rows))) → bin_at bins bin + 1 < 2 ^ 64
+room-for-row old bins rows i bin long fits h within is =
+    let at : bin - 1 < last_bin = omega (arith, within) in
+    let sum = get_or-joined_bins old (bins_of (counts_of (take i rows))) (bin - 1) (long ∙ sym (length-bins_of (counts_of (take i rows)))) in
     let most = bin_at-most (counts_of (take i rows)) bin within in
-    let long = length-map (take i rows) (λ (row : Row). row.count) in
+    let few = length-map (take i rows) (λ (row : Row). row.count) in
     let front = length-take-le i rows (omega (arith, h)) in
     let same = ap (λ b. bin_at b bin) is in
-    omega (arith, most, long, front, same, h, few)
+    let room = fits (bin - 1) 0 (omega (arith, at, long)) in
+    omega (arith, sum, most, few, front, same, room, h)
+
+-- the bins of some counts have room for as many words more as fit with them
+pub room-for-all : (bins counts : List ℕ) (n : ℕ) → bins ≡ bins_of counts → length counts + n < 2 ^ 64 → All (λ size. size + n < 2 ^ 64) bins
+room-for-all bins counts n is few =
+    subst (All (λ size. size + n < 2 ^ 64)) (sym is) (All-from_get_or (λ size. size + n < 2 ^ 64) (bins_of counts) 0 (λ i h.
+    let long = length-bins_of counts in
+    let size = get_or-bins_of counts i (omega (arith, h, long)) in
+    let most = bin_size-most counts (i + 1) in
+    omega (arith, size, most, few)))
 
 bin_size-rows : (rows : List Row) (bin : ℕ) → bin_size (counts_of rows) bin ≡ bin_count rows bin
 unfolding bin_size

@@ -1,4 +1,6 @@
 pub mod Bins
 pub mod MapCounts
-pub mod Rows
+pub mod Parts
+pub mod Searches
 pub mod Tallies
+pub mod TalliedRows

@@ -1,3 +1,4 @@
 pub mod Tally
 pub mod Histogram
 pub mod Laws
+pub mod Searching

@@ -1,5 +1,6 @@
 //! Histograms: how many words have which count.
 ghost use Rattle.std.specs.Prelude.{◌≡◌, ◌+◌, ◌^◌, ◌<◌, ◌≤◌, ℕ, [], length, All, IfOk};
+ghost use Rattle.std.specs.List.{flat_map};
 ghost use Rattle.kc_tally.specs.Histogram.{last_bin, bin_of, bins_of, bin_at, gained, lost, counted_in, raised};
 ghost use Rattle.kc_tally.specs.Histogram.{joined_bins, counts_of};
 
@@ -42,8 +43,18 @@ impl Histogram {
         ensures { IfOk result (λ bins. bins ≡ bins_of (counts_of rows.now)) }
     {
         let mut histogram = Histogram::new(alloc)?;
-        for row in rows {
-            histogram.count_in(row.count);
+        histogram.count_all(rows);
+        Ok(histogram)
+    }
+
+    /// The histogram of the counts of the rows of all parts. Condition: the number of rows fits.
+    pub(crate) fn of_parts(alloc: Global, parts: &[Vec<Row>]) -> Result<Histogram, AllocError>
+        requires { length (flat_map (λ part. part.items) parts.now) < 2 ^ 64 }
+        ensures { IfOk result (λ bins. bins ≡ bins_of (counts_of (flat_map (λ part. part.items) parts.now))) }
+    {
+        let mut histogram = Histogram::new(alloc)?;
+        for part in parts {
+            histogram.count_all(part);
         }
         Ok(histogram)
     }
@@ -81,6 +92,17 @@ impl Histogram {
     {
         for i in 0..LAST_BIN as usize {
             self.bins[i] += other.bins[i];
+        }
+    }
+
+    // Counts in the words of these rows.
+    fn count_all(&mut self, rows: &[Row])
+        requires long { length self.old ≡ last_bin }
+        requires fits { All (λ size. size + length rows.now < 2 ^ 64) self.old }
+        ensures { self.new ≡ joined_bins self.old (bins_of (counts_of rows.now)) }
+    {
+        for row in rows {
+            self.count_in(row.count);
         }
     }
 

@@ -1,10 +1,13 @@
 //! Tallies: how often each word occurs.
-ghost use Rattle.std.specs.Prelude.{◌≡◌, ◌≤◌, ◌^◌, IfOk};
-ghost use Rattle.kc_tally.specs.Tally.{AreRows, total_of};
+ghost use Rattle.std.specs.Prelude.{◌≡◌, ◌≤◌, ◌^◌, All, IfOk, length};
+ghost use Rattle.std.specs.List.{flat_map};
+ghost use Rattle.kc_tally.specs.Tally.{AreRows, count_of, total_of};
 ghost use Rattle.kc_tally.specs.Histogram.{last_bin, bin_count};
 
 use crate::histogram::Histogram;
 use crate::row::Row;
+use crate::rows::Rows;
+use crate::searching::{count_in, last_word};
 use kc_word::K;
 use std::alloc::{AllocError, Global};
 use std::marker::Model;
@@ -15,7 +18,8 @@ use std::marker::Model;
 pub struct Tally {
     k: K,
     both: bool,
-    rows: Vec<Row>,
+    // the rows, one part after another: no part is empty
+    parts: Vec<Vec<Row>>,
     histogram: Histogram,
     total: u64,
 }
@@ -25,15 +29,17 @@ impl Model for Tally {
 
     ghost Value = { TallySeen };
 
-    ghost use Rattle.std.specs.Prelude.{◌≡◌};
+    ghost use Rattle.std.specs.Prelude.{◌≡◌, ◌≤◌, All, length};
+    ghost use Rattle.std.specs.List.{flat_map};
     ghost use Rattle.kc_tally.specs.Tally.{AreRows, total_of};
     ghost use Rattle.kc_tally.specs.Histogram.{bins_of, counts_of};
 
-    ghost view = { λ t. record { k = t.k; both = t.both; rows = t.rows.items } };
+    ghost view = { λ t. record { k = t.k; both = t.both; rows = flat_map (λ part. part.items) t.parts.items } };
 
-    ghost invariant = { λ t. AreRows t.k t.both t.rows.items
-        × (t.histogram ≡ bins_of (counts_of t.rows.items))
-        × (t.total ≡ total_of t.rows.items) };
+    ghost invariant = { λ t. AreRows t.k t.both (flat_map (λ part. part.items) t.parts.items)
+        × (t.histogram ≡ bins_of (counts_of (flat_map (λ part. part.items) t.parts.items)))
+        × (t.total ≡ total_of (flat_map (λ part. part.items) t.parts.items))
+        × All (λ part. 1 ≤ length part.items) t.parts.items };
 }
 
 impl Tally {
@@ -43,12 +49,27 @@ impl Tally {
         requires { AreRows k both rows.items }
         ensures { IfOk result (λ tally. tally ≡ record { k = k; both = both; rows = rows.items }) }
     {
-        let histogram = Histogram::of_rows(alloc, &rows)?;
-        let total = total_of(&rows);
+        Tally::of_parts(alloc, k, both, vec![in alloc; rows]?)
+    }
+
+    /// The tally of the rows of all parts, one part after another, which may be empty. No row is copied. Condition: all
+    /// rows together are such as `of_rows` takes.
+    pub fn of_parts(
+        alloc: Global,
+        k: K,
+        both: bool,
+        parts: Vec<Vec<Row>>,
+    ) -> Result<Tally, AllocError>
+        requires { AreRows k both (flat_map (λ part. part.items) parts.items) }
+        ensures { IfOk result (λ tally. tally
+            ≡ record { k = k; both = both; rows = flat_map (λ part. part.items) parts.items }) }
+    {
+        let histogram = Histogram::of_parts(alloc, &parts)?;
+        let total = total_of_parts(&parts);
         Ok(Tally {
             k,
             both,
-            rows,
+            parts: without_empty(parts),
             histogram,
             total,
         })
@@ -68,12 +89,32 @@ impl Tally {
         self.both
     }
 
-    /// The rows.
-    pub fn rows(&self) -> &[Row]
-        ensures rows { result.now ≡ self.now.rows }
+    /// The rows, one after another.
+    pub fn rows(&self) -> Rows<'_>
+        ensures rows { result ≡ self.now.rows }
         ensures lawful { AreRows self.now.k self.now.both self.now.rows }
     {
-        &self.rows
+        Rows::new(&self.parts)
+    }
+
+    /// How many rows there are.
+    pub fn row_count(&self) -> u64
+        ensures { result ≡ length self.now.rows }
+    {
+        row_count(&self.parts)
+    }
+
+    /// The count of a word, 0 where it has no row.
+    pub fn count_of(&self, word: u64) -> u64
+        ensures { result ≡ count_of self.now.rows word }
+    {
+        // the first part that does not end below the word
+        let index = self.parts.partition_point(|part| last_word(part) < word);
+        if index < self.parts.len() {
+            count_in(&self.parts[index], word)
+        } else {
+            0
+        }
     }
 
     /// How many words have a count that falls in the bin: a count from 1 to 10,000 has a bin of its own, and all
@@ -93,6 +134,39 @@ impl Tally {
     {
         self.total
     }
+}
+
+// The parts that have rows.
+fn without_empty(mut parts: Vec<Vec<Row>>) -> Vec<Vec<Row>>
+    ensures same { flat_map (λ part. part.items) result.items ≡ flat_map (λ part. part.items) parts.items }
+    ensures some { All (λ part. 1 ≤ length part.items) result.items }
+{
+    parts.retain(|part| !part.is_empty());
+    parts
+}
+
+// How many rows the parts have.
+fn row_count(parts: &[Vec<Row>]) -> u64
+    requires { length (flat_map (λ part. part.items) parts.now) ≤ 2 ^ 62 }
+    ensures { result ≡ length (flat_map (λ part. part.items) parts.now) }
+{
+    let mut count = 0;
+    for part in parts {
+        count += part.len() as u64;
+    }
+    count
+}
+
+// The sum of the counts of all parts.
+fn total_of_parts(parts: &[Vec<Row>]) -> u64
+    requires { total_of (flat_map (λ part. part.items) parts.now) ≤ 2 ^ 62 }
+    ensures { result ≡ total_of (flat_map (λ part. part.items) parts.now) }
+{
+    let mut total = 0;
+    for part in parts {
+        total += total_of(part);
+    }
+    total
 }
 
 // The sum of the counts.

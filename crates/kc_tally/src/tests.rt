@@ -1,4 +1,7 @@
 // Worked rows of tallies and histograms.
+ghost use Rattle.std.specs.Prelude.{◌≡◌, IfOk};
+ghost use Rattle.std.specs.List.{flat_map};
+
 use crate::{Histogram, Row, Tally, laws, slow};
 use kc_fastx::SeqRead;
 use kc_word::slow::base_count;
@@ -127,13 +130,14 @@ fn tally_of(alloc: Global, reads: &[SeqRead], k: K) -> Result<Tally, Fail> {
 #[test]
 fn tallies_of_rows(rt: HostRuntime) -> Result<(), Fail> {
     let k = K::new(1).ok_or("no length of a word")?;
-    let rows: [(&[&[u8]], u64, [u64; 4]); 3] = [
-        (&[], 0, [0, 0, 0, 0]),
-        (&[b"ACGTA"], 5, [0, 1, 1, 0]),
-        (&[b"GGACT", b"N"], 5, [0, 1, 1, 0]),
+    let rows: [(&[&[u8]], u64, [u64; 4], (u64, u64)); 3] = [
+        (&[], 0, [0, 0, 0, 0], (0, 0)),
+        (&[b"ACGTA"], 5, [0, 1, 1, 0], (3, 2)),
+        (&[b"GGACT", b"N"], 5, [0, 1, 1, 0], (2, 3)),
     ];
-    for (texts, total, bins) in rows {
+    for (texts, total, bins, counts) in rows {
         let tally = tally_of(rt.alloc(), &reads_of(rt.alloc(), texts)?, k)?;
+        assert_eq!(rt; (tally.count_of(0), tally.count_of(1)), counts);
         assert_eq!(rt; (tally.k(), tally.both()), (k, true));
         assert_eq!(rt; tally.total(), total);
         for (i, size) in bins.iter().enumerate() {
@@ -164,9 +168,71 @@ fn memory_or_the_tally(rt: HostRuntime) -> Result<(), Fail> {
     let k = K::new(2).ok_or("no length of a word")?;
     let tally = tally_of(rt.alloc(), &reads_of(rt.alloc(), &[b"ACGTA"])?, k)?;
     let rows = [(1, 2), (6, 1), (12, 1)];
-    assert_eq!(rt; tally.rows().len(), rows.len());
-    for (row, (word, count)) in tally.rows().iter().zip(rows) {
+    assert_eq!(rt; tally.row_count(), rows.len() as u64);
+    for (row, (word, count)) in tally.rows().zip(rows) {
         assert_eq!(rt; (row.word, row.count), (word, count));
+    }
+    Ok(())
+}
+
+// The rows in parts that end at these places, and a last one. An end comes no earlier than the one before it.
+fn in_parts(alloc: Global, rows: &[Row], ends: &[usize]) -> Result<Vec<Vec<Row>>, AllocError>
+    ensures { IfOk result (λ parts. flat_map (λ part. part.items) parts.items ≡ rows.now) }
+{
+    let mut parts = Vec::new(alloc);
+    let mut at = 0;
+    for end in ends {
+        let end = at.max(*end).min(rows.len());
+        parts.push(Vec::from_slice(alloc, &rows[at..end])?)?;
+        at = end;
+    }
+    parts.push(Vec::from_slice(alloc, &rows[at..])?)?;
+    Ok(parts)
+}
+
+// The tally of AC twice, CG once, GT 70,000 times and TT once, its rows in parts that end at these places.
+fn parted_tally(alloc: Global, k: K, ends: &[usize]) -> Result<Tally, AllocError>
+    requires { k ≡ 2 }
+{
+    let rows = [
+        Row { word: 1, count: 2 },
+        Row { word: 6, count: 1 },
+        Row {
+            word: 11,
+            count: 70_000,
+        },
+        Row { word: 15, count: 1 },
+    ];
+    Tally::of_parts(alloc, k, false, in_parts(alloc, &rows, ends)?)
+}
+
+#[test]
+fn tallies_of_parts(rt: HostRuntime) -> Result<(), Fail> {
+    let k = K::new(2).ok_or("no length of a word")?;
+    let partings: [&[usize]; 7] = [
+        &[],
+        &[0],
+        &[4],
+        &[1, 2, 3],
+        &[0, 0, 2, 2, 2, 3],
+        &[0, 1, 1, 4, 4],
+        &[0, 0, 0, 4],
+    ];
+    let counts = [(1, 2), (6, 1), (11, 70_000), (15, 1)];
+    for ends in partings {
+        let tally = parted_tally(rt.alloc(), k, ends)?;
+        assert_eq!(rt; (tally.row_count(), tally.total()), (4, 70_004));
+        let bins = (tally.bin(1), tally.bin(2), tally.bin(3), tally.bin(10_001));
+        assert_eq!(rt; bins, (2, 1, 0, 1));
+        let mut rows = tally.rows();
+        for word in 0u64..17 {
+            let want = counts.iter().find(|row| row.0 == word);
+            assert_eq!(rt; tally.count_of(word), want.map_or(0, |row| row.1));
+            if let Some((word, count)) = want.copied() {
+                assert_eq!(rt; rows.next(), Some(Row { word, count }));
+            }
+        }
+        assert_eq!(rt; (rows.next(), rows.next()), (None, None));
     }
     Ok(())
 }

@@ -1,5 +1,5 @@
 use Rattle.std.proofs.Common.{◌+◌, ap, sym, ◌∙◌, subst, arith}
-use Rattle.kc_tally.proofs.Rows.{IsTalliedTo, IsTalliedTo-yes, IsTalliedTo-no, IsTalliedTo-all, words-below}
+use Rattle.kc_tally.proofs.TalliedRows.{IsTalliedTo, IsTalliedTo-yes, IsTalliedTo-no, IsTalliedTo-all, words-below}
 use Rattle.kc_tally.proofs.slow.tally.Goals as goal
 use Rattle.kc_tally.proofs.slow.tally.Goals.{then-count-gt0+in_ok-push, else-count-gt0}
 

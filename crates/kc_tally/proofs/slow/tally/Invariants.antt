@@ -1,4 +1,4 @@
-use Rattle.kc_tally.proofs.Rows.{IsTalliedTo}
+use Rattle.kc_tally.proofs.TalliedRows.{IsTalliedTo}
 use Rattle.kc_tally.proofs.slow.tally.Given as goal
 
 abbrev pub invariant-loop-word : goal.invariant-loop-word

@@ -1,14 +1,15 @@
-use Rattle.std.proofs.Common.{◌∙◌, ap, arith, get_or}
-use Rattle.kc_tally.specs.Histogram.{bin_of, counted_in}
-use Rattle.kc_tally.proofs.Bins.{room-for-row, bins_of-row}
+use Rattle.std.proofs.Common.{[], length, ◌∙◌, ap, arith}
+use Rattle.kc_tally.specs.Histogram.{bins_of, joined_bins, counts_of}
+use Rattle.kc_tally.proofs.Bins.{length-bins_of, room-for-all, bins_of-append}
 use Rattle.kc_tally.proofs.histogram.Histogram.of_rows.Goals as goal
 
-pub count_in-requires : goal.count_in-requires
-count_in-requires c =
-    room-for-row c.args.rows.now c.loop-row.histogram c.loop-row.row-index (bin_of (get_or c.args.rows.now c.loop-row.row-index (record { word = 0; count = 0 })).count)
-    (omega arith) (omega arith) (omega arith) c.loop-row.invariant
+pub count_all-requires-clause-long : goal.count_all-requires-clause-long
+count_all-requires-clause-long c = ap length c.in_ok-histogram.ensures ∙ length-bins_of []
 
-pub loop-row-preserved : goal.loop-row-preserved
-loop-row-preserved c =
-    c.count_in.ensures ∙ ap (λ bins. counted_in bins (get_or c.args.rows.now c.loop-row.row-index (record { word = 0; count = 0 })).count) c.loop-row.invariant
-    ∙ bins_of-row c.args.rows.now c.loop-row.row-index (record { word = 0; count = 0 }) (omega arith)
+pub count_all-requires-clause-fits : goal.count_all-requires-clause-fits
+count_all-requires-clause-fits c = room-for-all c.in_ok-histogram.histogram [] (length c.args.rows.now) c.in_ok-histogram.ensures (omega arith)
+
+pub returns : goal.returns
+returns c =
+    c.count_all.ensures ∙ ap (λ bins. joined_bins bins (bins_of (counts_of c.args.rows.now))) c.in_ok-histogram.ensures
+    ∙ bins_of-append [] (counts_of c.args.rows.now)

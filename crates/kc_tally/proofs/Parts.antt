@@ -1,0 +1,102 @@
+-- Rows in parts, one part after another.
+use Rattle.std.proofs.Common.{◌≡◌, ℕ, ◌+◌, ◌-◌, ◌^◌, ◌<◌, ◌≤◌, Bool, true, false, cond, List, [], ◌∷◌, ◌++◌, length, get_or, take, drop, filter, All, Vec, Global, refl, ap, sym, ◌∙◌, arith}
+use Rattle.std.specs.Prelude.{nat_lt}
+use Rattle.std.specs.List.{flat_map}
+use Rattle.std.proofs.lemmas.Bool.Decides.{nat_tests}
+use Rattle.std.proofs.lemmas.List.{take-append-drop, append-nil, length-append, length-map, map-append}
+use Rattle.std.proofs.Math.Seq.{take-add}
+use Rattle.std.proofs.lemmas.List.Concat.{flat_map-append}
+use Rattle.std.proofs.lemmas.List.Elements.{filter_passes, All-weaker}
+use Rattle.std.proofs.lemmas.List.Sums.{sum_by-append}
+use Rattle.kc_base.proofs.Lists.{flat_map_take_more}
+use Rattle.kc_base.proofs.Sums.{sum_by-ones, sum_by-at_most}
+use Rattle.kc_tally.specs.declared.row.Row.{Row}
+use Rattle.kc_tally.specs.Tally.{total_of, AreRows}
+use Rattle.kc_tally.specs.Histogram.{bins_of, joined_bins, counts_of}
+use Rattle.kc_tally.proofs.Bins.{bins_of-append}
+
+abbrev pub Part : Type 0
+Part = Vec Row Global
+
+-- the rows of all parts
+abbrev pub joined : List Part → List Row
+joined parts = flat_map (λ part. part.items) parts
+
+pub joined-split : (parts : List Part) (i : ℕ) → joined parts ≡ joined (take i parts) ++ joined (drop i parts)
+joined-split parts i = ap joined (sym (take-append-drop i parts)) ∙ flat_map-append (λ part. part.items) (take i parts) (drop i parts)
+
+pub joined-next : (parts : List Part) (i : ℕ) (d : Part) → i < length parts
+    → joined (take (i + 1) parts) ≡ joined (take i parts) ++ (get_or parts i d).items
+joined-next parts i d h = flat_map_take_more (λ part. part.items) parts i d h
+
+-- one part more, of the rows up to an end
+pub joined-on : (parts : List Part) (part : Part) (rows : List Row) (at end : ℕ) → at ≤ end → joined parts ≡ take at rows
+    → part.items ≡ take (end - at) (drop at rows) → joined (parts ++ part ∷ []) ≡ take end rows
+joined-on parts part rows at end le so_far is =
+    flat_map-append (λ p. p.items) parts (part ∷ []) ∙ ap (λ xs. joined parts ++ xs) (append-nil part.items ∙ is)
+    ∙ ap (λ xs. xs ++ take (end - at) (drop at rows)) so_far ∙ sym (take-add at (end - at) rows)
+    ∙ ap (λ n. take n rows) (omega (arith, le))
+
+-- ---- how many rows there are, and what they count
+
+pub length-front : (parts : List Part) (i : ℕ) → length (joined (take i parts)) ≤ length (joined parts)
+length-front parts i =
+    let long = ap length (joined-split parts i) ∙ length-append (joined (take i parts)) (joined (drop i parts)) in
+    omega (arith, long)
+
+pub length-next : (parts : List Part) (i : ℕ) (d : Part) → i < length parts
+    → length (joined (take (i + 1) parts)) ≡ length (joined (take i parts)) + length (get_or parts i d).items
+length-next parts i d h = ap length (joined-next parts i d h) ∙ length-append (joined (take i parts)) (get_or parts i d).items
+
+pub total-front : (parts : List Part) (i : ℕ) → total_of (joined (take i parts)) ≤ total_of (joined parts)
+total-front parts i =
+    let sum = ap total_of (joined-split parts i) ∙ sum_by-append (λ (row : Row). row.count) (joined (take i parts)) (joined (drop i parts)) in
+    omega (arith, sum)
+
+pub total-next : (parts : List Part) (i : ℕ) (d : Part) → i < length parts
+    → total_of (joined (take (i + 1) parts)) ≡ total_of (joined (take i parts)) + total_of (get_or parts i d).items
+total-next parts i d h =
+    ap total_of (joined-next parts i d h) ∙ sum_by-append (λ (row : Row). row.count) (joined (take i parts)) (get_or parts i d).items
+
+-- there are no more rows than they count together
+pub rows-few : (k : ℕ) (both : Bool) (rows : List Row) → AreRows k both rows → length rows ≤ 2 ^ 62
+rows-few k both rows are =
+    let ones = sum_by-ones rows in
+    let most = sum_by-at_most (λ _. 1) (λ (row : Row). row.count) rows are.ordered.present in
+    omega (arith, ones, most, are.small)
+
+pub length-counts : (rows : List Row) → length (counts_of rows) ≡ length rows
+length-counts rows = length-map rows (λ (row : Row). row.count)
+
+-- ---- the bins of the parts
+
+pub bins-next : (parts : List Part) (i : ℕ) (d : Part) → i < length parts
+    → joined_bins (bins_of (counts_of (joined (take i parts)))) (bins_of (counts_of (get_or parts i d).items))
+    ≡ bins_of (counts_of (joined (take (i + 1) parts)))
+bins-next parts i d h =
+    bins_of-append (counts_of (joined (take i parts))) (counts_of (get_or parts i d).items)
+    ∙ ap bins_of (sym (map-append (λ (row : Row). row.count) (joined (take i parts)) (get_or parts i d).items) ∙ ap counts_of (sym (joined-next parts i d h)))
+
+-- ---- the parts that have rows
+
+unfoldable pub has_rows : Part → Bool
+has_rows part = nat_lt 0 (length part.items)
+
+joined-or_none : (b : Bool) (part : Part) (parts : List Part) → b ≡ has_rows part → joined (cond b (part ∷ parts) parts) ≡ part.items ++ joined parts
+unfolding has_rows
+joined-or_none true part parts is = refl
+joined-or_none false part parts is = ap (λ rows. rows ++ joined parts) (none part.items is) where
+  none : (rows : List Row) → false ≡ nat_lt 0 (length rows) → [] ≡ rows
+  none [] h = refl
+  none (row ∷ rows) h = grind (arith, nat_tests, h)
+
+pub joined-some : (parts : List Part) → joined (filter has_rows parts) ≡ joined parts
+joined-some [] = refl
+joined-some (part ∷ parts) =
+    joined-or_none (has_rows part) part (filter has_rows parts) refl ∙ ap (λ rows. part.items ++ rows) (joined-some parts)
+
+pub All-some : (parts : List Part) → All (λ part. 1 ≤ length part.items) (filter has_rows parts)
+unfolding has_rows
+All-some parts =
+    All-weaker (λ part. has_rows part ≡ true) (λ part. 1 ≤ length part.items) (λ part h. grind (arith, nat_tests, h)) (filter has_rows parts)
+    (filter_passes has_rows parts)

@@ -1,0 +1,28 @@
+//! The search for a word in rows that rise.
+ghost use Rattle.std.specs.Prelude.{◌≡◌, map};
+ghost use Rattle.std.specs.List.Sorted.{IsStrictlyIncreasing};
+ghost use Rattle.kc_tally.specs.Tally.{count_of};
+ghost use Rattle.kc_tally.specs.Searching.{last_word};
+
+use crate::row::Row;
+
+// The word of the last row, 0 where there is none.
+pub(crate) fn last_word(rows: &[Row]) -> u64
+    ensures { result ≡ last_word rows.now }
+{
+    match rows.last() {
+        Some(row) => row.word,
+        None => 0,
+    }
+}
+
+// The count of a word in rows that rise, 0 where it has no row.
+pub(crate) fn count_in(rows: &[Row], word: u64) -> u64
+    requires { IsStrictlyIncreasing (map (λ row. row.word) rows.now) }
+    ensures { result ≡ count_of rows.now word }
+{
+    match rows.binary_search_by_key(&word, |row| row.word) {
+        Ok(index) => rows[index].count,
+        Err(_) => 0,
+    }
+}
