@@ -1,16 +1,16 @@
 -- Rows that are dealt out among stripes, joined and sorted.
-use Rattle.std.proofs.Common.{◌≡◌, ◌≢◌, ℕ, ◌+◌, ◌^◌, ◌<◌, ◌≤◌, ⊎_elim, false, cond, eqb, nat_eq, List, [], ◌∷◌, ◌++◌, length, get_or, map, take, sum_by, All, Contains, refl, ap, sym, ◌∙◌, subst, arith}
-use Rattle.std.specs.List.{IsDistinct}
+use Rattle.std.proofs.Common.{◌≡◌, ◌≢◌, ℕ, zero, suc, ◌+◌, ◌-◌, ◌^◌, ◌<◌, ◌≤◌, ⊎_elim, Vec, Global, false, cond, eqb, nat_eq, List, [], ◌∷◌, ◌++◌, length, get_or, map, sum_by, All, Contains, refl, ap, sym, ◌∙◌, subst, arith}
+use Rattle.std.specs.List.{IsDistinct, flat_map}
 use Rattle.std.specs.List.Sorted.{IsPermutation}
-use Rattle.std.proofs.lemmas.Bool.{cases_eq, eq-eqb, ne_eqb, cond-true, cond-false}
+use Rattle.std.proofs.lemmas.Bool.{cases_eq, cases_lt, eq-eqb, ne_eqb, cond-true, cond-false}
 use Rattle.std.proofs.lemmas.Bool.Decides.{eqb_tells}
 use Rattle.std.proofs.lemmas.Nat.{pow_pos}
 use Rattle.std.proofs.Math.Nat.{mod-lt}
-use Rattle.std.proofs.lemmas.Option.{get_or_from_slice_get}
-use Rattle.std.proofs.lemmas.List.{map-append, get_or_default, get_or-take, get_or_push, take_all, take-take, take-append-le, length-take, length_push}
+use Rattle.std.proofs.lemmas.List.{map-append, get_or_default, get_or-append_right, length-append}
 use Rattle.std.proofs.lemmas.List.Elements.{All-head, All-tail, All-append, All-nil, All-map, All-from_recursion, recursion_from_All}
 use Rattle.std.proofs.lemmas.List.Sums.{sum_by-cons, sum_by-append}
-use Rattle.std.proofs.lemmas.List.Sorted.{All-permutation, sum_by-IsPermutation, IsPermutation-map}
+use Rattle.std.proofs.lemmas.List.Sorted.{All-permutation, sum_by-IsPermutation, IsPermutation-map, IsPermutation-trans, IsPermutation-append_comm, IsPermutation-append_left}
+use Rattle.std.proofs.Math.ListN.{get_or-append}
 use Rattle.std.proofs.lemmas.Map.Keys.{IsDistinct-tail, IsDistinct-head, IsDistinct-cons, IsDistinct-IsPermutation}
 use Rattle.kc_base.proofs.Distinct.{head_apart, equal_flips}
 use Rattle.kc_base.proofs.Lists.{Contains-map}
@@ -22,7 +22,8 @@ use Rattle.kc_tally.specs.declared.row.Row.{Row}
 use Rattle.kc_tally.specs.Tally.{count_of}
 use Rattle.kc_stripe.specs.Setup.{StripeSetup, word_count, stripe_count, stripe_of}
 use Rattle.kc_stripe.specs.Stripe.{StripeState, numbers_of, word_occurrences, AreStripeRows}
-use Rattle.kc_gather.specs.Gathering.{IsWhole, AreWholeBefore, AreRowsFrom}
+use Rattle.kc_gather.specs.Parts.{ArePartsOf, column_rows}
+use Rattle.kc_gather.specs.Gathering.{IsWhole, AreRowsFrom, HasRowsOf, HaveRowsOf}
 use Rattle.kc_gather.proofs.Journals.{weighs_whole}
 
 abbrev pub words_in_rows : List Row → List ℕ
@@ -161,53 +162,72 @@ rows-whole setup batches i stripe rows distinct whole are =
         ∙ weighs_whole batches stripe.journal distinct whole.own.given whole.all (λ batch. occurrences setup.rule (as_reads batch.pieces) (text setup.rule.k word))
         ∙ sym (as_sum batches word)
 
--- stripes are taken from the last one on: these are left, and the rows of the others are taken
-pub record IsTakenTo {C : Type 0} (setup : StripeSetup) (whole left : List (StripeState C)) (rows : List Row) : Type 0 where
-  pub left_are : left ≡ take (length left) whole
-  pub rows_are : (batches : List NumberedPieces) → length whole ≡ stripe_count setup → AreWholeBefore setup batches whole (length whole)
-      → AreRowsFrom setup batches (length left) rows
+-- ---- the rows of each stripe
 
-pub IsTakenTo-none : {C : Type 0} {setup : StripeSetup} {whole : List (StripeState C)} {rows : List Row} → rows ≡ [] → IsTakenTo setup whole whole rows
-IsTakenTo-none {C} {setup} {whole} {rows} none = record {
-  left_are = sym (take_all (length whole) whole (omega arith));
-  rows_are = λ batches as_many are. subst (AreRowsFrom setup batches (length whole)) (sym none) (AreRowsFrom-none setup batches (length whole) as_many);
+-- the rows of all stripes, one stripe after the other
+abbrev pub taken_rows : List (Vec (Vec Row Global) Global) → List Row
+taken_rows taken = flat_map column_rows taken
+
+pub AreRowsFrom-taken : {C : Type 0} (setup : StripeSetup) (batches : List NumberedPieces) (n : ℕ) (stripes : List (StripeState C)) (taken : List (Vec (Vec Row Global) Global))
+    → n + length stripes ≡ stripe_count setup → HaveRowsOf stripes taken
+    → ((i : ℕ) (stripe : StripeState C) → i < length stripes → IsWhole setup batches (n + i) (get_or stripes i stripe)) → AreRowsFrom setup batches n (taken_rows taken)
+AreRowsFrom-taken setup batches n [] [] all have whole = AreRowsFrom-none setup batches n (omega (arith, all))
+AreRowsFrom-taken setup batches n [] (parts ∷ taken) all have whole = absurd (let long = have.all in omega (arith, long))
+AreRowsFrom-taken setup batches n (stripe ∷ stripes) [] all have whole = absurd (let long = have.all in omega (arith, long))
+AreRowsFrom-taken {C} setup batches n (stripe ∷ stripes) (parts ∷ taken) all have whole =
+    let later = AreRowsFrom-taken setup batches (n + 1) stripes taken (omega (arith, all))
+    (record { all = (let long = have.all in omega (arith, long)); each = λ i s p within. have.each (suc i) s p (omega (arith, within)) })
+    (λ i s within. subst (λ k. IsWhole setup batches k (get_or stripes i s)) (plus i) (whole (suc i) s (omega (arith, within)))) in
+    let own = have.each 0 stripe parts (omega arith) in
+    let first = subst (λ k. IsWhole setup batches k stripe) zero_more (whole 0 stripe (omega arith)) in
+    AreRowsFrom-permuted setup batches n (taken_rows taken ++ own.rows) (column_rows parts ++ taken_rows taken)
+    (IsPermutation-trans (taken_rows taken ++ own.rows) (own.rows ++ taken_rows taken) (column_rows parts ++ taken_rows taken)
+    (IsPermutation-append_comm (taken_rows taken) own.rows) (IsPermutation-append_left (taken_rows taken) own.rows (column_rows parts) own.same))
+    (AreRowsFrom-more setup batches n (taken_rows taken) own.rows later (rows-whole setup batches n stripe own.rows own.numbers_differ first own.rows_are))
+  where
+    plus : (i : ℕ) → n + suc i ≡ n + 1 + i
+    plus i = omega arith
+
+    zero_more : n + 0 ≡ n
+    zero_more = omega arith
+
+-- the words of a stripe's rows are words of the count
+pub row-words : {setup : StripeSetup} {number : ℕ} {journal : List NumberedPieces} {rows : List Row} → AreStripeRows setup number journal rows → All (λ row. row.word < 4 ^ setup.rule.k) rows
+row-words are k d within = (are.words k d within).0
+
+pub HaveRowsOf-none : {C : Type 0} → HaveRowsOf {C = C} {Y = Global} {Z = Global} [] []
+HaveRowsOf-none {C} = record { all = refl; each = λ i stripe parts none. absurd (omega (arith, none)) }
+
+pub HaveRowsOf-append : {C : Type 0} (stripes more : List (StripeState C)) (taken others : List (Vec (Vec Row Global) Global)) → HaveRowsOf stripes taken → HaveRowsOf more others
+    → HaveRowsOf (stripes ++ more) (taken ++ others)
+HaveRowsOf-append {C} stripes more taken others first second = record {
+  all = let long = first.all in let rest = second.all in omega (arith, long, rest, length-append stripes more, length-append taken others);
+  each = λ i s p within.
+      let long = first.all in
+      let rest = length-append stripes more in
+      ⊎_elim
+      (λ (early : i < length stripes).
+      subst (λ parts. HasRowsOf (get_or (stripes ++ more) i s) parts) (sym (get_or-append taken others p i (omega (arith, early, long))))
+      (subst (λ stripe. HasRowsOf stripe (get_or taken i p)) (sym (get_or-append stripes more s i early)) (first.each i s p early)))
+      (λ (late : length stripes ≤ i).
+      subst (λ parts. HasRowsOf (get_or (stripes ++ more) i s) parts) (sym (get_or-append_right taken others (length stripes) i p long late))
+      (subst (λ stripe. HasRowsOf stripe (get_or others (i - length stripes) p)) (sym (get_or-append_right stripes more (length stripes) i s refl late))
+      (second.each (i - length stripes) s p (omega (arith, late, rest, within)))))
+      (cases_lt i (length stripes));
 }
 
--- the last stripe that is left stands at its place among all
-module _ {C : Type 0} {setup : StripeSetup} {whole old : List (StripeState C)} {rows : List Row} (new : List (StripeState C)) (stripe : StripeState C) (last : old ≡ new ++ stripe ∷ []) (before : IsTakenTo setup whole old rows) where
-  one_more : length old ≡ length new + 1
-  one_more = ap length last ∙ length_push new stripe
+pub HaveRowsOf-push : {C : Type 0} (stripes : List (StripeState C)) (stripe : StripeState C) (taken : List (Vec (Vec Row Global) Global)) (parts : Vec (Vec Row Global) Global)
+    → HaveRowsOf stripes taken → HasRowsOf stripe parts → HaveRowsOf (stripes ++ stripe ∷ []) (taken ++ parts ∷ [])
+HaveRowsOf-push {C} stripes stripe taken parts have has = HaveRowsOf-append stripes (stripe ∷ []) taken (parts ∷ []) have (record { all = refl; each = one })
+  where
+    one : (i : ℕ) (s : StripeState C) (p : Vec (Vec Row Global) Global) → i < 1 → HasRowsOf (get_or (stripe ∷ []) i s) (get_or (parts ∷ []) i p)
+    one zero s p within = has
+    one (suc i) s p within = absurd (omega (arith, within))
 
-  inside : length new < length whole
-  inside = let kept = ap length before.left_are in let taken = length-take (length old) whole in omega (arith, one_more, kept, taken)
-
-  at : get_or whole (length new) stripe ≡ stripe
-  at =
-      sym (get_or-take (length old) whole (length new) stripe (omega (arith, one_more)))
-      ∙ ap (λ xs. get_or xs (length new) stripe) (sym before.left_are ∙ last)
-      ∙ get_or_push new stripe stripe (length new) refl
-
-  pub last-setup : All (λ s. s.setup ≡ setup) whole → stripe.setup ≡ setup
-  last-setup all = sym (ap (λ (s : StripeState C). s.setup) at) ∙ all (length new) stripe inside
-
-  pub IsTakenTo-more : {part more : List Row} → IsPermutation (rows ++ part) more → IsDistinct nat_eq (numbers_of stripe.journal)
-      → AreStripeRows stripe.setup stripe.number stripe.journal part → IsTakenTo setup whole new more
-  IsTakenTo-more {part} {more} joined distinct part_are = record {
-    left_are =
-        sym (take_all (length new) new (omega arith)) ∙ sym (take-append-le (length new) new (stripe ∷ []) (omega arith)) ∙ ap (take (length new)) (sym last ∙ before.left_are)
-        ∙ take-take (length new) (length old) whole (omega (arith, one_more));
-    rows_are = λ batches as_many are.
-        let (found, there, whole_there) = are (length new) (inside) in
-        let same : found ≡ stripe = sym (get_or_from_slice_get whole (length new) found stripe there) ∙ at in
-        AreRowsFrom-permuted setup batches (length new) (rows ++ part) more joined
-        (AreRowsFrom-more setup batches (length new) rows part
-        (subst (λ n. AreRowsFrom setup batches n rows) one_more (before.rows_are batches as_many are))
-        (rows-whole setup batches (length new) stripe part distinct (subst (IsWhole setup batches (length new)) same whole_there) part_are));
-  }
-
--- the words of its rows are words of the count
-pub row-words : {setup own : StripeSetup} {number words : ℕ} {journal : List NumberedPieces} {rows : List Row} → AreStripeRows own number journal rows → own ≡ setup
-    → words ≡ 4 ^ setup.rule.k → All (λ row. row.word < words) rows
-row-words {setup} {own} {number} {words} {journal} {rows} are same whole k d within =
-    let below : (get_or rows k d).word < word_count setup = subst (λ s. (get_or rows k d).word < word_count s) same (are.words k d within).0 in
-    omega (arith, below, whole)
+-- of stripes of one setup they are parts of its words
+pub parts-all : {C : Type 0} (setup : StripeSetup) (stripes : List (StripeState C)) (taken : List (Vec (Vec Row Global) Global)) → All (λ stripe. stripe.setup ≡ setup) stripes
+    → HaveRowsOf stripes taken → All (λ parts. ArePartsOf setup.rule.k (map (λ part. part.items) parts.items)) taken
+parts-all {C} setup [] taken same have i parts within = absurd (let long = have.all in omega (arith, within, long))
+parts-all {C} setup (stripe ∷ stripes) taken same have i parts within =
+    let inside : i < length (stripe ∷ stripes) = let long = have.all in omega (arith, within, long) in
+    subst (λ (s : StripeSetup). ArePartsOf s.rule.k (map (λ part. part.items) (get_or taken i parts).items)) (same i stripe inside) (have.each i stripe parts inside).parts_are

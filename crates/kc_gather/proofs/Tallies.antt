@@ -1,6 +1,6 @@
 -- The tally that the rows of all stripes are when they are sorted.
-use Rattle.std.proofs.Common.{◌≡◌, ◌^◌, ◌<◌, ◌≤◌, eqb, nat_eq, List, [], ◌∷◌, length, get_or, refl, ap, sym, subst, ◌∙◌, arith}
-use Rattle.std.specs.List.{IsDistinct}
+use Rattle.std.proofs.Common.{◌≡◌, ℕ, ◌+◌, ◌^◌, ◌<◌, ◌≤◌, eqb, nat_eq, List, [], ◌∷◌, length, get_or, map, Vec, Global, refl, ap, sym, subst, ◌∙◌, arith}
+use Rattle.std.specs.List.{IsDistinct, flat_map}
 use Rattle.std.specs.List.Sorted.{IsPermutation, IsNonDecreasingBy, IsStrictlyIncreasing}
 use Rattle.std.proofs.lemmas.Bool.{eq-eqb, cond-true}
 use Rattle.std.proofs.lemmas.Bool.Decides.{eqb_tells}
@@ -8,7 +8,8 @@ use Rattle.std.proofs.lemmas.List.{length-map, get_or-map, get_or_default, lengt
 use Rattle.std.proofs.lemmas.List.Concat.{flat_map-append}
 use Rattle.std.proofs.lemmas.List.Elements.{All-contains}
 use Rattle.std.proofs.lemmas.List.Sums.{sum_by-cons}
-use Rattle.std.proofs.lemmas.List.Sorted.{All-permutation, sum_by-IsPermutation}
+use Rattle.std.proofs.lemmas.List.Sorted.{All-permutation, sum_by-IsPermutation, IsPermutation-trans}
+use Rattle.std.proofs.lemmas.Option.{get_or_from_slice_get}
 use Rattle.std.proofs.lemmas.Map.Keys.{IsStrictlyIncreasing-from_distinct}
 use Rattle.kc_base.proofs.Distinct.{Contains-from_times}
 use Rattle.kc_base.proofs.Sums.{term-le-sum_by}
@@ -20,10 +21,12 @@ use Rattle.kc_word.proofs.WordCounts.{times-words_of, All-forms}
 use Rattle.kc_tally.specs.declared.row.Row.{Row}
 use Rattle.kc_tally.specs.Tally.{TallySeen, row_of, AreRows, IsTally, IsTallyOf}
 use Rattle.kc_tally.proofs.Tallies.{tally_total}
-use Rattle.kc_stripe.specs.Setup.{StripeSetup, word_count, stripe_of}
-use Rattle.kc_stripe.specs.Stripe.{reads_in}
-use Rattle.kc_gather.specs.Gathering.{AreRowsFrom, position_sum}
-use Rattle.kc_gather.proofs.Rows.{words_in_rows, weight_of, count_of-sum, distinct-permuted}
+use Rattle.kc_stripe.specs.Setup.{StripeSetup, word_count, stripe_count, stripe_of}
+use Rattle.kc_stripe.specs.Stripe.{StripeState, reads_in}
+use Rattle.kc_gather.specs.Parts.{ArePartsOf, AreSorted, column_rows, part_shift}
+use Rattle.kc_gather.specs.Gathering.{AreRowsFrom, AreWholeBefore, HaveRowsOf, IsWhole, position_sum}
+use Rattle.kc_gather.proofs.PartLemmas.{AreSorted-permutation, AreSorted-rise}
+use Rattle.kc_gather.proofs.Rows.{words_in_rows, weight_of, count_of-sum, distinct-permuted, AreRowsFrom-taken}
 
 rising-sorted : (sorted : List Row) → IsNonDecreasingBy (λ row. row.word) sorted → IsDistinct nat_eq (words_in_rows sorted) → IsStrictlyIncreasing (words_in_rows sorted)
 rising-sorted sorted up distinct =
@@ -94,3 +97,37 @@ IsTallyOf-sorted setup batches sorted tally is of = record {
   both = ap (λ (t : TallySeen). t.both) is;
   rows = subst (IsTally setup.rule (reads_in batches)) (sym (ap (λ (t : TallySeen). t.rows) is)) of;
 }
+
+-- ---- from the stripes to the sorted rows
+
+-- the rows of whole stripes, and the same rows in the order of their words
+pub record AreGathered (setup : StripeSetup) (batches : List NumberedPieces) (sorted : List Row) : Type 0 where
+  pub rows : List Row
+  pub from : AreRowsFrom setup batches 0 rows
+  pub same : IsPermutation rows sorted
+  pub up : IsNonDecreasingBy (λ row. row.word) sorted
+
+-- what was done of it: the stripes are whole, their rows were taken and brought into columns, and these were sorted
+pub record IsGathering {C : Type 0} (setup : StripeSetup) (batches : List NumberedPieces) (stripes : List (StripeState C)) (sorted : List Row) : Type 0 where
+  pub taken : List (Vec (Vec Row Global) Global)
+  pub columns : List (Vec (Vec Row Global) Global)
+  pub one_each : length stripes ≡ stripe_count setup
+  pub whole : AreWholeBefore setup batches stripes (length stripes)
+  pub have : HaveRowsOf stripes taken
+  pub parted : ArePartsOf setup.rule.k (map column_rows columns)
+  pub same : IsPermutation (flat_map column_rows taken) (flat_map column_rows columns)
+  pub sorted_are : AreSorted column_rows columns sorted
+
+pub are_gathered : {C : Type 0} (setup : StripeSetup) (batches : List NumberedPieces) (stripes : List (StripeState C)) (sorted : List Row) → IsGathering setup batches stripes sorted → AreGathered setup batches sorted
+are_gathered {C} setup batches stripes sorted of = record {
+  rows = flat_map column_rows of.taken;
+  from = AreRowsFrom-taken setup batches 0 stripes of.taken (let all = of.one_each in omega (arith, all)) of.have (λ i stripe within.
+      let (found, there, whole) = of.whole i within in
+      subst (λ n. IsWhole setup batches n (get_or stripes i stripe)) (from_zero i)
+      (subst (IsWhole setup batches i) (sym (get_or_from_slice_get stripes i found stripe there)) whole));
+  same = IsPermutation-trans (flat_map column_rows of.taken) (flat_map column_rows of.columns) sorted of.same (AreSorted-permutation column_rows of.columns sorted of.sorted_are);
+  up = AreSorted-rise column_rows (part_shift setup.rule.k) of.columns sorted of.parted.parted of.sorted_are;
+}
+  where
+    from_zero : (i : ℕ) → i ≡ 0 + i
+    from_zero i = omega arith

@@ -1,12 +1,14 @@
 -- When the stripes of a count may be gathered, and why not.
 -- Source: this project's own.
-use Rattle.std.specs.Prelude.{◌≡◌, ℕ, ◌<◌, ◌≤◌, List, length, map, sum_by, All, Some, nat_eq, slice_get}
+use Rattle.std.specs.Prelude.{◌≡◌, ℕ, ◌<◌, ◌≤◌, List, length, map, sum_by, All, Some, nat_eq, slice_get, slice_index_or, Vec}
 use Rattle.std.specs.List.{IsDistinct}
+use Rattle.std.specs.List.Sorted.{IsPermutation}
 use Rattle.kc_word.specs.Cutting.{NumberedPieces, position_total}
 use Rattle.kc_tally.specs.declared.row.Row.{Row}
 use Rattle.kc_tally.specs.Tally.{count_of}
 use Rattle.kc_stripe.specs.Setup.{StripeSetup, word_count, stripe_of}
-use Rattle.kc_stripe.specs.Stripe.{StripeState, IsBooked, word_occurrences}
+use Rattle.kc_stripe.specs.Stripe.{StripeState, IsBooked, AreStripeRows, numbers_of, word_occurrences}
+use Rattle.kc_gather.specs.Parts.{ArePartsOf, column_rows}
 use Rattle.kc_gather.specs.declared.fault.GatherFault.{GatherFault}
 use Rattle.kc_gather.specs.declared.fault.GatherFault.TheVariants.{Foreign, Missing, Memory}
 
@@ -77,3 +79,18 @@ pub record AreRowsFrom (setup : StripeSetup) (batches : List NumberedPieces) (n 
   pub present : All (λ row. 1 ≤ row.count) rows
   pub counts_are : (word : ℕ) → word < word_count setup → n ≤ stripe_of setup word
       → count_of rows word ≡ word_occurrences setup batches word
+
+-- the parts have the rows of a stripe whose journal names no batch twice
+pub record HasRowsOf {C Y Z : Type 0} (stripe : StripeState C) (parts : Vec (Vec Row Y) Z) : Type 0 where
+  pub numbers_differ : IsDistinct nat_eq (numbers_of stripe.journal)
+  pub parts_are : ArePartsOf stripe.setup.rule.k (map (λ part. part.items) parts.items)
+  pub rows : List Row
+  pub rows_are : AreStripeRows stripe.setup stripe.number stripe.journal rows
+  pub same : IsPermutation rows (column_rows parts)
+
+-- each of the lists has the rows of the stripe at its index, and there is one for each stripe
+pub record HaveRowsOf {C Y Z : Type 0} (stripes : List (StripeState C)) (taken : List (Vec (Vec Row Y) Z))
+    : Type 0 where
+  pub all : length taken ≡ length stripes
+  pub each : (i : ℕ) (stripe : StripeState C) (parts : Vec (Vec Row Y) Z) → i < length stripes
+      → HasRowsOf (slice_index_or stripes i stripe) (slice_index_or taken i parts)

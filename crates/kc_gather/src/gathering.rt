@@ -1,19 +1,19 @@
 //! The tally that is gathered from the stripes of a count.
-ghost use Rattle.std.specs.Prelude.{◌≡◌, ◌≢◌, ℕ, ◌<◌, ◌≤◌, ◌^◌, List, length, All, IfOk, OnOk, IfErr};
+ghost use Rattle.std.specs.Prelude.{◌≡◌, ◌≢◌, ℕ, ◌≤◌, ◌^◌, length, IfOk, OnOk, IfErr};
 ghost use Rattle.kc_word.specs.Shared.{values};
-ghost use Rattle.kc_word.specs.Cutting.{NumberedPieces};
 ghost use Rattle.kc_tally.specs.Tally.{AreRows, IsTallyOf};
 ghost use Rattle.kc_stripe.specs.Setup.{stripe_count};
 ghost use Rattle.kc_stripe.specs.Stripe.{reads_in};
-ghost use Rattle.kc_gather.specs.Gathering.{position_sum, IsWhole, AreWholeBefore, AreRowsFrom};
+ghost use Rattle.kc_gather.specs.Gathering.{position_sum, IsWhole, AreWholeBefore};
 ghost use Rattle.kc_gather.specs.Gathering.{IsRefusal, IsStripeRefusal, StandsThere};
 
+use crate::columns::{columns_of, sorted_in_parallel, sorted_rows};
 use crate::fault::GatherFault;
 use crate::journal::{booked_marks, first_unset};
-use crate::parts::Parts;
+use crate::taking::{rows_in_parallel, rows_of_each};
 use kc_stripe::{Setup, Stripe};
 use kc_table::Counts;
-use kc_tally::Tally;
+use kc_tally::{Row, Tally};
 use kc_word::Batch;
 use std::alloc::{AllocError, Global};
 use std::sync::Arc;
@@ -38,15 +38,17 @@ pub fn gather<C: Counts + Drop>(
     ensures counted { (index batch : ℕ) → result ≡ Err (GatherFault.Missing index batch)
         → StandsThere stripes.items index (λ stripe. length stripe.journal ≢ length batches.now) }
 {
-    let mut parts = parted_rows(alloc, stripes, batches, setup)?;
-    parts.sort();
-    Ok(tally_of(alloc, parts, setup)?)
+    check_stripes(alloc, &stripes, batches, setup)?;
+    let taken = rows_of_each(alloc, stripes)?;
+    let columns = columns_of(alloc, setup.rule().k(), taken)?;
+    let rows = sorted_rows(alloc, columns)?;
+    Ok(tally_of(alloc, rows, setup)?)
 }
 
-/// What `gather` answers. The rows are sorted by at most so many threads.
+/// What `gather` answers. The rows are taken from the stripes and sorted by at most so many threads.
 ///
 /// Conditions: those of `gather`, and at least one thread.
-pub fn gather_in_parallel<C: Counts + Drop, H: Threads + Sync>(
+pub fn gather_in_parallel<C: Counts + Drop + Send, H: Threads + Sync>(
     rt: &H,
     alloc: Global,
     threads: u32,
@@ -63,27 +65,11 @@ pub fn gather_in_parallel<C: Counts + Drop, H: Threads + Sync>(
     ensures counted { (index batch : ℕ) → result ≡ Err (GatherFault.Missing index batch)
         → StandsThere stripes.items index (λ stripe. length stripe.journal ≢ length batches.now) }
 {
-    let mut parts = parted_rows(alloc, stripes, batches, setup)?;
-    parts.sort_in_parallel(rt, threads);
-    Ok(tally_of(alloc, parts, setup)?)
-}
-
-// The rows of the stripes, where each stripe's journal holds exactly the given batches.
-fn parted_rows<C: Counts + Drop>(
-    alloc: Global,
-    stripes: Vec<Stripe<C>>,
-    batches: &[Arc<Batch>],
-    setup: &Setup,
-) -> Result<Parts, GatherFault>
-    requires { length stripes.items ≡ stripe_count setup.now }
-    ensures whole { OnOk result (AreWholeBefore setup.now (values batches.now) stripes.items (length stripes.items)) }
-    ensures rows { IfOk result (λ parts. AreRowsFrom setup.now (values batches.now) 0 parts.rows) }
-    ensures refused { IfErr result (IsRefusal setup.now (values batches.now) stripes.items) }
-    ensures counted { (index batch : ℕ) → result ≡ Err (GatherFault.Missing index batch)
-        → StandsThere stripes.items index (λ stripe. length stripe.journal ≢ length batches.now) }
-{
     check_stripes(alloc, &stripes, batches, setup)?;
-    Ok(take_rows(alloc, stripes, setup)?)
+    let taken = rows_in_parallel(rt, alloc, threads, stripes)?;
+    let columns = columns_of(alloc, setup.rule().k(), taken)?;
+    let rows = sorted_in_parallel(rt, alloc, threads, columns)?;
+    Ok(tally_of(alloc, rows, setup)?)
 }
 
 // Whether the journal of each stripe holds exactly the given batches.
@@ -132,35 +118,12 @@ fn check_stripe<C: Counts>(
     }
 }
 
-// The rows of all stripes. Each stripe is freed as soon as its rows are taken.
-fn take_rows<C: Counts + Drop>(
-    alloc: Global,
-    mut stripes: Vec<Stripe<C>>,
-    setup: &Setup,
-) -> Result<Parts, AllocError>
-    requires { All (λ stripe. stripe.setup ≡ setup.now) stripes.items }
-    ensures { IfOk result (λ parts. (batches : List NumberedPieces)
-        → length stripes.items ≡ stripe_count setup.now
-        → AreWholeBefore setup.now batches stripes.items (length stripes.items)
-        → AreRowsFrom setup.now batches 0 parts.rows) }
-{
-    let mut parts = Parts::new(alloc, setup.rule().k())?;
-    while let Some(stripe) = stripes.pop() {
-        // what is known of the journal
-        stripe.is_lawful();
-        let rows = stripe.rows(alloc)?;
-        drop(stripe);
-        parts.add_all(&rows)?;
-    }
-    Ok(parts)
-}
-
 // The tally of these rows, which are sorted.
-fn tally_of(alloc: Global, parts: Parts, setup: &Setup) -> Result<Tally, AllocError>
-    requires { AreRows setup.now.rule.k setup.now.rule.both parts.rows }
+fn tally_of(alloc: Global, rows: Vec<Row>, setup: &Setup) -> Result<Tally, AllocError>
+    requires { AreRows setup.now.rule.k setup.now.rule.both rows.items }
     ensures { IfOk result (λ tally.
-        tally ≡ record { k = setup.now.rule.k; both = setup.now.rule.both; rows = parts.rows }) }
+        tally ≡ record { k = setup.now.rule.k; both = setup.now.rule.both; rows = rows.items }) }
 {
     let rule = setup.rule();
-    Tally::of_rows(alloc, rule.k(), rule.both(), parts.into_rows(alloc)?)
+    Tally::of_rows(alloc, rule.k(), rule.both(), rows)
 }

@@ -2,12 +2,15 @@
 //! gathered from its stripes when all batches were booked.
 #![tactic(auto)]
 
+mod columns;
 mod fault;
 mod gathering;
 mod journal;
 pub mod laws;
 mod parts;
+mod piles;
 mod tables;
+mod taking;
 
 pub use fault::GatherFault;
 pub use gathering::{gather, gather_in_parallel};

@@ -222,6 +222,28 @@ fn several_words_in_a_part(rt: HostRuntime) -> Result<(), Fail> {
     Ok(())
 }
 
+// Most words fall in stripe 0 of eight.
+#[test]
+fn the_same_tally_by_one_to_eight_threads(rt: HostRuntime) -> Result<(), Fail> {
+    let alloc = rt.alloc();
+    let setup = setup_of(5, 8).ok_or("no setup")?;
+    let bases = b"AAGGAATCAACGAACTAAGTAACCATTAAGAAATAAACAAGGTTTTTAAAAAC";
+    let batches = batches_of(alloc, &setup, bases, 4)?;
+    let stripes = stripes_of(alloc, &setup, &batches)?;
+    let Ok(want) = gathered(&rt, 0, alloc, &setup, stripes, bases, 4)? else {
+        return Err(Fail::from("no tally"));
+    };
+    assert!(rt; want.rows().len() > 30);
+    for threads in 1..9 {
+        let stripes = stripes_of(alloc, &setup, &batches)?;
+        let Ok(tally) = gathered(&rt, threads, alloc, &setup, stripes, bases, 4)? else {
+            return Err(Fail::from("no tally"));
+        };
+        assert!(rt; tally.rows() == want.rows());
+    }
+    Ok(())
+}
+
 // Run with each growth refused in turn, by `make memory`: no other fault is answered, and no other tally.
 #[test]
 fn a_refused_growth_gives_no_tally(rt: HostRuntime) -> Result<(), Fail> {

@@ -118,7 +118,7 @@ fn run_named<
 
 // The tally that is gathered from the stripes. None lacks a batch, since each journal has as many entries as there are
 // batches.
-fn gathered<H: Threads + Sync, C: Counts + Drop, G: Gate>(
+fn gathered<H: Threads + Sync, C: Counts + Drop + Send, G: Gate>(
     rt: &H,
     alloc: Global,
     count: &Count<G>,

@@ -1,0 +1,45 @@
+-- Items in piles, and what is answered for each pile, joined.
+use Rattle.std.proofs.Common.{◌≡◌, ℕ, suc, ◌+◌, ◌-◌, ◌^◌, ◌<◌, List, [], ◌∷◌, ◌++◌, length, get_or, map, min, take, Vec, Global, Result, Ok, append-nil, refl, ap, sym, ◌∙◌, subst, arith}
+use Rattle.std.specs.List.{flat_map}
+use Rattle.std.proofs.lemmas.List.{length-map, length-append, get_or-map}
+use Rattle.std.proofs.lemmas.List.Concat.{flat_map-append}
+use Rattle.kc_base.proofs.Lists.{flat_map_take_more}
+
+-- the items of all lists, one list after the other
+abbrev pub all_items : {X : Type 0} → List (Vec X Global) → List X
+all_items lists = flat_map (λ list. list.items) lists
+
+pub all_items-push : {X : Type 0} (lists : List (Vec X Global)) (list : Vec X Global) → all_items (lists ++ list ∷ []) ≡ all_items lists ++ list.items
+all_items-push {X} lists list =
+    flat_map-append (λ (l : Vec X Global). l.items) lists (list ∷ []) ∙ ap (λ xs. all_items lists ++ xs) (append-nil list.items)
+
+-- one list more is counted
+pub count-more : {X : Type 0} (lists : List (Vec X Global)) (i : ℕ) (list : Vec X Global) (count more : ℕ) → (i < length lists) × (list ≡ get_or lists i list)
+    → count ≡ min (length (all_items (take i lists))) (2 ^ 64 - 1) → more ≡ min (count + length list.items) (2 ^ 64 - 1)
+    → more ≡ min (length (all_items (take (i + 1) lists))) (2 ^ 64 - 1)
+count-more {X} lists i list count more (within, is) before counted =
+    let taken = ap length (flat_map_take_more (λ (l : Vec X Global). l.items) lists i list within) ∙ length-append (all_items (take i lists)) (get_or lists i list).items in
+    let same = ap (λ (l : Vec X Global). length l.items) is in
+    omega (arith, taken, same, before, counted)
+
+-- where what holds of two lists and their answers holds of the lists and the answers joined, and holds of each pile and
+-- its answer, it holds of all items and all answers
+pub in_piles : {T X : Type 0} (Answers : List T → List X → Type 0) → Answers [] [] → ((xs ys : List T) (us vs : List X) → Answers xs us → Answers ys vs → Answers (xs ++ ys) (us ++ vs))
+    → (piles : List (Vec T Global)) (lists : List (Vec X Global)) → length piles ≡ length lists
+    → ((i : ℕ) (pile : Vec T Global) (list : Vec X Global) → i < length piles → Answers (get_or piles i pile).items (get_or lists i list).items)
+    → Answers (all_items piles) (all_items lists)
+in_piles Answers none join [] [] as_many each = none
+in_piles Answers none join [] (list ∷ lists) as_many each = absurd (omega (arith, as_many))
+in_piles Answers none join (pile ∷ piles) [] as_many each = absurd (omega (arith, as_many))
+in_piles Answers none join (pile ∷ piles) (list ∷ lists) as_many each =
+    join pile.items (all_items piles) list.items (all_items lists) (each 0 pile list (omega arith))
+    (in_piles Answers none join piles lists (omega (arith, as_many)) (λ i p l within. each (suc i) p l (omega (arith, within))))
+
+-- the answers that are not want of memory
+pub answer-at : {X E : Type 0} (lists : List (Vec X Global)) (answers : List (Result (Vec X Global) E)) → map (λ list. Ok list) lists ≡ answers → (i : ℕ) (list : Vec X Global) → i < length lists
+    → get_or answers i (Ok list) ≡ Ok (get_or lists i list)
+answer-at {X} {E} lists answers are i list within =
+    ap (λ (rs : List (Result (Vec X Global) E)). get_or rs i (Ok list)) (sym are) ∙ get_or-map (λ (l : Vec X Global). Ok l) lists i list (Ok list) within
+
+pub answer-count : {X E : Type 0} (lists : List (Vec X Global)) (answers : List (Result (Vec X Global) E)) → map (λ list. Ok list) lists ≡ answers → length answers ≡ length lists
+answer-count {X} {E} lists answers are = ap length (sym are) ∙ length-map lists (λ (l : Vec X Global). Ok l)

@@ -1,0 +1,84 @@
+//! Items that are dealt out in piles, one for each thread, and what the threads answer, joined.
+ghost use Rattle.std.specs.Prelude.{◌≡◌, ◌≤◌, ◌^◌, ◌-◌, length, map, min, IfOk, Ok};
+ghost use Rattle.std.specs.List.{flat_map};
+
+use std::alloc::{AllocError, Global};
+use std::mem::replace;
+
+/// How much work an item is beside others. How long the threads take depends on it, and nothing else.
+pub(crate) trait Weighed {
+    /// The weight.
+    fn weight(&self) -> usize;
+}
+
+/// The items in at most so many piles of about the same weight: one pile after the other, they are all items in their
+/// order. Condition: one pile at the least.
+pub(crate) fn dealt<T: Weighed + Drop>(
+    alloc: Global,
+    items: Vec<T>,
+    most: u32,
+) -> Result<Vec<Vec<T>>, AllocError>
+    requires { 1 ≤ most }
+    ensures few { IfOk result (λ piles. length piles.items ≤ most) }
+    ensures all { IfOk result (λ piles. flat_map (λ pile. pile.items) piles.items ≡ items.items) }
+{
+    let share = total_weight(&items).div_ceil(most as usize);
+    let mut piles = Vec::new(alloc);
+    let mut pile = Vec::new(alloc);
+    let mut weight = 0usize;
+    for item in items {
+        if weight >= share && piles.len() + 1 < most as usize {
+            piles.push(replace(&mut pile, Vec::new(alloc)))?;
+            weight = 0;
+        }
+        weight = weight.saturating_add(item.weight());
+        pile.push(item)?;
+    }
+    piles.push(pile)?;
+    Ok(piles)
+}
+
+// What the items weigh together, as far as a `usize` tells.
+fn total_weight<T: Weighed>(items: &[T]) -> usize {
+    let mut total = 0usize;
+    for item in items {
+        total = total.saturating_add(item.weight());
+    }
+    total
+}
+
+/// The lists that were answered, where no answer is want of memory.
+pub(crate) fn all_ok<T: Drop>(
+    alloc: Global,
+    answers: Vec<Result<Vec<T>, AllocError>>,
+) -> Result<Vec<Vec<T>>, AllocError>
+    ensures { IfOk result (λ lists. map (λ list. Ok list) lists.items ≡ answers.items) }
+{
+    let mut lists = Vec::with_capacity(alloc, answers.len())?;
+    for answer in answers {
+        lists.push(answer?)?;
+    }
+    Ok(lists)
+}
+
+/// All items, one list after the other. Each list is freed as soon as its items are taken.
+pub(crate) fn joined<T: Drop>(alloc: Global, lists: Vec<Vec<T>>) -> Result<Vec<T>, AllocError>
+    ensures { IfOk result (λ all. all.items ≡ flat_map (λ list. list.items) lists.items) }
+{
+    let mut all = Vec::with_capacity(alloc, item_count(&lists))?;
+    for mut list in lists {
+        all.append(&mut list)?;
+    }
+    Ok(all)
+}
+
+/// How many items the lists have, as far as a `usize` tells.
+pub(crate) fn item_count<T>(lists: &[Vec<T>]) -> usize
+    ensures { result ≡ min (length (flat_map (λ list. list.items) lists.now)) (2 ^ 64 - 1) }
+{
+    let mut count = 0usize;
+    for list in lists {
+        count = count.saturating_add(list.len());
+    }
+    count
+}
