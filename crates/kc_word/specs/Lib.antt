@@ -12,3 +12,5 @@ pub mod Runs
 pub mod PackedPiece
 pub mod Walking
 pub mod Gathering
+pub mod PackedBatch
+pub mod OpenCutting

@@ -57,6 +57,39 @@ pub(crate) fn extend_runs(runs: &mut Vec<Run>, at: usize) -> Result<(), AllocErr
     Ok(())
 }
 
+// Takes `count` indices from `at` on, behind all that the runs have, into the last run where that one ends there, and
+// else into a new one.
+fn push_run(runs: &mut Vec<Run>, at: usize, count: usize) -> Result<(), AllocError>
+    requires rising { AreRuns 0 at runs.old.items }
+    requires some { 1 ≤ count }
+    requires fits { at + count < 2 ^ 64 }
+    ensures { OnOk result (AreGrown runs.old.items runs.new.items at count) }
+{
+    let last = runs.len();
+    if last > 0 && runs[last - 1].end() == at {
+        runs[last - 1].length += count;
+        return Ok(());
+    }
+    runs.push(Run {
+        start: at,
+        length: count,
+    })?;
+    Ok(())
+}
+
+/// Appends runs, counted from the index `at`, behind all that the first ones have: the runs of two pieces of which the
+/// second one stands behind the first.
+pub(crate) fn append_runs(runs: &mut Vec<Run>, at: usize, others: &[Run]) -> Result<(), AllocError>
+    requires rising { AreRuns 0 at runs.old.items }
+    requires fits { (end : ℕ) × AreRuns 0 end others.now × (at + end < 2 ^ 64) }
+    ensures { OnOk result (AreJoined runs.old.items others.now runs.new.items at) }
+{
+    for other in others {
+        push_run(runs, at + other.start, other.length)?;
+    }
+    Ok(())
+}
+
 /// What of the runs lies from `from` to before `to`, counted from `from`.
 pub(crate) fn clip_runs(
     alloc: Global,
