@@ -21,3 +21,6 @@ pub mod WalkLemmas
 pub mod Shifting
 pub mod Clipping
 pub mod Gatherings
+pub mod Appending
+pub mod Joining
+pub mod Readings

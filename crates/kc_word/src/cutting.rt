@@ -15,7 +15,7 @@ use std::mem;
 use std::sync::Arc;
 
 /// Cuts pieces that come one at a time into batches, as `cut` does: the batches that are whole, and the one that is
-/// still open. It keeps the bytes of the pieces that it has taken, and not the pieces.
+/// begun. It keeps the bytes of the pieces that it has taken, and not the pieces.
 ///
 /// Contracts say of it which pieces it `HasTaken`.
 #[derive(Drop)]
@@ -23,7 +23,7 @@ pub struct Cutting {
     k: K,
     size: u64,
     batches: Vec<Arc<Batch>>,
-    open: Pieces,
+    begun: Pieces,
     filled: u64,
 }
 
@@ -38,7 +38,7 @@ impl Model for Cutting {
         k = c.k;
         size = c.size;
         batches = values c.batches.items;
-        open = c.open;
+        begun = c.begun;
         filled = c.filled
     } };
 
@@ -58,7 +58,7 @@ impl Cutting {
             k,
             size,
             batches: Vec::new(alloc),
-            open: Pieces::new(alloc),
+            begun: Pieces::new(alloc),
             filled: 0,
         }
     }
@@ -88,28 +88,28 @@ impl Cutting {
             → HasTaken self pieces → KeepsWords self.k pieces (values batches.items)) }
     {
         let mut batches = self.batches;
-        if self.open.len() > 0 {
-            let last = shared(alloc, batches.len() as u64, self.open)?;
+        if self.begun.len() > 0 {
+            let last = shared(alloc, batches.len() as u64, self.begun)?;
             batches.push(last)?;
         }
         Ok(batches)
     }
 
-    // Takes `left` positions of the piece from `position` on, or as many as the open batch has room for, and answers
+    // Takes `left` positions of the piece from `position` on, or as many as the batch that is begun has room for, and answers
     // how many.
     fn take(&mut self, alloc: Global, piece: &Piece, position: usize, left: usize) -> Result<usize, AllocError>
     {
         let taken = (left as u64).min(self.size - self.filled) as usize;
         let end = position + taken + (self.k.get() as usize - 1);
-        let open = mem::replace(&mut self.open, Pieces::new(alloc));
-        let open = open.and_part(alloc, piece, position, end)?;
+        let begun = mem::replace(&mut self.begun, Pieces::new(alloc));
+        let begun = begun.and_part(alloc, piece, position, end)?;
         let filled = self.filled + taken as u64;
         if filled < self.size {
-            self.open = open;
+            self.begun = begun;
             self.filled = filled;
         } else {
             self.filled = 0;
-            let batch = shared(alloc, self.batches.len() as u64, open)?;
+            let batch = shared(alloc, self.batches.len() as u64, begun)?;
             self.batches.push(batch)?;
         }
         Ok(taken)

@@ -1,5 +1,5 @@
 //! Codes of bases packed into words of 64 bits, 32 in each.
-ghost use Rattle.std.specs.Prelude.{◌≡◌, ℕ, ◌+◌, ◌%◌, ◌^◌, ◌<◌, ◌≤◌, ◌++◌, [], IfOk, OnOk, length};
+ghost use Rattle.std.specs.Prelude.{◌≡◌, ℕ, ◌+◌, ◌-◌, ◌%◌, ◌^◌, ◌<◌, ◌≤◌, ◌++◌, [], IfOk, OnOk, length};
 ghost use Rattle.std.specs.Prelude.{slice_index, slice_range};
 ghost use Rattle.std.specs.Vec.{vec_capacity};
 ghost use Rattle.kc_word.specs.Packed.{word_count, code_in, codes_in};
@@ -106,7 +106,7 @@ impl Packed {
         requires fits { length self.old + count < 2 ^ 64 }
         ensures { OnOk result (self.new ≡ self.old ++ codes_in word count) }
     {
-        let used = self.len % BASES;
+        let used = self.len() % BASES;
         if used == 0 {
             return self.push_word(word, count);
         }

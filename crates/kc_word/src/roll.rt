@@ -57,7 +57,7 @@ fn room_for_words(alloc: Global, pieces: &Pieces, k: K) -> Result<Vec<u64>, Allo
 fn push_words(codes: Codes<'_>, rule: Rule, words: &mut Vec<u64>) -> Result<(), AllocError>
     requires front { codes.taken ≡ 0 }
     requires fits { length codes.bytes < 2 ^ 64 }
-    ensures words { OnOk result (words.new.items ≡ words.old.items ++ words_in rule (read_of codes.bytes None)) }
+    ensures words { OnOk result (words.new.items ≡ words.old.items ++ words_in rule (read_of codes.entry.bytes None)) }
     ensures some { 1 ≤ rule.k }
 {
     let _some = rule.k().get();
@@ -99,8 +99,8 @@ impl<'a> Roll<'a> {
     pub(crate) fn new(codes: Codes<'a>, rule: Rule) -> Roll<'a>
         requires front { codes.taken ≡ 0 }
         requires fits { length codes.bytes < 2 ^ 64 }
-        ensures place { result ≡ record { rule = rule; bytes = codes.bytes; taken = 0 } }
-        ensures words { words_left result ≡ words_in rule (read_of codes.bytes None) }
+        ensures place { result ≡ record { rule = rule; bytes = codes.entry.bytes; taken = 0 } }
+        ensures words { words_left result ≡ words_in rule (read_of codes.entry.bytes None) }
     {
         let k = rule.k().get();
         Roll {
