@@ -24,3 +24,4 @@ pub mod Gatherings
 pub mod Appending
 pub mod Joining
 pub mod Readings
+pub mod Splitting

@@ -47,7 +47,8 @@ impl K {
 
     /// How many positions so many bases have: the words begin at 0 to n - k.
     pub(crate) fn positions(self, count: usize) -> usize
-        ensures { result ≡ position_count self count }
+        ensures value { result ≡ position_count self count }
+        ensures most { result ≤ count }
     {
         let bases = self.bases as usize;
         if count < bases { 0 } else { count - bases + 1 }
