@@ -25,8 +25,9 @@ pub fn read_words(alloc: Global, read: &SeqRead, rule: &Rule) -> Result<Vec<u64>
     ensures short { IfOk result (λ words. length words.items ≤ length read.now.bases) }
 {
     let piece = clean(alloc, read, rule)?;
-    let mut words = Vec::with_capacity(alloc, piece.len() as usize)?;
-    push_words(piece.codes(0, piece.len() as usize), *rule, &mut words)?;
+    let count = piece.len() as usize;
+    let mut words = Vec::with_capacity(alloc, count)?;
+    push_words(piece.codes(0, count), *rule, &mut words)?;
     Ok(words)
 }
 
