@@ -4,7 +4,6 @@ pub mod Rule
 pub mod Occurrences
 pub mod Cutting
 pub mod Laws
-pub mod Cursor
 pub mod Sameness
 pub mod Shared
 pub mod Packed

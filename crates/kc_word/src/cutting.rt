@@ -1,8 +1,9 @@
 //! The cutting of pieces into batches, one piece after another.
-ghost use Rattle.std.specs.Prelude.{◌≡◌, ◌+◌, ◌-◌, ◌^◌, ◌<◌, ◌≤◌, ◌++◌, ◌∷◌, [], List, ℕ, length, IfOk, OnOk};
+ghost use Rattle.std.specs.Prelude.{◌≡◌, ◌+◌, ◌-◌, ◌^◌, ◌<◌, ◌≤◌, ◌++◌, ◌∷◌, [], List, ℕ, length, min};
+ghost use Rattle.std.specs.Prelude.{slice_range, IfOk, OnOk};
 ghost use Rattle.kc_word.specs.Cutting.{cutting, KeepsOccurrences, KeepsWords};
 ghost use Rattle.kc_word.specs.Occurrences.{position_count};
-ghost use Rattle.kc_word.specs.OpenCutting.{HasTaken};
+ghost use Rattle.kc_word.specs.OpenCutting.{HasTaken, with_part};
 ghost use Rattle.kc_word.specs.Shared.{values};
 
 use crate::batch::Batch;
@@ -87,20 +88,32 @@ impl Cutting {
         ensures words { IfOk result (λ batches. (pieces : List (List ℕ))
             → HasTaken self pieces → KeepsWords self.k pieces (values batches.items)) }
     {
+        let _some = self.k.get();
         let mut batches = self.batches;
-        if self.begun.len() > 0 {
-            let last = shared(alloc, batches.len() as u64, self.begun)?;
-            batches.push(last)?;
+        if self.begun.len() == 0 {
+            return Ok(batches);
         }
+        let last = shared(alloc, batches.len() as u64, self.begun)?;
+        batches.push(last)?;
         Ok(batches)
     }
 
-    // Takes `left` positions of the piece from `position` on, or as many as the batch that is begun has room for, and answers
-    // how many.
+    // Takes `left` positions of the piece from `position` on, or as many as the batch that is begun has room for, and
+    // answers how many. Conditions: there is one, and the piece has them.
     fn take(&mut self, alloc: Global, piece: &Piece, position: usize, left: usize) -> Result<usize, AllocError>
+        requires some { 1 ≤ left }
+        requires within { position + left ≤ position_count self.old.k (length piece.now) }
+        requires fits { length piece.now < 2 ^ 64 }
+        ensures k { self.new.k ≡ self.old.k }
+        ensures size { self.new.size ≡ self.old.size }
+        ensures some { IfOk result (λ taken. 1 ≤ taken) }
+        ensures count { IfOk result (λ taken. taken ≡ min left (self.old.size - self.old.filled)) }
+        ensures taken { IfOk result (λ taken. self.new
+            ≡ with_part self.old (slice_range piece.now position (position + taken + self.old.k - 1)) taken) }
     {
         let taken = (left as u64).min(self.size - self.filled) as usize;
-        let end = position + taken + (self.k.get() as usize - 1);
+        let bases = self.k.get() as usize;
+        let end = position + taken + (bases - 1);
         let begun = mem::replace(&mut self.begun, Pieces::new(alloc));
         let begun = begun.and_part(alloc, piece, position, end)?;
         let filled = self.filled + taken as u64;
