@@ -37,18 +37,8 @@ pub(crate) fn round_len(batches: &[Arc<Batch>], k: K, workers: u32) -> u64
         return 1;
     };
     let most = batches.len() as u64 / (ROUNDS * u64::from(workers));
-    let wanted = POSITIONS / position_total(first, k).max(1);
+    let wanted = POSITIONS / (first.position_count(k) as u64).max(1);
     wanted.min(most).max(1)
-}
-
-// How many words of k bases begin in the pieces of a batch, at most 2^64 - 1.
-fn position_total(batch: &Batch, k: K) -> u64 {
-    let before_last = u64::from(k.get() - 1);
-    let mut total = 0u64;
-    for piece in batch.pieces() {
-        total = total.saturating_add(piece.len().saturating_sub(before_last));
-    }
-    total
 }
 
 /// The stripe with which the rounds of a worker begin, where those of two workers are so far apart.

@@ -1,31 +1,17 @@
--- How batches are made one after another, and that they are the cutting.
-use Rattle.std.proofs.Common.{◌≡◌, ℕ, ◌+◌, ◌-◌, ◌*◌, ◌/◌, ◌<◌, ◌≤◌, min, ⊎_elim, List, [], ◌∷◌, ◌++◌, map, length, take, sum_by, refl, ap, sym, ◌∙◌, subst, arith, le-div_iff_mul-le, div-lt_iff_lt-mul}
-use Rattle.std.proofs.lemmas.Bool.{cases_lt}
-use Rattle.std.proofs.lemmas.List.{length_push, take_all, drop_all, nil_from_length}
+-- How batches are made as pieces come, one part after another, and that they are the cutting.
+use Rattle.std.proofs.Common.{◌≡◌, ℕ, ◌+◌, ◌-◌, ◌*◌, ◌/◌, ◌<◌, ◌≤◌, min, ⊎_elim, ◌⊎◌, slice_range, List, [], ◌∷◌, ◌++◌, map, length, take, sum_by, refl, ap, sym, ◌∙◌, subst, arith, le-div_iff_mul-le, div-lt_iff_lt-mul}
+use Rattle.std.proofs.lemmas.Bool.{cases_lt, cond-true, cond-false, lt-ltb, le-ltb}
+use Rattle.std.proofs.Math.Nat.{mul-le-mul_right}
+use Rattle.std.proofs.lemmas.List.{length_push, take_all, drop_all, nil_from_length, append-nil}
 use Rattle.std.proofs.lemmas.List.FromFn.{map-range_with_len_more}
 use Rattle.std.specs.List.{range_with_len, flat_map}
-use Rattle.kc_word.specs.Occurrences.{occurrences, words_of}
-use Rattle.kc_word.specs.Cutting.{as_reads, NumberedPieces, stretches, position_total, batch_of, cutting, KeepsOccurrences, KeepsWords}
-use Rattle.kc_word.specs.Cursor.{position_number, IsCursor}
-use Rattle.kc_word.proofs.Windows.{windows}
+use Rattle.kc_word.specs.Occurrences.{position_count, occurrences, words_of}
+use Rattle.kc_word.specs.Cutting.{as_reads, NumberedPieces, stretch, stretches, position_total, batch_of, cutting, KeepsOccurrences, KeepsWords}
+use Rattle.kc_word.specs.OpenCutting.{OpenCutting, HasCut, HasTaken, with_part}
+use Rattle.kc_word.proofs.Windows.{windows, map-range}
 use Rattle.kc_word.proofs.Stretches.{stretches_from, stretches-are}
-use Rattle.kc_word.proofs.Taking.{stretches-skip, stretches-nil}
+use Rattle.kc_word.proofs.Taking.{stretches-skip, stretches-nil, stretches-none, stretches-push, stretches-all, stretch-empty, stretch-some}
 use Rattle.kc_word.proofs.Cuttings.{length-cut, stretches-windows, length-all_windows, cutting-words, cutting-occurrences}
-
--- the batches made so far are the first ones of the cutting, and the cursor stands behind them
-pub record IsCutTo (k size : ℕ) (pieces : List (List ℕ)) (index position : ℕ) (batches : List NumberedPieces) : Type 0 where
-  pub cursor : IsCursor k pieces index position
-  pub made : batches ≡ map (λ i. batch_of k size pieces i) (range_with_len 0 (length batches))
-  pub number : position_number k pieces index position ≡ min (length batches * size) (position_total k pieces)
-  pub inhabited : length batches * size < position_total k pieces + size
-
-pub IsCutTo-none : (k size : ℕ) (pieces : List (List ℕ)) → 1 ≤ size → IsCutTo k size pieces 0 0 []
-IsCutTo-none k size pieces some = record {
-  cursor = record { within = omega arith; inside = omega arith };
-  made = refl;
-  number = omega arith;
-  inhabited = omega (arith, some);
-}
 
 -- behind the last position there is no stretch
 stretches-past : (k low high : ℕ) (pieces : List (List ℕ)) → position_total k pieces ≤ low → stretches k low high pieces ≡ []
@@ -46,65 +32,6 @@ positions-past k low size pieces some size_some none =
     let total = length-all_windows k pieces in
     omega (arith, gone, long, total, size_some)
 
--- the stretches that have the next positions, as many as a batch, from a cursor on
-pub record NextParts (k size : ℕ) (pieces : List (List ℕ)) : Type 0 where
-  pub index : ℕ
-  pub position : ℕ
-  pub parts : List (List ℕ)
-  pub parts_are : parts ≡ stretches k (position_number k pieces index position) (position_number k pieces index position + size) pieces
-
--- where there are any, a position is left
-pub positions-left : (k size : ℕ) (pieces : List (List ℕ)) (s : NextParts k size pieces) → (length s.parts ≡ 0 → ⊥)
-    → position_number k pieces s.index s.position < position_total k pieces
-positions-left k size pieces s some =
-    ⊎_elim (λ h. h) (λ h. absurd (some (ap length (s.parts_are ∙ stretches-past k low (low + size) pieces h))))
-    (cases_lt low (position_total k pieces))
-  where
-    low : ℕ
-    low = position_number k pieces s.index s.position
-
--- one batch more: what was taken from the cursor on, and where the cursor stands then
-pub record CutStep (k size : ℕ) (pieces : List (List ℕ)) : Type 0 where
-  pub taken : NextParts k size pieces
-  pub next_index : ℕ
-  pub next_position : ℕ
-  pub batches : List NumberedPieces
-  pub next_batches : List NumberedPieces
-  pub count : ℕ
-  pub some : length taken.parts ≡ 0 → ⊥
-  pub stands : IsCursor k pieces next_index next_position
-  pub moved : position_number k pieces next_index next_position
-      ≡ min (position_number k pieces taken.index taken.position + size) (position_total k pieces)
-  pub count_is : count ≡ length batches
-  pub batches_are : next_batches ≡ batches ++ record { number = count; pieces = taken.parts } ∷ []
-
-pub IsCutTo-more : (k size : ℕ) (pieces : List (List ℕ)) (s : CutStep k size pieces) → IsCutTo k size pieces s.taken.index s.taken.position s.batches
-    → IsCutTo k size pieces s.next_index s.next_position s.next_batches
-IsCutTo-more k size pieces s done =
-    let from : ℕ = position_number k pieces s.taken.index s.taken.position in
-    let made : ℕ = length s.batches in
-    let left = positions-left k size pieces s.taken s.some in
-    let number = done.number in
-    let low : from ≡ made * size = omega (arith, number, left) in
-    let high : from + size ≡ (made + 1) * size = omega (arith, low) in
-    let long : length s.next_batches ≡ made + 1 =
-    ap length s.batches_are ∙ length_push s.batches (record { number = s.count; pieces = s.taken.parts }) in
-    let same : s.taken.parts ≡ stretches k (made * size) ((made + 1) * size) pieces =
-    s.taken.parts_are ∙ ap (λ l. stretches k l (from + size) pieces) low ∙ ap (λ h. stretches k (made * size) h pieces) high in
-    let more : length s.next_batches * size ≡ made * size + size = ap (λ m. m * size) long ∙ omega arith in
-    let numbered : s.count ≡ made = s.count_is in
-    let moved = s.moved in
-    record {
-      cursor = s.stands;
-      made =
-          s.batches_are ∙ ap (λ xs. xs ++ record { number = s.count; pieces = s.taken.parts } ∷ []) done.made
-          ∙ (λ i. map (λ j. batch_of k size pieces j) (range_with_len 0 made) ++ record { number = numbered i; pieces = same i } ∷ [])
-          ∙ sym (map-range_with_len_more (λ j. batch_of k size pieces j) 0 made made (omega arith))
-          ∙ ap (λ m. map (λ j. batch_of k size pieces j) (range_with_len 0 m)) (sym long);
-      number = omega (arith, moved, low, more);
-      inhabited = omega (arith, low, left, more);
-    }
-
 batch_count-is : (total size n : ℕ) → 1 ≤ size → n * size < total + size → total ≤ n * size → (total + size - 1) / size ≡ n
 batch_count-is total size n some few enough =
     let least : n ≤ (total + size - 1) / size = (le-div_iff_mul-le {k = size} {x = n} {y = total + size - 1} some).1 (omega (arith, few)) in
@@ -113,17 +40,199 @@ batch_count-is total size n some few enough =
     (div-lt_iff_lt-mul {k = size} {x = total + size - 1} {y = n + 1} some).1 (omega (arith, enough, some, next)) in
     omega (arith, least, most)
 
--- when no position is left, the batches are the cutting
-pub IsCutTo-all : {batches : List NumberedPieces} (k size : ℕ) (pieces : List (List ℕ)) (s : NextParts k size pieces) → 1 ≤ k → 1 ≤ size
-    → length s.parts ≡ 0 → IsCutTo k size pieces s.index s.position batches → batches ≡ cutting k size pieces
+-- ---- a cutting that takes pieces as they come
+
+pub HasTaken-none : (cutting : OpenCutting) → cutting.batches ≡ [] → cutting.begun ≡ [] → cutting.filled ≡ 0 → HasTaken cutting []
+HasTaken-none cutting batches begun filled = record {
+  whole = batches ∙ ap (λ n. map (λ i. batch_of cutting.k cutting.size [] i) (range_with_len 0 n)) (sym none);
+  rest = begun ∙ sym (stretches-past cutting.k (length cutting.batches * cutting.size) 0 [] (omega arith));
+  number = ap (λ n. n * cutting.size + cutting.filled) none ∙ omega (arith, filled);
+}
+  where
+    none : length cutting.batches ≡ 0
+    none = ap length batches
+
+-- a piece whose positions come behind a number has no stretch before it
+push-before : (k low high : ℕ) (pieces : List (List ℕ)) (piece : List ℕ) → high ≤ position_total k pieces
+    → stretches k low high (pieces ++ piece ∷ []) ≡ stretches k low high pieces
+push-before k low high pieces piece h =
+    stretches-push k low high pieces piece
+    ∙ ap (λ xs. stretches k low high pieces ++ xs)
+    (stretch-empty k piece (low - position_total k pieces) (min (position_count k (length piece)) (high - position_total k pieces)) (omega (arith, h)))
+    ∙ append-nil (stretches k low high pieces)
+
+-- none of the positions of one piece more is cut yet
+pub HasCut-next : (cutting : OpenCutting) (pieces : List (List ℕ)) (piece : List ℕ) → HasTaken cutting pieces
+    → HasCut cutting (pieces ++ piece ∷ []) (position_total cutting.k pieces)
+HasCut-next cutting pieces piece taken = record {
+  whole = taken.whole ∙ sym (map-range (λ i. batch_of cutting.k cutting.size (pieces ++ piece ∷ []) i)
+      (λ i. batch_of cutting.k cutting.size pieces i) 0 (length cutting.batches) (λ i h.
+      let number = taken.number in
+      let next : (i + 1) * cutting.size ≤ length cutting.batches * cutting.size = mul-le-mul_right cutting.size (omega (arith, h)) in
+      ap (λ ps. record { number = i; pieces = ps })
+      (push-before cutting.k (i * cutting.size) ((i + 1) * cutting.size) pieces piece (omega (arith, number, next)))));
+  rest = taken.rest
+      ∙ sym (push-before cutting.k (length cutting.batches * cutting.size) (position_total cutting.k pieces) pieces piece (omega arith));
+  number = taken.number;
+}
+
+-- a part of a piece that comes next: so many positions from one on. It begins a batch, or the piece begins with it
+pub record PartStep (cutting : OpenCutting) (pieces : List (List ℕ)) (piece : List ℕ) : Type 0 where
+  pub position : ℕ
+  pub taken : ℕ
+  pub some : 1 ≤ taken
+  pub within : position + taken ≤ position_count cutting.k (length piece)
+  pub room : cutting.filled + taken ≤ cutting.size
+  pub alone : (position ≡ 0) ⊎ (cutting.filled ≡ 0)
+  pub cut : HasCut cutting (pieces ++ piece ∷ []) (position_total cutting.k pieces + position)
+
+part_of : (cutting : OpenCutting) (pieces : List (List ℕ)) (piece : List ℕ) → PartStep cutting pieces piece → List ℕ
+part_of cutting pieces piece s = slice_range piece s.position (s.position + s.taken + cutting.k - 1)
+
+-- the positions of the batch with the part are those before it, and the part
+part-behind : (cutting : OpenCutting) (pieces : List (List ℕ)) (piece : List ℕ) (s : PartStep cutting pieces piece)
+    → stretches cutting.k (length cutting.batches * cutting.size) (position_total cutting.k pieces + s.position + s.taken) (pieces ++ piece ∷ [])
+    ≡ cutting.begun ++ part_of cutting pieces piece s ∷ []
+unfolding part_of
+part-behind cutting pieces piece s =
+    let within = s.within in
+    let some = s.some in
+    let number = s.cut.number in
+    let last : min (position_count k (length piece)) (first + s.position + s.taken - first) ≡ s.position + s.taken = omega (arith, within) in
+    stretches-push k low (first + s.position + s.taken) pieces piece
+    ∙ ap (λ q. stretches k low (first + s.position + s.taken) pieces ++ stretch k piece (low - first) q) last
+    ∙ ⊎_elim
+    (λ e. let begin : low - first ≡ s.position = omega (arith, e, number) in
+    ap (λ p. stretches k low (first + s.position + s.taken) pieces ++ stretch k piece p (s.position + s.taken)) begin
+    ∙ ap (λ xs. stretches k low (first + s.position + s.taken) pieces ++ xs) (stretch-some k piece s.position (s.position + s.taken) (omega (arith, some)))
+    ∙ ap (λ xs. xs ++ slice_range piece s.position (s.position + s.taken + k - 1) ∷ [])
+    (stretches-all k low (first + s.position + s.taken) first pieces (omega arith) (omega arith)
+    ∙ sym (push-before k low first pieces piece (omega arith))
+    ∙ ap (λ h. stretches k low h (pieces ++ piece ∷ [])) (omega (arith, e))
+    ∙ sym s.cut.rest))
+    (λ e. let begin : low - first ≡ s.position = omega (arith, e, number) in
+    ap (λ p. stretches k low (first + s.position + s.taken) pieces ++ stretch k piece p (s.position + s.taken)) begin
+    ∙ ap (λ xs. stretches k low (first + s.position + s.taken) pieces ++ xs) (stretch-some k piece s.position (s.position + s.taken) (omega (arith, some)))
+    ∙ ap (λ xs. xs ++ slice_range piece s.position (s.position + s.taken + k - 1) ∷ [])
+    (stretches-past k low (first + s.position + s.taken) pieces (omega (arith, e, number))
+    ∙ sym (s.cut.rest ∙ stretches-are k low (first + s.position) (pieces ++ piece ∷ [])
+    ∙ stretches-none k low (first + s.position) 0 (pieces ++ piece ∷ []) (omega (arith, e, number)))))
+    s.alone
+  where
+    k : ℕ
+    k = cutting.k
+
+    low : ℕ
+    low = length cutting.batches * cutting.size
+
+    first : ℕ
+    first = position_total cutting.k pieces
+
+-- with the part the cutting has cut its positions too, and where the piece has more, a batch is whole
+pub HasCut-more : (cutting : OpenCutting) (pieces : List (List ℕ)) (piece : List ℕ) (s : PartStep cutting pieces piece)
+    → HasCut (with_part cutting (slice_range piece s.position (s.position + s.taken + cutting.k - 1)) s.taken) (pieces ++ piece ∷ [])
+    (position_total cutting.k pieces + (s.position + s.taken))
+unfolding part_of
+HasCut-more cutting pieces piece s =
+    subst (HasCut (with_part cutting part s.taken) (pieces ++ piece ∷ [])) (omega arith)
+    (⊎_elim
+    (λ h. subst (λ c. HasCut c (pieces ++ piece ∷ []) (first + s.position + s.taken)) (sym (cond-true _ _ _ (lt-ltb (cutting.filled + s.taken) cutting.size h))) (record {
+      whole = s.cut.whole;
+      rest = sym (part-behind cutting pieces piece s);
+      number = let number = s.cut.number in omega (arith, number);
+    }))
+    (λ h. subst (λ c. HasCut c (pieces ++ piece ∷ []) (first + s.position + s.taken)) (sym (cond-false _ _ _ (le-ltb (cutting.filled + s.taken) cutting.size h))) (closed h))
+    (cases_lt (cutting.filled + s.taken) cutting.size))
+  where
+    part : List ℕ
+    part = slice_range piece s.position (s.position + s.taken + cutting.k - 1)
+
+    first : ℕ
+    first = position_total cutting.k pieces
+
+    made : ℕ
+    made = length cutting.batches
+
+    all : List (List ℕ)
+    all = pieces ++ piece ∷ []
+
+    closed : cutting.size ≤ cutting.filled + s.taken → HasCut (record {
+      k = cutting.k;
+      size = cutting.size;
+      batches = cutting.batches ++ record { number = made; pieces = cutting.begun ++ part ∷ [] } ∷ [];
+      begun = [];
+      filled = 0;
+    }) all (first + s.position + s.taken)
+    closed h =
+        let number = s.cut.number in
+        let room = s.room in
+        let long : length (cutting.batches ++ record { number = made; pieces = cutting.begun ++ part ∷ [] } ∷ []) ≡ made + 1 =
+        length_push cutting.batches (record { number = made; pieces = cutting.begun ++ part ∷ [] }) in
+        let more : length (cutting.batches ++ record { number = made; pieces = cutting.begun ++ part ∷ [] } ∷ []) * cutting.size ≡ made * cutting.size + cutting.size =
+        ap (λ n. n * cutting.size) long ∙ omega arith in
+        let high : first + s.position + s.taken ≡ (made + 1) * cutting.size = omega (arith, number, room, h) in
+        record {
+          whole =
+              ap (λ bs. bs ++ record { number = made; pieces = cutting.begun ++ part ∷ [] } ∷ []) s.cut.whole
+              ∙ ap (λ ps. map (λ j. batch_of cutting.k cutting.size all j) (range_with_len 0 made) ++ record { number = made; pieces = ps } ∷ [])
+              (sym (part-behind cutting pieces piece s) ∙ ap (λ n. stretches cutting.k (made * cutting.size) n all) high)
+              ∙ sym (map-range_with_len_more (λ j. batch_of cutting.k cutting.size all j) 0 made made (omega arith))
+              ∙ ap (λ m. map (λ j. batch_of cutting.k cutting.size all j) (range_with_len 0 m)) (sym long);
+          rest = sym (stretches-are cutting.k _ (first + s.position + s.taken) all
+              ∙ stretches-none cutting.k _ (first + s.position + s.taken) 0 all (omega (arith, more, high)));
+          number = omega (arith, more, high);
+        }
+
+-- the batch that is begun is empty again where the part fills it
+pub filled-up : (cutting : OpenCutting) (part : List ℕ) (taken : ℕ) → cutting.size ≤ cutting.filled + taken → (with_part cutting part taken).filled ≡ 0
+filled-up cutting part taken h = ap (λ (c : OpenCutting). c.filled) (cond-false _ _ _ (le-ltb (cutting.filled + taken) cutting.size h))
+
+-- ---- when all pieces were taken
+
+pub record Finished (cutting : OpenCutting) (pieces : List (List ℕ)) : Type 0 where
+  pub bases : 1 ≤ cutting.k
+  pub room : cutting.filled < cutting.size
+  pub taken : HasTaken cutting pieces
+
+-- where a batch is begun, it is the last one
+pub finished-last : (c : OpenCutting) (pieces : List (List ℕ)) → Finished c pieces → 1 ≤ length c.begun
+    → c.batches ++ record { number = length c.batches; pieces = c.begun } ∷ [] ≡ cutting c.k c.size pieces
 unfolding cutting
-IsCutTo-all {batches} k size pieces s some size_some none done =
-    let past = positions-past k (position_number k pieces s.index s.position) size pieces some size_some
-    (sym s.parts_are ∙ nil_from_length s.parts none) in
-    let number = done.number in
-    let few = done.inhabited in
-    done.made ∙ ap (λ n. map (λ i. batch_of k size pieces i) (range_with_len 0 n))
-    (sym (batch_count-is (position_total k pieces) size (length batches) size_some few (omega (arith, past, number))))
+finished-last c pieces s some =
+    let number = s.taken.number in
+    let room = s.room in
+    let filled : 1 ≤ c.filled = ⊎_elim (λ h. absurd (begun-some (omega (arith, h)))) (λ h. h) (cases_lt c.filled 1) in
+    let next : (made + 1) * c.size ≡ made * c.size + c.size = omega arith in
+    let count = batch_count-is (position_total c.k pieces) c.size (made + 1) (omega (arith, room)) (omega (arith, next, number, filled)) (omega (arith, next, number, room)) in
+    ap (λ bs. bs ++ record { number = made; pieces = c.begun } ∷ []) s.taken.whole
+    ∙ ap (λ ps. map (λ i. batch_of c.k c.size pieces i) (range_with_len 0 made) ++ record { number = made; pieces = ps } ∷ [])
+    (s.taken.rest ∙ stretches-all c.k (made * c.size) (position_total c.k pieces) ((made + 1) * c.size) pieces (omega arith) (omega (arith, next, number, room)))
+    ∙ sym (map-range_with_len_more (λ i. batch_of c.k c.size pieces i) 0 made made (omega arith))
+    ∙ ap (λ n. map (λ i. batch_of c.k c.size pieces i) (range_with_len 0 n)) (sym count)
+  where
+    made : ℕ
+    made = length c.batches
+
+    begun-some : c.filled ≡ 0 → ⊥
+    begun-some e =
+        let number = s.taken.number in
+        let none = ap length (s.taken.rest ∙ stretches-past c.k (made * c.size) (position_total c.k pieces) pieces (omega (arith, number, e))) in
+        omega (arith, none, some)
+
+-- where none is begun, the whole ones are all
+pub finished-all : (c : OpenCutting) (pieces : List (List ℕ)) → Finished c pieces → length c.begun ≡ 0 → c.batches ≡ cutting c.k c.size pieces
+unfolding cutting
+finished-all c pieces s none =
+    let number = s.taken.number in
+    let room = s.room in
+    let past = positions-past c.k (made * c.size) c.size pieces s.bases (omega (arith, room))
+    (stretches-all c.k (made * c.size) (made * c.size + c.size) (position_total c.k pieces) pieces (omega (arith, number, room)) (omega arith)
+    ∙ sym s.taken.rest ∙ nil_from_length c.begun none) in
+    let count = batch_count-is (position_total c.k pieces) c.size made (omega (arith, room)) (omega (arith, number, room)) past in
+    s.taken.whole ∙ ap (λ n. map (λ i. batch_of c.k c.size pieces i) (range_with_len 0 n)) (sym count)
+  where
+    made : ℕ
+    made = length c.batches
 
 -- ---- what a cutting says of the words
 

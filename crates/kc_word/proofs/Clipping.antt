@@ -199,13 +199,13 @@ pub record IsPieceOf (codes : List ℕ) (runs : List Run) (part : List ℕ) (cli
   pub piece : IsPiece part clipped
   pub bytes : bytes_of part clipped ≡ take (to - from) (drop from (bytes_of codes runs))
 
-length-cut : (codes : List ℕ) (from to : ℕ) → from ≤ to → to ≤ length codes
+pub length-cut : (codes : List ℕ) (from to : ℕ) → from ≤ to → to ≤ length codes
     → length (take (to - from) (drop from codes)) ≡ to - from
 length-cut codes from to ordered within =
     let long = length-drop from codes in
     length-take-le (to - from) (drop from codes) (omega (arith, long, ordered, within))
 
-get_or-cut : {X : Type 0} (xs : List X) (from to i : ℕ) (d : X) → i < to - from
+pub get_or-cut : {X : Type 0} (xs : List X) (from to i : ℕ) (d : X) → i < to - from
     → get_or (take (to - from) (drop from xs)) i d ≡ get_or xs (from + i) d
 get_or-cut xs from to i d h = get_or-take (to - from) (drop from xs) i d h ∙ get_or-drop from xs i d
 

@@ -21,3 +21,7 @@ pub mod WalkLemmas
 pub mod Shifting
 pub mod Clipping
 pub mod Gatherings
+pub mod Appending
+pub mod Joining
+pub mod Readings
+pub mod Splitting

@@ -5,7 +5,7 @@ use Rattle.std.proofs.lemmas.List.{take_more, take_all, set_at, length-take-le, 
 use Rattle.std.proofs.lemmas.List.Folds.{list_any-append, list_any_at}
 use Rattle.std.specs.List.{list_any}
 use Rattle.kc_word.specs.declared.runs.Run.{Run}
-use Rattle.kc_word.specs.Runs.{run_end, is_in_run, is_in_runs, AreRuns, AreExtended, EndBehind, ArePassed, AreFree}
+use Rattle.kc_word.specs.Runs.{run_end, is_in_run, is_in_runs, AreRuns, AreExtended, AreGrown, AreJoined, EndBehind, ArePassed, AreFree}
 
 -- ---- whether an index lies in a run
 
@@ -123,70 +123,178 @@ pub last-end : (to : ℕ) (runs : List Run) (n : ℕ) (last : Run) → suc n ≡
 last-end to runs n last e rising is =
     (AreRuns-last 0 to (take n runs) last (subst (AreRuns 0 to) (split-read runs n last e is) rising)).1
 
-new-here : (at : ℕ) (runs : List Run) → is_in_runs (runs ++ record { start = at; length = 1 } ∷ []) at ≡ true
-new-here at runs = is_in_runs-push runs (record { start = at; length = 1 }) at
-    ∙ or_right (is_in_runs runs at) _ (inside-run (record { start = at; length = 1 }) at (omega arith) (omega arith))
+-- a run of so many indices from an index on
+new_run : ℕ → ℕ → Run
+new_run at count = record { start = at; length = count }
 
-new-others : (at : ℕ) (runs : List Run) (i : ℕ) → i ≢ at → is_in_runs (runs ++ record { start = at; length = 1 } ∷ []) i ≡ is_in_runs runs i
-new-others at runs i ne = is_in_runs-push runs (record { start = at; length = 1 }) i
-    ∙ or-first (is_in_runs runs i) _ (⊎_elim
-    (λ h. before-run (record { start = at; length = 1 }) i h)
-    (λ h. behind-run (record { start = at; length = 1 }) i (omega (arith, h, ne))) (cases_lt i at))
+new-inside : (at count : ℕ) (runs : List Run) (i : ℕ) → at ≤ i → i < at + count → is_in_runs (runs ++ new_run at count ∷ []) i ≡ true
+unfolding new_run
+new-inside at count runs i low high =
+    is_in_runs-push runs (new_run at count) i ∙ or_right (is_in_runs runs i) _ (inside-run (new_run at count) i low high)
 
--- an index behind the runs, which a new run has at its start
-pub AreExtended-first : (at : ℕ) (runs : List Run) → runs ≡ [] → AreExtended runs (runs ++ record { start = at; length = 1 } ∷ []) at
-AreExtended-first at runs e = record {
-  rising = subst (λ rs. AreRuns 0 (at + 1) (rs ++ record { start = at; length = 1 } ∷ [])) (sym e) (omega arith, omega arith, omega arith, tt);
-  here = new-here at runs;
-  others = λ i ne. new-others at runs i ne;
+new-below : (at count : ℕ) (runs : List Run) (i : ℕ) → i < at → is_in_runs (runs ++ new_run at count ∷ []) i ≡ is_in_runs runs i
+unfolding new_run
+new-below at count runs i h =
+    is_in_runs-push runs (new_run at count) i ∙ or-first (is_in_runs runs i) _ (before-run (new_run at count) i h)
+
+new-above : (at count : ℕ) (runs : List Run) (i : ℕ) → at + count ≤ i → is_in_runs (runs ++ new_run at count ∷ []) i ≡ is_in_runs runs i
+unfolding new_run
+new-above at count runs i h =
+    is_in_runs-push runs (new_run at count) i ∙ or-first (is_in_runs runs i) _ (behind-run (new_run at count) i h)
+
+-- indices behind the runs, which a new run has
+pub AreGrown-first : (at count : ℕ) (runs : List Run) → 1 ≤ count → runs ≡ []
+    → AreGrown runs (runs ++ record { start = at; length = count } ∷ []) at count
+unfolding new_run
+AreGrown-first at count runs some e = record {
+  rising = subst (λ rs. AreRuns 0 (at + count) (rs ++ new_run at count ∷ [])) (sym e) (omega arith, some, omega arith, tt);
+  inside = λ i low high. new-inside at count runs i low high;
+  below = λ i h. new-below at count runs i h;
+  above = λ i h. new-above at count runs i h;
 }
 
 -- or the runs before it end earlier
-pub AreExtended-push : (at : ℕ) (runs : List Run) (n : ℕ) (last : Run) → suc n ≡ length runs → AreRuns 0 at runs → last ≡ get_or runs n last
-    → run_end last ≢ at → AreExtended runs (runs ++ record { start = at; length = 1 } ∷ []) at
-AreExtended-push at runs n last e rising is apart =
-    let split = split-read runs n last e is in
+pub AreGrown-push : (at count : ℕ) (runs : List Run) (n : ℕ) (last : Run) → (1 ≤ count) × (suc n ≡ length runs) → AreRuns 0 at runs
+    → last ≡ get_or runs n last → run_end last ≢ at → AreGrown runs (runs ++ record { start = at; length = count } ∷ []) at count
+unfolding new_run
+AreGrown-push at count runs n last fits rising is apart =
+    let split = split-read runs n last fits.1 is in
     let ends = AreRuns-last 0 at (take n runs) last (subst (AreRuns 0 at) split rising) in
     let below = ends.1 in
     record {
-      rising = AreRuns-push 0 (run_end last) (at + 1) runs (record { start = at; length = 1 })
-          (omega arith, omega (arith, below, apart), omega arith, omega arith) (subst (AreRuns 0 (run_end last)) (sym split) ends.0);
-      here = new-here at runs;
-      others = λ i ne. new-others at runs i ne;
+      rising = AreRuns-push 0 (run_end last) (at + count) runs (new_run at count)
+          (omega arith, omega (arith, below, apart), fits.0, omega arith) (subst (AreRuns 0 (run_end last)) (sym split) ends.0);
+      inside = λ i low high. new-inside at count runs i low high;
+      below = λ i h. new-below at count runs i h;
+      above = λ i h. new-above at count runs i h;
     }
 
--- the last run grown by one index
-longer : Run → Run
-longer run = record { start = run.start; length = run.length + 1 }
+-- a run grown by so many indices
+longer : Run → ℕ → Run
+longer run count = record { start = run.start; length = run.length + count }
 
-grown-same : (at : ℕ) (last : Run) (i : ℕ) → 1 ≤ last.length → run_end last ≡ at → i ≢ at → is_in_run (longer last) i ≡ is_in_run last i
+longer-inside : (at count : ℕ) (last : Run) (i : ℕ) → run_end last ≡ at → at ≤ i → i < at + count → is_in_run (longer last count) i ≡ true
 unfolding longer
-grown-same at last i some end ne =
-    ⊎_elim (λ h. before-run (record { start = last.start; length = last.length + 1 }) i h ∙ sym (before-run last i h))
-    (λ low. ⊎_elim
-    (λ h. inside-run (record { start = last.start; length = last.length + 1 }) i low (omega (arith, h)) ∙ sym (inside-run last i low h))
-    (λ h. behind-run (record { start = last.start; length = last.length + 1 }) i (omega (arith, h, ne, end)) ∙ sym (behind-run last i h))
-    (cases_lt i (run_end last)))
+longer-inside at count last i end low high = inside-run (longer last count) i (omega (arith, end, low)) (omega (arith, end, high))
+
+longer-below : (at count : ℕ) (last : Run) (i : ℕ) → run_end last ≡ at → i < at → is_in_run (longer last count) i ≡ is_in_run last i
+unfolding longer
+longer-below at count last i end h =
+    ⊎_elim (λ l. before-run (longer last count) i l ∙ sym (before-run last i l))
+    (λ l. inside-run (longer last count) i l (omega (arith, h, end)) ∙ sym (inside-run last i l (omega (arith, h, end))))
     (cases_lt i last.start)
 
-pub AreExtended-grown : (at : ℕ) (runs : List Run) (n : ℕ) (last : Run) → suc n ≡ length runs → AreRuns 0 at runs → last ≡ get_or runs n last
-    → run_end last ≡ at → AreExtended runs (set runs n (record { start = last.start; length = last.length + 1 })) at
+longer-above : (at count : ℕ) (last : Run) (i : ℕ) → run_end last ≡ at → at + count ≤ i → is_in_run (longer last count) i ≡ is_in_run last i
 unfolding longer
-AreExtended-grown at runs n last e rising is end =
-    let split = split-read runs n last e is in
-    let ends = AreRuns-last 0 at (take n runs) last (subst (AreRuns 0 at) split rising) in
-    let some = ends.3 in
-    let written = ap (λ rs. set rs n (longer last)) split
-    ∙ set_at (take n runs) last [] (longer last) n (length-take-le n runs (omega (arith, e))) in
-    record {
-      rising = subst (AreRuns 0 (at + 1)) (sym written)
-          (AreRuns-grown 0 at (at + 1) (take n runs) last (longer last) (refl, omega arith, omega (arith, end)) (subst (AreRuns 0 at) split rising));
-      here = ap (λ rs. is_in_runs rs at) written ∙ is_in_runs-push (take n runs) (longer last) at
-          ∙ or_right (is_in_runs (take n runs) at) _ (inside-run (longer last) at (omega (arith, end)) (omega (arith, end)));
-      others = λ i ne. ap (λ rs. is_in_runs rs i) written ∙ is_in_runs-push (take n runs) (longer last) i
-          ∙ ap (λ b. is_in_runs (take n runs) i || b) (grown-same at last i some end ne)
-          ∙ sym (ap (λ rs. is_in_runs rs i) split ∙ is_in_runs-push (take n runs) last i);
-    }
+longer-above at count last i end h =
+    behind-run (longer last count) i (omega (arith, h, end)) ∙ sym (behind-run last i (omega (arith, h, end)))
+
+pub AreGrown-longer : (at count : ℕ) (runs : List Run) (n : ℕ) (last : Run) → suc n ≡ length runs → AreRuns 0 at runs → last ≡ get_or runs n last
+    → run_end last ≡ at → AreGrown runs (set runs n (record { start = last.start; length = last.length + count })) at count
+unfolding longer
+AreGrown-longer at count runs n last e rising is end = record {
+  rising = subst (AreRuns 0 (at + count)) (sym written)
+      (AreRuns-grown 0 at (at + count) (take n runs) last (longer last count) (refl, omega arith, omega (arith, end)) (subst (AreRuns 0 at) split rising));
+  inside = λ i low high. ap (λ rs. is_in_runs rs i) written ∙ is_in_runs-push (take n runs) (longer last count) i
+      ∙ or_right (is_in_runs (take n runs) i) _ (longer-inside at count last i end low high);
+  below = λ i h. same i (longer-below at count last i end h);
+  above = λ i h. same i (longer-above at count last i end h);
+}
+  where
+    split : runs ≡ take n runs ++ last ∷ []
+    split = split-read runs n last e is
+
+    written : set runs n (longer last count) ≡ take n runs ++ longer last count ∷ []
+    written = ap (λ rs. set rs n (longer last count)) split
+        ∙ set_at (take n runs) last [] (longer last count) n (length-take-le n runs (omega (arith, e)))
+
+    same : (i : ℕ) → is_in_run (longer last count) i ≡ is_in_run last i → is_in_runs (set runs n (longer last count)) i ≡ is_in_runs runs i
+    same i h = ap (λ rs. is_in_runs rs i) written ∙ is_in_runs-push (take n runs) (longer last count) i
+        ∙ ap (λ b. is_in_runs (take n runs) i || b) h
+        ∙ sym (ap (λ rs. is_in_runs rs i) split ∙ is_in_runs-push (take n runs) last i)
+
+-- one index more is so many
+pub AreExtended-grown : (at : ℕ) (runs next : List Run) → AreGrown runs next at 1 → AreExtended runs next at
+AreExtended-grown at runs next grown = record {
+  rising = grown.rising;
+  here = grown.inside at (omega arith) (omega arith);
+  others = λ i ne. ⊎_elim (λ h. grown.below i h) (λ h. grown.above i (omega (arith, h, ne))) (cases_lt i at);
+}
+
+-- ---- runs behind runs
+
+pub AreJoined-none : (at : ℕ) (runs : List Run) → AreRuns 0 at runs → AreJoined runs [] runs at
+AreJoined-none at runs rising = record {
+  rising = λ end none. AreRuns-wider 0 at (at + end) runs (omega arith) rising;
+  before = λ i h. refl;
+  behind = λ i. behind-runs 0 at (at + i) runs (omega arith) rising ∙ sym (is_in_runs-none i);
+}
+
+-- the runs before a run end before it
+pub AreRuns-before : (from to : ℕ) (runs : List Run) (run : Run) → AreRuns from to (runs ++ run ∷ [])
+    → AreRuns from run.start runs × (run_end run ≤ to) × (1 ≤ run.length)
+AreRuns-before from to [] run rising = (tt, rising.2, rising.1)
+AreRuns-before from to (r ∷ runs) run rising =
+    let rest = AreRuns-before (run_end r + 1) to runs run rising.3 in
+    let above = (AreRuns-last (run_end r + 1) to runs run rising.3).2 in
+    ((rising.0, rising.1, omega (arith, above), rest.0), rest.1, rest.2)
+
+-- the runs to a number and before another end before an index
+pub AreRuns-front : (from to n : ℕ) (runs : List Run) → AreRuns from to runs → AreRuns from to (take n runs)
+AreRuns-front from to zero runs rising = tt
+AreRuns-front from to (suc n) [] rising = tt
+AreRuns-front from to (suc n) (run ∷ runs) rising =
+    (rising.0, rising.1, rising.2, AreRuns-front (run_end run + 1) to n runs rising.3)
+
+-- a run of the others, and what the runs are once it is appended
+pub record JoinStep (runs others : List Run) (at : ℕ) : Type 0 where
+  pub index : ℕ
+  pub run : Run
+  pub before : List Run
+  pub next : List Run
+  pub end : ℕ
+  pub within : index < length others
+  pub run_is : run ≡ get_or others index run
+  pub rising : AreRuns 0 end others
+  pub joined : AreJoined runs (take index others) before at
+
+join-front : (runs others : List Run) (at : ℕ) (s : JoinStep runs others at) → AreRuns 0 s.end (take s.index others ++ s.run ∷ [])
+join-front runs others at s =
+    subst (AreRuns 0 s.end) (take_more others s.index s.run s.within ∙ ap (λ r. take s.index others ++ r ∷ []) (sym s.run_is))
+    (AreRuns-front 0 s.end (s.index + 1) others s.rising)
+
+-- where the run begins, how long it is, and that it ends within
+pub join-stands : (runs others : List Run) (at : ℕ) (s : JoinStep runs others at)
+    → AreRuns 0 (at + s.run.start) s.before × (1 ≤ s.run.length) × (run_end s.run ≤ s.end)
+join-stands runs others at s =
+    let front = AreRuns-before 0 s.end (take s.index others) s.run (join-front runs others at s) in
+    (s.joined.rising s.run.start front.0, front.2, front.1)
+
+pub AreJoined-more : (runs others : List Run) (at : ℕ) (s : JoinStep runs others at) → AreGrown s.before s.next (at + s.run.start) s.run.length
+    → AreJoined runs (take (s.index + 1) others) s.next at
+AreJoined-more runs others at s grown =
+    subst (λ rs. AreJoined runs rs s.next at)
+    (sym (take_more others s.index s.run s.within ∙ ap (λ r. take s.index others ++ r ∷ []) (sym s.run_is))) (record {
+      rising = λ end rising. let front = (AreRuns-before 0 end (take s.index others) s.run rising).1 in
+          AreRuns-wider 0 (at + s.run.start + s.run.length) (at + end) s.next (omega (arith, front)) grown.rising;
+      before = λ i h. grown.below i (omega (arith, h)) ∙ s.joined.before i h;
+      behind = λ i. ⊎_elim
+          (λ h. grown.below (at + i) (omega (arith, h)) ∙ s.joined.behind i
+          ∙ sym (pushed i ∙ or-first (is_in_runs (take s.index others) i) _ (before-run s.run i h)))
+          (λ h. ⊎_elim
+          (λ l. grown.inside (at + i) (omega (arith, h)) (omega (arith, l))
+          ∙ sym (pushed i ∙ or_right (is_in_runs (take s.index others) i) _ (inside-run s.run i h l)))
+          (λ l. grown.above (at + i) (omega (arith, l)) ∙ s.joined.behind i
+          ∙ sym (pushed i ∙ or-first (is_in_runs (take s.index others) i) _ (behind-run s.run i l)))
+          (cases_lt i (run_end s.run)))
+          (cases_lt i s.run.start);
+    })
+  where
+    pushed : (i : ℕ) → is_in_runs (take s.index others ++ s.run ∷ []) i ≡ (is_in_runs (take s.index others) i || is_in_run s.run i)
+    pushed i = is_in_runs-push (take s.index others) s.run i
+
+pub AreJoined-all : (runs others next : List Run) (at n : ℕ) → length others ≤ n → AreJoined runs (take n others) next at → AreJoined runs others next at
+AreJoined-all runs others next at n h joined = subst (λ rs. AreJoined runs rs next at) (take_all n others h) joined
 
 -- ---- runs with the same indices
 

@@ -60,13 +60,13 @@ code-up-none w m i most low high =
     ∙ ap (λ n. w * 2 ^ (2 * n) / 2 ^ (2 * (31 - i)) % 4) place ∙ digit-below w (31 - i) (m + i - 32)
 
 -- shifted down by n codes
-code-down : (w n i : ℕ) → i + n < 32 → code_in (w / 2 ^ (2 * n)) (i + n) ≡ code_in w i
+pub code-down : (w n i : ℕ) → i + n < 32 → code_in (w / 2 ^ (2 * n)) (i + n) ≡ code_in w i
 code-down w n i h =
     let place : n + (31 - (i + n)) ≡ 31 - i = omega (arith, h) in
     at-digit (w / 2 ^ (2 * n)) (i + n) h ∙ digit-down w n (31 - (i + n)) ∙ ap (λ f. w / 2 ^ (2 * f) % 4) place
     ∙ sym (at-digit w i (omega (arith, h)))
 
-code-down-none : (w n i : ℕ) → w < 2 ^ 64 → n ≤ 32 → i < n → code_in (w / 2 ^ (2 * n)) i ≡ 0
+pub code-down-none : (w n i : ℕ) → w < 2 ^ 64 → n ≤ 32 → i < n → code_in (w / 2 ^ (2 * n)) i ≡ 0
 code-down-none w n i small most h =
     let total : 2 * n + 2 * (31 - i) ≡ 64 + 2 * (n - 1 - i) = omega (arith, h, most) in
     let nothing : w / 2 ^ 64 ≡ 0 = omega (arith, small) in

@@ -2,7 +2,7 @@
 use Rattle.std.proofs.Common.{◌≡◌, ℕ, zero, suc, ◌+◌, ◌-◌, ◌*◌, ◌/◌, ◌%◌, ◌^◌, ◌<◌, ◌≤◌, min, ⊎_elim, cond, bit_and, List, [], ◌∷◌, ◌++◌, length, get_or, take, drop, None, Some, option_to_list, refl, ap, sym, ◌∙◌, subst, arith}
 use Rattle.std.proofs.lemmas.Bool.{cases_lt}
 use Rattle.std.proofs.lemmas.Nat.{and_mask}
-use Rattle.std.proofs.lemmas.List.{take_more, take_all, drop_at, drop_all, append-nil, append_assoc, append_cancel_left}
+use Rattle.std.proofs.lemmas.List.{take_more, take_all, drop_at, drop_all, drop_more, append-nil, append_assoc, append_cancel_left}
 use Rattle.kc_fastx.specs.Reads.{read_of}
 use Rattle.kc_word.specs.Rule.{CountingRule}
 use Rattle.kc_word.specs.Occurrences.{words_in, words_of}
@@ -10,7 +10,7 @@ use Rattle.kc_word.specs.Cutting.{as_reads}
 use Rattle.kc_word.specs.Walking.{last_window, IsRolled, Walking, words_left, IsWalking}
 use Rattle.kc_word.proofs.Windows.{word_of}
 use Rattle.kc_word.proofs.Rolling.{RollStep, IsRolled-none, IsRolled-more, word_of-rolled, word_of-broken}
-use Rattle.kc_word.proofs.Counting.{words_in-none, words_in_push, forward-masked, top-shifted}
+use Rattle.kc_word.proofs.Counting.{words_in-none, words_in_push, words_of-none, forward-masked, top-shifted}
 use Rattle.std.specs.Char.{to_ascii_uppercase}
 use Rattle.kc_word.specs.Letter.{is_base, code}
 
@@ -291,16 +291,14 @@ stretched-word rule bytes at taken digit word before words next s long pushed is
 
 -- ---- one piece after another
 
-pub words_of-first : (rule : CountingRule) (pieces : List (List ℕ)) (first : List ℕ) (left : List ℕ) → 1 ≤ length pieces
-    → first ≡ get_or pieces 0 first → left ≡ words_in rule (read_of first None)
-    → left ++ words_of rule (as_reads (take (length pieces - 1) (drop 1 pieces))) ≡ words_of rule (as_reads pieces)
+-- the words of the pieces from an index on are those of the first of them and those of the pieces behind it
+pub words_of-at : (rule : CountingRule) (pieces : List (List ℕ)) (i : ℕ) (left : List ℕ) → i < length pieces
+    → left ≡ words_in rule (read_of (get_or pieces i []) None)
+    → left ++ words_of rule (as_reads (drop (i + 1) pieces)) ≡ words_of rule (as_reads (drop i pieces))
 unfolding words_of
-words_of-first rule [] first left some is e = absurd (omega (arith, some))
-words_of-first rule (piece ∷ pieces) first left some is e =
-    ap (λ xs. xs ++ words_of rule (as_reads (take (length (piece ∷ pieces) - 1) pieces))) (e ∙ ap (λ xs. words_in rule (read_of xs None)) is)
-    ∙ ap (λ ps. words_in rule (read_of piece None) ++ words_of rule (as_reads ps)) (take_all (length (piece ∷ pieces) - 1) pieces (omega arith))
+words_of-at rule pieces i left h e =
+    ap (λ xs. xs ++ words_of rule (as_reads (drop (i + 1) pieces))) e
+    ∙ sym (ap (λ ps. words_of rule (as_reads ps)) (drop_more pieces i [] h))
 
-pub words_of-next : (rule : CountingRule) (piece : List ℕ) (pieces later : List (List ℕ)) → later ≡ piece ∷ pieces
-    → words_in rule (read_of piece None) ++ words_of rule (as_reads pieces) ≡ words_of rule (as_reads later)
-unfolding words_of
-words_of-next rule piece pieces later e = ap (λ ps. words_of rule (as_reads ps)) (sym e)
+pub words_of-past : (rule : CountingRule) (pieces : List (List ℕ)) (i : ℕ) → length pieces ≤ i → words_of rule (as_reads (drop i pieces)) ≡ []
+words_of-past rule pieces i h = ap (λ ps. words_of rule (as_reads ps)) (drop_all i pieces h) ∙ words_of-none rule

@@ -92,5 +92,8 @@ KeepsWords k pieces batches = (rule : CountingRule) → rule.k ≡ k
 abbrev pub is_same_piece : List ℕ → List ℕ → Bool
 is_same_piece piece other = bytes_eq piece other
 
+abbrev pub are_same_pieces : List (List ℕ) → List (List ℕ) → Bool
+are_same_pieces pieces others = pointwise bytes_eq pieces others
+
 abbrev pub is_same_batch : NumberedPieces → NumberedPieces → Bool
 is_same_batch batch other = (batch.number == other.number) && pointwise bytes_eq batch.pieces other.pieces

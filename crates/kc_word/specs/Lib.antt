@@ -4,7 +4,6 @@ pub mod Rule
 pub mod Occurrences
 pub mod Cutting
 pub mod Laws
-pub mod Cursor
 pub mod Sameness
 pub mod Shared
 pub mod Packed
@@ -12,3 +11,5 @@ pub mod Runs
 pub mod PackedPiece
 pub mod Walking
 pub mod Gathering
+pub mod PackedBatch
+pub mod OpenCutting

@@ -26,9 +26,11 @@ pub record Reading : Type 0 where
   pub bytes : List ℕ
   pub taken : ℕ
 
--- the place is one of this piece, with as many runs passed as end before it
-pub record IsReading (codes : List ℕ) (runs : List Run) (next at : ℕ) : Type 0 where
+-- the place is one from an index to another of this piece, with as many runs passed as end before it
+pub record IsReading (codes : List ℕ) (runs : List Run) (next from at to : ℕ) : Type 0 where
   pub piece : IsPiece codes runs
   pub passed : ArePassed runs next at
-  pub within : at ≤ length codes
+  pub begun : from ≤ at
+  pub within : at ≤ to
+  pub inside : to ≤ length codes
   pub fits : length codes < 2 ^ 64

@@ -33,6 +33,19 @@ pub record AreExtended (runs next : List Run) (at : ℕ) : Type 0 where
   pub here : is_in_runs next at ≡ true
   pub others : (i : ℕ) → i ≢ at → is_in_runs next i ≡ is_in_runs runs i
 
+-- the runs with so many indices more from an index on, behind all that they have
+pub record AreGrown (runs next : List Run) (at count : ℕ) : Type 0 where
+  pub rising : AreRuns 0 (at + count) next
+  pub inside : (i : ℕ) → at ≤ i → i < at + count → is_in_runs next i ≡ true
+  pub below : (i : ℕ) → i < at → is_in_runs next i ≡ is_in_runs runs i
+  pub above : (i : ℕ) → at + count ≤ i → is_in_runs next i ≡ is_in_runs runs i
+
+-- the runs with others behind them, which are counted from an index
+pub record AreJoined (runs others next : List Run) (at : ℕ) : Type 0 where
+  pub rising : (end : ℕ) → AreRuns 0 end others → AreRuns 0 (at + end) next
+  pub before : (i : ℕ) → i < at → is_in_runs next i ≡ is_in_runs runs i
+  pub behind : (i : ℕ) → is_in_runs next (at + i) ≡ is_in_runs others i
+
 -- whether the first of the runs ends at an index or behind it
 abbrev pub EndBehind : ℕ → List Run → Type 0
 EndBehind at [] = Unit {0}

@@ -1,5 +1,5 @@
 //! The codes of a piece, one after another.
-ghost use Rattle.std.specs.Prelude.{◌≡◌, ℕ, ◌+◌, ◌<◌, ◌≤◌, length, slice_index, nat_le};
+ghost use Rattle.std.specs.Prelude.{◌≡◌, ℕ, ◌+◌, ◌^◌, ◌<◌, ◌≤◌, length, slice_index, slice_range, nat_le};
 ghost use Rattle.std.specs.Prelude.{if◌then◌else◌};
 ghost use Rattle.kc_word.specs.Packed.{code_in};
 ghost use Rattle.std.specs.Char.{to_ascii_uppercase};
@@ -20,39 +20,50 @@ pub(crate) struct Stretch {
     pub(crate) count: usize,
 }
 
-/// A place in a piece, seen as the bytes of the piece and how many of them were taken.
+/// A place in a piece, or in a part of one, seen as its bytes and how many of them were taken.
 #[derive(Drop)]
 pub(crate) struct Codes<'a> {
     bases: &'a Packed,
     runs: &'a [Run],
     next: usize,
+    from: usize,
     at: usize,
+    to: usize,
 }
 
 impl<'a> Model for Codes<'a> {
+    ghost use Rattle.std.specs.Prelude.{◌-◌, slice_range};
     ghost use Rattle.kc_word.specs.PackedPiece.{Reading, bytes_of, IsReading};
 
     ghost Value = { Reading };
 
-    ghost view = { λ c. record { bytes = bytes_of c.bases.now c.runs.now; taken = c.at } };
+    ghost view = { λ c. record {
+        bytes = slice_range (bytes_of c.bases.now c.runs.now) c.from c.to;
+        taken = c.at - c.from
+    } };
 
-    ghost invariant = { λ c. IsReading c.bases.now c.runs.now c.next c.at };
+    ghost invariant = { λ c. IsReading c.bases.now c.runs.now c.next c.from c.at c.to };
 }
 
 impl<'a> Codes<'a> {
-    /// Before the byte at index `from` of the piece that has these codes and these runs of N. Condition: the index
-    /// is at most the length.
-    pub(crate) fn new(bases: &'a Packed, runs: &'a [Run], from: usize) -> Codes<'a>
+    /// At the front of the bytes from index `from` to before `to` of the piece that has these codes and these runs of
+    /// N. Conditions: the indices are in order, and at most the length.
+    #[inline(always)]
+    pub(crate) fn new(bases: &'a Packed, runs: &'a [Run], from: usize, to: usize) -> Codes<'a>
         requires piece { IsPiece bases.now runs.now }
-        requires within { from ≤ length bases.now }
-        ensures { result ≡ record { bytes = bytes_of bases.now runs.now; taken = from } }
+        requires ordered { from ≤ to }
+        requires within { to ≤ length bases.now }
+        ensures place { result ≡ record { bytes = slice_range (bytes_of bases.now runs.now) from to; taken = 0 } }
+        ensures fits { length bases.now < 2 ^ 64 }
     {
         let _count = bases.len();
         Codes {
             bases,
             runs,
             next: runs_before(runs, from),
+            from,
             at: from,
+            to,
         }
     }
 
@@ -61,7 +72,7 @@ impl<'a> Codes<'a> {
     pub(crate) fn is_done(&self) -> bool
         ensures { result ≡ nat_le (length self.now.bytes) self.now.taken }
     {
-        self.bases.len() <= self.at
+        self.to <= self.at
     }
 
     /// Takes the next bases, at most 32 and up to an N: their codes, the first one in the highest bits of a word, and
@@ -78,7 +89,7 @@ impl<'a> Codes<'a> {
             ≡ record { bytes = self.old.bytes; taken = self.old.taken + result.count } }
     {
         let at = self.at;
-        let left = self.bases.len() - at;
+        let left = self.to - at;
         let count = free_of_runs(self.runs, self.next, at, left.min(BASES));
         let word = self.bases.window(at);
         self.at = at + count;

@@ -1,5 +1,6 @@
 //! The length of a word.
 ghost use Rattle.std.specs.Prelude.{◌≡◌, ◌≤◌, SomeIff};
+ghost use Rattle.kc_word.specs.Occurrences.{position_count};
 
 use std::marker::Model;
 
@@ -42,5 +43,14 @@ impl K {
         ensures fits { self ≤ 31 }
     {
         self.bases
+    }
+
+    /// How many positions so many bases have: the words begin at 0 to n - k.
+    pub(crate) fn positions(self, count: usize) -> usize
+        ensures value { result ≡ position_count self count }
+        ensures most { result ≤ count }
+    {
+        let bases = self.bases as usize;
+        if count < bases { 0 } else { count - bases + 1 }
     }
 }

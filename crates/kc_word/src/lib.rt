@@ -21,12 +21,14 @@
 
 mod batch;
 mod codes;
+mod cutting;
 mod gathering;
 mod k;
 pub mod laws;
 mod letter;
 mod packed;
 mod piece;
+mod pieces;
 mod roll;
 mod rule;
 mod runs;
@@ -34,7 +36,8 @@ pub mod slow;
 mod walk;
 mod word;
 
-pub use batch::{Batch, cut};
+pub use batch::Batch;
+pub use cutting::{Cutting, cut};
 pub use k::K;
 pub use piece::{Piece, clean};
 pub use roll::{read_words, words};

@@ -1,5 +1,5 @@
 //! Codes of bases packed into words of 64 bits, 32 in each.
-ghost use Rattle.std.specs.Prelude.{◌≡◌, ℕ, ◌+◌, ◌%◌, ◌^◌, ◌<◌, ◌≤◌, ◌++◌, [], IfOk, OnOk, length};
+ghost use Rattle.std.specs.Prelude.{◌≡◌, ℕ, ◌+◌, ◌-◌, ◌%◌, ◌^◌, ◌<◌, ◌≤◌, ◌++◌, [], IfOk, OnOk, length};
 ghost use Rattle.std.specs.Prelude.{slice_index, slice_range};
 ghost use Rattle.std.specs.Vec.{vec_capacity};
 ghost use Rattle.kc_word.specs.Packed.{word_count, code_in, codes_in};
@@ -30,6 +30,16 @@ impl Model for Packed {
 }
 
 impl Packed {
+    /// No codes.
+    pub(crate) fn new(alloc: Global) -> Packed
+        ensures { result ≡ [] }
+    {
+        Packed {
+            words: Vec::new(alloc),
+            len: 0,
+        }
+    }
+
     /// No codes, with room for `count`.
     pub(crate) fn with_capacity(alloc: Global, count: usize) -> Result<Packed, AllocError>
         ensures { IfOk result (λ packed. packed ≡ []) }
@@ -72,20 +82,70 @@ impl Packed {
         high | (self.words[next] >> (64 - shift))
     }
 
-    /// The codes from index `from` to before `to`. Condition: these are in order, and at most the length.
-    pub(crate) fn part(&self, alloc: Global, from: usize, to: usize) -> Result<Packed, AllocError>
+    /// Appends the codes of another list from index `from` to before `to`. Conditions: these are in order, and at most
+    /// the other's length, and the length stays below 2^64.
+    pub(crate) fn push_part(&mut self, other: &Packed, from: usize, to: usize) -> Result<(), AllocError>
         requires ordered { from ≤ to }
-        requires within { to ≤ length self.now }
-        ensures { IfOk result (λ part. part ≡ slice_range self.now from to) }
+        requires within { to ≤ length other.now }
+        requires fits { length self.old + (to - from) < 2 ^ 64 }
+        ensures { OnOk result (self.new ≡ self.old ++ slice_range other.now from to) }
     {
         let count = to - from;
-        let mut part = Packed::with_capacity(alloc, count)?;
         for j in 0..count.div_ceil(BASES) {
             let taken = j * BASES;
-            let word = self.window(from + taken);
-            part.push_word(word, (count - taken).min(BASES))?;
+            let word = other.window(from + taken);
+            self.push_codes(word, (count - taken).min(BASES))?;
         }
-        Ok(part)
+        Ok(())
+    }
+
+    /// Appends the first `count` codes of a word. Conditions: the count is 1 to 32, and the length stays below 2^64.
+    pub(crate) fn push_codes(&mut self, word: u64, count: usize) -> Result<(), AllocError>
+        requires some { 1 ≤ count }
+        requires most { count ≤ 32 }
+        requires fits { length self.old + count < 2 ^ 64 }
+        ensures { OnOk result (self.new ≡ self.old ++ codes_in word count) }
+    {
+        let used = self.len() % BASES;
+        if used == 0 {
+            return self.push_word(word, count);
+        }
+        let room = BASES - used;
+        if count <= room {
+            self.fill_word(word, count);
+            return Ok(());
+        }
+        self.fill_word(word, room);
+        self.push_word(word << (2 * room), count - room)
+    }
+
+    // Appends the first `count` codes of a word within the last word. Conditions: that one has a code, and room for
+    // so many more.
+    #[inline(always)]
+    fn fill_word(&mut self, word: u64, count: usize)
+        requires some { 1 ≤ count }
+        requires begun { 1 ≤ length self.old % 32 }
+        requires room { length self.old % 32 + count ≤ 32 }
+        requires fits { length self.old + count < 2 ^ 64 }
+        ensures { self.new ≡ self.old ++ codes_in word count }
+    {
+        let behind = 64 - 2 * count;
+        let front = (word >> behind) << behind;
+        let last = self.len / BASES;
+        self.words[last] |= front >> (2 * (self.len % BASES));
+        self.len += count;
+    }
+
+    /// The same, without spare room.
+    pub(crate) fn fitted(self) -> Packed
+        ensures { result ≡ self }
+    {
+        let mut words = self.words;
+        words.shrink_to_fit();
+        Packed {
+            words,
+            len: self.len,
+        }
     }
 
     /// Appends the first `count` codes of a word, behind whole words. Conditions: the count is 1 to 32, the length is

@@ -1,5 +1,5 @@
 //! Reads cleaned into pieces.
-ghost use Rattle.std.specs.Prelude.{◌≡◌, ◌^◌, ◌<◌, ◌↔◌, length, slice_index, slice_range, ◌≤◌, IfOk, IsTrue};
+ghost use Rattle.std.specs.Prelude.{◌≡◌, ◌^◌, ◌<◌, ◌↔◌, ◌++◌, [], length, slice_index, slice_range, ◌≤◌, IfOk, IsTrue};
 ghost use Rattle.kc_word.specs.Occurrences.{position_count};
 ghost use Rattle.kc_word.specs.Cutting.{cleaned, is_piece_byte};
 
@@ -9,7 +9,7 @@ use crate::k::K;
 use crate::letter::{UNUSABLE, base_of};
 use crate::packed::{BASES, Packed};
 use crate::rule::Rule;
-use crate::runs::{Run, clip_runs, is_in_runs};
+use crate::runs::{Run, append_runs, clip_runs, is_in_runs};
 use kc_fastx::SeqRead;
 use std::alloc::{AllocError, Global};
 use std::marker::Model;
@@ -35,6 +35,16 @@ impl Model for Piece {
 }
 
 impl Piece {
+    /// No bytes.
+    pub(crate) fn new(alloc: Global) -> Piece
+        ensures { result ≡ [] }
+    {
+        Piece {
+            bases: Packed::new(alloc),
+            runs: Vec::new(alloc),
+        }
+    }
+
     /// The number of bytes.
     pub fn len(&self) -> u64
         ensures { result ≡ length self.now }
@@ -67,28 +77,48 @@ impl Piece {
         ensures value { result ≡ position_count k (length self.now) }
         ensures fits { length self.now < 2 ^ 64 }
     {
-        let count = self.len() as usize;
-        let bases = k.get() as usize;
-        if count < bases { 0 } else { count - bases + 1 }
+        k.positions(self.len() as usize)
     }
 
-    /// The bytes from `from` to before `to`, as a piece.
-    pub(crate) fn part(&self, alloc: Global, from: usize, to: usize) -> Result<Piece, AllocError>
+    /// The same, and behind it the bytes of another piece from `from` to before `to`. Conditions: these are in order,
+    /// and at most the other's length. Where the bytes would be 2^64 or more, which no memory holds, it is refused.
+    pub(crate) fn and_part(self, alloc: Global, other: &Piece, from: usize, to: usize) -> Result<Piece, AllocError>
         requires ordered { from ≤ to }
-        requires within { to ≤ length self.now }
-        ensures { IfOk result (λ part. part ≡ slice_range self.now from to) }
+        requires within { to ≤ length other.now }
+        ensures { IfOk result (λ more. more ≡ self ++ slice_range other.now from to) }
     {
-        let bases = self.bases.part(alloc, from, to)?;
-        let runs = clip_runs(alloc, &self.runs, from, to)?;
+        let at = self.bases.len();
+        if to - from > usize::MAX - at {
+            return Err(AllocError);
+        }
+        let Piece { mut bases, mut runs } = self;
+        let clipped = clip_runs(alloc, &other.runs, from, to)?;
+        append_runs(&mut runs, at, &clipped)?;
+        bases.push_part(&other.bases, from, to)?;
         Ok(Piece { bases, runs })
     }
 
-    /// The codes of the bytes from index `from` on. Condition: the index is at most the length.
-    pub(crate) fn codes(&self, from: usize) -> Codes<'_>
-        requires { from ≤ length self.now }
-        ensures { result ≡ record { bytes = self.now; taken = from } }
+    /// The same, without spare room.
+    pub(crate) fn fitted(self) -> Piece
+        ensures { result ≡ self }
     {
-        Codes::new(&self.bases, &self.runs, from)
+        let Piece { bases, mut runs } = self;
+        runs.shrink_to_fit();
+        Piece {
+            bases: bases.fitted(),
+            runs,
+        }
+    }
+
+    /// The codes of the bytes from index `from` to before `to`. Conditions: these are in order, and at most the length.
+    #[inline(always)]
+    pub(crate) fn codes(&self, from: usize, to: usize) -> Codes<'_>
+        requires ordered { from ≤ to }
+        requires within { to ≤ length self.now }
+        ensures place { result ≡ record { bytes = slice_range self.now from to; taken = 0 } }
+        ensures fits { length self.now < 2 ^ 64 }
+    {
+        Codes::new(&self.bases, &self.runs, from, to)
     }
 }
 

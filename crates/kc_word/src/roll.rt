@@ -1,5 +1,5 @@
 //! The words of pieces, rolled along their bytes.
-ghost use Rattle.std.specs.Prelude.{◌≡◌, ◌^◌, ◌<◌, ◌≤◌, ◌++◌, ◌+◌, ◌∷◌, nat_le, [], None, length, min};
+ghost use Rattle.std.specs.Prelude.{◌≡◌, ◌^◌, ◌<◌, ◌≤◌, ◌++◌, ◌+◌, ◌∷◌, nat_le, [], None, length};
 ghost use Rattle.std.specs.Prelude.{IfSome, IfNone, IfOk, OnOk, All};
 ghost use Rattle.std.specs.Vec.{vec_capacity};
 ghost use Rattle.kc_fastx.specs.Reads.{read_of};
@@ -11,7 +11,8 @@ use crate::batch::Batch;
 use crate::codes::Codes;
 use crate::k::K;
 use crate::letter::NO_BASE;
-use crate::piece::{Piece, clean};
+use crate::piece::clean;
+use crate::pieces::Pieces;
 use crate::rule::Rule;
 use kc_fastx::SeqRead;
 use std::alloc::{AllocError, Global};
@@ -24,8 +25,9 @@ pub fn read_words(alloc: Global, read: &SeqRead, rule: &Rule) -> Result<Vec<u64>
     ensures short { IfOk result (λ words. length words.items ≤ length read.now.bases) }
 {
     let piece = clean(alloc, read, rule)?;
-    let mut words = Vec::with_capacity(alloc, piece.len() as usize)?;
-    push_words(&piece, *rule, &mut words)?;
+    let count = piece.len() as usize;
+    let mut words = Vec::with_capacity(alloc, count)?;
+    push_words(piece.codes(0, count), *rule, &mut words)?;
     Ok(words)
 }
 
@@ -36,39 +38,31 @@ pub fn words(alloc: Global, batch: &Batch, rule: &Rule) -> Result<Vec<u64>, Allo
     ensures below { IfOk result (λ words. All (λ word. word < 4 ^ rule.now.k) words.items) }
     ensures short { IfOk result (λ words. length words.items ≤ position_total rule.now.k batch.now.pieces) }
 {
-    let mut words = room_for_words(alloc, batch.pieces(), rule.k())?;
-    for part in batch.pieces() {
-        push_words(part, *rule, &mut words)?;
+    let pieces = batch.pieces();
+    let mut words = room_for_words(alloc, pieces, rule.k())?;
+    for i in 0..pieces.len() {
+        push_words(pieces.codes(i), *rule, &mut words)?;
     }
     Ok(words)
 }
 
 // No words yet, with room for as many as the pieces have positions.
-fn room_for_words(alloc: Global, pieces: &[Piece], k: K) -> Result<Vec<u64>, AllocError>
+fn room_for_words(alloc: Global, pieces: &Pieces, k: K) -> Result<Vec<u64>, AllocError>
     ensures empty { IfOk result (λ room. room.items ≡ []) }
     ensures bounded { IfOk result (λ room. vec_capacity room ≤ position_total k pieces.now) }
 {
-    Vec::with_capacity(alloc, position_count(pieces, k))
+    Vec::with_capacity(alloc, pieces.position_count(k))
 }
 
-// how many positions the pieces have, or the greatest `usize` where there are more
-fn position_count(pieces: &[Piece], k: K) -> usize
-    ensures { result ≡ min (position_total k pieces.now) usize.MAX }
-{
-    let mut count = 0usize;
-    for piece in pieces {
-        count = count.saturating_add(piece.position_count(k));
-    }
-    count
-}
-
-// Appends the words of a piece.
-fn push_words(piece: &Piece, rule: Rule, words: &mut Vec<u64>) -> Result<(), AllocError>
-    ensures words { OnOk result (words.new.items ≡ words.old.items ++ words_in rule (read_of piece.now None)) }
+// Appends the words of a piece. Conditions: none of its bytes was taken, and they are fewer than 2^64.
+fn push_words(codes: Codes<'_>, rule: Rule, words: &mut Vec<u64>) -> Result<(), AllocError>
+    requires front { codes.taken ≡ 0 }
+    requires fits { length codes.bytes < 2 ^ 64 }
+    ensures words { OnOk result (words.new.items ≡ words.old.items ++ words_in rule (read_of codes.entry.bytes None)) }
     ensures some { 1 ≤ rule.k }
 {
     let _some = rule.k().get();
-    let mut roll = Roll::new(piece, rule);
+    let mut roll = Roll::new(codes, rule);
     while !roll.is_done() {
         if let Some(word) = roll.step() {
             words.push(word)?;
@@ -101,15 +95,17 @@ impl<'a> Model for Roll<'a> {
 }
 
 impl<'a> Roll<'a> {
-    /// At the front of the piece.
-    pub(crate) fn new(piece: &'a Piece, rule: Rule) -> Roll<'a>
-        ensures place { result ≡ record { rule = rule; bytes = piece.now; taken = 0 } }
-        ensures words { words_left result ≡ words_in rule (read_of piece.now None) }
+    /// At the front of a piece. Conditions: none of its bytes was taken, and they are fewer than 2^64.
+    #[inline(always)]
+    pub(crate) fn new(codes: Codes<'a>, rule: Rule) -> Roll<'a>
+        requires front { codes.taken ≡ 0 }
+        requires fits { length codes.bytes < 2 ^ 64 }
+        ensures place { result ≡ record { rule = rule; bytes = codes.entry.bytes; taken = 0 } }
+        ensures words { words_left result ≡ words_in rule (read_of codes.entry.bytes None) }
     {
-        let _count = piece.len();
         let k = rule.k().get();
         Roll {
-            codes: piece.codes(0),
+            codes,
             rule,
             forward: 0,
             backward: (1u64 << (2 * k)) - 1,

@@ -1,6 +1,7 @@
 //! Runs of N in a piece.
 ghost use Rattle.std.specs.Prelude.{◌≡◌, ℕ, ◌+◌, ◌^◌, ◌<◌, ◌≤◌, ◌≢◌, length, nat_le, OnOk, OnErr, IfOk};
-ghost use Rattle.kc_word.specs.Runs.{AreRuns, AreExtended, ArePassed, AreFree, AreClipped, is_in_run, is_in_runs};
+ghost use Rattle.kc_word.specs.Runs.{AreRuns, AreExtended, AreGrown, AreJoined, ArePassed, AreFree};
+ghost use Rattle.kc_word.specs.Runs.{AreClipped, is_in_run, is_in_runs};
 
 use std::alloc::{AllocError, Global};
 
@@ -45,15 +46,40 @@ pub(crate) fn extend_runs(runs: &mut Vec<Run>, at: usize) -> Result<(), AllocErr
     ensures extended { OnOk result (AreExtended runs.old.items runs.new.items at) }
     ensures refused { OnErr result (runs.new.items ≡ runs.old.items) }
 {
-    let count = runs.len();
-    if count > 0 && runs[count - 1].end() == at {
-        runs[count - 1].length += 1;
+    push_run(runs, at, 1)
+}
+
+// Takes `count` indices from `at` on, behind all that the runs have, into the last run where that one ends there, and
+// else into a new one.
+fn push_run(runs: &mut Vec<Run>, at: usize, count: usize) -> Result<(), AllocError>
+    requires rising { AreRuns 0 at runs.old.items }
+    requires some { 1 ≤ count }
+    requires fits { at + count < 2 ^ 64 }
+    ensures grown { OnOk result (AreGrown runs.old.items runs.new.items at count) }
+    ensures refused { OnErr result (runs.new.items ≡ runs.old.items) }
+{
+    let last = runs.len();
+    if last > 0 && runs[last - 1].end() == at {
+        runs[last - 1].length += count;
         return Ok(());
     }
     runs.push(Run {
         start: at,
-        length: 1,
+        length: count,
     })?;
+    Ok(())
+}
+
+/// Appends runs, counted from the index `at`, behind all that the first ones have: the runs of two pieces of which the
+/// second one stands behind the first.
+pub(crate) fn append_runs(runs: &mut Vec<Run>, at: usize, others: &[Run]) -> Result<(), AllocError>
+    requires rising { AreRuns 0 at runs.old.items }
+    requires fits { (end : ℕ) × AreRuns 0 end others.now × (at + end < 2 ^ 64) }
+    ensures { OnOk result (AreJoined runs.old.items others.now runs.new.items at) }
+{
+    for other in others {
+        push_run(runs, at + other.start, other.length)?;
+    }
     Ok(())
 }
 

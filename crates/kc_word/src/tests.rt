@@ -45,13 +45,25 @@ fn walked(alloc: Global, batch: &Batch, rule: &Rule) -> Result<Vec<u64>, AllocEr
 // The pieces of a batch as one text, with a bar behind each.
 fn shown(alloc: Global, batch: &Batch) -> Result<Vec<u8>, AllocError> {
     let mut line = Vec::new(alloc);
-    for piece in batch.pieces() {
-        for i in 0..piece.len() {
-            line.push(piece.base(i))?;
+    let pieces = batch.pieces();
+    for i in 0..pieces.len() {
+        let mut codes = pieces.codes(i);
+        while !codes.is_done() {
+            line.push(letter(codes.take()))?;
         }
         line.push(b'|')?;
     }
     Ok(line)
+}
+
+fn letter(code: u64) -> u8 {
+    match code {
+        0 => b'A',
+        1 => b'C',
+        2 => b'G',
+        3 => b'T',
+        _ => b'N',
+    }
 }
 
 #[test]

@@ -3,7 +3,7 @@ ghost use Rattle.std.specs.Prelude.{◌≡◌, ◌≤◌, length};
 ghost use Rattle.kc_word.specs.Occurrences.{words_of};
 ghost use Rattle.kc_word.specs.Cutting.{as_reads};
 
-use crate::piece::Piece;
+use crate::pieces::Pieces;
 use crate::roll::Roll;
 use crate::rule::Rule;
 use std::marker::Model;
@@ -12,29 +12,31 @@ use std::marker::Model;
 #[derive(Drop)]
 pub struct Walk<'a> {
     roll: Roll<'a>,
-    later: &'a [Piece],
+    pieces: &'a Pieces,
+    next: usize,
 }
 
 impl<'a> Model for Walk<'a> {
-    ghost use Rattle.std.specs.Prelude.{ℕ, List, ◌++◌};
+    ghost use Rattle.std.specs.Prelude.{ℕ, List, drop, ◌++◌};
     ghost use Rattle.kc_word.specs.Occurrences.{words_of};
     ghost use Rattle.kc_word.specs.Cutting.{as_reads};
     ghost use Rattle.kc_word.specs.Walking.{words_left};
 
     ghost Value = { List ℕ };
 
-    ghost view = { λ w. words_left w.roll ++ words_of w.roll.rule (as_reads w.later.now) };
+    ghost view = { λ w. words_left w.roll ++ words_of w.roll.rule (as_reads (drop w.next w.pieces.now)) };
 }
 
 impl<'a> Walk<'a> {
     /// At the front of the pieces. Condition: there is one.
-    pub(crate) fn new(pieces: &'a [Piece], rule: Rule) -> Walk<'a>
+    pub(crate) fn new(pieces: &'a Pieces, rule: Rule) -> Walk<'a>
         requires { 1 ≤ length pieces.now }
         ensures { result ≡ words_of rule (as_reads pieces.now) }
     {
         Walk {
-            roll: Roll::new(&pieces[0], rule),
-            later: &pieces[1..],
+            roll: Roll::new(pieces.codes(0), rule),
+            pieces,
+            next: 1,
         }
     }
 }
@@ -54,13 +56,11 @@ impl<'a> Iterator for Walk<'a> {
             if let Some(word) = self.roll.next_word() {
                 return Some(word);
             }
-            match self.later.split_first() {
-                None => return None,
-                Some((piece, later)) => {
-                    self.roll = Roll::new(piece, self.roll.rule());
-                    self.later = later;
-                }
+            if self.next >= self.pieces.len() {
+                return None;
             }
+            self.roll = Roll::new(self.pieces.codes(self.next), self.roll.rule());
+            self.next += 1;
         }
     }
 }

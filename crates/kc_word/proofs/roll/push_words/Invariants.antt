@@ -6,8 +6,8 @@ use Rattle.kc_word.proofs.roll.push_words.Given as goal
 
 abbrev pub invariant-loop-roll : goal.invariant-loop-roll
 invariant-loop-roll l = record {
-  words : l.words.items ++ words_left l.roll ≡ l.fn.words.items ++ words_in l.fn.rule (read_of l.piece None);
-  bytes : l.roll.bytes ≡ l.piece;
+  words : l.words.items ++ words_left l.roll ≡ l.fn.words.items ++ words_in l.fn.rule (read_of l.fn.codes.bytes None);
+  bytes : l.roll.bytes ≡ l.fn.codes.bytes;
 }
 
 abbrev pub decreases-loop-roll : goal.decreases-loop-roll

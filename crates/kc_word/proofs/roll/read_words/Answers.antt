@@ -1,4 +1,5 @@
-use Rattle.std.proofs.Common.{◌++◌, ◌<◌, ◌^◌, All, length, arith, subst, ap, sym, ◌∙◌, None}
+use Rattle.std.proofs.Common.{◌++◌, ◌-◌, ◌<◌, ◌^◌, All, length, arith, subst, ap, sym, ◌∙◌, None}
+use Rattle.std.proofs.lemmas.List.{take_all}
 use Rattle.kc_fastx.specs.Reads.{read_of}
 use Rattle.kc_word.specs.Occurrences.{words_in}
 use Rattle.kc_word.proofs.WordCounts.{All-words_in, length-words_in}
@@ -8,6 +9,8 @@ use Rattle.kc_word.proofs.roll.read_words.Goals as goal
 pub returns-clause-words : goal.returns-clause-words
 returns-clause-words c =
     c.in_ok-push_words.ensures.words
+    ∙ ap (λ bytes. c.in_ok-words.words.items ++ words_in c.args.rule.now (read_of bytes None))
+    (ap (λ r. r.bytes) c.codes.ensures.place ∙ take_all (c.len-count.result - 0) c.in_ok-piece.piece (let long = c.len-count.ensures in omega (arith, long)))
     ∙ ap (λ xs. xs ++ words_in c.args.rule.now (read_of c.in_ok-piece.piece None)) c.in_ok-words.ensures.items
     ∙ ap (λ xs. words_in c.args.rule.now (read_of xs None)) c.in_ok-piece.ensures.cleaned
     ∙ words_in-cleaned c.args.rule.now c.args.read.now
@@ -16,6 +19,8 @@ pub returns-clause-below : goal.returns-clause-below
 returns-clause-below c =
     subst (All (λ word. word < 4 ^ c.args.rule.now.k))
     (sym (c.in_ok-push_words.ensures.words
+    ∙ ap (λ bytes. c.in_ok-words.words.items ++ words_in c.args.rule.now (read_of bytes None))
+    (ap (λ r. r.bytes) c.codes.ensures.place ∙ take_all (c.len-count.result - 0) c.in_ok-piece.piece (let long = c.len-count.ensures in omega (arith, long)))
     ∙ ap (λ xs. xs ++ words_in c.args.rule.now (read_of c.in_ok-piece.piece None)) c.in_ok-words.ensures.items
     ∙ ap (λ xs. words_in c.args.rule.now (read_of xs None)) c.in_ok-piece.ensures.cleaned
     ∙ words_in-cleaned c.args.rule.now c.args.read.now))

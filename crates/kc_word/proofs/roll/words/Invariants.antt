@@ -3,5 +3,5 @@ use Rattle.kc_word.specs.Occurrences.{words_of}
 use Rattle.kc_word.specs.Cutting.{as_reads}
 use Rattle.kc_word.proofs.roll.words.Given as goal
 
-abbrev pub invariant-loop-part : goal.invariant-loop-part
-invariant-loop-part l = l.words.items ≡ words_of l.rule (as_reads (take l.part-index l.part-items))
+abbrev pub invariant-loop-i : goal.invariant-loop-i
+invariant-loop-i l = l.words.items ≡ words_of l.rule (as_reads (take l.i l.pieces))

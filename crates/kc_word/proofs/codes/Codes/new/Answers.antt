@@ -1,4 +1,5 @@
-use Rattle.std.proofs.Common.{length, arith}
+use Rattle.std.proofs.Common.{◌≡◌, ◌-◌, length, arith, take, drop}
+use Rattle.kc_word.specs.PackedPiece.{bytes_of, Reading}
 use Rattle.kc_word.proofs.codes.Codes.new.Goals as goal
 
 pub runs_before-requires : goal.runs_before-requires
@@ -8,6 +9,8 @@ pub invariant_of-result : goal.invariant_of-result
 invariant_of-result c = record {
   piece = c.requires.piece;
   passed = c.runs_before.ensures;
-  within = c.requires.within;
+  begun = omega arith;
+  within = c.requires.ordered;
+  inside = c.requires.within;
   fits = let long = c.len-count.ensures in omega (arith, long);
 }

@@ -1,4 +1,4 @@
-use Rattle.std.proofs.Common.{◌≡◌, ◌++◌, length}
+use Rattle.std.proofs.Common.{◌≡◌, ◌-◌, ◌++◌, length, drop}
 use Rattle.kc_word.specs.Occurrences.{words_of}
 use Rattle.kc_word.specs.Cutting.{as_reads}
 use Rattle.kc_word.specs.Walking.{words_left}
@@ -6,7 +6,7 @@ use Rattle.kc_word.proofs.walk.WalkIterator.next.Given as goal
 
 abbrev pub invariant-loop-word : goal.invariant-loop-word
 invariant-loop-word l =
-    words_left l.self-inside.roll ++ words_of l.self-inside.roll.rule (as_reads l.self-inside.later.now) ≡ l.fn.self
+    words_left l.self-inside.roll ++ words_of l.self-inside.roll.rule (as_reads (drop l.self-inside.next l.self-inside.pieces.now)) ≡ l.fn.self
 
 abbrev pub decreases-loop-word : goal.decreases-loop-word
-decreases-loop-word l = length l.self-inside.later.now
+decreases-loop-word l = length l.self-inside.pieces.now - l.self-inside.next

@@ -1,0 +1,36 @@
+-- A cutting of pieces that come one at a time: the batches that are whole, and the one that is begun.
+use Rattle.std.specs.Prelude.{◌≡◌, ℕ, ◌+◌, ◌*◌, nat_lt, List, [], ◌∷◌, ◌++◌, length, map, if◌then◌else◌}
+use Rattle.std.specs.List.{range_with_len}
+use Rattle.kc_word.specs.Cutting.{NumberedPieces, position_total, stretches, batch_of}
+
+-- the length of the words, how many positions a batch has, the whole batches, and the pieces and the number of
+-- positions of the one that is begun
+pub record OpenCutting : Type 0 where
+  pub k : ℕ
+  pub size : ℕ
+  pub batches : List NumberedPieces
+  pub begun : List (List ℕ)
+  pub filled : ℕ
+
+-- the cutting has cut so many of the first positions of these pieces: the whole batches are the first ones of the
+-- pieces' cutting, and the one that is begun has the positions behind them
+pub record HasCut (cutting : OpenCutting) (pieces : List (List ℕ)) (count : ℕ) : Type 0 where
+  pub whole : cutting.batches
+      ≡ map (λ i. batch_of cutting.k cutting.size pieces i) (range_with_len 0 (length cutting.batches))
+  pub rest : cutting.begun ≡ stretches cutting.k (length cutting.batches * cutting.size) count pieces
+  pub number : length cutting.batches * cutting.size + cutting.filled ≡ count
+
+-- the cutting has taken these pieces: it has cut all their positions
+abbrev pub HasTaken : OpenCutting → List (List ℕ) → Type 0
+HasTaken cutting pieces = HasCut cutting pieces (position_total cutting.k pieces)
+
+-- the cutting with one part more, of so many positions, in the batch that is begun, which is whole then where it has
+-- `size` positions
+abbrev pub with_part : OpenCutting → List ℕ → ℕ → OpenCutting
+with_part cutting part taken =
+    if nat_lt (cutting.filled + taken) cutting.size
+    then record { k = cutting.k; size = cutting.size; batches = cutting.batches;
+        begun = cutting.begun ++ part ∷ []; filled = cutting.filled + taken }
+    else record { k = cutting.k; size = cutting.size;
+        batches = cutting.batches ++ record { number = length cutting.batches; pieces = cutting.begun ++ part ∷ [] } ∷ [];
+        begun = []; filled = 0 }

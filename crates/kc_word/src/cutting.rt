@@ -1,0 +1,160 @@
+//! The cutting of pieces into batches, one piece after another.
+ghost use Rattle.std.specs.Prelude.{◌≡◌, ◌+◌, ◌-◌, ◌^◌, ◌<◌, ◌≤◌, ◌++◌, ◌∷◌, [], List, ℕ, length, min};
+ghost use Rattle.std.specs.Prelude.{slice_range, IfOk, OnOk};
+ghost use Rattle.kc_word.specs.Cutting.{cutting, KeepsOccurrences, KeepsWords};
+ghost use Rattle.kc_word.specs.Occurrences.{position_count};
+ghost use Rattle.kc_word.specs.OpenCutting.{HasTaken, with_part};
+ghost use Rattle.kc_word.specs.Shared.{values};
+
+use crate::batch::Batch;
+use crate::k::K;
+use crate::piece::Piece;
+use crate::pieces::Pieces;
+use std::alloc::{AllocError, Global};
+use std::marker::Model;
+use std::mem;
+use std::sync::Arc;
+
+/// Cuts pieces that come one at a time into batches, as `cut` does: the batches that are whole, and the one that is
+/// begun. It keeps the bytes of the pieces that it has taken, and not the pieces.
+///
+/// Contracts say of it which pieces it `HasTaken`.
+#[derive(Drop)]
+pub struct Cutting {
+    k: K,
+    size: u64,
+    batches: Vec<Arc<Batch>>,
+    begun: Pieces,
+    filled: u64,
+}
+
+impl Model for Cutting {
+    ghost use Rattle.std.specs.Prelude.{◌<◌};
+    ghost use Rattle.kc_word.specs.OpenCutting.{OpenCutting};
+    ghost use Rattle.kc_word.specs.Shared.{values};
+
+    ghost Value = { OpenCutting };
+
+    ghost view = { λ c. record {
+        k = c.k;
+        size = c.size;
+        batches = values c.batches.items;
+        begun = c.begun;
+        filled = c.filled
+    } };
+
+    ghost invariant = { λ c. c.filled < c.size };
+}
+
+impl Cutting {
+    /// No pieces yet, to be cut for words of k bases into batches of `size` positions each. Condition: the size is at
+    /// least 1.
+    pub fn new(alloc: Global, k: K, size: u64) -> Cutting
+        requires { 1 ≤ size }
+        ensures k { result.k ≡ k }
+        ensures size { result.size ≡ size }
+        ensures none { HasTaken result [] }
+    {
+        Cutting {
+            k,
+            size,
+            batches: Vec::new(alloc),
+            begun: Pieces::new(alloc),
+            filled: 0,
+        }
+    }
+
+    /// Takes the next piece. After a refusal nothing is known of what was taken.
+    pub fn push(&mut self, alloc: Global, piece: &Piece) -> Result<(), AllocError>
+        ensures k { self.new.k ≡ self.old.k }
+        ensures size { self.new.size ≡ self.old.size }
+        ensures more { OnOk result ((pieces : List (List ℕ))
+            → HasTaken self.old pieces → HasTaken self.new (pieces ++ piece.now ∷ [])) }
+    {
+        let count = piece.position_count(self.k);
+        let mut position = 0;
+        while position < count {
+            position += self.take(alloc, piece, position, count - position)?;
+        }
+        Ok(())
+    }
+
+    /// The batches of all pieces that were taken.
+    pub fn finish(self, alloc: Global) -> Result<Vec<Arc<Batch>>, AllocError>
+        ensures cutting { IfOk result (λ batches. (pieces : List (List ℕ))
+            → HasTaken self pieces → values batches.items ≡ cutting self.k self.size pieces) }
+        ensures occurrences { IfOk result (λ batches. (pieces : List (List ℕ))
+            → HasTaken self pieces → KeepsOccurrences self.k pieces (values batches.items)) }
+        ensures words { IfOk result (λ batches. (pieces : List (List ℕ))
+            → HasTaken self pieces → KeepsWords self.k pieces (values batches.items)) }
+    {
+        let _some = self.k.get();
+        let mut batches = self.batches;
+        if self.begun.len() == 0 {
+            return Ok(batches);
+        }
+        let last = shared(alloc, batches.len() as u64, self.begun)?;
+        batches.push(last)?;
+        Ok(batches)
+    }
+
+    // Takes `left` positions of the piece from `position` on, or as many as the batch that is begun has room for, and
+    // answers how many. Conditions: there is one, and the piece has them.
+    fn take(&mut self, alloc: Global, piece: &Piece, position: usize, left: usize) -> Result<usize, AllocError>
+        requires some { 1 ≤ left }
+        requires within { position + left ≤ position_count self.old.k (length piece.now) }
+        requires fits { length piece.now < 2 ^ 64 }
+        ensures k { self.new.k ≡ self.old.k }
+        ensures size { self.new.size ≡ self.old.size }
+        ensures some { IfOk result (λ taken. 1 ≤ taken) }
+        ensures count { IfOk result (λ taken. taken ≡ min left (self.old.size - self.old.filled)) }
+        ensures taken { IfOk result (λ taken. self.new
+            ≡ with_part self.old (slice_range piece.now position (position + taken + self.old.k - 1)) taken) }
+    {
+        let taken = (left as u64).min(self.size - self.filled) as usize;
+        let bases = self.k.get() as usize;
+        let end = position + taken + (bases - 1);
+        let begun = mem::replace(&mut self.begun, Pieces::new(alloc));
+        let begun = begun.and_part(alloc, piece, position, end)?;
+        let filled = self.filled + taken as u64;
+        if filled < self.size {
+            self.begun = begun;
+            self.filled = filled;
+        } else {
+            self.filled = 0;
+            let batch = shared(alloc, self.batches.len() as u64, begun)?;
+            self.batches.push(batch)?;
+        }
+        Ok(taken)
+    }
+}
+
+/// Cuts pieces into batches of `size` positions each, of which the last may have fewer. The positions of
+/// all pieces are numbered in order; batch i has those from `i * size` to before `(i + 1) * size`, and
+/// neighbouring parts of one piece overlap by k - 1 bytes. No batch has no position.
+/// Condition: the size is at least 1.
+pub fn cut(
+    alloc: Global,
+    pieces: Vec<Piece>,
+    k: K,
+    size: u64,
+) -> Result<Vec<Arc<Batch>>, AllocError>
+    requires { 1 ≤ size }
+    ensures cutting { IfOk result (λ batches. values batches.items ≡ cutting k size pieces.items) }
+    ensures occurrences { IfOk result (λ batches. KeepsOccurrences k pieces.items (values batches.items)) }
+    ensures words { IfOk result (λ batches. KeepsWords k pieces.items (values batches.items)) }
+{
+    let mut cutting = Cutting::new(alloc, k, size);
+    for piece in &pieces {
+        cutting.push(alloc, piece)?;
+    }
+    cutting.finish(alloc)
+}
+
+// A batch of these pieces, without spare room. Condition: there is a piece.
+fn shared(alloc: Global, number: u64, pieces: Pieces) -> Result<Arc<Batch>, AllocError>
+    requires { 1 ≤ length pieces }
+    ensures { IfOk result (λ batch. batch.value ≡ record { number = number; pieces = pieces }) }
+{
+    Ok(Arc::new(alloc, Batch::new(number, pieces.fitted()))?)
+}
