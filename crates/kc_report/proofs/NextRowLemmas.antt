@@ -1,14 +1,16 @@
 -- Whether a row may come next.
-use Rattle.std.proofs.Common.{◌≡◌, ℕ, ◌-◌, ◌^◌, ◌<◌, ◌≤◌, Bool, false, List, sym, ◌∙◌, ap, subst, arith}
+use Rattle.std.proofs.Common.{◌≡◌, ℕ, ◌-◌, ◌^◌, ◌<◌, ◌≤◌, Bool, false, List, ◌++◌, take, drop, sym}
+use Rattle.std.proofs.Common.{◌∙◌, ap, subst, arith}
+use Rattle.std.proofs.lemmas.List.{take-append-drop}
 use Rattle.std.specs.Prelude.{IsTrue}
 use Rattle.kc_word.specs.Word.{text, form}
 use Rattle.kc_tally.specs.declared.row.Row.{Row}
 use Rattle.kc_tally.specs.Tally.{AreRows, TallySeen, total_of}
 use Rattle.kc_report.specs.Dumping.{row_in_columns}
-use Rattle.kc_report.specs.TableReading.{MayFollow}
+use Rattle.kc_report.specs.TableReading.{BeginsWith, MayFollow}
 use Rattle.kc_report.specs.TableRows.{RisesTo}
 use Rattle.kc_report.proofs.TableFronts.{AreRows-last, AreRows-push}
-use Rattle.kc_report.proofs.FieldLemmas.{one_row, never}
+use Rattle.kc_report.proofs.FieldLemmas.{one_row, never, SaysNone}
 use Rattle.kc_report.proofs.TableLines.{Fits}
 
 pub follower_fits : (t : TallySeen) (row : Row) → MayFollow t row → Fits t.k row
@@ -17,26 +19,34 @@ follower_fits t row follows =
     let small = l.small in
     record { word = l.word; count = omega (arith, small) }
 
--- the line says this row
-pub record Says (k : ℕ) (line : List ℕ) (row : Row) : Type 0 where
+-- the bytes begin with this row
+pub record Says (k : ℕ) (bytes : List ℕ) (row : Row) : Type 0 where
   pub fits : Fits k row
-  pub is : line ≡ row_in_columns k false row
+  pub at : BeginsWith bytes (row_in_columns k false row)
 
--- A line that is no row that may come next is no such row.
-pub no_other_row : {line : List ℕ} {found : Row} (t u : TallySeen) → t ≡ u → Says t.k line found → ¬ MayFollow u found
-    → (row : Row) → MayFollow u row → line ≡ row_in_columns u.k false row → ⊥
-no_other_row {line} {found} t u view says refused row follows f =
-    let here = subst (λ k. Says k line found) (ap (λ (t : TallySeen). t.k) view) says in
-    let same = one_row u.k found row line here.fits (follower_fits u row follows) here.is f in
+pub says : {bytes : List ℕ} (k : ℕ) (row : Row) (size : ℕ) → Fits k row → take size bytes ≡ row_in_columns k false row
+    → Says k bytes row
+says {bytes} k row size fits e = record {
+  fits = fits;
+  at = (drop size bytes, sym (take-append-drop size bytes) ∙ ap (λ v. v ++ drop size bytes) e);
+}
+
+-- Bytes in front of which stands no row that may come next begin with no such row.
+pub no_other_row : {bytes : List ℕ} {found : Row} (t u : TallySeen) → t ≡ u → Says t.k bytes found → ¬ MayFollow u found
+    → (row : Row) → MayFollow u row → BeginsWith bytes (row_in_columns u.k false row) → ⊥
+no_other_row {bytes} {found} t u view says refused row follows f =
+    let here = subst (λ k. Says k bytes found) (ap (λ (t : TallySeen). t.k) view) says in
+    let same = one_row u.k found row bytes here.at.0 f.0 here.fits (follower_fits u row follows) here.at.1 f.1 in
     refused (subst (λ row. MayFollow u row) (sym same) follows)
 
-pub no_line : (t u : TallySeen) (line : List ℕ) → t ≡ u
-    → ((row : Row) → row.word < 4 ^ t.k → row.count < 2 ^ 64 → line ≡ row_in_columns t.k false row → ⊥)
-    → (row : Row) → MayFollow u row → line ≡ row_in_columns u.k false row → ⊥
-no_line t u line view none row follows e =
+pub no_row : (t u : TallySeen) (bytes : List ℕ) → t ≡ u → SaysNone t.k bytes
+    → (row : Row) → MayFollow u row → BeginsWith bytes (row_in_columns u.k false row) → ⊥
+no_row t u bytes view none row follows at =
     let k = sym (ap (λ (t : TallySeen). t.k) view) in
-    let fits = follower_fits u row follows in
-    none row (subst (λ k. row.word < 4 ^ k) k fits.word) fits.count (subst (λ k. line ≡ row_in_columns k false row) k e)
+    let last = AreRows-last u.k u.both u.rows row follows in
+    let small = last.small in
+    none row (subst (λ k. row.word < 4 ^ k) k last.word) last.count (omega (arith, small))
+    (subst (λ k. BeginsWith bytes (row_in_columns k false row)) k at)
 
 -- ---- the test
 

@@ -1,11 +1,12 @@
 -- A table text, line by line, as it is taken of a source.
-use Rattle.std.proofs.Common.{◌≡◌, ℕ, ◌+◌, ◌<◌, ◌≤◌, Bool, true, false, eqb, List, [], ◌∷◌, ◌++◌, length, get_or}
-use Rattle.std.proofs.Common.{drop, take, refl, sym, ◌∙◌, ap, subst, append_assoc, append-nil, length-append, arith}
+use Rattle.std.proofs.Common.{◌≡◌, ℕ, zero, suc, ◌+◌, ◌-◌, ◌<◌, ◌≤◌, Bool, true, false, eqb, List, [], ◌∷◌, ◌++◌}
+use Rattle.std.proofs.Common.{length, get_or, drop, take, refl, sym, ◌∙◌, ap, subst, append_assoc, append-nil, length-append, arith}
 use Rattle.std.proofs.Common.{inl, inr, ◌⊎◌}
 use Rattle.std.specs.Prelude.{codes, IsTrue}
 use Rattle.std.specs.Cmp.Lexicographic.{pointwise}
 use Rattle.std.proofs.lemmas.Bool.Decides.{Decides-eqb}
-use Rattle.std.proofs.lemmas.List.{take-append-drop, length-take-le, length-drop}
+use Rattle.std.proofs.Math.Seq.{take-add}
+use Rattle.std.proofs.lemmas.List.{take-append-drop, length-take-le, length-drop, take-take, take_all}
 use Rattle.std.proofs.lemmas.Slice.Eq.{starts_is}
 use Rattle.kc_io.specs.declared.taking.TakeFault.{TakeFault}
 use Rattle.kc_io.specs.declared.taking.TakeFault.TheVariants as taking
@@ -14,21 +15,22 @@ use Rattle.kc_io.specs.Taking.{TakesAll, TakingFails}
 use Rattle.kc_io.specs.Intakes.{Unread, Filled}
 use Rattle.kc_io.proofs.IntakesLemmas.{Used, used_none, used_filled, used_up, used_all, used_fails, used_in_vain}
 use Rattle.kc_tally.specs.declared.row.Row.{Row}
-use Rattle.kc_tally.specs.Tally.{TallySeen, total_of}
+use Rattle.kc_tally.specs.Tally.{AreRows, TallySeen, total_of}
 use Rattle.kc_report.specs.declared.faults.ReportFault.TheVariants.{BadHeader, BadRow, BadEnd, Memory}
 use Rattle.kc_report.specs.Bytes.{line_feed}
 use Rattle.kc_report.specs.Dumping.{row_in_columns}
 use Rattle.kc_report.specs.Faults.{taking_fault}
 use Rattle.kc_report.specs.Lines.{Without, IsLine}
-use Rattle.kc_report.specs.Table.{header_line, end_line, ended, front_text, end_text}
+use Rattle.kc_report.specs.Table.{header_line, end_line, ended, rows_text, front_text, end_text}
 use Rattle.kc_report.specs.TableReading.{BeginsWith, HasLine, IsTable, ReadsTo, MayFollow}
 use Rattle.kc_report.specs.TableReading.{GivesTable, RefusesTable}
+use Rattle.kc_report.specs.TableRows.{TakesRows}
 use Rattle.kc_report.proofs.FieldLemmas.{never}
 use Rattle.kc_report.proofs.NextRowLemmas.{follower_fits}
 use Rattle.kc_report.proofs.TableAnswers.{end_has_line}
 use Rattle.kc_report.proofs.TableFronts.{AreRows-none, length-le_total}
 use Rattle.kc_report.proofs.TableLines.{row_line, first_line, Without-row, Without-header, Without-end}
-use Rattle.kc_report.proofs.TableSearch.{front_push}
+use Rattle.kc_report.proofs.TableSearch.{rows_push, front_more}
 
 -- ---- one line of the bytes
 
@@ -117,27 +119,20 @@ reads_to : {old mid : Seen} {limit : ℕ} {front : TallySeen} {unread : Unread} 
 reads_to {front = front} {unread = unread} more r =
     record { lawful = r.lawful; split = append_assoc (front_of front) unread.bytes more }
 
--- with the line used, fewer bytes are to come or unread
-pub less_to_come : {old new : Seen} {before after : Unread} (count : ℕ) → Filled old new before after
-    → count ≤ length after.bytes → IsLine (take count after.bytes)
-    → after.room + length (drop count after.bytes) < before.room + length before.bytes
-less_to_come {old} {new} {before} {after} count f within one =
+-- with the first bytes used, fewer are to come or unread
+pub less_to_come : {old new : Seen} {before after : Unread} (start : Unread) (taken size : ℕ)
+    → before ≡ record start { bytes = drop taken start.bytes } → Filled old new before after → 1 ≤ size
+    → size ≤ length after.bytes
+    → after.room + length (drop size after.bytes) < start.room + length start.bytes
+less_to_come {before = before} {after = after} start taken size left f some within =
     let room = f.room in
+    let room_left = ap (λ (u : Unread). u.room) left in
+    let kept = ap (λ (u : Unread). length u.bytes) left in
     let whole = ap length f.behind in
     let parts = length-append before.bytes f.more in
-    let long = ap length one.whole in
-    let line = length-append one.bytes (line_feed ∷ []) in
-    omega (
-      arith,
-      room,
-      whole,
-      parts,
-      long,
-      line,
-      within,
-      length-take-le count after.bytes within,
-      length-drop count after.bytes,
-    )
+    let fewer = length-drop taken start.bytes in
+    let rest = length-drop size after.bytes in
+    omega (arith, room, room_left, kept, whole, parts, fewer, rest, some, within)
 
 -- ---- the header
 
@@ -179,26 +174,103 @@ header_used {old} {now} {limit} {count} {unread} {line} k both used f some most 
 
 -- ---- rows
 
--- the line is a row that may come next
-pub row_used : {old now : Seen} {limit count : ℕ} {front : TallySeen} {unread : Unread} {line : List ℕ} (row : Row)
-    → Reached old now limit front unread → InFront unread count line → MayFollow front row
-    → line ≡ row_in_columns front.k false row
-    → Reached old now limit (record front { rows = front.rows ++ row ∷ [] })
-    (record unread { bytes = drop count unread.bytes })
-row_used {old} {now} {limit} {count} {front} {unread} {line} row r f follows e = record {
-  lawful = record { some = r.lawful.some; most = r.lawful.most; rows = follows };
-  used =
-      let text : front_of front ++ take count unread.bytes ≡ front_of (record front { rows = front.rows ++ row ∷ [] }) =
-      ap (λ v. front_of front ++ v) (sym f.cut ∙ e) ∙ front_push front row in
-      subst (λ v. Used old now limit v (record unread { bytes = drop count unread.bytes })) text (used_up count r.used);
+-- no row of the bytes was taken yet
+pub takes_none : (front : TallySeen) (bytes : List ℕ) → TakesRows front front bytes 0
+takes_none front bytes = record {
+  more = [];
+  within = omega arith;
+  lawful = λ rows. rows;
+  pushed = ap (λ rows. record front { rows = rows }) (sym (append-nil front.rows));
+  text = refl;
 }
+
+-- the bytes behind those that were taken
+pub still_left : (bytes : List ℕ) (taken : ℕ) → take (length bytes - taken) (drop taken bytes) ≡ drop taken bytes
+still_left bytes taken =
+    let left = length-drop taken bytes in take_all (length bytes - taken) (drop taken bytes) (omega (arith, left))
+
+-- one more was
+pub takes_more : {front before : TallySeen} {rest : List ℕ} (bytes : List ℕ) (taken size : ℕ) (row : Row)
+    → TakesRows front before bytes taken → rest ≡ drop taken bytes → MayFollow before row → size ≤ length rest
+    → take size rest ≡ row_in_columns before.k false row
+    → TakesRows front (record before { rows = before.rows ++ row ∷ [] }) bytes (taken + size)
+takes_more {front} {before} {rest} bytes taken size row t behind follows shorter said =
+    let within : size ≤ length (drop taken bytes) = subst (λ v. size ≤ length v) behind shorter in
+    let e : take size (drop taken bytes) ≡ row_in_columns before.k false row =
+    subst (λ v. take size v ≡ row_in_columns before.k false row) behind said in
+    let same : before.k ≡ front.k = ap (λ (s : TallySeen). s.k) t.pushed in
+    record {
+      more = t.more ++ row ∷ [];
+      within = let left = length-drop taken bytes in let inside = t.within in omega (arith, within, left, inside);
+      lawful = λ _. follows;
+      pushed = ap (λ (s : TallySeen). record s { rows = s.rows ++ row ∷ [] }) t.pushed
+          ∙ ap (λ rows. record front { rows = rows }) (append_assoc front.rows t.more (row ∷ []));
+      text = take-add taken size bytes ∙ ap (λ v. v ++ take size (drop taken bytes)) t.text
+          ∙ ap (λ v. rows_text front.k t.more ++ v) (e ∙ ap (λ k. row_in_columns k false row) same)
+          ∙ rows_push front.k t.more row;
+    }
+
+-- a row has bytes
+pub some_size : (bytes : List ℕ) (k size : ℕ) (row : Row) → take size bytes ≡ row_in_columns k false row → 1 ≤ size
+some_size bytes k zero row e =
+    let long = ap length e in
+    let parts = length-append (row_line k row) (line_feed ∷ []) in
+    omega (arith, long, parts)
+some_size bytes k (suc size) row e = omega arith
+
+-- the rows in front of the unread bytes were taken
+pub rows_used : {old now : Seen} {limit : ℕ} {front next : TallySeen} {unread left : Unread} {bytes : List ℕ} (taken : ℕ)
+    → Reached old now limit front unread → bytes ≡ unread.bytes → TakesRows front next bytes taken
+    → left ≡ record unread { bytes = drop taken unread.bytes } → Reached old now limit next left
+rows_used {old} {now} {limit} {front} {next} {unread} {left} {bytes} taken r same takes is =
+    let t = subst (λ v. TakesRows front next v taken) same takes in
+    let after : TallySeen = record front { rows = front.rows ++ t.more } in
+    let lawful : AreRows after.k after.both after.rows = subst (λ (s : TallySeen). AreRows s.k s.both s.rows) t.pushed
+    (t.lawful r.lawful.rows) in
+    let text : front_of front ++ take taken unread.bytes ≡ front_of after =
+    ap (λ v. front_of front ++ v) t.text ∙ front_more front t.more in
+    let reached : Reached old now limit after left = record {
+      lawful = record { some = r.lawful.some; most = r.lawful.most; rows = lawful };
+      used = subst (λ u. Used old now limit (front_of after) u) (sym is)
+          (subst (λ v. Used old now limit v (record unread { bytes = drop taken unread.bytes })) text
+          (used_up taken r.used));
+    } in
+    subst (λ (s : TallySeen). Reached old now limit s left) (sym t.pushed) reached
+
+-- what stands in the line stands in the unread bytes
+pub within_line : {line : List ℕ} {count : ℕ} (bytes : List ℕ) (size : ℕ) → line ≡ take count bytes → count ≤ length bytes
+    → size ≤ length line → size ≤ length bytes
+within_line {line} {count} bytes size cut inside within =
+    let short = length-take-le count bytes inside in
+    let long = ap length cut in
+    omega (arith, short, long, inside, within)
+
+-- the line begins with a row that may come next
+pub row_used : {old now : Seen} {limit count : ℕ} {front : TallySeen} {unread : Unread} {line : List ℕ} (size : ℕ)
+    (row : Row) → Reached old now limit front unread → line ≡ take count unread.bytes → count ≤ length unread.bytes
+    → MayFollow front row → size ≤ length line → take size line ≡ row_in_columns front.k false row
+    → Reached old now limit (record front { rows = front.rows ++ row ∷ [] })
+    (record unread { bytes = drop size unread.bytes })
+row_used {old} {now} {limit} {count} {front} {unread} {line} size row r cut inside follows within e =
+    let short = length-take-le count unread.bytes inside in
+    let long = ap length cut in
+    let same : take size unread.bytes ≡ take size line =
+    sym (ap (take size) cut ∙ take-take size count unread.bytes (omega (arith, short, long, within))) in
+    let takes : TakesRows front (record front { rows = front.rows ++ row ∷ [] }) unread.bytes size = record {
+      more = row ∷ [];
+      within = within_line unread.bytes size cut inside within;
+      lawful = λ _. follows;
+      pushed = refl;
+      text = same ∙ e ∙ sym (append-nil (row_in_columns front.k false row));
+    } in
+    rows_used size r refl takes refl
 
 -- the line is no such row
 pub row_refused : {old mid new : Seen} {limit count : ℕ} {front : TallySeen} {unread : Unread}
     {line more : List ℕ} (is : Bool) (number : ℕ)
     → Reached old mid limit front unread → TakesAll mid new unread.room more → InFront unread count line
     → BeginsAsEnd line is × (is ≡ false)
-    → ((row : Row) → MayFollow front row → line ≡ row_in_columns front.k false row → ⊥)
+    → ((row : Row) → MayFollow front row → BeginsWith line (row_in_columns front.k false row) → ⊥)
     → number ≡ length front.rows + 2 → RefusesTable old new limit (BadRow number)
 row_refused {front = front} {unread = unread} {more = more} is number r all f told none counted = (
   (front_of front ++ unread.bytes) ++ more,
@@ -210,8 +282,9 @@ row_refused {front = front} {unread = unread} {more = more} is number r all f to
     line = has_line (splits more f);
     no_end = no_end is (splits more f) told.0 told.1;
     no_row = λ row follows at. none row follows
-        (line_is (row_line front.k row) at.0 (splits more f)
-        (Without-row front.k row (follower_fits front row follows).count) at.1);
+        ([], line_is (row_line front.k row) at.0 (splits more f)
+        (Without-row front.k row (follower_fits front row follows).count) at.1
+        ∙ sym (append-nil (row_in_columns front.k false row)));
     counted = counted;
   },
 )

@@ -172,7 +172,7 @@ stopped bytes front rest reads stops (inr e) (inl line) (inl is) = (Err BadEnd, 
 stopped bytes front rest reads stops (inr e) (inl line) (inr is) =
     (Err (BadRow (length front.rows + 2)), record { front = front; rest = rest; reads = reads; line = line; no_end = is; no_row = stops; counted = refl })
 
-rows_push : (k : ℕ) (rows : List Row) (row : Row) → rows_text k rows ++ row_in_columns k false row ≡ rows_text k (rows ++ row ∷ [])
+pub rows_push : (k : ℕ) (rows : List Row) (row : Row) → rows_text k rows ++ row_in_columns k false row ≡ rows_text k (rows ++ row ∷ [])
 rows_push k [] row = sym (append-nil (row_in_columns k false row))
 rows_push k (first ∷ rows) row =
     append_assoc (row_in_columns k false first) (rows_text k rows) (row_in_columns k false row) ∙ ap (λ v. row_in_columns k false first ++ v) (rows_push k rows row)
@@ -183,6 +183,21 @@ pub front_push : (front : TallySeen) (row : Row)
 front_push front row =
     let header = ended (header_line front.k front.both) in
     append_assoc header (rows_text front.k front.rows) (row_in_columns front.k false row) ∙ ap (λ v. header ++ v) (rows_push front.k front.rows row)
+
+-- and more of them
+rows_more : (k : ℕ) (rows more : List Row) → rows_text k rows ++ rows_text k more ≡ rows_text k (rows ++ more)
+rows_more k [] more = refl
+rows_more k (first ∷ rows) more =
+    append_assoc (row_in_columns k false first) (rows_text k rows) (rows_text k more)
+    ∙ ap (λ v. row_in_columns k false first ++ v) (rows_more k rows more)
+
+pub front_more : (front : TallySeen) (more : List Row)
+    → front_text front.k front.both front.rows ++ rows_text front.k more
+    ≡ front_text front.k front.both (front.rows ++ more)
+front_more front more =
+    let header = ended (header_line front.k front.both) in
+    append_assoc header (rows_text front.k front.rows) (rows_text front.k more)
+    ∙ ap (λ v. header ++ v) (rows_more front.k front.rows more)
 
 -- the reading with one row more
 one_more : (bytes : List ℕ) (front : TallySeen) (row : Row) (rest more : List ℕ) → ReadsTo bytes front rest → MayFollow front row

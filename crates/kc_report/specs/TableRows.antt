@@ -1,11 +1,38 @@
--- What a reader of table rows asks of the next one.
-use Rattle.std.specs.Prelude.{◌≡◌, ℕ, ◌+◌, ◌<◌, Bool, nat_lt, List, length, slice_index_or}
+-- The rows of a table text as they are read: source, our formats page ("Table text").
+use Rattle.std.specs.Prelude.{◌≡◌, ℕ, ◌+◌, ◌%◌, ◌^◌, ◌<◌, ◌≤◌, List, [], ◌∷◌, ◌++◌, length, take, decimal}
+use Rattle.std.specs.Prelude.{slice_index, slice_index_or, if◌then◌else◌}
+use Rattle.std.specs.Str.Parse.{AllDigits, digits_value}
+use Rattle.std.specs.Char.{digit_value}
+use Rattle.kc_word.specs.Letter.{is_base, code}
 use Rattle.kc_tally.specs.declared.row.Row.{Row}
+use Rattle.kc_tally.specs.Tally.{AreRows, TallySeen}
+use Rattle.kc_report.specs.Bytes.{line_feed, space}
+use Rattle.kc_report.specs.Table.{rows_text}
 
 -- the word comes behind that of the last row, where there is one
 abbrev pub RisesTo : List Row → ℕ → Type 0
 RisesTo rows word = (i : ℕ) (d : Row) → i + 1 ≡ length rows → (slice_index_or rows i d).word < word
 
--- the byte stands in front of the small letters in ASCII
-abbrev pub is_below_small_letters : ℕ → Bool
-is_below_small_letters byte = nat_lt byte 97
+-- the code of a capital letter of a base, and 4 of any other byte
+abbrev pub capital_code : ℕ → ℕ
+capital_code byte = if is_base byte then code byte else 4
+
+-- a count as it stands in a row, behind a blank and before the line end
+abbrev pub count_text : ℕ → List ℕ
+count_text count = space ∷ decimal count ++ line_feed ∷ []
+
+-- So many digits stand in front of the bytes, and no digit comes behind them. The number is the one that they write, but
+-- for multiples of 2^64.
+pub record HasDigits (bytes : List ℕ) (number many : ℕ) : Type 0 where
+  pub within : many ≤ length bytes
+  pub digits : AllDigits 10 (take many bytes)
+  pub value : number ≡ digits_value 10 (take many bytes) % 2 ^ 64
+  pub last : many < length bytes → 10 ≤ digit_value (slice_index bytes many)
+
+-- rows that may come next were put behind the others, and the first `taken` of the bytes are their text
+pub record TakesRows (before after : TallySeen) (bytes : List ℕ) (taken : ℕ) : Type 0 where
+  pub more : List Row
+  pub within : taken ≤ length bytes
+  pub lawful : AreRows before.k before.both before.rows → AreRows after.k after.both after.rows
+  pub pushed : after ≡ record before { rows = before.rows ++ more }
+  pub text : take taken bytes ≡ rows_text before.k more

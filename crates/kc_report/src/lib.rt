@@ -14,6 +14,7 @@
 mod block;
 mod dumping;
 mod faults;
+mod fields;
 mod histo;
 mod lines;
 mod querying;

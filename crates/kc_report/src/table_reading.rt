@@ -4,6 +4,7 @@ ghost use Rattle.std.specs.Prelude.{IsTrue, IfSome, IfNone, IfOk, IfErr};
 ghost use Rattle.kc_io.specs.Taking.{TakesAll, TakingFails};
 ghost use Rattle.kc_report.specs.Table.{header_line, ended};
 ghost use Rattle.kc_report.specs.TableReading.{GivesTable, RefusesTable};
+ghost use Rattle.kc_report.specs.TableRows.{TakesRows};
 
 use crate::block::Block;
 use crate::faults::ReportFault;
@@ -13,7 +14,7 @@ use crate::table_rows::{TableRows, is_same};
 use kc_io::{Intake, Source, TakeFault};
 use kc_tally::Tally;
 use kc_word::K;
-use std::alloc::Global;
+use std::alloc::{AllocError, Global};
 
 /// Takes all bytes of the source, and answers the tally whose table text they are. It keeps the rows, and of the text
 /// one block and one line. Condition: the limit is at most 2^42.
@@ -43,6 +44,8 @@ pub fn read_table<R: Source>(
     intake.use_up(count);
     let mut rows = TableRows::new(alloc, k, both);
     'lines: loop {
+        let taken = take_rows(&mut rows, intake.as_slice())?;
+        intake.use_up(taken);
         let Some(count) = first_line(reader, &mut intake)? else {
             return Err(ReportFault::BadEnd);
         };
@@ -54,13 +57,26 @@ pub fn read_table<R: Source>(
             }
             return Ok(rows.into_tally(alloc)?);
         }
-        let Some(row) = rows.next_row(line) else {
+        let Some((row, size)) = rows.next_row(line) else {
             intake.skip_rest(reader)?;
             return Err(ReportFault::BadRow(rows.next_line_number()));
         };
         rows.push(row)?;
-        intake.use_up(count);
+        intake.use_up(size);
     }
+}
+
+// Takes the rows in front of the bytes, up to one that is not whole or may not come next, and answers how many bytes they
+// have.
+fn take_rows(rows: &mut TableRows, bytes: &[u8]) -> Result<usize, AllocError>
+    ensures { IfOk result (λ taken. TakesRows rows.old rows.new bytes.now taken) }
+{
+    let mut taken = 0;
+    'rows: while let Some((row, size)) = rows.next_row(&bytes[taken..]) {
+        rows.push(row)?;
+        taken += size;
+    }
+    Ok(taken)
 }
 
 // Takes all that comes of the source, and answers whether the first `count` unread bytes are the last of all.

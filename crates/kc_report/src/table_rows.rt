@@ -1,23 +1,21 @@
 //! The header and the rows of a table text, as far as they were read.
-ghost use Rattle.std.specs.Prelude.{◌≡◌, ◌≢◌, ◌↔◌, ℕ, ◌+◌, ◌<◌, ◌^◌, ◌++◌, [], ◌∷◌, false, length, decimal};
-ghost use Rattle.std.specs.Prelude.{IsTrue, IfSome, IfNone, IfOk, OnOk, Some};
+ghost use Rattle.std.specs.Prelude.{◌≡◌, ◌↔◌, ◌+◌, ◌<◌, ◌≤◌, ◌^◌, ◌++◌, [], ◌∷◌, false, length, take};
+ghost use Rattle.std.specs.Prelude.{IsTrue, IfSome, IfNone, IfOk, OnOk};
 ghost use Rattle.kc_tally.specs.declared.row.Row.{Row};
 ghost use Rattle.kc_word.specs.Word.{text, form};
 ghost use Rattle.kc_report.specs.Dumping.{row_in_columns};
 ghost use Rattle.kc_report.specs.Table.{end_text};
-ghost use Rattle.kc_report.specs.TableReading.{MayFollow};
-ghost use Rattle.kc_report.specs.TableRows.{RisesTo, is_below_small_letters};
-ghost use Rattle.std.specs.List.{list_all};
+ghost use Rattle.kc_report.specs.TableReading.{BeginsWith, MayFollow};
+ghost use Rattle.kc_report.specs.TableRows.{RisesTo};
 
 use crate::block::Block;
 use crate::dumping::GREATEST_COUNT;
+use crate::fields::{count_of, word_of};
 use crate::table::push_end;
-use itoa::Buffer;
 use kc_tally::{Row, Tally};
-use kc_word::{K, Word, canonical, pack};
+use kc_word::{K, Word, canonical};
 use std::alloc::{AllocError, Global};
 use std::marker::Model;
-use std::str;
 
 // Seen as the tally of the rows so far.
 #[derive(Drop)]
@@ -59,20 +57,22 @@ impl TableRows {
         self.rows.len() as u64 + 2
     }
 
-    // The row that the line says, where it may come next.
-    pub(crate) fn next_row(&self, line: &[u8]) -> Option<Row>
-        ensures some { IfSome result (λ row. line.now ≡ row_in_columns self.now.k false row) }
-        ensures follows { IfSome result (λ row. MayFollow self.now row) }
+    // The row in front of the bytes, where it may come next, and how many bytes it has.
+    #[inline(always)]
+    pub(crate) fn next_row(&self, bytes: &[u8]) -> Option<(Row, usize)>
+        ensures within { IfSome result (λ found. found.1 ≤ length bytes.now) }
+        ensures some { IfSome result (λ found. take found.1 bytes.now ≡ row_in_columns self.now.k false found.0) }
+        ensures follows { IfSome result (λ found. MayFollow self.now found.0) }
         ensures none { IfNone result ((row : Row) → MayFollow self.now row
-            → line.now ≢ row_in_columns self.now.k false row) }
+            → ¬ BeginsWith bytes.now (row_in_columns self.now.k false row)) }
     {
-        let Some(row) = row_of(line, self.k) else {
+        let Some((row, size)) = row_of(bytes, self.k) else {
             return None;
         };
         if !self.may_follow(row) {
             return None;
         }
-        Some(row)
+        Some((row, size))
     }
 
     // Whether the row may come next.
@@ -138,75 +138,20 @@ fn is_form(word: Word, k: K, both: bool) -> bool
     }
 }
 
-// The row that the line says.
-fn row_of(line: &[u8], k: K) -> Option<Row>
-    ensures below { IfSome result (λ row. row.word < 4 ^ k) }
-    ensures small { IfSome result (λ row. row.count < 2 ^ 64) }
-    ensures some { IfSome result (λ row. line.now ≡ row_in_columns k false row) }
-    ensures none { IfNone result ((row : Row) → row.word < 4 ^ k → row.count < 2 ^ 64
-        → line.now ≢ row_in_columns k false row) }
+// The row in front of the bytes, and how many bytes it has.
+#[inline(always)]
+fn row_of(bytes: &[u8], k: K) -> Option<(Row, usize)>
+    ensures within { IfSome result (λ found. found.1 ≤ length bytes.now) }
+    ensures below { IfSome result (λ found. found.0.word < 4 ^ k) }
+    ensures small { IfSome result (λ found. found.0.count < 2 ^ 64) }
+    ensures some { IfSome result (λ found. take found.1 bytes.now ≡ row_in_columns k false found.0) }
+    ensures none { IfNone result ((row : Row) → row.word < 4 ^ k → 1 ≤ row.count → row.count ≤ 2 ^ 62
+        → ¬ BeginsWith bytes.now (row_in_columns k false row)) }
 {
-    let (letters, fields) = line.split_at_checked(k.get() as usize)?;
+    let (letters, fields) = bytes.split_at_checked(k.get() as usize)?;
     let word = word_of(letters, k)?;
-    let digits = fields.strip_prefix(b" ")?.strip_suffix(b"\n")?;
-    let count = count_of(digits)?;
-    Some(Row { word, count })
-}
-
-// The word that capital letters spell.
-fn word_of(letters: &[u8], k: K) -> Option<u64>
-    ensures below { IfSome result (λ word. word < 4 ^ k) }
-    ensures some { IfSome result (λ word. letters.now ≡ text k word) }
-    ensures none { IfNone result ((word : ℕ) → word < 4 ^ k → letters.now ≢ text k word) }
-{
-    let Some(word) = pack(letters, k) else {
-        return None;
-    };
-    if !are_below_small_letters(letters) {
-        return None;
-    }
-    Some(word.0)
-}
-
-// Whether no byte is a small letter or greater. Every byte is looked at, so that the loop has no exit inside.
-fn are_below_small_letters(bytes: &[u8]) -> bool
-    ensures { result ≡ list_all is_below_small_letters bytes.now }
-{
-    let mut all = true;
-    for byte in bytes {
-        all &= *byte < b'a';
-    }
-    all
-}
-
-// The number that digits say, which has one spelling.
-fn count_of(digits: &[u8]) -> Option<u64>
-    ensures small { IfSome result (λ number. number < 2 ^ 64) }
-    ensures some { IfSome result (λ number. digits.now ≡ decimal number) }
-    ensures none { IfNone result ((number : ℕ) → number < 2 ^ 64 → digits.now ≢ decimal number) }
-{
-    let Some(number) = number_of(digits) else {
-        return None;
-    };
-    let mut spelled = Buffer::new();
-    if digits != spelled.format(number).as_bytes() {
-        return None;
-    }
-    Some(number)
-}
-
-// The number of a text that may be a number: where it is one in decimal, it is this one.
-fn number_of(digits: &[u8]) -> Option<u64>
-    ensures small { IfSome result (λ number. number < 2 ^ 64) }
-    ensures found { (n : ℕ) → n < 2 ^ 64 → digits.now ≡ decimal n → result ≡ Some n }
-{
-    let Ok(text) = str::from_utf8(digits) else {
-        return None;
-    };
-    match text.parse::<u64>() {
-        Ok(number) => Some(number),
-        Err(_) => None,
-    }
+    let (count, size) = count_of(fields)?;
+    Some((Row { word, count }, letters.len() + size))
 }
 
 // Whether the bytes are what the block holds.

@@ -1,0 +1,103 @@
+//! The fields of a table's row.
+ghost use Rattle.std.specs.Prelude.{◌≡◌, ◌≢◌, ℕ, ◌≤◌, ◌<◌, ◌^◌, length, take, IfSome, IfNone};
+ghost use Rattle.kc_word.specs.Word.{text};
+ghost use Rattle.kc_report.specs.TableReading.{BeginsWith};
+ghost use Rattle.kc_report.specs.TableRows.{capital_code, count_text, HasDigits};
+
+use kc_word::K;
+
+// What `code_of` gives of a byte that is no capital letter of a base.
+const NO_BASE: u8 = 4;
+
+// the code at the capital letters of the bases, and NO_BASE elsewhere
+#[rattlefmt::skip]
+static CODES: [u8; 256] = [
+    4, 4, 4, 4, 4, 4, 4, 4, 4, 4, 4, 4, 4, 4, 4, 4,
+    4, 4, 4, 4, 4, 4, 4, 4, 4, 4, 4, 4, 4, 4, 4, 4,
+    4, 4, 4, 4, 4, 4, 4, 4, 4, 4, 4, 4, 4, 4, 4, 4,
+    4, 4, 4, 4, 4, 4, 4, 4, 4, 4, 4, 4, 4, 4, 4, 4,
+    4, 0, 4, 1, 4, 4, 4, 2, 4, 4, 4, 4, 4, 4, 4, 4,
+    4, 4, 4, 4, 3, 4, 4, 4, 4, 4, 4, 4, 4, 4, 4, 4,
+    4, 4, 4, 4, 4, 4, 4, 4, 4, 4, 4, 4, 4, 4, 4, 4,
+    4, 4, 4, 4, 4, 4, 4, 4, 4, 4, 4, 4, 4, 4, 4, 4,
+    4, 4, 4, 4, 4, 4, 4, 4, 4, 4, 4, 4, 4, 4, 4, 4,
+    4, 4, 4, 4, 4, 4, 4, 4, 4, 4, 4, 4, 4, 4, 4, 4,
+    4, 4, 4, 4, 4, 4, 4, 4, 4, 4, 4, 4, 4, 4, 4, 4,
+    4, 4, 4, 4, 4, 4, 4, 4, 4, 4, 4, 4, 4, 4, 4, 4,
+    4, 4, 4, 4, 4, 4, 4, 4, 4, 4, 4, 4, 4, 4, 4, 4,
+    4, 4, 4, 4, 4, 4, 4, 4, 4, 4, 4, 4, 4, 4, 4, 4,
+    4, 4, 4, 4, 4, 4, 4, 4, 4, 4, 4, 4, 4, 4, 4, 4,
+    4, 4, 4, 4, 4, 4, 4, 4, 4, 4, 4, 4, 4, 4, 4, 4,
+];
+
+// The code of a capital letter of a base, or `NO_BASE`.
+#[inline(always)]
+fn code_of(byte: u8) -> u8
+    ensures { result ≡ capital_code byte }
+{
+    CODES[byte as usize]
+}
+
+/// The word that capital letters spell. Every letter is looked at, so that the loop has no exit inside.
+#[inline(always)]
+pub(crate) fn word_of(letters: &[u8], k: K) -> Option<u64>
+    ensures below { IfSome result (λ word. word < 4 ^ k) }
+    ensures some { IfSome result (λ word. letters.now ≡ text k word) }
+    ensures none { IfNone result ((word : ℕ) → word < 4 ^ k → letters.now ≢ text k word) }
+{
+    if letters.len() != k.get() as usize {
+        return None;
+    }
+    let mut number = 0u64;
+    let mut seen = 0u8;
+    for letter in letters {
+        let code = code_of(*letter);
+        number = number * 4 + code as u64;
+        seen |= code;
+    }
+    if seen >= NO_BASE {
+        return None;
+    }
+    Some(number)
+}
+
+// The most digits of a count: the greatest one, 2^62, has so many.
+const MOST_DIGITS: usize = 19;
+
+/// The count that stands in front of bytes, behind a blank and before a line end, and how many bytes they are together.
+#[inline(always)]
+pub(crate) fn count_of(fields: &[u8]) -> Option<(u64, usize)>
+    ensures within { IfSome result (λ found. found.1 ≤ length fields.now) }
+    ensures small { IfSome result (λ found. found.0 < 2 ^ 64) }
+    ensures some { IfSome result (λ found. take found.1 fields.now ≡ count_text found.0) }
+    ensures none { IfNone result ((count : ℕ) → 1 ≤ count → count ≤ 2 ^ 62
+        → ¬ BeginsWith fields.now (count_text count)) }
+{
+    let [b' ', digits @ ..] = fields else {
+        return None;
+    };
+    let (count, many) = digits_of(digits);
+    if many < 1 || many > MOST_DIGITS || many == digits.len() {
+        return None;
+    }
+    if digits[0] == b'0' || digits[many] != b'\n' {
+        return None;
+    }
+    Some((count, many + 2))
+}
+
+// The number that the digits in front of bytes write, and how many they are. Where they are many the number is wrong.
+#[inline(always)]
+fn digits_of(bytes: &[u8]) -> (u64, usize)
+    ensures { HasDigits bytes.now result.0 result.1 }
+{
+    let mut number = 0u64;
+    for i in 0..bytes.len() {
+        let digit = bytes[i].wrapping_sub(b'0');
+        if digit > 9 {
+            return (number, i);
+        }
+        number = number.wrapping_mul(10).wrapping_add(digit as u64);
+    }
+    (number, bytes.len())
+}
