@@ -1,12 +1,12 @@
 -- How many words have a count, from the bins of a tally and row by row.
-use Rattle.std.proofs.Common.{◌≡◌, ℕ, ◌+◌, ◌-◌, ◌<◌, ◌≤◌, ⊎_elim, cond, eqb, List, [], ◌∷◌, ◌++◌, length, get_or, set, take}
-use Rattle.std.proofs.Common.{refl, sym, ap, ◌∙◌, arith, length-set, replicate}
+use Rattle.std.proofs.Common.{◌≡◌, ℕ, ◌+◌, ◌-◌, ◌<◌, ◌≤◌, ⊎_elim, cond, eqb, List, [], ◌∷◌, ◌++◌, length, get_or, set}
+use Rattle.std.proofs.Common.{refl, sym, ap, ◌∙◌, arith, length-set, replicate, eq-eqb, ne_eqb, append-nil, append_assoc}
 use Rattle.std.specs.Prelude.{◌==◌, nat_lt, All}
 use Rattle.std.proofs.lemmas.Bool.{cases_eq}
 use Rattle.std.proofs.lemmas.Bool.Decides.{nat_tests}
-use Rattle.std.proofs.lemmas.List.{ext_get_or, get_or-set_same, get_or-set_other, get_or-replicate, length-replicate, length-take-le}
+use Rattle.std.proofs.lemmas.List.{ext_get_or, get_or-set_same, get_or-set_other, get_or-replicate, length-replicate, length-append}
 use Rattle.std.proofs.lemmas.List.FromFn.{length-map-range_with_len, get_or-map-range_with_len, map-range_with_len_more}
-use Rattle.std.proofs.lemmas.List.Sums.{count_by-le-length, count_by_more_yes, count_by_more_no}
+use Rattle.std.proofs.lemmas.List.Sums.{count_by-le-length, sum_by-append}
 use Rattle.kc_base.proofs.Sums.{count_by-same, count_by-all, sum_by-plus, sum_by-same}
 use Rattle.kc_tally.specs.declared.row.Row.{Row}
 use Rattle.kc_tally.specs.Histogram.{last_bin, bin_of, bin_count}
@@ -50,66 +50,91 @@ words_by_count-zeros high words zeros =
 pub words_with_count-most : (rows : List Row) (count : ℕ) → words_with_count rows count ≤ length rows
 words_with_count-most rows count = count_by-le-length (λ row. row.count == count) rows
 
-more_here : (rows : List Row) (i count : ℕ) (d : Row) → i < length rows → (get_or rows i d).count ≡ count
-    → words_with_count (take (i + 1) rows) count ≡ words_with_count (take i rows) count + 1
-more_here rows i count d below e = count_by_more_yes (λ row. row.count == count) rows i d below (grind (arith, nat_tests, e))
+one_with : Row → ℕ → ℕ
+one_with row count = cond (eqb row.count count) 1 0
 
-same_else : (rows : List Row) (i count : ℕ) (d : Row) → i < length rows → ((get_or rows i d).count ≡ count → ⊥)
-    → words_with_count (take (i + 1) rows) count ≡ words_with_count (take i rows) count
-same_else rows i count d below ne = count_by_more_no (λ row. row.count == count) rows i d below (grind (arith, nat_tests, ne))
+with_count-push : (rows : List Row) (row : Row) (count : ℕ)
+    → words_with_count (rows ++ row ∷ []) count ≡ words_with_count rows count + one_with row count
+unfolding one_with
+with_count-push rows row count =
+    sum_by-append (λ (r : Row). cond (eqb r.count count) 1 0) rows (row ∷ [])
+    ∙ ap (λ n. words_with_count rows count + n) (let one : 0 + cond (eqb row.count count) 1 0 ≡ cond (eqb row.count count) 1 0 = omega arith in one)
 
--- the next row has one of the counts
-words_by_count-row : (high : ℕ) (rows : List Row) (i : ℕ) (d : Row) → i < length rows
-    → 1 ≤ (get_or rows i d).count → (get_or rows i d).count ≤ high
-    → let count = (get_or rows i d).count in
-    let old = words_by_count high (take i rows) in
-    set old (count - 1) (get_or old (count - 1) 0 + 1) ≡ words_by_count high (take (i + 1) rows)
-words_by_count-row high rows i d below some most =
-    let count = (get_or rows i d).count in
-    let old = words_by_count high (take i rows) in
-    let long = length-words_by_count high (take i rows) in
+more_here : (rows : List Row) (row : Row) (count : ℕ) → row.count ≡ count
+    → words_with_count (rows ++ row ∷ []) count ≡ words_with_count rows count + 1
+unfolding one_with
+more_here rows row count e =
+    with_count-push rows row count ∙ ap (λ b. words_with_count rows count + cond b 1 0) (eq-eqb row.count count e)
+
+same_else : (rows : List Row) (row : Row) (count : ℕ) → (row.count ≡ count → ⊥)
+    → words_with_count (rows ++ row ∷ []) count ≡ words_with_count rows count
+unfolding one_with
+same_else rows row count ne =
+    let sum = with_count-push rows row count ∙ ap (λ b. words_with_count rows count + cond b 1 0) (ne_eqb row.count count ne) in
+    omega (arith, sum)
+
+-- one row more, which has one of the counts
+words_by_count-row : (high : ℕ) (rows : List Row) (row : Row) → 1 ≤ row.count → row.count ≤ high
+    → let old = words_by_count high rows in
+    set old (row.count - 1) (get_or old (row.count - 1) 0 + 1) ≡ words_by_count high (rows ++ row ∷ [])
+words_by_count-row high rows row some most =
+    let count = row.count in
+    let old = words_by_count high rows in
+    let long = length-words_by_count high rows in
     let new = set old (count - 1) (get_or old (count - 1) 0 + 1) in
-    from_each high (take (i + 1) rows) new (length-set old (count - 1) (get_or old (count - 1) 0 + 1) ∙ long) (λ k l.
+    from_each high (rows ++ row ∷ []) new (length-set old (count - 1) (get_or old (count - 1) 0 + 1) ∙ long) (λ k l.
     ⊎_elim
     (λ e. let here : count ≡ k + 1 = omega (arith, e, some) in
     ap (λ j. get_or (set old j (get_or old j 0 + 1)) k 0) e ∙ get_or-set_same old k (get_or old k 0 + 1) 0 (omega (arith, l, long))
-    ∙ ap (λ n. n + 1) (get_or-words_by_count high (take i rows) k l) ∙ sym (more_here rows i (k + 1) d below here))
+    ∙ ap (λ n. n + 1) (get_or-words_by_count high rows k l) ∙ sym (more_here rows row (k + 1) here))
     (λ ne. get_or-set_other old (count - 1) k (get_or old (count - 1) 0 + 1) 0 (λ e. ne (sym e))
-    ∙ get_or-words_by_count high (take i rows) k l ∙ sym (same_else rows i (k + 1) d below (λ e. ne (omega (arith, e)))))
+    ∙ get_or-words_by_count high rows k l ∙ sym (same_else rows row (k + 1) (λ e. ne (omega (arith, e)))))
     (cases_eq (count - 1) k))
 
--- a step of a counting row by row: the rows before the index are counted, and the row there has a count up to high
-pub record CountStep (high : ℕ) (rows : List Row) : Type 0 where
-  pub words : List ℕ
-  pub index : ℕ
-  pub no_row : Row
-  pub counted : words ≡ words_by_count high (take index rows)
-  pub within : index < length rows
-  pub some : 1 ≤ (get_or rows index no_row).count
-  pub most : (get_or rows index no_row).count ≤ high
+-- or a greater one
+words_by_count-past : (high : ℕ) (rows : List Row) (row : Row) → high < row.count → words_by_count high rows ≡ words_by_count high (rows ++ row ∷ [])
+words_by_count-past high rows row past =
+    from_each high (rows ++ row ∷ []) (words_by_count high rows) (length-words_by_count high rows) (λ k l.
+    get_or-words_by_count high rows k l ∙ sym (same_else rows row (k + 1) (λ e. omega (arith, e, l, past))))
 
--- the row is counted
-pub counted_row : (high : ℕ) (rows : List Row) (s : CountStep high rows)
-    → let count = (get_or rows s.index s.no_row).count in
-    set s.words (count - 1) (get_or s.words (count - 1) 0 + 1) ≡ words_by_count high (take (s.index + 1) rows)
-counted_row high rows s =
-    let count = (get_or rows s.index s.no_row).count in
-    ap (λ v. set v (count - 1) (get_or v (count - 1) 0 + 1)) s.counted ∙ words_by_count-row high rows s.index s.no_row s.within s.some s.most
+-- of all rows some are counted, and the others are left
+pub record AreCounted (high : ℕ) (rows left : List Row) (words : List ℕ) : Type 0 where
+  pub seen : List Row
+  pub split : rows ≡ seen ++ left
+  pub counted : words ≡ words_by_count high seen
 
--- no place is fuller than as many rows were counted
-pub counted-most : (high : ℕ) (words : List ℕ) (rows : List Row) (i j : ℕ) → words ≡ words_by_count high (take i rows)
-    → i ≤ length rows → j < high → get_or words j 0 ≤ i
-counted-most high words rows i j e within below =
-    let is : get_or words j 0 ≡ words_with_count (take i rows) (j + 1) =
-    ap (λ v. get_or v j 0) e ∙ get_or-words_by_count high (take i rows) j below in
-    omega (arith, is, words_with_count-most (take i rows) (j + 1), length-take-le i rows within)
+pub counted-none : (rows : List Row) (words : List ℕ) → words ≡ words_by_count (length words) [] → AreCounted (length words) rows rows words
+counted-none rows words none = record { seen = []; split = refl; counted = none }
 
--- the next row has a greater count
-pub words_by_count-past : (high : ℕ) (rows : List Row) (i : ℕ) (d : Row) → i < length rows → high < (get_or rows i d).count
-    → words_by_count high (take i rows) ≡ words_by_count high (take (i + 1) rows)
-words_by_count-past high rows i d below past =
-    from_each high (take (i + 1) rows) (words_by_count high (take i rows)) (length-words_by_count high (take i rows)) (λ k l.
-    get_or-words_by_count high (take i rows) k l ∙ sym (same_else rows i (k + 1) d below (λ e. omega (arith, e, l, past))))
+pub counted-row : (high : ℕ) (rows left later : List Row) (words : List ℕ) (row : Row) → AreCounted high rows left words → left ≡ row ∷ later
+    → 1 ≤ row.count → row.count ≤ high → AreCounted high rows later (set words (row.count - 1) (get_or words (row.count - 1) 0 + 1))
+counted-row high rows left later words row is next some most = record {
+  seen = is.seen ++ row ∷ [];
+  split = is.split ∙ ap (λ v. is.seen ++ v) next ∙ sym (append_assoc is.seen (row ∷ []) later);
+  counted = ap (λ v. set v (row.count - 1) (get_or v (row.count - 1) 0 + 1)) is.counted ∙ words_by_count-row high is.seen row some most;
+}
+
+pub counted-past : (high : ℕ) (rows left later : List Row) (words : List ℕ) (row : Row) → AreCounted high rows left words → left ≡ row ∷ later
+    → high < row.count → AreCounted high rows later words
+counted-past high rows left later words row is next past = record {
+  seen = is.seen ++ row ∷ [];
+  split = is.split ∙ ap (λ v. is.seen ++ v) next ∙ sym (append_assoc is.seen (row ∷ []) later);
+  counted = is.counted ∙ words_by_count-past high is.seen row past;
+}
+
+pub counted-all : (high : ℕ) (rows left : List Row) (words : List ℕ) → AreCounted high rows left words → left ≡ [] → words ≡ words_by_count high rows
+counted-all high rows left words is none =
+    is.counted ∙ ap (words_by_count high) (sym (append-nil is.seen) ∙ ap (λ v. is.seen ++ v) (sym none) ∙ sym is.split)
+
+-- while a row is left, no place is as full as there are rows
+pub counted-most : (high : ℕ) (rows left later : List Row) (words : List ℕ) (row : Row) → AreCounted high rows left words → left ≡ row ∷ later
+    → (j : ℕ) → j < high → get_or words j 0 < length rows
+counted-most high rows left later words row is next j below =
+    let at : get_or words j 0 ≡ words_with_count is.seen (j + 1) =
+    ap (λ v. get_or v j 0) is.counted ∙ get_or-words_by_count high is.seen j below in
+    let long = ap length is.split ∙ length-append is.seen left in
+    let more = ap length next in
+    omega (arith, at, words_with_count-most is.seen (j + 1), long, more)
 
 -- where each count is at least 1, all words occur more often than 0 times
 pub words_above-all : (rows : List Row) → All (λ row. 1 ≤ row.count) rows → words_above rows 0 ≡ length rows

@@ -80,7 +80,7 @@ fn dump_by_blocks<W: Sink>(writer: &mut W, tally: &Tally, dump: &Dump) -> Result
 {
     let mut block = Block::new();
     for row in tally.rows() {
-        put_row(writer, &mut block, tally.k(), dump, *row)?;
+        put_row(writer, &mut block, tally.k(), dump, row)?;
     }
     write_out(writer, block.as_slice())
 }

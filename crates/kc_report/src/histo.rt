@@ -1,5 +1,5 @@
 //! The histogram of a tally: how many words have which count.
-ghost use Rattle.std.specs.Prelude.{◌≡◌, ◌≤◌, ◌<◌, ◌+◌, ◌++◌, [], length, All, IfOk, OnOk, OnErr};
+ghost use Rattle.std.specs.Prelude.{◌≡◌, ◌≤◌, ◌<◌, ◌+◌, ◌++◌, [], length, IfOk, OnOk, OnErr};
 ghost use Rattle.kc_io.specs.Sinks.{Writes, HasBegun, Drains};
 ghost use Rattle.kc_tally.specs.Histogram.{last_bin};
 ghost use Rattle.kc_report.specs.Histo.{histo_text, words_by_count, count_line, WritesUnlessMemory};
@@ -7,7 +7,7 @@ ghost use Rattle.kc_report.specs.Histo.{histo_text, words_by_count, count_line, 
 use crate::block::{Block, NUMBER_SIZE};
 use crate::faults::ReportFault;
 use kc_io::{Failed, Sink, write_out};
-use kc_tally::{Row, Tally};
+use kc_tally::Tally;
 use std::alloc::{AllocError, Global};
 
 /// The greatest count that a histogram can have a line of its own for.
@@ -44,7 +44,7 @@ fn words_by_count(alloc: Global, tally: &Tally, high: u64) -> Result<Vec<u64>, A
     if high < LAST_BIN {
         words_of_bins(alloc, tally, high)
     } else {
-        words_of_rows(alloc, tally.rows(), high)
+        words_of_rows(alloc, tally, high)
     }
 }
 
@@ -61,23 +61,21 @@ fn words_of_bins(alloc: Global, tally: &Tally, high: u64) -> Result<Vec<u64>, Al
 }
 
 // The same, row by row.
-fn words_of_rows(alloc: Global, rows: &[Row], high: u64) -> Result<Vec<u64>, AllocError>
-    requires present { All (λ row. 1 ≤ row.count) rows.now }
-    requires most { high ≤ GREATEST_HIGH }
-    ensures { IfOk result (λ words. words.items ≡ words_by_count high rows.now) }
+fn words_of_rows(alloc: Global, tally: &Tally, high: u64) -> Result<Vec<u64>, AllocError>
+    requires { high ≤ GREATEST_HIGH }
+    ensures { IfOk result (λ words. words.items ≡ words_by_count high tally.now.rows) }
 {
     let mut words = vec![in alloc; 0u64; high as usize]?;
-    count_rows(words.as_mut_slice(), rows);
+    count_rows(words.as_mut_slice(), tally);
     Ok(words)
 }
 
 // Counts the rows that have one of the counts.
-fn count_rows(words: &mut [u64], rows: &[Row])
-    requires none { words.old ≡ words_by_count (length words.old) [] }
-    requires present { All (λ row. 1 ≤ row.count) rows.now }
-    ensures { words.new ≡ words_by_count (length words.old) rows.now }
+fn count_rows(words: &mut [u64], tally: &Tally)
+    requires { words.old ≡ words_by_count (length words.old) [] }
+    ensures { words.new ≡ words_by_count (length words.old) tally.now.rows }
 {
-    for row in rows {
+    for row in tally.rows() {
         if row.count <= words.len() as u64 {
             words[row.count as usize - 1] += 1;
         }
@@ -90,7 +88,7 @@ fn histo_by_blocks<W: Sink>(writer: &mut W, tally: &Tally, words: &[u64]) -> Res
     ensures { Writes (W.seen writer.old) (W.seen writer.new) result (histo_text (length words.now) tally.now.rows) }
 {
     let mut block = Block::new();
-    let mut above = tally.rows().len() as u64;
+    let mut above = tally.row_count();
     for i in 0..words.len() {
         put_line(writer, &mut block, i as u64 + 1, words[i])?;
         above -= words[i];

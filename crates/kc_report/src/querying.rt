@@ -1,9 +1,7 @@
 //! Queries: the counts of asked words.
 ghost use Rattle.std.specs.Prelude.{◌≡◌, ◌+◌, ◌≤◌, ◌<◌, ◌^◌, ◌++◌, length, map, All, MatchOption, string_bytes};
-ghost use Rattle.std.specs.List.Sorted.{IsStrictlyIncreasing};
 ghost use Rattle.kc_io.specs.Sinks.{Writes};
 ghost use Rattle.kc_word.specs.Word.{text, form};
-ghost use Rattle.kc_tally.specs.Tally.{count_of};
 ghost use Rattle.kc_report.specs.Querying.{IsAskable, IsFirstBadWord, query_line, query_text, Answers};
 
 use crate::block::{BLOCK_SIZE, Block};
@@ -66,7 +64,7 @@ fn push_answer(block: &mut Block, tally: &Tally, asked: &[u8])
     let k = tally.k();
     if let Some(word) = pack(asked, k) {
         let word = counted_form(word, k, tally.both());
-        let count = count_in(tally.rows(), word.0);
+        let count = tally.count_of(word.0);
         push_columns(
             block,
             k,
@@ -86,15 +84,4 @@ fn counted_form(word: Word, k: K, both: bool) -> Word
     ensures formed { text k result.0 ≡ form both (text k word.0) }
 {
     if both { canonical(word, k) } else { word }
-}
-
-// The count of a word in rows that rise, 0 where it has no row.
-fn count_in(rows: &[Row], word: u64) -> u64
-    requires { IsStrictlyIncreasing (map (λ row. row.word) rows.now) }
-    ensures { result ≡ count_of rows.now word }
-{
-    match rows.binary_search_by_key(&word, |row| row.word) {
-        Ok(index) => rows[index].count,
-        Err(_) => 0,
-    }
 }

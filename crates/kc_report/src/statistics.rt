@@ -7,7 +7,7 @@ ghost use Rattle.kc_report.specs.Statistics.{statistics_text, named_line, greate
 use crate::block::Block;
 use crate::faults::ReportFault;
 use kc_io::{Sink, write_out};
-use kc_tally::{Row, Tally};
+use kc_tally::Tally;
 
 /// Writes the statistics of a tally: how many words occur once, how many occur, how often all of them together, and how
 /// often the one that occurs most. It takes no memory.
@@ -27,11 +27,10 @@ fn statistics_of(tally: &Tally) -> Block
     ensures { result ≡ statistics_text tally.now.rows }
 {
     let mut block = Block::new();
-    let rows = tally.rows();
     push_line(&mut block, b"Unique:    ", tally.bin(1));
-    push_line(&mut block, b"Distinct:  ", rows.len() as u64);
+    push_line(&mut block, b"Distinct:  ", tally.row_count());
     push_line(&mut block, b"Total:     ", tally.total());
-    push_line(&mut block, b"Max_count: ", greatest_count(rows));
+    push_line(&mut block, b"Max_count: ", greatest_count(tally));
     block
 }
 
@@ -48,11 +47,11 @@ fn push_line(block: &mut Block, name: &[u8], number: u64)
 }
 
 // The greatest count, 0 where there is no row.
-fn greatest_count(rows: &[Row]) -> u64
-    ensures { result ≡ greatest_count rows.now }
+fn greatest_count(tally: &Tally) -> u64
+    ensures { result ≡ greatest_count tally.now.rows }
 {
     let mut greatest = 0;
-    for row in rows {
+    for row in tally.rows() {
         greatest = row.count.max(greatest);
     }
     greatest

@@ -178,7 +178,7 @@ fn fronts_of_a_table_byte_by_byte(rt: HostRuntime) -> Result<(), Fail> {
     }
     let tally = read_slowly(rt.alloc(), TABLE, usize::MAX, 30)?;
     assert_eq!(rt; tally.total(), 3);
-    assert_eq!(rt; tally.rows().len(), 2);
+    assert_eq!(rt; tally.row_count(), 2);
     let more = b"KCT 1 3 c\nACG 2\nGTA 1\nEND 2 3\n\n";
     let fault = read_slowly(rt.alloc(), more, usize::MAX, 100).err();
     assert_eq!(rt; fault, Some(ReportFault::BadEnd));

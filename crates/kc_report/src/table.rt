@@ -33,13 +33,12 @@ fn table_by_blocks<W: Sink>(writer: &mut W, tally: &Tally) -> Result<(), Failed>
 {
     let mut block = Block::new();
     push_header(&mut block, tally.k(), tally.both());
-    let rows = tally.rows();
-    for row in rows {
+    for row in tally.rows() {
         block.make_room(writer, ROW_SIZE)?;
-        push_columns(&mut block, tally.k(), false, *row);
+        push_columns(&mut block, tally.k(), false, row);
     }
     block.make_room(writer, END_SIZE)?;
-    push_end(&mut block, rows.len() as u64, tally.total());
+    push_end(&mut block, tally.row_count(), tally.total());
     write_out(writer, block.as_slice())
 }
 

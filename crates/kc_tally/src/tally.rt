@@ -99,7 +99,8 @@ impl Tally {
 
     /// How many rows there are.
     pub fn row_count(&self) -> u64
-        ensures { result ≡ length self.now.rows }
+        ensures value { result ≡ length self.now.rows }
+        ensures lawful { AreRows self.now.k self.now.both self.now.rows }
     {
         row_count(&self.parts)
     }

@@ -1,40 +1,47 @@
-use Rattle.std.proofs.Common.{◌≤◌, ◌-◌, ◌<◌, get_or, length, ◌∙◌, arith}
-use Rattle.kc_tally.specs.declared.row.Row.{Row}
-use Rattle.kc_report.proofs.CountLemmas.{counted_row, counted-most, words_by_count-past}
+use Rattle.std.proofs.Common.{◌≤◌, ◌-◌, ◌<◌, length, All, arith, subst}
+use Rattle.std.proofs.lemmas.List.Elements.{All-head, All-rest}
+use Rattle.kc_tally.proofs.Parts.{rows-few}
+use Rattle.kc_report.proofs.CountLemmas.{counted-row, counted-past, counted-most}
 use Rattle.kc_report.proofs.histo.count_rows.Goals as goal
-use Rattle.kc_report.proofs.histo.count_rows.Goals.{then-row-words, else-row-words}
+use Rattle.kc_report.proofs.histo.count_rows.Goals.{In-Some}
 
-abbrev no_row : Row
-no_row = record { word = 0; count = 0 }
+some : (c : In-Some) → 1 ≤ c.in-Some.row.count
+some c =
+    All-head (λ row. 1 ≤ row.count) c.in-Some.row c.next.new.self
+    (subst (All (λ row. 1 ≤ row.count)) c.in-Some.ensures.steps c.loop-row.invariant.present)
+
+rest : (c : In-Some) → All (λ row. 1 ≤ row.count) c.next.new.self
+rest c = All-rest (λ row. 1 ≤ row.count) c.in-Some.row c.next.new.self c.loop-row.row-iterator c.in-Some.ensures.steps c.loop-row.invariant.present
 
 pub overflow_add-words : goal.overflow_add-words
 overflow_add-words c =
-    let count = (get_or c.args.rows.now c.loop-row.row-index no_row).count in
-    let some : 1 ≤ count = c.requires.present c.loop-row.row-index no_row c.loop-row-test.true in
-    let below : count - 1 < length c.args.words.now = omega arith in
-    let within : c.loop-row.row-index ≤ length c.args.rows.now = omega arith in
-    let most =
-    counted-most (length c.args.words.now) c.loop-row.words c.args.rows.now c.loop-row.row-index (count - 1) c.loop-row.invariant within below in
-    record { fits = omega arith }
+    let tally = c.args.tally.now in
+    let count = c.in-Some.row.count in
+    let one = some (goal.at.overflow_add-words c).In-Some in
+    let few = rows-few tally.k tally.both tally.rows c.rows-row-items.ensures.lawful in
+    let below : count - 1 < length c.args.words.now = omega (arith, one, c.if-row-words.true) in
+    let most = counted-most (length c.args.words.now) tally.rows c.loop-row.row-iterator c.next.new.self c.loop-row.words c.in-Some.row
+    c.loop-row.invariant.counted c.in-Some.ensures.steps (count - 1) below in
+    record { fits = omega (arith, few, most) }
+
+pub loop-row-preserved-then-row-words : goal.loop-row-preserved-then-row-words
+loop-row-preserved-then-row-words c =
+    let shared = (goal.at.loop-row-preserved-then-row-words c).In-Some in
+    record {
+      can_next = tt;
+      is_finite = tt;
+      counted = counted-row (length c.args.words.now) c.args.tally.now.rows c.loop-row.row-iterator c.next.new.self c.loop-row.words c.in-Some.row
+          c.loop-row.invariant.counted c.in-Some.ensures.steps (some shared) (omega (arith, c.if-row-words.true));
+      present = rest shared;
+    }
 
 pub loop-row-preserved : goal.loop-row-preserved
 loop-row-preserved c =
-    let rows = c.args.rows.now in
-    let i = c.loop-row.row-index in
-    let n = length c.args.words.now in
-    elim c.if-row-words.branch [
-      | then-row-words w ↦
-          let most : (get_or rows i no_row).count ≤ n = omega arith in
-          w.words-is ∙ counted_row n rows (record {
-            words = c.loop-row.words;
-            index = i;
-            no_row = no_row;
-            counted = c.loop-row.invariant;
-            within = c.loop-row-test.true;
-            some = c.requires.present i no_row c.loop-row-test.true;
-            most = most;
-          })
-      | else-row-words w ↦
-          let past : n < (get_or rows i no_row).count = omega arith in
-          w.words-is ∙ c.loop-row.invariant ∙ words_by_count-past n rows i no_row c.loop-row-test.true past
-    ]
+    let shared = (goal.at.loop-row-preserved c).In-Some in
+    record {
+      can_next = tt;
+      is_finite = tt;
+      counted = counted-past (length c.args.words.now) c.args.tally.now.rows c.loop-row.row-iterator c.next.new.self c.loop-row.words c.in-Some.row
+          c.loop-row.invariant.counted c.in-Some.ensures.steps (omega (arith, c.if-row-words.false));
+      present = rest shared;
+    }

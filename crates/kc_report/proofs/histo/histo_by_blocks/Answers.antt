@@ -14,7 +14,7 @@ loop-i-init g c =
     let text = histo_text high rows in
     record {
       pending = rw c.new-block.ensures (subst (λ v. Pending s s text v) (sym (text_above-all high rows)) (begin s text));
-      counted = ap length c.rows.ensures.rows ∙ sym (words_above-all rows c.rows.ensures.lawful.ordered.present);
+      counted = c.row_count-above.ensures.value ∙ sym (words_above-all rows c.row_count-above.ensures.lawful.ordered.present);
     }
 
 pub returns-in_err-put_line : goal.returns-in_err-put_line

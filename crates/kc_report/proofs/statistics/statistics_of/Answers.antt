@@ -16,6 +16,6 @@ returns c =
       c.new-block.ensures,
       c.greatest_count.ensures,
       c.total.ensures.value,
-      c.rows-rows.ensures.rows,
+      c.row_count.ensures.value,
       once,
     ) (simp append_assoc refl)

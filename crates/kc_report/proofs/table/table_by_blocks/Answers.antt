@@ -1,3 +1,5 @@
+use Rattle.std.proofs.Common.{◌<◌, ◌^◌}
+use Rattle.std.proofs.lemmas.List.Elements.{All-rest}
 use Rattle.std.proofs.lemmas.Result.{err_from_is_err_and}
 use Rattle.kc_io.proofs.SinksLemmas.{began_front}
 use Rattle.kc_report.specs.Table.{table_text, end_text}
@@ -8,47 +10,51 @@ pub loop-row-preserved : goal.loop-row-preserved
 loop-row-preserved g c =
     let seen = g.W.Sink.seen in
     let tally = c.args.tally.now in
-    let step : TableStep tally.k c.rows-rows.result.now (end_text tally.rows) = record {
+    let step : TableStep tally.k c.loop-row.row-iterator (end_text tally.rows) = record {
       start = seen c.args.writer.now;
       now = seen c.loop-row.writer;
       next = seen c.make_room.new.writer;
       text = table_text tally;
       block = c.loop-row.block;
       room = c.make_room.new.self;
-      index = c.loop-row.row-index;
-      pending = c.loop-row.invariant;
+      pending = c.loop-row.invariant.pending;
       moved = c.in_ok-make_room.ensures.ok;
     } in
-    next_row step c.push_columns.new.block c.loop-row-test.true (rw c.k-in-loop-row.ensures at c.push_columns.ensures)
+    record {
+      can_next = tt;
+      is_finite = tt;
+      pending = next_row step c.push_columns.new.block c.in-Some.row c.next.new.self c.in-Some.ensures.steps
+          (rw c.k-in-loop-row.ensures at c.push_columns.ensures);
+      below = All-rest (λ row. row.word < 4 ^ tally.k) c.in-Some.row c.next.new.self c.loop-row.row-iterator c.in-Some.ensures.steps c.loop-row.invariant.below;
+    }
 
 pub returns : goal.returns
 returns g c =
     let seen = g.W.Sink.seen in
     let tally = c.args.tally.now in
     let pushed = c.push_end.ensures in
-    let rows = c.rows-rows.ensures.rows in
+    let rows = c.row_count.ensures.value in
     let total = c.total.ensures.value in
-    let step : TableStep tally.k c.rows-rows.result.now (end_text tally.rows) = record {
+    let step : TableStep tally.k c.loop-row.row-iterator (end_text tally.rows) = record {
       start = seen c.args.writer.now;
       now = seen c.loop-row.writer;
       next = seen c.make_room-2.new.writer;
       text = table_text tally;
       block = c.loop-row.block;
       room = c.make_room-2.new.self;
-      index = c.loop-row.row-index;
-      pending = c.loop-row.invariant;
+      pending = c.loop-row.invariant.pending;
       moved = c.in_ok-make_room-2.ensures.ok;
     } in
-    written step (seen c.write_out.new.writer) c.push_end.new.block c.write_out.result c.loop-row-test.false
+    written step (seen c.write_out.new.writer) c.push_end.new.block c.write_out.result c.in-None.ensures.steps.0
     (rw (rows, total) at pushed) (rw c.as_slice.ensures at c.write_out.ensures)
 
 pub returns-in_err-make_room : goal.returns-in_err-make_room
 returns-in_err-make_room g c =
     let p = err_from_is_err_and c.from_residual.result c.from_residual.ensures.1 in rw p.1
-    (began_front _ _ _ _ _ _ c.loop-row.invariant c.in_err-make_room.ensures.err)
+    (began_front _ _ _ _ _ _ c.loop-row.invariant.pending c.in_err-make_room.ensures.err)
 
 pub returns-in_err-make_room-2 : goal.returns-in_err-make_room-2
 returns-in_err-make_room-2 g c =
     let p = err_from_is_err_and c.from_residual-in_err-make_room-2.result c.from_residual-in_err-make_room-2.ensures.1
     in rw p.1
-    (began_front _ _ _ _ _ _ c.loop-row.invariant c.in_err-make_room-2.ensures.err)
+    (began_front _ _ _ _ _ _ c.loop-row.invariant.pending c.in_err-make_room-2.ensures.err)
