@@ -4,10 +4,11 @@ ghost use Rattle.kc_word.specs.Shared.{values};
 ghost use Rattle.kc_tally.specs.Tally.{AreRows, IsTallyOf};
 ghost use Rattle.kc_stripe.specs.Setup.{stripe_count};
 ghost use Rattle.kc_stripe.specs.Stripe.{reads_in};
+ghost use Rattle.kc_gather.specs.Parts.{column_rows};
 ghost use Rattle.kc_gather.specs.Gathering.{position_sum, IsWhole, AreWholeBefore};
 ghost use Rattle.kc_gather.specs.Gathering.{IsRefusal, IsStripeRefusal, StandsThere};
 
-use crate::columns::{columns_of, sorted_in_parallel, sorted_rows};
+use crate::columns::{columns_of, sorted_each, sorted_in_parallel};
 use crate::fault::GatherFault;
 use crate::journal::{booked_marks, first_unset};
 use crate::taking::{rows_in_parallel, rows_of_each};
@@ -41,8 +42,8 @@ pub fn gather<C: Counts + Drop>(
     check_stripes(alloc, &stripes, batches, setup)?;
     let taken = rows_of_each(alloc, stripes)?;
     let columns = columns_of(alloc, setup.rule().k(), taken)?;
-    let rows = sorted_rows(alloc, columns)?;
-    Ok(tally_of(alloc, rows, setup)?)
+    let parts = sorted_each(alloc, columns)?;
+    Ok(tally_of(alloc, parts, setup)?)
 }
 
 /// What `gather` answers. The rows are taken from the stripes and sorted by at most so many threads.
@@ -68,8 +69,8 @@ pub fn gather_in_parallel<C: Counts + Drop + Send, H: Threads + Sync>(
     check_stripes(alloc, &stripes, batches, setup)?;
     let taken = rows_in_parallel(rt, alloc, threads, stripes)?;
     let columns = columns_of(alloc, setup.rule().k(), taken)?;
-    let rows = sorted_in_parallel(rt, alloc, threads, columns)?;
-    Ok(tally_of(alloc, rows, setup)?)
+    let parts = sorted_in_parallel(rt, alloc, threads, columns)?;
+    Ok(tally_of(alloc, parts, setup)?)
 }
 
 // Whether the journal of each stripe holds exactly the given batches.
@@ -118,12 +119,12 @@ fn check_stripe<C: Counts>(
     }
 }
 
-// The tally of these rows, which are sorted.
-fn tally_of(alloc: Global, rows: Vec<Row>, setup: &Setup) -> Result<Tally, AllocError>
-    requires { AreRows setup.now.rule.k setup.now.rule.both rows.items }
+// The tally of the rows of these parts, which are sorted.
+fn tally_of(alloc: Global, parts: Vec<Vec<Row>>, setup: &Setup) -> Result<Tally, AllocError>
+    requires { AreRows setup.now.rule.k setup.now.rule.both (column_rows parts) }
     ensures { IfOk result (λ tally.
-        tally ≡ record { k = setup.now.rule.k; both = setup.now.rule.both; rows = rows.items }) }
+        tally ≡ record { k = setup.now.rule.k; both = setup.now.rule.both; rows = column_rows parts }) }
 {
     let rule = setup.rule();
-    Tally::of_rows(alloc, rule.k(), rule.both(), rows)
+    Tally::of_parts(alloc, rule.k(), rule.both(), parts)
 }

@@ -16,8 +16,8 @@ columns_of-requires g c =
     (parts-all c.args.setup.now c.args.stripes.items c.in_ok-taken.taken.items (setups-same c.args.stripes.items (rw c.deref.ensures.value at c.in_ok-check_stripes.ensures.whole)) c.in_ok-taken.ensures)
 
 -- the rows that were gathered
-gathered : (g : _) (c : goal.In_ok-rows g) → AreGathered c.args.setup.now (values c.args.batches.now) c.in_ok-rows.rows.items
-gathered g c = are_gathered c.args.setup.now (values c.args.batches.now) c.args.stripes.items c.in_ok-rows.rows.items (record {
+gathered : (g : _) (c : goal.In_ok-parts g) → AreGathered c.args.setup.now (values c.args.batches.now) (column_rows c.in_ok-parts.parts)
+gathered g c = are_gathered c.args.setup.now (values c.args.batches.now) c.args.stripes.items (column_rows c.in_ok-parts.parts) (record {
   taken = c.in_ok-taken.taken.items;
   columns = c.in_ok-columns.columns.items;
   one_each = c.requires.one_each;
@@ -25,11 +25,11 @@ gathered g c = are_gathered c.args.setup.now (values c.args.batches.now) c.args.
   have = c.in_ok-taken.ensures;
   parted = subst (λ k. ArePartsOf k (map column_rows c.in_ok-columns.columns.items)) (c.k.ensures ∙ ap (λ (rule : CountingRule). rule.k) c.rule.ensures) c.in_ok-columns.ensures.columns;
   same = c.in_ok-columns.ensures.rows;
-  sorted_are = c.in_ok-rows.ensures;
+  sorted_are = c.in_ok-parts.ensures;
 })
 
-gathered_whole : (g : _) (c : goal.In_ok-tally_of g) → AreGathered c.args.setup.now (values c.args.batches.now) c.in_ok-rows.rows.items
-gathered_whole g c = are_gathered c.args.setup.now (values c.args.batches.now) c.args.stripes.items c.in_ok-rows.rows.items (record {
+gathered_whole : (g : _) (c : goal.In_ok-tally_of g) → AreGathered c.args.setup.now (values c.args.batches.now) (column_rows c.in_ok-parts.parts)
+gathered_whole g c = are_gathered c.args.setup.now (values c.args.batches.now) c.args.stripes.items (column_rows c.in_ok-parts.parts) (record {
   taken = c.in_ok-taken.taken.items;
   columns = c.in_ok-columns.columns.items;
   one_each = c.requires.one_each;
@@ -37,13 +37,13 @@ gathered_whole g c = are_gathered c.args.setup.now (values c.args.batches.now) c
   have = c.in_ok-taken.ensures;
   parted = subst (λ k. ArePartsOf k (map column_rows c.in_ok-columns.columns.items)) (c.k.ensures ∙ ap (λ (rule : CountingRule). rule.k) c.rule.ensures) c.in_ok-columns.ensures.columns;
   same = c.in_ok-columns.ensures.rows;
-  sorted_are = c.in_ok-rows.ensures;
+  sorted_are = c.in_ok-parts.ensures;
 })
 
 pub tally_of-requires : goal.tally_of-requires
 tally_of-requires g c =
     let made = gathered g c in
-    AreRows-sorted c.args.setup.now (values c.args.batches.now) made.rows c.in_ok-rows.rows.items c.requires.few made.from made.same made.up
+    AreRows-sorted c.args.setup.now (values c.args.batches.now) made.rows (column_rows c.in_ok-parts.parts) c.requires.few made.from made.same made.up
 
 pub returns-clause-whole : goal.returns-clause-whole
 returns-clause-whole g c = rw c.deref.ensures.value at c.in_ok-check_stripes.ensures.whole
@@ -51,8 +51,8 @@ returns-clause-whole g c = rw c.deref.ensures.value at c.in_ok-check_stripes.ens
 pub returns-clause-tally : goal.returns-clause-tally
 returns-clause-tally g c =
     let made = gathered_whole g c in
-    IsTallyOf-sorted c.args.setup.now (values c.args.batches.now) c.in_ok-rows.rows.items c.in_ok-tally_of.field-0 c.in_ok-tally_of.ensures
-    (IsTally-sorted c.args.setup.now (values c.args.batches.now) made.rows c.in_ok-rows.rows.items made.from made.same made.up)
+    IsTallyOf-sorted c.args.setup.now (values c.args.batches.now) (column_rows c.in_ok-parts.parts) c.in_ok-tally_of.field-0 c.in_ok-tally_of.ensures
+    (IsTally-sorted c.args.setup.now (values c.args.batches.now) made.rows (column_rows c.in_ok-parts.parts) made.from made.same made.up)
 
 pub returns-in_err-check_stripes-clause-counted : goal.returns-in_err-check_stripes-clause-counted
 returns-in_err-check_stripes-clause-counted g c =

@@ -1,4 +1,4 @@
-use Rattle.std.proofs.Common.{◌≡◌, ◌<◌, length, vec_len, get_or, IfOk, Ok, refl, sym, subst, arith, rules}
+use Rattle.std.proofs.Common.{◌≡◌, length, vec_len, get_or, IfOk, Ok, sym, subst, arith, rules}
 use Rattle.kc_gather.specs.Gathering.{HaveRowsOf}
 use Rattle.kc_gather.proofs.Rows.{HaveRowsOf-none, HaveRowsOf-append}
 use Rattle.kc_gather.proofs.PileLemmas.{all_items, in_piles, answer-at, answer-count}
