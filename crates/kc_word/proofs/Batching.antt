@@ -1,5 +1,5 @@
 -- How batches are made as pieces come, one part after another, and that they are the cutting.
-use Rattle.std.proofs.Common.{◌≡◌, ℕ, ◌+◌, ◌-◌, ◌*◌, ◌/◌, ◌<◌, ◌≤◌, min, ⊎_elim, ◌⊎◌, slice_range, List, [], ◌∷◌, ◌++◌, map, length, take, sum_by, refl, ap, sym, ◌∙◌, subst, arith, le-div_iff_mul-le, div-lt_iff_lt-mul}
+use Rattle.std.proofs.Common.{◌≡◌, ℕ, ◌+◌, ◌-◌, ◌*◌, ◌/◌, ◌<◌, ◌≤◌, min, ⊎_elim, ◌⊎◌, slice_range, List, [], ◌∷◌, ◌++◌, map, length, take, sum_by, ap, sym, ◌∙◌, subst, arith, le-div_iff_mul-le, div-lt_iff_lt-mul}
 use Rattle.std.proofs.lemmas.Bool.{cases_lt, cond-true, cond-false, lt-ltb, le-ltb}
 use Rattle.std.proofs.Math.Nat.{mul-le-mul_right}
 use Rattle.std.proofs.lemmas.List.{length_push, take_all, drop_all, nil_from_length, append-nil}

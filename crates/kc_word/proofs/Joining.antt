@@ -1,5 +1,5 @@
 -- Two pieces joined, as they are kept: the codes of both, and the runs of both.
-use Rattle.std.proofs.Common.{◌≡◌, ℕ, ◌+◌, ◌-◌, ◌<◌, ◌≤◌, ⊎_elim, true, false, cond, List, [], ◌++◌, length, get_or, take, drop}
+use Rattle.std.proofs.Common.{◌≡◌, ℕ, ◌+◌, ◌-◌, ◌<◌, ◌≤◌, ⊎_elim, true, cond, List, [], ◌++◌, length, get_or, take, drop}
 use Rattle.std.proofs.Common.{refl, ap, sym, ◌∙◌, subst, arith}
 use Rattle.std.proofs.lemmas.Bool.{cases_lt}
 use Rattle.std.proofs.lemmas.List.{length-append, get_or_append_left, get_or-append-add, ext_get_or}
@@ -7,7 +7,7 @@ use Rattle.kc_word.specs.declared.runs.Run.{Run}
 use Rattle.kc_word.specs.Runs.{is_in_runs, AreRuns, AreJoined, AreClipped}
 use Rattle.kc_word.specs.Letter.{base}
 use Rattle.kc_word.specs.Cutting.{unusable}
-use Rattle.kc_word.specs.PackedPiece.{byte_at, bytes_of, IsPiece}
+use Rattle.kc_word.specs.PackedPiece.{bytes_of, IsPiece}
 use Rattle.kc_word.proofs.PieceLemmas.{length-bytes_of, get_or-bytes_of}
 use Rattle.kc_word.proofs.Clipping.{clipped-piece}
 

@@ -29,8 +29,17 @@ HasTaken cutting pieces = HasCut cutting pieces (position_total cutting.k pieces
 abbrev pub with_part : OpenCutting → List ℕ → ℕ → OpenCutting
 with_part cutting part taken =
     if nat_lt (cutting.filled + taken) cutting.size
-    then record { k = cutting.k; size = cutting.size; batches = cutting.batches;
-        begun = cutting.begun ++ part ∷ []; filled = cutting.filled + taken }
-    else record { k = cutting.k; size = cutting.size;
-        batches = cutting.batches ++ record { number = length cutting.batches; pieces = cutting.begun ++ part ∷ [] } ∷ [];
-        begun = []; filled = 0 }
+    then record {
+      k = cutting.k;
+      size = cutting.size;
+      batches = cutting.batches;
+      begun = cutting.begun ++ part ∷ [];
+      filled = cutting.filled + taken;
+    }
+    else record {
+      k = cutting.k;
+      size = cutting.size;
+      batches = cutting.batches ++ record { number = length cutting.batches; pieces = cutting.begun ++ part ∷ [] } ∷ [];
+      begun = [];
+      filled = 0;
+    }

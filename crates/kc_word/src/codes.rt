@@ -38,8 +38,8 @@ impl<'a> Model for Codes<'a> {
     ghost Value = { Reading };
 
     ghost view = { λ c. record {
-        bytes = slice_range (bytes_of c.bases.now c.runs.now) c.from c.to;
-        taken = c.at - c.from
+      bytes = slice_range (bytes_of c.bases.now c.runs.now) c.from c.to;
+      taken = c.at - c.from;
     } };
 
     ghost invariant = { λ c. IsReading c.bases.now c.runs.now c.next c.from c.at c.to };

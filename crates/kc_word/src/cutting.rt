@@ -36,11 +36,11 @@ impl Model for Cutting {
     ghost Value = { OpenCutting };
 
     ghost view = { λ c. record {
-        k = c.k;
-        size = c.size;
-        batches = values c.batches.items;
-        begun = c.begun;
-        filled = c.filled
+      k = c.k;
+      size = c.size;
+      batches = values c.batches.items;
+      begun = c.begun;
+      filled = c.filled;
     } };
 
     ghost invariant = { λ c. c.filled < c.size };
@@ -100,7 +100,13 @@ impl Cutting {
 
     // Takes `left` positions of the piece from `position` on, or as many as the batch that is begun has room for, and
     // answers how many. Conditions: there is one, and the piece has them.
-    fn take(&mut self, alloc: Global, piece: &Piece, position: usize, left: usize) -> Result<usize, AllocError>
+    fn take(
+        &mut self,
+        alloc: Global,
+        piece: &Piece,
+        position: usize,
+        left: usize,
+    ) -> Result<usize, AllocError>
         requires some { 1 ≤ left }
         requires within { position + left ≤ position_count self.old.k (length piece.now) }
         requires fits { length piece.now < 2 ^ 64 }

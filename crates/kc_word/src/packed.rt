@@ -84,7 +84,12 @@ impl Packed {
 
     /// Appends the codes of another list from index `from` to before `to`. Conditions: these are in order, and at most
     /// the other's length, and the length stays below 2^64.
-    pub(crate) fn push_part(&mut self, other: &Packed, from: usize, to: usize) -> Result<(), AllocError>
+    pub(crate) fn push_part(
+        &mut self,
+        other: &Packed,
+        from: usize,
+        to: usize,
+    ) -> Result<(), AllocError>
         requires ordered { from ≤ to }
         requires within { to ≤ length other.now }
         requires fits { length self.old + (to - from) < 2 ^ 64 }

@@ -82,7 +82,13 @@ impl Piece {
 
     /// The same, and behind it the bytes of another piece from `from` to before `to`. Conditions: these are in order,
     /// and at most the other's length. Where the bytes would be 2^64 or more, which no memory holds, it is refused.
-    pub(crate) fn and_part(self, alloc: Global, other: &Piece, from: usize, to: usize) -> Result<Piece, AllocError>
+    pub(crate) fn and_part(
+        self,
+        alloc: Global,
+        other: &Piece,
+        from: usize,
+        to: usize,
+    ) -> Result<Piece, AllocError>
         requires ordered { from ≤ to }
         requires within { to ≤ length other.now }
         ensures { IfOk result (λ more. more ≡ self ++ slice_range other.now from to) }
@@ -91,7 +97,10 @@ impl Piece {
         if to - from > usize::MAX - at {
             return Err(AllocError);
         }
-        let Piece { mut bases, mut runs } = self;
+        let Piece {
+            mut bases,
+            mut runs,
+        } = self;
         let clipped = clip_runs(alloc, &other.runs, from, to)?;
         append_runs(&mut runs, at, &clipped)?;
         bases.push_part(&other.bases, from, to)?;

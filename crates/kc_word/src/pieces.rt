@@ -69,7 +69,13 @@ impl Pieces {
 
     /// The same, and behind them the bytes of a piece from `from` to before `to`. Conditions: these are in order, and at
     /// most the piece's length.
-    pub(crate) fn and_part(self, alloc: Global, piece: &Piece, from: usize, to: usize) -> Result<Pieces, AllocError>
+    pub(crate) fn and_part(
+        self,
+        alloc: Global,
+        piece: &Piece,
+        from: usize,
+        to: usize,
+    ) -> Result<Pieces, AllocError>
         requires ordered { from ≤ to }
         requires within { to ≤ length piece.now }
         ensures { IfOk result (λ more. more ≡ self ++ slice_range piece.now from to ∷ []) }

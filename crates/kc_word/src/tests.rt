@@ -1,7 +1,7 @@
 // Worked rows of words, pieces and batches.
 use crate::{
-    Batch, K, Piece, Rule, Word, canonical, clean, cut, pack, read_words, reverse_complement, slow,
-    text, words,
+    Batch, Cutting, K, Piece, Rule, Word, canonical, clean, cut, pack, read_words,
+    reverse_complement, slow, text, words,
 };
 use kc_fastx::SeqRead;
 use std::alloc::{AllocError, Global};
@@ -209,6 +209,58 @@ fn bytes_over_two_words(rt: HostRuntime) -> Result<(), Fail> {
     Ok(())
 }
 
+// The next number of a row that looks random.
+fn next_seed(seed: u64) -> u64 {
+    let first = seed ^ (seed << 13);
+    let second = first ^ (first >> 7);
+    second ^ (second << 17)
+}
+
+// Up to 99 bases by a seed, with an N among nine.
+fn seeded(alloc: Global, seed: &mut u64) -> Result<Vec<u8>, AllocError> {
+    let mut bases = Vec::new(alloc);
+    *seed = next_seed(*seed);
+    for _ in 0..*seed % 100 {
+        *seed = next_seed(*seed);
+        bases.push(b"ACGTACGTN"[(*seed % 9) as usize])?;
+    }
+    Ok(bases)
+}
+
+// Pieces that come one at a time are cut as they are all at once, and no word is lost.
+#[test]
+fn pieces_as_they_come(rt: HostRuntime) -> Result<(), Fail> {
+    let rule = rule_of(5, true)?;
+    for size in [1u64, 7, 100] {
+        let mut seed = 88_172_645_463_325_252u64;
+        let mut pieces = Vec::new(rt.alloc());
+        let mut want = Vec::new(rt.alloc());
+        let mut cutting = Cutting::new(rt.alloc(), rule.k(), size);
+        for _ in 0..30 {
+            let bases = seeded(rt.alloc(), &mut seed)?;
+            let read = read_of(rt.alloc(), bases.as_slice(), None)?;
+            want.extend_from_slice(read_words(rt.alloc(), &read, &rule)?.as_slice())?;
+            let piece = clean(rt.alloc(), &read, &rule)?;
+            cutting.push(rt.alloc(), &piece)?;
+            pieces.push(piece)?;
+        }
+        let batches = cutting.finish(rt.alloc())?;
+        let all = cut(rt.alloc(), pieces, rule.k(), size)?;
+        assert_eq!(rt; batches.len(), all.len());
+        let mut found = Vec::new(rt.alloc());
+        for (i, (batch, other)) in batches.iter().zip(&all).enumerate() {
+            assert_eq!(rt; **batch == **other, true);
+            assert_eq!(rt; batch.number(), i as u64);
+            if i.saturating_add(1) < all.len() {
+                assert_eq!(rt; batch.position_count(rule.k()) as u64, size);
+            }
+            found.extend_from_slice(words(rt.alloc(), batch, &rule)?.as_slice())?;
+        }
+        assert_eq!(rt; found.as_slice(), want.as_slice());
+    }
+    Ok(())
+}
+
 #[test]
 fn words_beside_a_gap(rt: HostRuntime) -> Result<(), Fail> {
     let rule = rule_of(31, false)?;
@@ -306,10 +358,10 @@ fn memory_or_the_words(rt: HostRuntime) {
     }
 }
 
-// The words of the read ACGTA, cleaned, cut and counted.
+// The words of the read ACGTANA, cleaned, cut and counted.
 fn words_of_batches(alloc: Global) -> Result<Vec<u64>, AllocError> {
     let mut found = Vec::new(alloc);
-    let bases = Vec::from_slice(alloc, b"ACGTA")?;
+    let bases = Vec::from_slice(alloc, b"ACGTANA")?;
     if let (Some(k), Some(read)) = (K::new(3), SeqRead::new(bases, None)) {
         let rule = Rule::new(k, false, b'!');
         let mut pieces = Vec::new(alloc);

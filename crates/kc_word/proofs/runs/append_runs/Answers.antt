@@ -1,6 +1,5 @@
-use Rattle.std.proofs.Common.{◌<◌, length, get_or, subst, arith}
-use Rattle.kc_word.specs.declared.runs.Run.{Run}
-use Rattle.kc_word.proofs.RunLemmas.{AreJoined-none, AreJoined-more, AreJoined-all, JoinStep, join-stands, read-run}
+use Rattle.std.proofs.Common.{◌<◌, length, get_or, arith}
+use Rattle.kc_word.proofs.RunLemmas.{AreJoined-none, AreJoined-more, AreJoined-all, join-stands, read-run}
 use Rattle.kc_word.proofs.runs.append_runs.Goals as goal
 
 pub loop-other-init : goal.loop-other-init

@@ -1,5 +1,4 @@
-use Rattle.std.proofs.Common.{◌≡◌, ◌-◌, length, arith, take, drop}
-use Rattle.kc_word.specs.PackedPiece.{bytes_of, Reading}
+use Rattle.std.proofs.Common.{length, arith}
 use Rattle.kc_word.proofs.codes.Codes.new.Goals as goal
 
 pub runs_before-requires : goal.runs_before-requires

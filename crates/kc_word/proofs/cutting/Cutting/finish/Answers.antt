@@ -1,9 +1,8 @@
-use Rattle.std.proofs.Common.{◌≡◌, ◌<◌, ◌≤◌, ◌++◌, ◌∷◌, [], List, ℕ, map, length, ap, sym, ◌∙◌, arith}
+use Rattle.std.proofs.Common.{◌≡◌, ◌++◌, ◌∷◌, [], List, ℕ, map, length, ap, sym, ◌∙◌, arith}
 use Rattle.std.proofs.lemmas.List.{map_push, length-map}
-use Rattle.kc_word.specs.Cutting.{NumberedPieces, KeepsOccurrences, KeepsWords, cutting}
-use Rattle.kc_word.specs.OpenCutting.{OpenCutting, HasTaken}
+use Rattle.kc_word.specs.OpenCutting.{OpenCutting}
 use Rattle.kc_word.specs.Shared.{values}
-use Rattle.kc_word.proofs.Batching.{Finished, finished-all, finished-last, occurrences-cut, words-cut}
+use Rattle.kc_word.proofs.Batching.{finished-all, finished-last, occurrences-cut, words-cut}
 use Rattle.kc_word.proofs.cutting.Cutting.finish.Goals as goal
 
 pub returns-then-len-eq0-clause-cutting : goal.returns-then-len-eq0-clause-cutting

@@ -1,4 +1,4 @@
-use Rattle.std.proofs.Common.{◌+◌, ◌-◌, ap, arith}
+use Rattle.std.proofs.Common.{ap, arith}
 use Rattle.kc_word.proofs.cutting.Cutting.take.Goals as goal
 
 pub overflow_add-end : goal.overflow_add-end

@@ -1,4 +1,4 @@
-use Rattle.std.proofs.Common.{vec_len, ◌≡◌, ◌+◌, ◌*◌, ◌/◌, ◌%◌, ◌^◌, ◌-◌, ◌<◌, ◌++◌, length, get_or, set, bit_or, ap, sym, ◌∙◌, arith}
+use Rattle.std.proofs.Common.{vec_len, ◌*◌, ◌/◌, ◌%◌, ◌^◌, ◌-◌, ◌<◌, ◌++◌, length, set, bit_or, ap, ◌∙◌, arith}
 use Rattle.std.proofs.lemmas.List.{get_or_read_under}
 use Rattle.kc_word.specs.Packed.{codes_in}
 use Rattle.kc_word.proofs.PackedLemmas.{length-codes_of}

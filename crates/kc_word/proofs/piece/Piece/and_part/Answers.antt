@@ -1,4 +1,4 @@
-use Rattle.std.proofs.Common.{◌≡◌, ◌-◌, ◌≤◌, ◌++◌, List, length, ap, sym, ◌∙◌, subst, arith, take, drop}
+use Rattle.std.proofs.Common.{◌-◌, ◌++◌, List, length, ap, sym, ◌∙◌, subst, arith, take, drop}
 use Rattle.kc_word.specs.declared.runs.Run.{Run}
 use Rattle.kc_word.specs.Runs.{AreClipped, AreJoined}
 use Rattle.kc_word.specs.PackedPiece.{bytes_of}

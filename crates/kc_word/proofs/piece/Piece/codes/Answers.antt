@@ -1,4 +1,4 @@
-use Rattle.std.proofs.Common.{length, ap, sym, ◌∙◌, arith, ◌-◌, take, drop}
+use Rattle.std.proofs.Common.{length, ap, sym, ◌∙◌, arith}
 use Rattle.kc_word.proofs.PieceLemmas.{length-bytes_of}
 use Rattle.kc_word.proofs.piece.Piece.codes.Goals as goal
 

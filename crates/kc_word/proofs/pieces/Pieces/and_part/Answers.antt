@@ -1,4 +1,4 @@
-use Rattle.std.proofs.Common.{◌-◌, ◌∷◌, ◌++◌, [], length, take, drop, ap, ◌∙◌}
+use Rattle.std.proofs.Common.{◌-◌, ◌∷◌, ◌++◌, [], take, drop, ap, ◌∙◌}
 use Rattle.kc_word.proofs.Splitting.{pieces-pushed}
 use Rattle.kc_word.proofs.pieces.Pieces.and_part.Goals as goal
 

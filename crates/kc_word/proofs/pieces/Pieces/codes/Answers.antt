@@ -1,6 +1,5 @@
-use Rattle.std.proofs.Common.{vec_len, ◌≡◌, ◌-◌, ◌<◌, [], length, get_or, ap, sym, ◌∙◌, arith, slice_range}
+use Rattle.std.proofs.Common.{vec_len, ◌<◌, [], length, get_or, ap, sym, ◌∙◌, arith, slice_range}
 use Rattle.std.proofs.lemmas.List.{get_or_read_under}
-use Rattle.kc_word.specs.PackedPiece.{Reading}
 use Rattle.kc_word.specs.PackedBatch.{start_of}
 use Rattle.kc_word.proofs.Splitting.{length-pieces_in, get_or-pieces_in, length-piece, end-within}
 use Rattle.kc_word.proofs.pieces.Pieces.codes.Goals as goal

@@ -1,4 +1,4 @@
-use Rattle.std.proofs.Common.{vec_len, ◌≡◌, ◌-◌, ◌<◌, ◌≤◌, length, get_or, ap, ◌∙◌, subst, arith}
+use Rattle.std.proofs.Common.{vec_len, ◌≡◌, ◌-◌, ◌<◌, ◌≤◌, get_or, ap, ◌∙◌, subst, arith}
 use Rattle.std.proofs.lemmas.List.{get_or_read_under}
 use Rattle.kc_word.specs.Occurrences.{position_count}
 use Rattle.kc_word.specs.Cutting.{position_total}
