@@ -1,31 +1,32 @@
 -- What stands in front of bytes that begin with a row.
-use Rattle.std.proofs.Common.{◌≡◌, ◌≢◌, ℕ, suc, ◌+◌, ◌-◌, ◌*◌, ◌%◌, ◌^◌, ◌<◌, ◌≤◌, true, false, List, [], ◌∷◌, ◌++◌, length}
+use Rattle.std.proofs.Common.{◌≡◌, ◌≢◌, ℕ, suc, ◌+◌, ◌-◌, ◌*◌, ◌/◌, ◌%◌, ◌^◌, ◌<◌, ◌≤◌, true, false, List, [], ◌∷◌, ◌++◌, length}
 use Rattle.std.proofs.Common.{take, drop, get_or, refl, sym, ◌∙◌, ap, subst, append_assoc, arith, eqb, eq-eqb}
-use Rattle.std.proofs.Common.{bit_or, ⊎_elim, pow-suc, lit<, drop-cons}
+use Rattle.std.proofs.Common.{⊎_elim, lit<, drop-cons}
 use Rattle.std.specs.Prelude.{decimal, IsTrue, IfNone, Option, Some, None}
 use Rattle.std.specs.Char.{digit_value}
 use Rattle.std.specs.Int.{IsInRange}
 use Rattle.std.specs.Str.Parse.{AllDigits, digits_value}
 use Rattle.std.proofs.Math.Nat.{pow-le-pow_right}
 use Rattle.std.proofs.Math.Seq.{take-add, take-append_seam, drop-append_seam}
-use Rattle.std.proofs.lemmas.Bool.{eqb-true, cases_Bool, cases_lt, cond-true, cond-false, and_parts, and_from}
+use Rattle.std.proofs.lemmas.Bool.{eqb-true, cases_Bool, cases_lt, cond-true, cond-false, and_from}
 use Rattle.std.proofs.lemmas.Fmt.{decimal_is_IsNumeral, decimal-digits_value, first_decimal, length-decimal-le}
 use Rattle.std.proofs.lemmas.Int.Digits.{digits_push, digits_value_more}
-use Rattle.std.proofs.lemmas.List.{length-append, take_more, take_all, length_push, get_or-take, get_or-drop}
+use Rattle.std.proofs.lemmas.List.{length-append, take_more, take_all, get_or-take, get_or-drop}
 use Rattle.std.proofs.lemmas.List.{length-take-le, take-append-drop, length-drop, get_or_append_left}
-use Rattle.std.proofs.lemmas.Nat.{le_or_l, le_or_r, or_lt}
 use Rattle.std.proofs.lemmas.Str.{digit_value_digit}
 use Rattle.std.proofs.lemmas.Str.Parse.{IsNumeralModel, numerals_by_value, tells_digits, digits_value_short}
 use Rattle.std.proofs.lemmas.Str.Parse.{digit_from_value}
-use Rattle.kc_word.specs.Letter.{is_base, are_bases, code}
+use Rattle.std.proofs.lemmas.List.Sums.{AllPass-from_list_all}
+use Rattle.kc_word.specs.Letter.{is_base, are_bases, code, base}
 use Rattle.kc_word.specs.Word.{number, text, canonical, form}
 use Rattle.kc_word.proofs.WordLemmas.{code-lt, number-nil, number-lt, number_push-base, list_all-append, text-number}
+use Rattle.kc_word.proofs.WordLemmas.{below_four, base-code, code-base, is_base-base}
 use Rattle.kc_word.proofs.WordLemmas.{length-text, are_bases-text, same_from_text}
 use Rattle.kc_tally.specs.declared.row.Row.{Row}
 use Rattle.kc_report.specs.Bytes.{line_feed, space}
 use Rattle.kc_report.specs.Dumping.{row_in_columns}
 use Rattle.kc_report.specs.TableReading.{BeginsWith}
-use Rattle.kc_report.specs.TableRows.{capital_code, count_text, HasDigits}
+use Rattle.kc_report.specs.TableRows.{capital_code, four_letters, IsSpelled, count_text, HasDigits}
 use Rattle.kc_report.proofs.TableLines.{row_line, first_line, Without-row, Fits, same_row}
 
 pub never : false ≡ true → ⊥
@@ -33,99 +34,183 @@ never e = cc
 
 -- ---- a word
 
--- letters, the number that their codes make, and these codes joined
-pub record IsSpelled (letters : List ℕ) (n seen : ℕ) : Type 0 where
-  pub room : 3 * n + 4 ≤ 4 * 4 ^ length letters
-  pub bases : seen < 4 → are_bases letters ≡ true
-  pub value : seen < 4 → n ≡ number letters
-  pub few : are_bases letters ≡ true → seen < 4
+pub spelled-none : IsSpelled [] 0
+spelled-none = record { bases = refl; value = sym number-nil }
 
-pub spelled-none : IsSpelled [] 0 0
-spelled-none = record { room = lit< tt; bases = λ _. refl; value = λ _. sym number-nil; few = λ _. lit< tt }
-
-capital-most : (b : ℕ) → capital_code b ≤ 4
-capital-most b =
+-- what the code of a byte says: below 4 the byte is a base, and this is its code
+pub capital-most : (b c : ℕ) → c ≡ capital_code b → c ≤ 4
+capital-most b c e =
     let small = code-lt b in
-    ⊎_elim (λ h. let value = cond-true _ (code b) 4 h in omega (arith, small, value))
-    (λ h. let value = cond-false _ (code b) 4 h in omega (arith, value)) (cases_Bool (is_base b))
+    ⊎_elim (λ h. let value = cond-true _ (code b) 4 h in omega (arith, small, value, e))
+    (λ h. let value = cond-false _ (code b) 4 h in omega (arith, value, e)) (cases_Bool (is_base b))
 
-capital-base : (b : ℕ) → capital_code b < 4 → (is_base b ≡ true) × (capital_code b ≡ code b)
-capital-base b small =
-    ⊎_elim (λ h. (h, cond-true _ (code b) 4 h))
-    (λ h. absurd (let value = cond-false _ (code b) 4 h in omega (arith, small, value))) (cases_Bool (is_base b))
+pub capital-base : (b c : ℕ) → c ≡ capital_code b → c ≢ 4 → (is_base b ≡ true) × (c ≡ code b)
+capital-base b c e other =
+    ⊎_elim (λ h. (h, e ∙ cond-true _ (code b) 4 h)) (λ h. absurd (other (e ∙ cond-false _ (code b) 4 h)))
+    (cases_Bool (is_base b))
 
-capital-few : (b : ℕ) → is_base b ≡ true → capital_code b < 4
-capital-few b h = let small = code-lt b in let value = cond-true _ (code b) 4 h in omega (arith, small, value)
+capital-none : (b c : ℕ) → c ≡ capital_code b → c ≡ 4 → is_base b ≡ true → ⊥
+capital-none b c e is h =
+    let small = code-lt b in let value = cond-true _ (code b) 4 h in omega (arith, small, value, e, is)
 
-spelled-push : (front : List ℕ) (b n seen : ℕ) → IsSpelled front n seen
-    → IsSpelled (front ++ b ∷ []) (n * 4 + capital_code b) (bit_or seen (capital_code b))
-spelled-push front b n seen s =
-    let apart : are_bases (front ++ b ∷ []) ≡ _ = list_all-append is_base front (b ∷ []) in
-    let few : bit_or seen (capital_code b) < 4 → seen < 4 =
-    λ h. let left = le_or_l seen (capital_code b) in omega (arith, h, left) in
-    let small : bit_or seen (capital_code b) < 4 → capital_code b < 4 =
-    λ h. let right = le_or_r seen (capital_code b) in omega (arith, h, right) in
+-- one letter more
+pub spelled-more : (letters : List ℕ) (i n c : ℕ) → i < length letters → is_base (get_or letters i 0) ≡ true
+    → c ≡ code (get_or letters i 0) → IsSpelled (take i letters) n → IsSpelled (take (i + 1) letters) (n * 4 + c)
+spelled-more letters i n c h is e s =
+    let more = take_more letters i 0 h in
+    let b = get_or letters i 0 in
     record {
-      room =
-          let long = length_push front b in
-          let power : 4 ^ length (front ++ b ∷ []) ≡ 4 ^ suc (length front) = ap (λ m. 4 ^ m) (omega (arith, long)) in
-          let more = pow-suc 4 (length front) in
-          let most = capital-most b in
-          let room = s.room in
-          omega (arith, power, more, most, room);
-      bases = λ h. apart ∙ and_from _ _ (s.bases (few h)) (and_from _ _ (capital-base b (small h)).0 refl);
-      value = λ h. let before = s.value (few h) in
-          let last = (capital-base b (small h)).1 in
-          let pushed = number_push-base front b in
-          omega (arith, before, last, pushed);
-      few = λ h. let parts = and_parts _ _ (sym apart ∙ h) in
-          or_lt 2 seen (capital_code b) (s.few parts.0) (capital-few b (and_parts _ _ parts.1).0);
+      bases = ap are_bases more ∙ list_all-append is_base (take i letters) (b ∷ [])
+          ∙ and_from _ _ s.bases (and_from _ _ is refl);
+      value = let pushed = number_push-base (take i letters) b in
+          let value = s.value in
+          let whole = ap number more in
+          omega (arith, pushed, value, whole, e);
     }
 
-pub spelled-more : (letters : List ℕ) (i n seen c : ℕ) → i < length letters → c ≡ capital_code (get_or letters i 0)
-    → IsSpelled (take i letters) n seen → IsSpelled (take (i + 1) letters) (n * 4 + c) (bit_or seen c)
-spelled-more letters i n seen c h e s =
-    subst (λ v. IsSpelled v (n * 4 + c) (bit_or seen c)) (sym (take_more letters i 0 h))
-    (subst (λ c. IsSpelled (take i letters ++ get_or letters i 0 ∷ []) (n * 4 + c) (bit_or seen c)) (sym e)
-    (spelled-push (take i letters) (get_or letters i 0) n seen s))
+-- a number of so few letters has room for more
+pub spelled-below : (letters : List ℕ) (i j n : ℕ) → length (take i letters) ≤ j → IsSpelled (take i letters) n
+    → n < 4 ^ j
+spelled-below letters i j n short s =
+    let small = number-lt (take i letters) in
+    let power : 4 ^ length (take i letters) ≤ 4 ^ j = pow-le-pow_right {n = 4} (lit< tt) short in
+    let value = s.value in
+    omega (arith, small, power, value)
 
--- the number of at most 30 letters has room for one more
-pub spelled-fits : (letters : List ℕ) (i n seen : ℕ) → i < length letters → length letters ≤ 31
-    → IsSpelled (take i letters) n seen → n ≤ 2 ^ 61
-spelled-fits letters i n seen h most s =
+pub spelled-fits : (letters : List ℕ) (i n : ℕ) → i < length letters → length letters ≤ 31
+    → IsSpelled (take i letters) n → n < 4 ^ 30
+spelled-fits letters i n h most s =
     let long = length-take-le i letters (omega (arith, h)) in
     let short : length (take i letters) ≤ 30 = omega (arith, long, h, most) in
-    let power : 4 ^ length (take i letters) ≤ 4 ^ 30 = pow-le-pow_right {n = 4} (lit< tt) short in
-    let room = s.room in
-    omega (arith, power, room)
+    spelled-below letters i 30 n short s
 
--- a code is small
-pub capital-fits : (b c : ℕ) → c ≡ capital_code b → c ≤ 4
-capital-fits b c e = let most = capital-most b in omega (arith, most, e)
+pub spelled-fits_four : (letters : List ℕ) (j n : ℕ) → j < length letters / 4 → length letters ≤ 31
+    → IsSpelled (take (j * 4) letters) n → n < 4 ^ 27
+spelled-fits_four letters j n h most s =
+    let long = length-take-le (j * 4) letters (omega (arith, h)) in
+    let short : length (take (j * 4) letters) ≤ 27 = omega (arith, long, h, most) in
+    spelled-below letters (j * 4) 27 n short s
 
--- at the end
+-- each letter of bases is one
+pub base_at : (letters : List ℕ) (i : ℕ) → i < length letters → are_bases letters ≡ true
+    → is_base (get_or letters i 0) ≡ true
+base_at letters i h all = AllPass-from_list_all is_base letters all i 0 h
+
+pub unless_bases : (letters : List ℕ) → (are_bases letters ≡ true → ⊥) → are_bases letters ≡ false
+unless_bases letters none =
+    ⊎_elim (λ h. absurd (none h)) (λ h. h) (cases_Bool (are_bases letters))
+
+pub no_bases : (letters : List ℕ) (i c : ℕ) → i < length letters → c ≡ capital_code (get_or letters i 0) → c ≡ 4
+    → are_bases letters ≡ false
+no_bases letters i c h e is =
+    unless_bases letters (λ all. capital-none (get_or letters i 0) c e is (base_at letters i h all))
+
+-- ---- four letters
+
+letter-small : (n : ℕ) → n < 4 → base n < 256
+unfolding base
+letter-small = below_four (λ n. base n < 256) (lit< tt) (lit< tt) (lit< tt) (lit< tt)
+
+-- four bytes, and their number
+pub record Four (a b c d n : ℕ) : Type 0 where
+  pub first : a < 256
+  pub second : b < 256
+  pub third : c < 256
+  pub fourth : d < 256
+  pub whole : n ≡ a + b * 256 + c * 65536 + d * 16777216
+
+pub record FourBases (a b c d codes : ℕ) : Type 0 where
+  pub first : a ≡ base (codes / 64 % 4)
+  pub second : b ≡ base (codes / 16 % 4)
+  pub third : c ≡ base (codes / 4 % 4)
+  pub fourth : d ≡ base (codes % 4)
+
+pub four_found : {a b c d n : ℕ} (codes : ℕ) → Four a b c d n → n ≡ four_letters codes → FourBases a b c d codes
+four_found {a} {b} {c} {d} {n} codes f e =
+    let ia = letter-small (codes / 64 % 4) (omega arith) in
+    let ib = letter-small (codes / 16 % 4) (omega arith) in
+    let ic = letter-small (codes / 4 % 4) (omega arith) in
+    let id = letter-small (codes % 4) (omega arith) in
+    let whole = f.whole in
+    let fa = f.first in
+    let fb = f.second in
+    let fc = f.third in
+    let fd = f.fourth in
+    record {
+      first = omega (arith, ia, ib, ic, id, whole, fa, fb, fc, fd, e);
+      second = omega (arith, ia, ib, ic, id, whole, fa, fb, fc, fd, e);
+      third = omega (arith, ia, ib, ic, id, whole, fa, fb, fc, fd, e);
+      fourth = omega (arith, ia, ib, ic, id, whole, fa, fb, fc, fd, e);
+    }
+
+-- four letters more
+pub spelled-four : (letters : List ℕ) (j n codes : ℕ) → j < length letters / 4 → codes < 256
+    → FourBases (get_or letters (j * 4) 0) (get_or letters (j * 4 + 1) 0) (get_or letters (j * 4 + 2) 0)
+    (get_or letters (j * 4 + 3) 0) codes
+    → IsSpelled (take (j * 4) letters) n → IsSpelled (take ((j + 1) * 4) letters) (n * 256 + codes)
+spelled-four letters j n codes h small f s =
+    let one = next (j * 4) (j * 4 + 1) (omega arith) (codes / 64) (omega (arith, h)) f.first s in
+    let two = next (j * 4 + 1) (j * 4 + 2) (omega arith) (codes / 16) (omega (arith, h)) f.second one in
+    let three = next (j * 4 + 2) (j * 4 + 3) (omega arith) (codes / 4) (omega (arith, h)) f.third two in
+    let four = next (j * 4 + 3) ((j + 1) * 4) (omega arith) codes (omega (arith, h)) f.fourth three in
+    let value : (((n * 4 + codes / 64 % 4) * 4 + codes / 16 % 4) * 4 + codes / 4 % 4) * 4 + codes % 4 ≡ n * 256 + codes =
+    omega (arith, small) in
+    subst (λ m. IsSpelled (take ((j + 1) * 4) letters) m) value four where
+      is : {b : ℕ} (m : ℕ) → b ≡ base (m % 4) → is_base b ≡ true
+      is {b} m e = ap is_base e ∙ is_base-base (m % 4) (omega arith)
+      coded : {b : ℕ} (m : ℕ) → b ≡ base (m % 4) → m % 4 ≡ code b
+      coded {b} m e = sym (ap code e ∙ code-base (m % 4) (omega arith))
+      next : {n : ℕ} (i k : ℕ) → k ≡ i + 1 → (m : ℕ) → i < length letters → get_or letters i 0 ≡ base (m % 4)
+          → IsSpelled (take i letters) n → IsSpelled (take k letters) (n * 4 + m % 4)
+      next {n} i k e m h f s = subst (λ k. IsSpelled (take k letters) (n * 4 + m % 4)) (sym e)
+          (spelled-more letters i n (m % 4) h (is m f) (coded m f) s)
+
+-- the codes of four bases, and the number of their letters
+pub four_codes : (a b c d n : ℕ) → Four a b c d n → is_base a ≡ true → is_base b ≡ true → is_base c ≡ true
+    → is_base d ≡ true → (codes : ℕ) × (codes < 256) × (n ≡ four_letters codes)
+four_codes a b c d n f ia ib ic id =
+    let ca = code-lt a in
+    let cb = code-lt b in
+    let cc_ = code-lt c in
+    let cd = code-lt d in
+    let codes : ℕ = code a * 64 + code b * 16 + code c * 4 + code d in
+    let la : base (codes / 64 % 4) ≡ a = ap base (omega (arith, ca, cb, cc_, cd)) ∙ base-code a ia in
+    let lb : base (codes / 16 % 4) ≡ b = ap base (omega (arith, ca, cb, cc_, cd)) ∙ base-code b ib in
+    let lc : base (codes / 4 % 4) ≡ c = ap base (omega (arith, ca, cb, cc_, cd)) ∙ base-code c ic in
+    let ld : base (codes % 4) ≡ d = ap base (omega (arith, ca, cb, cc_, cd)) ∙ base-code d id in
+    let whole = f.whole in
+    (codes, omega (arith, ca, cb, cc_, cd), omega (arith, whole, la, lb, lc, ld))
+
+-- no four letters of bases
+pub no_four : (letters : List ℕ) (j n found entry : ℕ) → j < length letters / 4
+    → Four (get_or letters (j * 4) 0) (get_or letters (j * 4 + 1) 0) (get_or letters (j * 4 + 2) 0)
+    (get_or letters (j * 4 + 3) 0) n
+    → ((codes : ℕ) → codes < 256 → n ≡ four_letters codes → found ≡ codes) → entry ≢ n → entry ≡ four_letters found
+    → are_bases letters ≡ false
+no_four letters j n found entry h f inverse other is = unless_bases letters (λ all.
+    let told = four_codes _ _ _ _ n f (base_at letters (j * 4) (omega (arith, h)) all)
+    (base_at letters (j * 4 + 1) (omega (arith, h)) all) (base_at letters (j * 4 + 2) (omega (arith, h)) all)
+    (base_at letters (j * 4 + 3) (omega (arith, h)) all) in
+    let same = inverse told.0 told.1 told.2 in
+    other (is ∙ ap four_letters same ∙ sym told.2))
+
+-- ---- at the end
+
 pub record IsWordOf (k : ℕ) (letters : List ℕ) (n : ℕ) : Type 0 where
   pub below : n < 4 ^ k
   pub spelled : letters ≡ text k n
 
-pub spelled-all : (k : ℕ) (letters : List ℕ) (i n seen : ℕ) → length letters ≡ k → length letters ≤ i
-    → IsSpelled (take i letters) n seen → seen < 4 → IsWordOf k letters n
-spelled-all k letters i n seen long over s few =
-    let whole : take i letters ≡ letters = take_all i letters over in
-    let s = subst (λ v. IsSpelled v n seen) whole s in
-    let value = s.value few in
+pub spelled-all : (k : ℕ) (letters : List ℕ) (n : ℕ) → length letters ≡ k → IsSpelled letters n → IsWordOf k letters n
+spelled-all k letters n long s =
+    let value = s.value in
     record {
       below = let small = subst (λ m. number letters < 4 ^ m) long (number-lt letters) in omega (arith, value, small);
-      spelled = sym (ap (text k) value ∙ text-number k letters long (s.bases few));
+      spelled = sym (ap (text k) value ∙ text-number k letters long s.bases);
     }
 
--- another byte spells no word
-pub spelled-none_of : (k word : ℕ) (letters : List ℕ) (i n seen : ℕ) → length letters ≤ i
-    → IsSpelled (take i letters) n seen → 4 ≤ seen → letters ≡ text k word → ⊥
-spelled-none_of k word letters i n seen over s many e =
-    let whole : take i letters ≡ letters = take_all i letters over in
-    let few = s.few (ap are_bases (whole ∙ e) ∙ are_bases-text k word) in
-    omega (arith, many, few)
+-- other bytes spell no word
+pub spelled-none_of : (k word : ℕ) (letters : List ℕ) → are_bases letters ≡ false → letters ≡ text k word → ⊥
+spelled-none_of k word letters none e = never (sym none ∙ ap are_bases e ∙ are_bases-text k word)
 
 pub other_length : (k g word : ℕ) (letters : List ℕ) → g ≡ k → length letters ≢ g → letters ≡ text k word → ⊥
 other_length k g word letters same other e = other (ap length e ∙ length-text k word ∙ sym same)

@@ -281,10 +281,12 @@ row_refused {front = front} {unread = unread} {more = more} is number r all f to
     reads = reads_to more r;
     line = has_line (splits more f);
     no_end = no_end is (splits more f) told.0 told.1;
-    no_row = λ row follows at. none row follows
-        ([], line_is (row_line front.k row) at.0 (splits more f)
-        (Without-row front.k row (follower_fits front row follows).count) at.1
-        ∙ sym (append-nil (row_in_columns front.k false row)));
+    no_row = λ row follows at. none row follows (
+      [],
+      line_is (row_line front.k row) at.0 (splits more f)
+          (Without-row front.k row (follower_fits front row follows).count) at.1
+          ∙ sym (append-nil (row_in_columns front.k false row)),
+    );
     counted = counted;
   },
 )

@@ -1,9 +1,10 @@
 -- The rows of a table text as they are read: source, our formats page ("Table text").
-use Rattle.std.specs.Prelude.{◌≡◌, ℕ, ◌+◌, ◌%◌, ◌^◌, ◌<◌, ◌≤◌, List, [], ◌∷◌, ◌++◌, length, take, decimal}
-use Rattle.std.specs.Prelude.{slice_index, slice_index_or, if◌then◌else◌}
+use Rattle.std.specs.Prelude.{◌≡◌, ℕ, ◌+◌, ◌*◌, ◌/◌, ◌%◌, ◌^◌, ◌<◌, ◌≤◌, List, [], ◌∷◌, ◌++◌, length, take, decimal}
+use Rattle.std.specs.Prelude.{slice_index, slice_index_or, if◌then◌else◌, true}
 use Rattle.std.specs.Str.Parse.{AllDigits, digits_value}
 use Rattle.std.specs.Char.{digit_value}
-use Rattle.kc_word.specs.Letter.{is_base, code}
+use Rattle.kc_word.specs.Letter.{is_base, are_bases, code, base}
+use Rattle.kc_word.specs.Word.{number}
 use Rattle.kc_tally.specs.declared.row.Row.{Row}
 use Rattle.kc_tally.specs.Tally.{AreRows, TallySeen}
 use Rattle.kc_report.specs.Bytes.{line_feed, space}
@@ -16,6 +17,16 @@ RisesTo rows word = (i : ℕ) (d : Row) → i + 1 ≡ length rows → (slice_ind
 -- the code of a capital letter of a base, and 4 of any other byte
 abbrev pub capital_code : ℕ → ℕ
 capital_code byte = if is_base byte then code byte else 4
+
+-- the letters of four bases with these codes as a number, the first letter lowest and the first code highest
+abbrev pub four_letters : ℕ → ℕ
+four_letters codes =
+    base (codes / 64 % 4) + 256 * base (codes / 16 % 4) + 65536 * base (codes / 4 % 4) + 16777216 * base (codes % 4)
+
+-- the letters are capital ones of bases, and this is their number
+pub record IsSpelled (letters : List ℕ) (n : ℕ) : Type 0 where
+  pub bases : are_bases letters ≡ true
+  pub value : n ≡ number letters
 
 -- a count as it stands in a row, behind a blank and before the line end
 abbrev pub count_text : ℕ → List ℕ
