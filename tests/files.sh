@@ -1,6 +1,6 @@
 #!/bin/bash
-# Runs the program over files that are missing, that are directories, or that the output empties, and into a closed pipe, and
-# compares what it says, how it ends and what it leaves in the file of its output:
+# Runs the program over files that are missing, that are directories, or that the output empties, into a closed pipe, and on a
+# terminal, and compares what it says, how it ends and what it leaves in the file of its output:
 #   tests/files.sh
 # No contract tells what a file holds, so this is seen here alone. It needs bin/kcount.
 set -euo pipefail
@@ -101,4 +101,29 @@ same "its status" 1 "$(cat "$work/status")" "into a closed pipe"
 same "its errors" 'kcount: 53: write failed' "$(cat "$work/errors")" "into a closed pipe"
 same "the lines that were read" 1 "$(wc -l < "$work/output")" "into a closed pipe"
 ran=$((ran + 1))
+
+# how far a count has come is shown on a terminal alone, here of a source that takes a second
+slowly() { printf '>r1\nACG'; sleep 1; printf 'TA\n'; }
+slowly | "$kcount" "${count[@]}" > "$work/output" 2> "$work/errors"
+same "its output" "$one" "$(cat "$work/output")" "of a slow source"
+same "its errors" '' "$(cat "$work/errors")" "of a slow source"
+ran=$((ran + 1))
+# Runs `kcount` on a slow source with its errors, and its output where that goes to no file, on a terminal. What it shows there
+# has to begin with how far it has come, and to be taken away before the wanted text.
+shows() {
+    local wanted=$1 source=$2 to=$3 shown
+    shown=$(script -qec "{ $source; } | '$kcount' ${count[*]} $to" /dev/null < /dev/null) || true
+    shown=${shown//$'\r'/}
+    same "what a terminal is shown first" 'read 0 MB, ' "$(grep -o -m 1 'read 0 MB, ' <<< "$shown" | head -n 1)" "$source"
+    same "what stays on a terminal" "$wanted" "${shown##*$'\e[K'}" "$source"
+    ran=$((ran + 1))
+}
+if command -v script > /dev/null; then
+    shows "$one" "$(declare -f slowly); slowly" ''
+    shows '' "$(declare -f slowly); slowly" "> '$work/output'"
+    same "its output" "$one" "$(cat "$work/output")" "beside a terminal"
+    shows 'kcount: 2: bad base, source 1, line 2' "printf '>r1\nA@C'; sleep 1; printf 'A\n'" ''
+else
+    echo "files: what a terminal is shown was not tried, since script (of util-linux) is missing"
+fi
 echo "files: $ran command lines said what they should, and left what they should in the file of the output"

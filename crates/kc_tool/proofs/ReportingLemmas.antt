@@ -1,16 +1,55 @@
 -- From a tally of the reads of sources to the report on it.
-use Rattle.std.proofs.Common.{◌≡◌, List, ap}
-use Rattle.std.specs.Prelude.{Result, Ok, Err, OnOk, IsErrOf}
+use Rattle.std.proofs.Common.{◌≡◌, ℕ, List, ap, refl}
+use Rattle.std.specs.Prelude.{◌≢◌, Result, Ok, Err, OnOk, IfErr, IsErrOf}
 use Rattle.kc_fastx.specs.Reads.{Read}
 use Rattle.kc_io.specs.Sinks.{Written}
 use Rattle.kc_io.specs.Sources.{Seen}
 use Rattle.kc_tally.specs.Tally.{TallySeen, IsTallyOf}
-use Rattle.kc_tool.specs.Reading.{ReadsSources}
-use Rattle.kc_tool.specs.Reporting.{BeginsReport, IsReportOf, WritesReport, WritesText, report_of, report_text}
+use Rattle.kc_tool.specs.Counting.{IsCountingFault}
+use Rattle.kc_tool.specs.Reading.{ReadsSources, RefusesSources}
+use Rattle.kc_tool.specs.Reporting.{BeginsReport, CountEnds, IsReportOf, LeavesUnwritten, WritesReport, WritesText}
+use Rattle.kc_tool.specs.Reporting.{report_of, report_text}
 use Rattle.kc_tool.specs.Settings.{Settings, rule_of}
 use Rattle.kc_tool.specs.declared.faults.ToolFault.{ToolFault}
-use Rattle.kc_tool.specs.declared.faults.ToolFault.TheVariants.{Write}
+use Rattle.kc_tool.specs.declared.faults.ToolFault.TheVariants.{Fastx, BadHeader, BadRow, BadEnd, TableTooLong}
+use Rattle.kc_tool.specs.declared.faults.ToolFault.TheVariants.{TableRead, Memory, BadOption, BadWord, Write, Run}
+use Rattle.kc_tool.specs.declared.faults.ToolFault.TheVariants.{OpenFailed}
 use Rattle.kc_tool.specs.declared.reporting.Report.{Report}
+
+module _ {S : Type 0} (seen : S → Seen) (sources : List S) where
+  -- A text that was refused without a write leaves nothing.
+  unwritten : (text : List ℕ) (old new : Written) (result : Result (Unit {0}) ToolFault)
+      → WritesText text old new result
+      → IfErr result (λ fault. fault ≢ Write → LeavesUnwritten seen sources old new fault)
+  unwritten text old new (Ok done) h = tt
+  unwritten text old new (Err Write) h = λ other. absurd (other refl)
+  unwritten text old new (Err Memory) h = λ other. (h, tt)
+  unwritten text old new (Err (Fastx number fault)) h = absurd h
+  unwritten text old new (Err BadHeader) h = absurd h
+  unwritten text old new (Err (BadRow line)) h = absurd h
+  unwritten text old new (Err BadEnd) h = absurd h
+  unwritten text old new (Err TableTooLong) h = absurd h
+  unwritten text old new (Err TableRead) h = absurd h
+  unwritten text old new (Err (BadOption name)) h = absurd h
+  unwritten text old new (Err (BadWord number)) h = absurd h
+  unwritten text old new (Err (Run fault)) h = absurd h
+  unwritten text old new (Err (OpenFailed name)) h = absurd h
+
+  -- The faults of the counting are faults of a count over sources that have reads.
+  pub counting_refused : (reads : List Read) → ReadsSources seen sources reads → (fault : ToolFault)
+      → IsCountingFault fault → RefusesSources seen sources fault
+  counting_refused reads are_reads (Run fault) h = (reads, are_reads)
+  counting_refused reads are_reads Memory h = tt
+  counting_refused reads are_reads (Fastx number fault) h = absurd h
+  counting_refused reads are_reads BadHeader h = absurd h
+  counting_refused reads are_reads (BadRow line) h = absurd h
+  counting_refused reads are_reads BadEnd h = absurd h
+  counting_refused reads are_reads TableTooLong h = absurd h
+  counting_refused reads are_reads TableRead h = absurd h
+  counting_refused reads are_reads (BadOption name) h = absurd h
+  counting_refused reads are_reads (BadWord number) h = absurd h
+  counting_refused reads are_reads Write h = absurd h
+  counting_refused reads are_reads (OpenFailed name) h = absurd h
 
 module _ {S : Type 0} (seen : S → Seen) (sources : List S) (settings : Settings) {report : Report}
     (tally : TallySeen) (reads : List Read) (are_reads : ReadsSources seen sources reads)
@@ -36,3 +75,12 @@ module _ {S : Type 0} (seen : S → Seen) (sources : List S) (settings : Setting
       → WritesText (report_text report tally) old new result → IsErrOf result Write
       → BeginsReport seen sources settings old new
   begins_report old new result h failed = (report_text report tally, is_report, rw failed at h)
+
+  -- So a count ends.
+  pub count_ends : (old new : Written) (result : Result (Unit {0}) ToolFault)
+      → WritesText (report_text report tally) old new result → CountEnds seen sources settings old new result
+  count_ends old new result h = record {
+    written = writes_report old new result h;
+    begun = begins_report old new result h;
+    refused = unwritten seen sources (report_text report tally) old new result h;
+  }

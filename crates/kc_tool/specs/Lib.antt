@@ -6,6 +6,7 @@ pub mod Faults
 pub mod Files
 pub mod Laws
 pub mod Numbers
+pub mod Progress
 pub mod Reading
 pub mod Reporting
 pub mod Running

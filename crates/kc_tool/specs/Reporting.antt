@@ -1,5 +1,5 @@
 -- Reports on a tally, and what counting the words of sources writes: source, our formats page ("Reports").
-use Rattle.std.specs.Prelude.{◌≡◌, ◌≤◌, ℕ, List, Result, Ok, Err, ⊤}
+use Rattle.std.specs.Prelude.{◌≡◌, ◌≢◌, ◌≤◌, ℕ, List, Result, Ok, Err, OnOk, IfErr, IsErrOf, ⊤}
 use Rattle.kc_fastx.specs.Reads.{Read}
 use Rattle.kc_io.specs.Sinks.{Written, HasWritten, HasBegun}
 use Rattle.kc_io.specs.Sources.{Seen}
@@ -70,3 +70,15 @@ BeginsReport seen sources settings old new =
 -- nothing was written, and the sources have no reads for this reason
 abbrev pub LeavesUnwritten : {S : Type 0} → (S → Seen) → List S → Written → Written → ToolFault → Type 0
 LeavesUnwritten seen sources old new fault = (new ≡ old) × RefusesSources seen sources fault
+
+-- the tally is that of all reads of the sources
+abbrev pub TalliesSources : {S : Type 0} → (S → Seen) → List S → Settings → TallySeen → Type 0
+TalliesSources seen sources settings tally =
+    (reads : List Read) × ReadsSources seen sources reads × IsTallyOf (rule_of settings) reads tally
+
+-- what a count does: the report was written; or a beginning of it, where the writer failed; or nothing
+pub record CountEnds {S : Type 0} (seen : S → Seen) (sources : List S) (settings : Settings) (old new : Written)
+    (outcome : Result (Unit {0}) ToolFault) : Type 0 where
+  pub written : OnOk outcome (WritesReport seen sources settings old new)
+  pub begun : IsErrOf outcome Write → BeginsReport seen sources settings old new
+  pub refused : IfErr outcome (λ fault. fault ≢ Write → LeavesUnwritten seen sources old new fault)

@@ -8,10 +8,12 @@ ghost use Rattle.kc_tool.specs.Counting.{IsCountingFault};
 ghost use Rattle.kc_tool.specs.Settings.{rule_of};
 
 use crate::faults::ToolFault;
+use crate::progress::Progress;
 use crate::settings::Options;
+use crate::telling::ToldGate;
 use kc_gather::laws;
 use kc_hash::Hash;
-use kc_run::{NoGate, quotient_tables, run};
+use kc_run::{quotient_tables, run};
 use kc_stripe::Setup;
 use kc_tally::Tally;
 use kc_word::{Piece, cut};
@@ -22,17 +24,18 @@ use std::thread::Threads;
 /// The seed of the hash that divides the words among the stripes. No report depends on it.
 const SEED: u64 = 1;
 
-/// The tally of the reads that have these pieces, counted as the options say. Condition: the pieces have at most 2^36
-/// letters together.
+/// The tally of the reads that have these pieces, counted as the options say. How many batches there are is told, and
+/// each that was booked. Condition: the pieces have at most 2^36 letters together.
 ///
 /// # Errors
 /// `Run` where a thread, a place in a table or memory for them was refused. `Memory` where a growth was refused
 /// elsewhere.
-pub(crate) fn tally_of<H: Threads + Wait + Sync>(
+pub(crate) fn tally_of<H: Threads + Wait + Sync, P: Progress + Sync>(
     rt: &H,
     alloc: Global,
     pieces: Vec<Piece>,
     options: &Options,
+    progress: &P,
 ) -> Result<Tally, ToolFault>
     requires few { sum_by (λ piece. length piece) pieces.items ≤ 2 ^ 36 }
     ensures tally { IfOk result (λ tally. (reads : List Read)
@@ -45,6 +48,7 @@ pub(crate) fn tally_of<H: Threads + Wait + Sync>(
     let _bases = rule.k().get();
     laws::tally_of_cutting();
     let batches = cut(alloc, pieces, rule.k(), options.batch())?;
+    progress.counting_begins(batches.len() as u64);
     let setup = setup_of(options);
     let tables = quotient_tables(alloc, &setup, options.size())?;
     let tally = run(
@@ -54,7 +58,7 @@ pub(crate) fn tally_of<H: Threads + Wait + Sync>(
         &setup,
         tables,
         options.workers(),
-        &NoGate,
+        &ToldGate { progress },
     )?;
     Ok(tally)
 }

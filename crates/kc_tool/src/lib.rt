@@ -27,11 +27,13 @@ mod files;
 mod help;
 pub mod laws;
 mod numbers;
+mod progress;
 mod reading;
 mod reporting;
 mod running;
 mod settings;
 mod tasks;
+mod telling;
 mod verbs;
 
 pub use arguments::{dump_options, high_of, options};
@@ -45,6 +47,7 @@ pub use kc_report::{
 pub use kc_run::RunFault;
 pub use kc_tally::{Row, Tally};
 pub use kc_word::K;
+pub use progress::{NoProgress, Progress, ProgressLine};
 pub use reporting::count_reads;
-pub use running::{program, run};
+pub use running::{program, program_showing, run};
 pub use settings::{Options, Print};

@@ -4,6 +4,8 @@ ghost use Rattle.kc_fastx.specs.Parsing.{most_bytes};
 ghost use Rattle.kc_tool.specs.Reading.{HavePieces, RefusesSources, GivesPieces, RefusesSource};
 
 use crate::faults::ToolFault;
+use crate::progress::Progress;
+use crate::telling::ToldSource;
 use kc_fastx::{FastxFault, Reading, Source};
 use kc_word::{Piece, Rule, clean};
 use std::alloc::Global;
@@ -12,15 +14,17 @@ use std::alloc::Global;
 pub const MOST_BYTES: u64 = 1 << 36;
 
 /// The pieces of the reads of all sources, joined in order. Each source is read whole before the next one, and each
-/// read is cleaned before the next one is read, so that the text of one read is in memory at a time.
+/// read is cleaned before the next one is read, so that the text of one read is in memory at a time. How many
+/// bytes each call gave is told.
 ///
 /// # Errors
 /// The fault of the first source that has one, with its number from 1, or `Memory` where a growth was refused outside
 /// the reading.
-pub(crate) fn clean_sources<R: Source + Drop>(
+pub(crate) fn clean_sources<R: Source + Drop, P: Progress>(
     alloc: Global,
     sources: Vec<R>,
     rule: &Rule,
+    progress: &P,
 ) -> Result<Vec<Piece>, ToolFault>
     ensures pieces { IfOk result (λ pieces. HavePieces R.seen sources.items rule.now pieces.items) }
     ensures few { IfOk result (λ pieces. sum_by (λ piece. length piece) pieces.items ≤ 2 ^ 36) }
@@ -31,7 +35,7 @@ pub(crate) fn clean_sources<R: Source + Drop>(
     let mut number = 0u64;
     let _fits = sources.len();
     for source in sources {
-        let mut source = source;
+        let mut source = ToldSource { source, progress };
         number += 1;
         left -= clean_source(alloc, &mut source, number, left, rule, &mut pieces)?;
     }

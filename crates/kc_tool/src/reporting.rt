@@ -1,10 +1,12 @@
 //! Reports on a tally, and from sources to a report.
-ghost use Rattle.std.specs.Prelude.{◌≡◌, ◌≢◌, OnOk, IfErr, IsErrOf};
-ghost use Rattle.kc_tool.specs.Reporting.{WritesReport, BeginsReport, LeavesUnwritten};
+ghost use Rattle.std.specs.Prelude.{◌≡◌, ◌≢◌, OnOk, IfOk, IfErr, IsErrOf};
+ghost use Rattle.kc_tool.specs.Reading.{RefusesSources};
+ghost use Rattle.kc_tool.specs.Reporting.{CountEnds, TalliesSources, WritesReport, BeginsReport, LeavesUnwritten};
 ghost use Rattle.kc_tool.specs.Reporting.{IsWritable, WritesText, report_of, report_text};
 
 use crate::counting::tally_of;
 use crate::faults::ToolFault;
+use crate::progress::{NoProgress, Progress};
 use crate::reading::clean_sources;
 use crate::settings::{Options, Print};
 use kc_io::{Sink, Source};
@@ -49,9 +51,45 @@ pub fn count_reads<H: Threads + Wait + Sync, R: Source + Drop, W: Sink>(
     ensures refused { IfErr result (λ fault. fault ≢ ToolFault.Write
         → LeavesUnwritten R.seen sources.items (W.seen writer.old) (W.seen writer.new) fault) }
 {
-    let pieces = clean_sources(alloc, sources, &options.rule())?;
-    let tally = tally_of(rt, alloc, pieces, options)?;
+    count_showing(rt, alloc, sources, options, writer, &NoProgress)
+}
+
+/// What `count_reads` does. How far it has come is told until all was counted, and that it ends before anything is
+/// written.
+pub(crate) fn count_showing<
+    H: Threads + Wait + Sync,
+    R: Source + Drop,
+    W: Sink,
+    P: Progress + Sync,
+>(
+    rt: &H,
+    alloc: Global,
+    sources: Vec<R>,
+    options: &Options,
+    writer: &mut W,
+    progress: &P,
+) -> Result<(), ToolFault>
+    ensures { CountEnds R.seen sources.items options.now (W.seen writer.old) (W.seen writer.new) result }
+{
+    let counted = tally_of_sources(rt, alloc, sources, options, progress);
+    progress.ends();
+    let tally = counted?;
     write_report(alloc, writer, &tally, report_of(options))
+}
+
+// The tally of the reads of all sources.
+fn tally_of_sources<H: Threads + Wait + Sync, R: Source + Drop, P: Progress + Sync>(
+    rt: &H,
+    alloc: Global,
+    sources: Vec<R>,
+    options: &Options,
+    progress: &P,
+) -> Result<Tally, ToolFault>
+    ensures tally { IfOk result (TalliesSources R.seen sources.items options.now) }
+    ensures fault { IfErr result (RefusesSources R.seen sources.items) }
+{
+    let pieces = clean_sources(alloc, sources, &options.rule(), progress)?;
+    tally_of(rt, alloc, pieces, options, progress)
 }
 
 // The report that the options ask for.

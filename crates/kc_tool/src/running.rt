@@ -18,6 +18,7 @@ ghost use Rattle.kc_tool.specs.declared.running.Ending.TheVariants.{Fault};
 use crate::command::command;
 use crate::fault_lines::write_fault;
 use crate::faults::ToolFault;
+use crate::progress::{NoProgress, Progress};
 use crate::verbs::{carry_out, verb_named};
 use clap::ArgMatches;
 use clap::error::ErrorKind;
@@ -37,7 +38,8 @@ const REFUSED: u8 = 2;
 
 /// Carries out the command line `arguments`, which begins with the program's name, and answers the exit status: 0; 1
 /// for a fault; 2 for a command line that is refused. The line of a fault goes to `errors`, and so does the text of a
-/// refusal. Failing to write there changes no status. Files are opened and created by `rt`.
+/// refusal. Failing to write there changes no status. Files are opened and created by `rt`. How far a count has come is
+/// shown nowhere.
 pub fn program<
     H: Files + Threads + Wait + Sync,
     I: io::Read + Drop,
@@ -46,23 +48,52 @@ pub fn program<
 >(rt: &H, alloc: Global, arguments: Vec<String>, input: I, output: O, errors: E) -> u8
     ensures { result ≤ 2 }
 {
+    program_showing(rt, alloc, arguments, input, output, errors, &NoProgress)
+}
+
+/// What `program` does, where `progress` is told how far a count has come. It is told the end before the report or the
+/// line of a fault is written.
+pub fn program_showing<
+    H: Files + Threads + Wait + Sync,
+    I: io::Read + Drop,
+    O: io::Write + Drop,
+    E: io::Write + Drop,
+    P: Progress + Sync,
+>(rt: &H, alloc: Global, arguments: Vec<String>, input: I, output: O, errors: E, progress: &P) -> u8
+    ensures { result ≤ 2 }
+{
     let mut output = ToWrite::new(output);
     let mut errors = ToWrite::new(errors);
     let input = FromRead::new(input);
-    run(rt, alloc, &arguments, input, &mut output, &mut errors)
+    run(
+        rt,
+        alloc,
+        &arguments,
+        input,
+        &mut output,
+        &mut errors,
+        progress,
+    )
 }
 
-/// What `program` does, over streams that the caller keeps. Status 0: the output, or the file that the arguments name
+/// What `program_showing` does, over streams that the caller keeps. Status 0: the output, or the file that the arguments name
 /// for it, has what the arguments ask for: a report, the answer to a query, help or the version. Status 1: the line of
 /// a fault went to the errors, and the output is as it was, or has a beginning of the answer where writing failed.
 /// Status 2: the output is as it was, and why the arguments are refused went to the errors.
-pub fn run<H: Files + Threads + Wait + Sync, R: Source + Drop, W: Sink, E: Sink>(
+pub fn run<
+    H: Files + Threads + Wait + Sync,
+    R: Source + Drop,
+    W: Sink,
+    E: Sink,
+    P: Progress + Sync,
+>(
     rt: &H,
     alloc: Global,
     arguments: &[String],
     input: R,
     output: &mut W,
     errors: &mut E,
+    progress: &P,
 ) -> u8
     ensures done { result ≡ 0 → EndsWell (R.seen input) (map string_bytes arguments.now)
         (W.seen output.old) (W.seen output.new) (E.seen errors.old) (E.seen errors.new) }
@@ -75,7 +106,7 @@ pub fn run<H: Files + Threads + Wait + Sync, R: Source + Drop, W: Sink, E: Sink>
         (W.seen output.old) (W.seen output.new) (E.seen errors.old) (E.seen errors.new) }
     ensures status { result ≤ 2 }
 {
-    match obey(rt, alloc, arguments, input, output) {
+    match obey(rt, alloc, arguments, input, output, progress) {
         Ok(()) => DONE,
         Err(Ending::Fault(fault)) => {
             let _ = write_fault(errors, &fault);
@@ -132,12 +163,13 @@ fn status_of(fault: &ToolFault) -> u8
 }
 
 // Reads the command line and does what it asks for.
-fn obey<H: Files + Threads + Wait + Sync, R: Source + Drop, W: Sink>(
+fn obey<H: Files + Threads + Wait + Sync, R: Source + Drop, W: Sink, P: Progress + Sync>(
     rt: &H,
     alloc: Global,
     arguments: &[String],
     input: R,
     output: &mut W,
+    progress: &P,
 ) -> Result<(), Ending>
     ensures { CarriesOut (R.seen input) (map string_bytes arguments.now)
         (W.seen output.old) (W.seen output.new) result }
@@ -153,7 +185,7 @@ fn obey<H: Files + Threads + Wait + Sync, R: Source + Drop, W: Sink>(
     let Some(verb) = verb_named(name) else {
         unreachable!()
     };
-    Ok(carry_out(rt, alloc, verb, matches, input, output)?)
+    Ok(carry_out(rt, alloc, verb, matches, input, output, progress)?)
 }
 
 // What `clap` makes of the command line.

@@ -3,7 +3,8 @@ ghost use Rattle.std.specs.Prelude.{◌≡◌, map, length, IfOk, IfErr};
 ghost use Rattle.kc_tool.specs.Tasks.{CanBeDone, Does, TellOneTable, TellNoTable};
 
 use crate::faults::ToolFault;
-use crate::reporting::{Report, count_reads, write_report};
+use crate::progress::Progress;
+use crate::reporting::{Report, count_showing, write_report};
 use crate::settings::Options;
 use kc_io::{Sink, Source};
 use kc_report::{query, read_table};
@@ -23,23 +24,24 @@ pub(crate) enum Task {
     Query(Vec<String>),
 }
 
-/// Does the task. Conditions: a task over a table has one source; a histogram is for counts up to 1 to 10,000,000.
+/// Does the task. How far a count has come is told. Conditions: a task over a table has one source; a histogram is for counts up to 1 to 10,000,000.
 ///
 /// # Errors
 /// The fault of the sources or of the words. Nothing was written. `Write` where the writer failed or took no byte; a
 /// beginning of the text was written.
-pub(crate) fn do_task<H: Threads + Wait + Sync, R: Source + Drop, W: Sink>(
+pub(crate) fn do_task<H: Threads + Wait + Sync, R: Source + Drop, W: Sink, P: Progress + Sync>(
     rt: &H,
     alloc: Global,
     task: &Task,
     sources: Vec<R>,
     writer: &mut W,
+    progress: &P,
 ) -> Result<(), ToolFault>
     requires { CanBeDone task.now (map R.seen sources.items) }
     ensures { Does (map R.seen sources.items) task.now (W.seen writer.old) (W.seen writer.new) result }
 {
     match task {
-        Task::Count(options) => count_reads(rt, alloc, sources, options, writer),
+        Task::Count(options) => count_showing(rt, alloc, sources, options, writer, progress),
         Task::Report(report) => write_report(alloc, writer, &one_table(alloc, sources)?, *report),
         Task::Query(words) => Ok(query(writer, &one_table(alloc, sources)?, words)?),
     }

@@ -10,6 +10,7 @@ use crate::arguments::{dump_options, high_of, options, text_of};
 use crate::command::{COUNT, DUMP, HISTO, QUERY, STATS};
 use crate::faults::ToolFault;
 use crate::files::{create_file, open_files};
+use crate::progress::Progress;
 use crate::reporting::Report;
 use crate::tasks::{Task, do_task};
 use clap::ArgMatches;
@@ -49,19 +50,25 @@ pub(crate) fn verb_named(name: &str) -> Option<Verb>
 }
 
 /// Does what a command asks for. Files are opened in order before anything is read, and the file for the output is
-/// created, or emptied, behind them.
+/// created, or emptied, behind them. How far a count has come is told.
 ///
 /// # Errors
 /// `BadOption` with the first option whose value is outside its limits. `OpenFailed` with the first file that can't be
 /// opened, or with that of the output where it can't be created. After both nothing was written; and the faults of the
 /// task.
-pub(crate) fn carry_out<H: Files + Threads + Wait + Sync, R: Source + Drop, W: Sink>(
+pub(crate) fn carry_out<
+    H: Files + Threads + Wait + Sync,
+    R: Source + Drop,
+    W: Sink,
+    P: Progress + Sync,
+>(
     rt: &H,
     alloc: Global,
     verb: Verb,
     matches: &ArgMatches<'_>,
     input: R,
     output: &mut W,
+    progress: &P,
 ) -> Result<(), ToolFault>
     ensures { EndsSo verb (rows_of (found_of matches.now)) (R.seen input)
         (W.seen output.old) (W.seen output.new) result }
@@ -72,10 +79,10 @@ pub(crate) fn carry_out<H: Files + Threads + Wait + Sync, R: Source + Drop, W: S
     if names.is_empty() {
         let mut sources = Vec::new(alloc);
         sources.push(input)?;
-        deliver(rt, alloc, &task, sources, output_name, output)
+        deliver(rt, alloc, &task, sources, output_name, output, progress)
     } else {
         let files = open_files(rt, alloc, &names)?;
-        deliver(rt, alloc, &task, files, output_name, output)
+        deliver(rt, alloc, &task, files, output_name, output, progress)
     }
 }
 
@@ -140,13 +147,14 @@ fn owned_texts(alloc: Global, texts: &[&str]) -> Result<Vec<String>, AllocError>
 }
 
 // Does the task; its text goes to the output, or where a file is named for it, to that file.
-fn deliver<H: Files + Threads + Wait + Sync, R: Source + Drop, W: Sink>(
+fn deliver<H: Files + Threads + Wait + Sync, R: Source + Drop, W: Sink, P: Progress + Sync>(
     rt: &H,
     alloc: Global,
     task: &Task,
     sources: Vec<R>,
     name: Option<&str>,
     output: &mut W,
+    progress: &P,
 ) -> Result<(), ToolFault>
     requires { CanBeDone task.now (map R.seen sources.items) }
     ensures { HappensTo (option_copied name.entry) (W.seen output.old) (W.seen output.new)
@@ -154,10 +162,10 @@ fn deliver<H: Files + Threads + Wait + Sync, R: Source + Drop, W: Sink>(
         ⊎ IsUncreated (option_copied name.entry) (W.seen output.old) (W.seen output.new) result }
 {
     match name {
-        None => do_task(rt, alloc, task, sources, output),
+        None => do_task(rt, alloc, task, sources, output, progress),
         Some(name) => {
             let mut file = create_file(rt, alloc, name)?;
-            do_task(rt, alloc, task, sources, &mut file)
+            do_task(rt, alloc, task, sources, &mut file, progress)
         }
     }
 }

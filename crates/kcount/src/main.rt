@@ -1,6 +1,7 @@
 //! `kcount`, a counter of the k-mers (words of length k) in sequence reads.
 #![tactic(auto)]
 
+use kc_tool::ProgressLine;
 use std::io::{ErrorKind, Write};
 use std::process::ExitCode;
 use std::{env, io};
@@ -18,13 +19,15 @@ fn main(rt: HostRuntime) -> io::Result<ExitCode> {
         }
         Err(error) => return Err(error),
     };
-    let status = kc_tool::program(
+    let errors = rt.stderr();
+    let status = kc_tool::program_showing(
         &rt,
         rt.alloc(),
         arguments,
         rt.stdin(),
         rt.stdout(),
-        rt.stderr(),
+        errors,
+        &ProgressLine::new(&rt, &errors),
     );
     Ok(ExitCode::from(status))
 }

@@ -21,7 +21,7 @@ loop-source-preserved g c =
     length-front _ _ c.in-Some.source c.in-Some.ensures.steps.0 in
     let so_far = rw c.in-Some.ensures.steps.0 at c.loop-source.invariant.so_far in
     record {
-      so_far = one_more_cleaned g.R.Source.seen c.in-Some.source c.clean_source.new.source c.in_ok-left.field-0
+      so_far = one_more_cleaned g.R.Source.seen c.in-Some.source c.clean_source.new.source.source c.in_ok-left.field-0
           so_far c.in_ok-left.ensures.pieces;
       few = omega (arith, shorter, c.loop-source.invariant.few);
     }
@@ -30,7 +30,7 @@ pub returns-in_err-left-clause-fault : goal.returns-in_err-left-clause-fault
 returns-in_err-left-clause-fault g c =
     let p = err_from_is_err_and c.from_residual.result c.from_residual.ensures.1 in
     let so_far = rw c.in-Some.ensures.steps.0 at c.loop-source.invariant.so_far in
-    rw (p.1, p.2) (refused_cleaning g.R.Source.seen c.in-Some.source c.clean_source.new.source
+    rw (p.1, p.2) (refused_cleaning g.R.Source.seen c.in-Some.source c.clean_source.new.source.source
     c.in_err-left.field-0.0 so_far c.in_err-left.ensures.fault)
 
 pub returns-clause-few : goal.returns-clause-few
