@@ -217,45 +217,102 @@ fn next_seed(seed: u64) -> u64 {
 }
 
 // Up to 99 bases by a seed, with an N among nine.
-fn seeded(alloc: Global, seed: &mut u64) -> Result<Vec<u8>, AllocError> {
+fn seeded_read(alloc: Global, seed: &mut u64) -> Result<SeqRead, Fail> {
     let mut bases = Vec::new(alloc);
     *seed = next_seed(*seed);
     for _ in 0..*seed % 100 {
         *seed = next_seed(*seed);
         bases.push(b"ACGTACGTN"[(*seed % 9) as usize])?;
     }
-    Ok(bases)
+    let read = SeqRead::new(bases, None).ok_or("no read")?;
+    Ok(read)
+}
+
+fn seeded_reads(alloc: Global) -> Result<Vec<SeqRead>, Fail> {
+    let mut seed = 88_172_645_463_325_252u64;
+    let mut reads = Vec::new(alloc);
+    for _ in 0..30 {
+        reads.push(seeded_read(alloc, &mut seed)?)?;
+    }
+    Ok(reads)
+}
+
+// The batches of the reads, cut all at once.
+fn cut_at_once(
+    alloc: Global,
+    reads: &[SeqRead],
+    rule: &Rule,
+    size: u64,
+) -> Result<Vec<Arc<Batch>>, AllocError> {
+    let mut pieces = Vec::new(alloc);
+    for read in reads {
+        pieces.push(clean(alloc, read, rule)?)?;
+    }
+    cut(alloc, pieces, rule.k(), size.max(1))
+}
+
+// The batches of the reads, cut as they come.
+fn cut_one_by_one(
+    alloc: Global,
+    reads: &[SeqRead],
+    rule: &Rule,
+    size: u64,
+) -> Result<Vec<Arc<Batch>>, AllocError> {
+    let mut cutting = Cutting::new(alloc, rule.k(), size.max(1));
+    for read in reads {
+        cutting.push(alloc, &clean(alloc, read, rule)?)?;
+    }
+    cutting.finish(alloc)
+}
+
+// Whether each batch is the same as the other one at its index.
+fn are_same(batches: &[Arc<Batch>], others: &[Arc<Batch>]) -> bool {
+    if batches.len() != others.len() {
+        return false;
+    }
+    for i in 0..batches.len() {
+        if *batches[i] != *others[i] {
+            return false;
+        }
+    }
+    true
+}
+
+fn words_of_reads_one_by_one(
+    alloc: Global,
+    reads: &[SeqRead],
+    rule: &Rule,
+) -> Result<Vec<u64>, AllocError> {
+    let mut found = Vec::new(alloc);
+    for read in reads {
+        found.extend_from_slice(read_words(alloc, read, rule)?.as_slice())?;
+    }
+    Ok(found)
+}
+
+fn words_of_all(
+    alloc: Global,
+    batches: &[Arc<Batch>],
+    rule: &Rule,
+) -> Result<Vec<u64>, AllocError> {
+    let mut found = Vec::new(alloc);
+    for batch in batches {
+        found.extend_from_slice(words(alloc, batch, rule)?.as_slice())?;
+    }
+    Ok(found)
 }
 
 // Pieces that come one at a time are cut as they are all at once, and no word is lost.
 #[test]
 fn pieces_as_they_come(rt: HostRuntime) -> Result<(), Fail> {
     let rule = rule_of(5, true)?;
+    let reads = seeded_reads(rt.alloc())?;
+    let want = words_of_reads_one_by_one(rt.alloc(), &reads, &rule)?;
     for size in [1u64, 7, 100] {
-        let mut seed = 88_172_645_463_325_252u64;
-        let mut pieces = Vec::new(rt.alloc());
-        let mut want = Vec::new(rt.alloc());
-        let mut cutting = Cutting::new(rt.alloc(), rule.k(), size);
-        for _ in 0..30 {
-            let bases = seeded(rt.alloc(), &mut seed)?;
-            let read = read_of(rt.alloc(), bases.as_slice(), None)?;
-            want.extend_from_slice(read_words(rt.alloc(), &read, &rule)?.as_slice())?;
-            let piece = clean(rt.alloc(), &read, &rule)?;
-            cutting.push(rt.alloc(), &piece)?;
-            pieces.push(piece)?;
-        }
-        let batches = cutting.finish(rt.alloc())?;
-        let all = cut(rt.alloc(), pieces, rule.k(), size)?;
-        assert_eq!(rt; batches.len(), all.len());
-        let mut found = Vec::new(rt.alloc());
-        for (i, (batch, other)) in batches.iter().zip(&all).enumerate() {
-            assert_eq!(rt; **batch == **other, true);
-            assert_eq!(rt; batch.number(), i as u64);
-            if i.saturating_add(1) < all.len() {
-                assert_eq!(rt; batch.position_count(rule.k()) as u64, size);
-            }
-            found.extend_from_slice(words(rt.alloc(), batch, &rule)?.as_slice())?;
-        }
+        let batches = cut_one_by_one(rt.alloc(), &reads, &rule, size)?;
+        let others = cut_at_once(rt.alloc(), &reads, &rule, size)?;
+        assert_eq!(rt; are_same(&batches, &others), true);
+        let found = words_of_all(rt.alloc(), &batches, &rule)?;
         assert_eq!(rt; found.as_slice(), want.as_slice());
     }
     Ok(())
