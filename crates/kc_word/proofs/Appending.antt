@@ -9,7 +9,7 @@ use Rattle.std.specs.Int.Bits.{or_zero_l, or_zero_r}
 use Rattle.std.specs.List.{range_with_len}
 use Rattle.kc_word.specs.Packed.{code_in, codes_in, code_at, codes_of, ArePacked}
 use Rattle.kc_word.proofs.Shifting.{code-up, code-down, code-down-none, code-front, code-behind, range-joined, IsFilled}
-use Rattle.kc_word.proofs.Shifting.{part-more, part-all}
+use Rattle.kc_word.proofs.Shifting.{IsPart, part-more, part-all}
 
 code-or : (v w i : ℕ) → code_in (bit_or v w) i ≡ bit_or (code_in v i) (code_in w i)
 code-or v w i = ap (λ n. n % 4) (or_shr v w (62 - 2 * i)) ∙ or_mod (v / 2 ^ (62 - 2 * i)) (w / 2 ^ (62 - 2 * i)) 2
