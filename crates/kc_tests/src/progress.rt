@@ -91,6 +91,7 @@ impl Print for Screen {
 enum Told {
     Read(u64),
     Begins(u64),
+    Turns,
     Counted,
     Ends,
 }
@@ -99,6 +100,7 @@ fn tell<P: Progress>(progress: &P, told: Told) {
     match told {
         Told::Read(count) => progress.bytes_read(count),
         Told::Begins(batches) => progress.counting_begins(batches),
+        Told::Turns => progress.batch_begins(),
         Told::Counted => progress.batch_counted(),
         Told::Ends => progress.ends(),
     }
@@ -107,42 +109,59 @@ fn tell<P: Progress>(progress: &P, told: Told) {
 // After how many milliseconds what is told, and what is then written.
 const LINES: &[(u64, Told, &str)] = &[
     (0, Told::Read(1_000_000), ""),
-    (99, Told::Read(999_999), ""),
-    (100, Told::Read(1), "\rread 2 MB, 0 s\x1b[K"),
-    (150, Told::Read(5_900_000), ""),
-    (199, Told::Read(0), ""),
+    (124, Told::Read(999_999), ""),
+    (125, Told::Read(1), "\rread 2 MB, 0 s\x1b[K"),
+    (200, Told::Read(5_900_000), ""),
+    (249, Told::Read(0), ""),
     (1_999, Told::Read(0), "\rread 7 MB, 1 s\x1b[K"),
-    (2_098, Told::Begins(40), ""),
+    (2_123, Told::Begins(3), ""),
     (
-        2_099,
-        Told::Counted,
-        "\rread 7 MB, counted 1 of 40 batches, 2 s\x1b[K",
+        2_124,
+        Told::Turns,
+        "\rread 7 MB, counted 0 of 3 batches, 2 s\x1b[K",
     ),
-    (2_100, Told::Counted, ""),
+    (2_125, Told::Counted, ""),
     (
         3_600_000,
         Told::Counted,
-        "\rread 7 MB, counted 3 of 40 batches, 3600 s\x1b[K",
+        "\rread 7 MB, counted 2 of 3 batches, 3600 s\x1b[K",
     ),
-    (3_600_001, Told::Ends, "\r\x1b[K"),
+    // the last batch is shown before its time, since nothing may follow for long
+    (
+        3_600_001,
+        Told::Counted,
+        "\rread 7 MB, counted 3 of 3 batches, 3600 s\x1b[K",
+    ),
+    (3_600_002, Told::Ends, "\r\x1b[K"),
+    (3_700_000, Told::Begins(4), ""),
     (3_700_000, Told::Counted, ""),
     (3_700_000, Told::Ends, ""),
 ];
 
+// The same of a count that is over soon.
+const NO_LINES: &[(u64, Told, &str)] = &[
+    (0, Told::Read(1_000_000), ""),
+    (100, Told::Begins(1), ""),
+    (124, Told::Counted, ""),
+    (125, Told::Ends, ""),
+];
+
 #[test]
 fn the_line_is_written_over_and_cleared(rt: HostRuntime) -> Result<(), Fail> {
-    let (clock, screen) = (SetClock::new(false), Screen::new(&rt, true));
-    let line = ProgressLine::new(&clock, &screen);
-    for (millis, told, text) in LINES {
-        clock.millis.store(*millis, Ordering::SeqCst);
-        tell(&line, *told);
-        assert_eq!(rt; screen.taken(&rt)?.as_slice(), text.as_bytes(), "{millis}");
+    for lines in [LINES, NO_LINES] {
+        let (clock, screen) = (SetClock::new(false), Screen::new(&rt, true));
+        let line = ProgressLine::new(&clock, &screen);
+        for (millis, told, text) in lines {
+            clock.millis.store(*millis, Ordering::SeqCst);
+            tell(&line, *told);
+            assert_eq!(rt; screen.taken(&rt)?.as_slice(), text.as_bytes(), "{millis}");
+        }
     }
     Ok(())
 }
 
 #[test]
-fn a_line_is_written_ten_times_a_second(rt: HostRuntime) -> Result<(), Fail> {
+fn a_line_is_written_eight_times_a_second(rt: HostRuntime) -> Result<(), Fail> {
     let (clock, screen) = (SetClock::new(false), Screen::new(&rt, true));
     let line = ProgressLine::new(&clock, &screen);
     let mut lines = 0;
@@ -152,7 +171,7 @@ fn a_line_is_written_ten_times_a_second(rt: HostRuntime) -> Result<(), Fail> {
         if !screen.taken(&rt)?.is_empty() {
             lines += 1;
         }
-        assert_eq!(rt; lines, millis / 100, "{millis}");
+        assert_eq!(rt; lines, millis / 125, "{millis}");
     }
     Ok(())
 }
@@ -176,6 +195,7 @@ fn nothing_is_shown_without_a_terminal_or_a_clock(rt: HostRuntime) -> Result<(),
 struct Heard {
     bytes: AtomicU64,
     batches: AtomicU64,
+    begun: AtomicU64,
     counted: AtomicU64,
     ends: AtomicU64,
     // how many calls came behind an end
@@ -187,10 +207,24 @@ impl Heard {
         Heard {
             bytes: AtomicU64::new(0),
             batches: AtomicU64::new(0),
+            begun: AtomicU64::new(0),
             counted: AtomicU64::new(0),
             ends: AtomicU64::new(0),
             late: AtomicU64::new(0),
         }
+    }
+
+    // In the order of the fields.
+    fn numbers(&self) -> [u64; 6] {
+        let order = Ordering::SeqCst;
+        [
+            self.bytes.load(order),
+            self.batches.load(order),
+            self.begun.load(order),
+            self.counted.load(order),
+            self.ends.load(order),
+            self.late.load(order),
+        ]
     }
 
     fn hear(&self, what: &AtomicU64, count: u64) {
@@ -208,6 +242,10 @@ impl Progress for Heard {
 
     fn counting_begins(&self, batches: u64) {
         self.hear(&self.batches, batches);
+    }
+
+    fn batch_begins(&self) {
+        self.hear(&self.begun, 1);
     }
 
     fn batch_counted(&self) {
@@ -300,18 +338,8 @@ fn a_count_tells_its_bytes_and_batches(rt: HostRuntime) -> Result<(), Fail> {
         program_showing(&rt, alloc, words, input, &mut written, &mut told, &heard);
         assert_eq!(rt; written.taken.as_slice(), output.as_bytes(), "{line}");
         assert_eq!(rt; told.taken.as_slice(), errors.as_bytes(), "{line}");
-        let order = Ordering::SeqCst;
-        assert_eq!(rt;
-            (heard.bytes.load(order), heard.batches.load(order)),
-            (*bytes, *batches),
-            "{line}"
-        );
-        assert_eq!(rt;
-            (heard.counted.load(order), heard.ends.load(order)),
-            (*batches, *ends),
-            "{line}"
-        );
-        assert_eq!(rt; heard.late.load(order), 0, "{line}");
+        let want = [*bytes, *batches, *batches, *batches, *ends, 0];
+        assert_eq!(rt; heard.numbers(), want, "{line}");
         assert!(rt;
             *ends == 0 || (written.is_behind && told.is_behind),
             "{line}"

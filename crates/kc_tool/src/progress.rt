@@ -15,6 +15,9 @@ pub trait Progress {
     /// All sources were read, and so many batches are to be counted.
     fn counting_begins(&self, batches: u64);
 
+    /// A worker turns to one more batch.
+    fn batch_begins(&self);
+
     /// One more batch was counted.
     fn batch_counted(&self);
 
@@ -31,20 +34,26 @@ impl Progress for NoProgress {
 
     fn counting_begins(&self, _batches: u64) {}
 
+    fn batch_begins(&self) {}
+
     fn batch_counted(&self) {}
 
     fn ends(&self) {}
 }
 
-// The least time from one line to the next, in milliseconds.
-const INTERVAL: u64 = 100;
+// The least time from one line to the next, in milliseconds. It leaves room for one line that comes before its time.
+const INTERVAL: u64 = 125;
+
+// When the next line is due where there is none.
+const NEVER: u64 = u64::MAX;
 
 // Empties the line, from its beginning.
 const CLEARED: &[u8] = b"\r\x1b[K";
 
 /// A line on a terminal that says how far a count has come: the bytes that were read, the batches that were counted,
 /// and how long it took. It is written over itself when something is told, at most ten times a second, and cleared at
-/// the end. Nothing is written where there is no terminal, or where the clock can't be read.
+/// the end. Nothing is written where there is no terminal, or where the clock can't be read, and nothing of a count that
+/// is over sooner.
 #[derive(Drop)]
 pub struct ProgressLine<'a, C: Clock, T: Print + IsTerminal> {
     clock: &'a C,
@@ -61,7 +70,7 @@ pub struct ProgressLine<'a, C: Clock, T: Print + IsTerminal> {
 }
 
 impl<'a, C: Clock, T: Print + IsTerminal> ProgressLine<'a, C, T> {
-    /// A line on this terminal, where it is one. Its first text is written 100 milliseconds later at the earliest.
+    /// A line on this terminal, where it is one. Its first text is written an eighth of a second later at the earliest.
     pub fn new(clock: &'a C, terminal: &'a T) -> ProgressLine<'a, C, T> {
         let began = if terminal.is_terminal() {
             Instant::now(clock).ok()
@@ -80,12 +89,12 @@ impl<'a, C: Clock, T: Print + IsTerminal> ProgressLine<'a, C, T> {
         }
     }
 
-    // Writes the line where that is due.
-    fn show(&self) {
+    // Writes the line where that is due, or where all batches were counted, since what follows tells nothing.
+    fn show(&self, is_last: bool) {
         let Some(passed) = self.passed() else {
             return;
         };
-        if !self.takes_turn(passed) {
+        if !self.takes_turn(passed, is_last) {
             return;
         }
         let reached = Reached {
@@ -110,33 +119,38 @@ impl<'a, C: Clock, T: Print + IsTerminal> ProgressLine<'a, C, T> {
     }
 
     // Whether a line is due. Of workers that ask at the same time one is answered so.
-    fn takes_turn(&self, passed: Duration) -> bool {
+    fn takes_turn(&self, passed: Duration, is_last: bool) -> bool {
         let now = u64::try_from(passed.as_millis()).unwrap_or(u64::MAX);
         let order = Ordering::SeqCst;
         let due = self.due.load(order);
         let next = now.saturating_add(INTERVAL);
-        due <= now && self.due.compare_exchange(due, next, order, order).is_ok()
+        let is_due = due <= now || (is_last && due < NEVER && INTERVAL <= now);
+        is_due && self.due.compare_exchange(due, next, order, order).is_ok()
     }
 }
 
 impl<C: Clock, T: Print + IsTerminal> Progress for ProgressLine<'_, C, T> {
     fn bytes_read(&self, count: u64) {
         self.bytes.fetch_add(count, Ordering::SeqCst);
-        self.show();
+        self.show(false);
     }
 
     fn counting_begins(&self, batches: u64) {
         self.batches.store(batches, Ordering::SeqCst);
-        self.show();
+        self.show(false);
+    }
+
+    fn batch_begins(&self) {
+        self.show(false);
     }
 
     fn batch_counted(&self) {
-        self.counted.fetch_add(1, Ordering::SeqCst);
-        self.show();
+        let before = self.counted.fetch_add(1, Ordering::SeqCst);
+        self.show(before.wrapping_add(1) == self.batches.load(Ordering::SeqCst));
     }
 
     fn ends(&self) {
-        self.due.store(u64::MAX, Ordering::SeqCst);
+        self.due.store(NEVER, Ordering::SeqCst);
         if self.is_shown.swap(false, Ordering::SeqCst) {
             let _ = self.terminal.write_all(CLEARED);
         }

@@ -26,7 +26,7 @@ impl<R: Source, P: Progress> Source for ToldSource<'_, R, P> {
     }
 }
 
-/// The gate that tells of each batch that was booked.
+/// The gate that tells of each batch, before it is booked and after.
 #[derive(Drop)]
 pub(crate) struct ToldGate<'a, P: Progress> {
     /// What is told.
@@ -34,7 +34,9 @@ pub(crate) struct ToldGate<'a, P: Progress> {
 }
 
 impl<P: Progress> Gate for ToldGate<'_, P> {
-    fn before_book(&self, _worker: u32, _batch: u64) {}
+    fn before_book(&self, _worker: u32, _batch: u64) {
+        self.progress.batch_begins();
+    }
 
     fn after_book(&self, _worker: u32, _batch: u64) {
         self.progress.batch_counted();
