@@ -10,17 +10,15 @@ use Rattle.kc_fastx.specs.Reading.{Stand, HasGiven, first_stand}
 use Rattle.kc_fastx.specs.Reads.{Read, base_count}
 use Rattle.kc_fastx.proofs.ReadingLemmas.{base_count-gives, given_none}
 use Rattle.kc_word.specs.Cutting.{cleaned}
+use Rattle.kc_word.specs.OpenCutting.{OpenCutting, HasTaken}
 use Rattle.kc_word.specs.Rule.{CountingRule}
 use Rattle.kc_word.proofs.Cleaning.{length-cleaned}
-use Rattle.kc_tool.specs.Reading.{FailsAt, GivesPieces, HavePieces, RefusesSource, RefusesSources}
+use Rattle.kc_tool.specs.Reading.{CutsPieces, CutsSources, FailsAt, RefusesSource, RefusesSources, pieces_of}
 use Rattle.kc_tool.specs.declared.faults.ToolFault.{ToolFault}
 use Rattle.kc_tool.specs.declared.faults.ToolFault.TheVariants.{Fastx, BadHeader, BadRow, BadEnd, TableTooLong}
 use Rattle.kc_tool.specs.declared.faults.ToolFault.TheVariants.{TableRead, Memory, BadOption, BadWord, Write, Run}
 use Rattle.kc_tool.specs.declared.faults.ToolFault.TheVariants.{OpenFailed}
 use Rattle.kc_tool.proofs.ReadingLemmas.{ReadSoFar, begun, ended, one_more, refused}
-
-abbrev pub pieces_of : CountingRule → List Read → List (List ℕ)
-pieces_of rule reads = map (λ read. cleaned rule read) reads
 
 pieces_of-append : (rule : CountingRule) (reads more : List Read)
     → pieces_of rule (reads ++ more) ≡ pieces_of rule reads ++ pieces_of rule more
@@ -34,42 +32,53 @@ letters rule (read ∷ reads) =
     let bases = sum_by-cons (λ (read : Read). length read.bases) read reads in
     pieces ∙ omega (arith, length-cleaned rule read, letters rule reads, bases)
 
--- Some of the sources were read, and their reads cleaned.
-pub record CleanedSoFar {S : Type 0} (seen : S → Seen) (sources rest : List S) (rule : CountingRule)
-    (pieces : List (List ℕ)) (left number : ℕ) : Type 0 where
+-- Some of the sources were read, and their reads cleaned and cut.
+pub record CutSoFar {S : Type 0} (seen : S → Seen) (sources rest : List S) (rule : CountingRule) (batch : ℕ)
+    (cutting : OpenCutting) (left number : ℕ) : Type 0 where
   pub reads : List Read
   pub so_far : ReadSoFar seen sources rest reads left number
-  pub are_pieces : pieces ≡ pieces_of rule reads
+  pub length_of_words : cutting.k ≡ rule.k
+  pub size : cutting.size ≡ batch
+  pub taken : HasTaken cutting (pieces_of rule reads)
 
-pub cleaning_begun : {S : Type 0} (seen : S → Seen) (sources : List S) (rule : CountingRule)
-    → CleanedSoFar seen sources sources rule [] most_bytes 0
-cleaning_begun seen sources rule = record { reads = []; so_far = begun seen sources; are_pieces = refl }
+pub cutting_begun : {S : Type 0} (seen : S → Seen) (sources : List S) (rule : CountingRule) (batch : ℕ)
+    (cutting : OpenCutting) → cutting.k ≡ rule.k → cutting.size ≡ batch → HasTaken cutting []
+    → CutSoFar seen sources sources rule batch cutting most_bytes 0
+cutting_begun seen sources rule batch cutting length_of_words size none = record {
+  reads = [];
+  so_far = begun seen sources;
+  length_of_words = length_of_words;
+  size = size;
+  taken = none;
+}
 
--- The next source gave the pieces of its reads.
-pub one_more_cleaned : {S : Type 0} (seen : S → Seen) {sources rest : List S} {rule : CountingRule} (source later : S)
-    {pieces after : List (List ℕ)} {left number : ℕ} (count : ℕ)
-    → CleanedSoFar seen sources (source ∷ rest) rule pieces left number
-    → GivesPieces (seen source) (seen later) left rule count pieces after
-    → CleanedSoFar seen sources rest rule after (left - count) (number + 1)
-one_more_cleaned seen {rule = rule} source later {left = left} count r gives =
+-- The next source's pieces were cut.
+pub one_more_cut : {S : Type 0} (seen : S → Seen) {sources rest : List S} {rule : CountingRule} {batch : ℕ}
+    (source later : S) {cutting after : OpenCutting} {left number : ℕ} (count : ℕ)
+    → CutSoFar seen sources (source ∷ rest) rule batch cutting left number
+    → CutsPieces (seen source) (seen later) left rule count cutting after
+    → CutSoFar seen sources rest rule batch after (left - count) (number + 1)
+one_more_cut seen {rule = rule} source later {after = after} {left = left} count r gives =
     let more = gives.reads in
     let few = base_count-gives (seen source) (seen later) left more count gives.given in
     record {
       reads = r.reads ++ more;
       so_far = one_more seen source later more count r.so_far gives.given few;
-      are_pieces = gives.behind ∙ ap (λ v. v ++ pieces_of rule more) r.are_pieces
-          ∙ sym (pieces_of-append rule r.reads more);
+      length_of_words = gives.length_of_words ∙ r.length_of_words;
+      size = gives.size ∙ r.size;
+      taken = subst (HasTaken after) (sym (pieces_of-append rule r.reads more))
+          (gives.behind (pieces_of rule r.reads) r.taken);
     }
 
 -- It gave no more bytes than were left.
-pub gives_within : {old new : Seen} {limit : ℕ} {rule : CountingRule} {count : ℕ} {before after : List (List ℕ)}
-    → GivesPieces old new limit rule count before after → count ≤ limit
+pub gives_within : {old new : Seen} {limit : ℕ} {rule : CountingRule} {count : ℕ} {before after : OpenCutting}
+    → CutsPieces old new limit rule count before after → count ≤ limit
 gives_within gives = omega (arith, gives.given.counted, gives.given.taken.within)
 
 -- The next source was refused.
-pub refused_cleaning : {S : Type 0} (seen : S → Seen) {sources rest : List S} {rule : CountingRule} (source later : S)
-    {pieces : List (List ℕ)} {left number : ℕ} (fault : ToolFault)
-    → CleanedSoFar seen sources (source ∷ rest) rule pieces left number
+pub refused_cleaning : {S : Type 0} (seen : S → Seen) {sources rest : List S} {rule : CountingRule} {batch : ℕ}
+    (source later : S) {cutting : OpenCutting} {left number : ℕ} (fault : ToolFault)
+    → CutSoFar seen sources (source ∷ rest) rule batch cutting left number
     → RefusesSource (seen source) (seen later) (number + 1) left fault → RefusesSources seen sources fault
 refused_cleaning seen {sources = sources} source later (Fastx at fault) r h =
     subst (λ v. FailsAt seen sources v fault) (sym h.0) (refused seen source later fault r.so_far h.1)
@@ -86,37 +95,55 @@ refused_cleaning seen source later Write r h = absurd h
 refused_cleaning seen source later (OpenFailed name) r h = absurd h
 
 -- All sources were read.
-pub all_cleaned : {S : Type 0} (seen : S → Seen) (sources : List S) {rule : CountingRule} {pieces : List (List ℕ)}
-    {left number : ℕ} → CleanedSoFar seen sources [] rule pieces left number → HavePieces seen sources rule pieces
-all_cleaned seen sources r = (r.reads, ended seen sources r.reads _ _ r.so_far, r.are_pieces)
+pub all_cut : {S : Type 0} (seen : S → Seen) (sources : List S) {rule : CountingRule} {batch : ℕ}
+    {cutting : OpenCutting} {left number : ℕ} → CutSoFar seen sources [] rule batch cutting left number
+    → CutsSources seen sources rule batch cutting
+all_cut seen sources {rule = rule} r = record {
+  reads = r.reads;
+  are = ended seen sources r.reads _ _ r.so_far;
+  length_of_words = r.length_of_words;
+  size = r.size;
+  taken = r.taken;
+  few = omega (arith, letters rule r.reads, r.so_far.bases);
+}
 
--- The pieces have no more letters together than the sources may have bytes.
-pub few_letters : {S : Type 0} {seen : S → Seen} {sources rest : List S} {rule : CountingRule}
-    {pieces : List (List ℕ)} {left number : ℕ} → CleanedSoFar seen sources rest rule pieces left number
-    → sum_by (λ piece. length piece) pieces ≤ most_bytes
-few_letters {rule = rule} r = rw r.are_pieces (omega (arith, letters rule r.reads, r.so_far.bases))
-
--- A source was read so far: the pieces of its reads stand behind those that were there.
-pub record PiecesSoFar (start now : Seen) (limit : ℕ) (rule : CountingRule) (before pieces : List (List ℕ))
+-- A source was read so far: the pieces of its reads were cut behind those that were cut before.
+pub record PiecesSoFar (start now : Seen) (limit : ℕ) (rule : CountingRule) (before cutting : OpenCutting)
     (stand : Stand) : Type 0 where
   pub reads : List Read
   pub given : HasGiven start now limit reads stand
-  pub behind : pieces ≡ before ++ pieces_of rule reads
+  pub length_of_words : cutting.k ≡ before.k
+  pub size : cutting.size ≡ before.size
+  pub behind : (pieces : List (List ℕ)) → HasTaken before pieces → HasTaken cutting (pieces ++ pieces_of rule reads)
 
-pub no_piece : (start : Seen) (limit : ℕ) (rule : CountingRule) (before : List (List ℕ))
+pub no_piece : (start : Seen) (limit : ℕ) (rule : CountingRule) (before : OpenCutting)
     → PiecesSoFar start start limit rule before before (first_stand limit)
-no_piece start limit rule before =
-    record { reads = []; given = given_none start limit; behind = sym (append-nil before) }
+no_piece start limit rule before = record {
+  reads = [];
+  given = given_none start limit;
+  length_of_words = refl;
+  size = refl;
+  behind = λ pieces taken. subst (HasTaken before) (sym (append-nil pieces)) taken;
+}
 
-pub one_more_piece : {start old now : Seen} {limit : ℕ} {rule : CountingRule} {before pieces : List (List ℕ)}
-    {stand next : Stand} (read : Read) → (r : PiecesSoFar start old limit rule before pieces stand)
-    → HasGiven start now limit (r.reads ++ read ∷ []) next
-    → PiecesSoFar start now limit rule before (pieces ++ cleaned rule read ∷ []) next
-one_more_piece {rule = rule} {before = before} read r given =
+-- The cutting took one piece more.
+pub record TakesPiece (old new : OpenCutting) (piece : List ℕ) : Type 0 where
+  pub length_of_words : new.k ≡ old.k
+  pub size : new.size ≡ old.size
+  pub more : (pieces : List (List ℕ)) → HasTaken old pieces → HasTaken new (pieces ++ piece ∷ [])
+
+pub one_more_piece : {start old now : Seen} {limit : ℕ} {rule : CountingRule} {before cutting after : OpenCutting}
+    {stand next : Stand} (read : Read) → (r : PiecesSoFar start old limit rule before cutting stand)
+    → HasGiven start now limit (r.reads ++ read ∷ []) next → TakesPiece cutting after (cleaned rule read)
+    → PiecesSoFar start now limit rule before after next
+one_more_piece {rule = rule} {after = after} read r given takes =
     let more = cleaned rule read ∷ [] in
     record {
       reads = r.reads ++ read ∷ [];
       given = given;
-      behind = ap (λ v. v ++ more) r.behind ∙ append_assoc before (pieces_of rule r.reads) more
-          ∙ ap (λ v. before ++ v) (sym (pieces_of-append rule r.reads (read ∷ [])));
+      length_of_words = takes.length_of_words ∙ r.length_of_words;
+      size = takes.size ∙ r.size;
+      behind = λ pieces taken. subst (HasTaken after) (append_assoc pieces (pieces_of rule r.reads) more
+          ∙ ap (λ v. pieces ++ v) (sym (pieces_of-append rule r.reads (read ∷ []))))
+          (takes.more (pieces ++ pieces_of rule r.reads) (r.behind pieces taken));
     }

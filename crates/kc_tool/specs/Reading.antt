@@ -1,5 +1,5 @@
 -- The reads of all sources of one count: source, our formats page.
-use Rattle.std.specs.Prelude.{◌≡◌, ◌≤◌, ◌-◌, ℕ, List, [], ◌∷◌, ◌++◌, length, map, ⊤}
+use Rattle.std.specs.Prelude.{◌≡◌, ◌≤◌, ◌-◌, ℕ, List, [], ◌∷◌, ◌++◌, length, map, sum_by, ⊤}
 use Rattle.std.specs.List.{concat}
 use Rattle.kc_io.specs.Sources.{Seen}
 use Rattle.kc_io.specs.Taking.{TakesAll}
@@ -7,6 +7,7 @@ use Rattle.kc_fastx.specs.Parsing.{GivesReads, HaveReads, IsFirstFaulty, Refuses
 use Rattle.kc_fastx.specs.Reads.{Read}
 use Rattle.kc_fastx.specs.declared.faults.FastxFault.{FastxFault}
 use Rattle.kc_word.specs.Cutting.{cleaned}
+use Rattle.kc_word.specs.OpenCutting.{OpenCutting, HasTaken}
 use Rattle.kc_word.specs.Rule.{CountingRule}
 use Rattle.kc_tool.specs.declared.faults.ToolFault.{ToolFault}
 use Rattle.kc_tool.specs.declared.faults.ToolFault.TheVariants.{Fastx, Memory, Run}
@@ -31,19 +32,31 @@ pub record GaveReads {S : Type 0} (seen : S → Seen) (sources : List S) (inputs
 abbrev pub ReadsSources : {S : Type 0} → (S → Seen) → List S → List Read → Type 0
 ReadsSources seen sources reads = (inputs : List (List ℕ)) × GaveReads seen sources inputs reads
 
--- the pieces are those of the reads that the sources have
-abbrev pub HavePieces : {S : Type 0} → (S → Seen) → List S → CountingRule → List (List ℕ) → Type 0
-HavePieces seen sources rule pieces =
-    (reads : List Read) × ReadsSources seen sources reads × (pieces ≡ map (λ read. cleaned rule read) reads)
+-- the pieces of the reads, in order
+abbrev pub pieces_of : CountingRule → List Read → List (List ℕ)
+pieces_of rule reads = map (λ read. cleaned rule read) reads
 
--- the source gave `count` bytes, and the pieces of their reads stand behind those that were there
-pub record GivesPieces (old new : Seen) (limit : ℕ) (rule : CountingRule) (count : ℕ) (before after : List (List ℕ))
+-- the sources have reads, whose pieces were cut by this rule into batches of so many positions, and these have no more
+-- letters together than the sources may have bytes
+pub record CutsSources {S : Type 0} (seen : S → Seen) (sources : List S) (rule : CountingRule) (batch : ℕ)
+    (cutting : OpenCutting) : Type 0 where
+  pub reads : List Read
+  pub are : ReadsSources seen sources reads
+  pub length_of_words : cutting.k ≡ rule.k
+  pub size : cutting.size ≡ batch
+  pub taken : HasTaken cutting (pieces_of rule reads)
+  pub few : sum_by (λ piece. length piece) (pieces_of rule reads) ≤ most_bytes
+
+-- the source gave `count` bytes, and the pieces of their reads were cut behind those that were cut before
+pub record CutsPieces (old new : Seen) (limit : ℕ) (rule : CountingRule) (count : ℕ) (before after : OpenCutting)
     : Type 0 where
   pub reads : List Read
   pub given : GivesReads old new limit reads count
-  pub behind : after ≡ before ++ map (λ read. cleaned rule read) reads
+  pub length_of_words : after.k ≡ before.k
+  pub size : after.size ≡ before.size
+  pub behind : (pieces : List (List ℕ)) → HasTaken before pieces → HasTaken after (pieces ++ pieces_of rule reads)
 
--- why the number-th source gave no pieces; of want of memory outside its reader nothing is said
+-- why of the number-th source no pieces were cut; of want of memory outside its reader nothing is said
 abbrev pub RefusesSource : Seen → Seen → ℕ → ℕ → ToolFault → Type 0
 RefusesSource old new number limit (Fastx source fault) = (source ≡ number) × RefusesFor old new limit fault
 RefusesSource old new number limit Memory = ⊤

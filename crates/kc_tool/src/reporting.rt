@@ -7,7 +7,7 @@ ghost use Rattle.kc_tool.specs.Reporting.{IsWritable, WritesText, report_of, rep
 use crate::counting::tally_of;
 use crate::faults::ToolFault;
 use crate::progress::{NoProgress, Progress};
-use crate::reading::clean_sources;
+use crate::reading::cut_sources;
 use crate::settings::{Options, Print};
 use kc_io::{Sink, Source};
 use kc_report::{write_dump, write_histo, write_stats, write_table};
@@ -88,8 +88,8 @@ fn tally_of_sources<H: Threads + Wait + Sync, R: Source + Drop, P: Progress + Sy
     ensures tally { IfOk result (TalliesSources R.seen sources.items options.now) }
     ensures fault { IfErr result (RefusesSources R.seen sources.items) }
 {
-    let pieces = clean_sources(alloc, sources, &options.rule(), progress)?;
-    tally_of(rt, alloc, pieces, options, progress)
+    let cutting = cut_sources(alloc, sources, options, progress)?;
+    tally_of(rt, alloc, cutting, options, progress)
 }
 
 // The report that the options ask for.

@@ -1,33 +1,34 @@
 use Rattle.std.proofs.Common.{◌∙◌, ap, sym, length, arith}
 use Rattle.std.proofs.lemmas.List.{length-map}
+use Rattle.kc_tool.specs.Reading.{pieces_of}
+use Rattle.kc_tool.specs.Settings.{rule_of}
 use Rattle.kc_tool.proofs.CountingLemmas.{few_batches, small_cutting}
 use Rattle.kc_tool.proofs.counting.tally_of.Goals as goal
 
 pub run-requires-clause-few : goal.run-requires-clause-few
 run-requires-clause-few g c κs within =
-    let some = rw c.k.ensures at c.get-bases.ensures.some in
-    let room = rw (sym c.batch.ensures.value) at c.batch.ensures.some in
-    let batches = few_batches c.rule-rule.result.k c.batch.result c.args.pieces.items some room in
-    let cut = rw c.k-2.ensures at c.in_ok-batches.ensures.cutting in
+    let rule = rule_of c.args.options.now in
+    let some = rw (c.k.ensures, c.rule-rule.ensures) at c.get-_bases.ensures.some in
+    let few = c.requires.few in
+    let batches = few_batches rule.k c.args.options.now.batch few.0 some c.batch-_positions.ensures.some in
+    let cut = rw (c.requires.length_of_words, c.requires.size) at c.in_ok-batches.ensures.cutting few.0 few.1 in
     let counted = sym (length-map c.in_ok-batches.batches.items (λ batch. batch.value)) ∙ ap length cut in
-    rw c.deref.ensures.value (rw counted (omega (arith, batches, c.requires.few)))
+    rw c.deref.ensures.value (rw counted (omega (arith, batches, few.2)))
 
 pub run-requires-clause-small : goal.run-requires-clause-small
 run-requires-clause-small g c κs within =
-    let some = rw c.k.ensures at c.get-bases.ensures.some in
-    let room = rw (sym c.batch.ensures.value) at c.batch.ensures.some in
-    let cut = rw c.k-2.ensures at c.in_ok-batches.ensures.cutting in
-    let small = small_cutting c.rule-rule.result.k c.batch.result c.args.pieces.items some room in
-    let rule = c.setup_of-setup.ensures.rule ∙ sym c.rule-rule.ensures in
-    rw (rule, c.deref.ensures.value, cut) (omega (arith, small, c.requires.few))
+    let rule = rule_of c.args.options.now in
+    let some = rw (c.k.ensures, c.rule-rule.ensures) at c.get-_bases.ensures.some in
+    let few = c.requires.few in
+    let cut = rw (c.requires.length_of_words, c.requires.size) at c.in_ok-batches.ensures.cutting few.0 few.1 in
+    let small = small_cutting rule.k c.args.options.now.batch few.0 some c.batch-_positions.ensures.some in
+    rw (c.setup_of-setup.ensures.rule, c.deref.ensures.value, cut) (omega (arith, small, few.2))
 
 pub returns-clause-tally : goal.returns-clause-tally
-returns-clause-tally g c reads are =
-    let some = rw c.k.ensures at c.get-bases.ensures.some in
-    let room = rw (sym c.batch.ensures.value) at c.batch.ensures.some in
-    let rule = c.setup_of-setup.ensures.rule ∙ sym c.rule-rule.ensures in
-    let cut = rw c.k-2.ensures at c.in_ok-batches.ensures.cutting in
-    let pieces = rw (sym c.rule-rule.ensures) at are in
-    let gathered = rw (rule, c.deref.ensures.value, cut, pieces) at c.in_ok-tally.ensures.tally in
-    let of_reads = c.tally_of_cutting.ensures c.rule-rule.result c.batch.result reads _ some room gathered in
-    rw (sym c.rule-rule.ensures) of_reads
+returns-clause-tally g c reads taken =
+    let rule = rule_of c.args.options.now in
+    let some = rw (c.k.ensures, c.rule-rule.ensures) at c.get-_bases.ensures.some in
+    let cut = rw (c.requires.length_of_words, c.requires.size)
+    at c.in_ok-batches.ensures.cutting (pieces_of rule reads) taken in
+    let gathered = rw (c.setup_of-setup.ensures.rule, c.deref.ensures.value, cut) at c.in_ok-tally.ensures.tally in
+    c.tally_of_cutting.ensures rule c.args.options.now.batch reads _ some c.batch-_positions.ensures.some gathered

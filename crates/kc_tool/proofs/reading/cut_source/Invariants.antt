@@ -1,11 +1,11 @@
 use Rattle.std.proofs.Common.{◌-◌}
 use Rattle.kc_tool.proofs.CleaningLemmas.{PiecesSoFar}
-use Rattle.kc_tool.proofs.reading.clean_source.Given as goal
+use Rattle.kc_tool.proofs.reading.cut_source.Given as goal
 
 abbrev pub invariant-reads : goal.invariant-reads
 invariant-reads g l =
     let seen = g.R.Source.seen in
-    PiecesSoFar (seen l.fn.source) (seen l.source) l.limit l.rule l.fn.pieces.items l.pieces.items l.reading
+    PiecesSoFar (seen l.fn.source) (seen l.source) l.limit l.rule l.fn.cutting l.cutting l.reading
 
 abbrev pub decreases-reads : goal.decreases-reads
 decreases-reads g l = l.limit - l.reading.used

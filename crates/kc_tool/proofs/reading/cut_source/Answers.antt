@@ -1,12 +1,12 @@
 use Rattle.std.proofs.Common.{refl, arith}
 use Rattle.kc_fastx.proofs.ReadingLemmas.{used_within}
 use Rattle.kc_tool.proofs.CleaningLemmas.{no_piece, one_more_piece}
-use Rattle.kc_tool.proofs.reading.clean_source.Goals as goal
+use Rattle.kc_tool.proofs.reading.cut_source.Goals as goal
 
 pub reads-init : goal.reads-init
 reads-init g c =
     let start = g.R.Source.seen c.args.source.now in
-    rw c.in-Ok.ensures (no_piece start c.args.limit c.args.rule.now c.args.pieces.now.items)
+    rw c.in-Ok.ensures (no_piece start c.args.limit c.args.rule.now c.args.cutting.now)
 
 pub reads-smaller-in_ok-push-in-Ok-Some : goal.reads-smaller-in_ok-push-in-Ok-Some
 reads-smaller-in_ok-push-in-Ok-Some g c =
@@ -24,9 +24,13 @@ reads-preserved-in_ok-push-in-Ok-Some g c =
     let so_far = c.reads.invariant in
     let next = rw c.in-Ok-Some.field-0-is at
     c.in-Ok-Some.ensures.given start c.args.limit so_far.reads so_far.given in
-    let pushed = c.in_ok-push-in-Ok-Some.ensures.items in
-    let piece = c.in_ok-clean-in-Ok-Some.ensures.cleaned in
-    rw (pushed, piece, c.in-Ok-Some.field-0-is) (one_more_piece c.in-Ok-Some.read so_far next)
+    let piece = c.in_ok-piece-in-Ok-Some.ensures.cleaned in
+    let pushed = record {
+      length_of_words = c.push-in-Ok-Some.ensures.k;
+      size = c.push-in-Ok-Some.ensures.size;
+      more = rw piece at c.in_ok-push-in-Ok-Some.ensures.more;
+    } in
+    rw c.in-Ok-Some.field-0-is (one_more_piece c.in-Ok-Some.read so_far next pushed)
 
 pub reads-smaller : goal.reads-smaller
 reads-smaller g c =
@@ -44,9 +48,13 @@ reads-preserved g c =
     let so_far = c.reads.invariant in
     let next = rw c.in-Ok-Some.field-0-is at
     c.in-Ok-Some.ensures.given start c.args.limit so_far.reads so_far.given in
-    let pushed = c.in_ok-push-in-Ok-Some.ensures.items in
-    let piece = c.in_ok-clean-in-Ok-Some.ensures.cleaned in
-    rw (pushed, piece, c.in-Ok-Some.field-0-is) (one_more_piece c.in-Ok-Some.read so_far next)
+    let piece = c.in_ok-piece-in-Ok-Some.ensures.cleaned in
+    let pushed = record {
+      length_of_words = c.push-in-Ok-Some.ensures.k;
+      size = c.push-in-Ok-Some.ensures.size;
+      more = rw piece at c.in_ok-push-in-Ok-Some.ensures.more;
+    } in
+    rw c.in-Ok-Some.field-0-is (one_more_piece c.in-Ok-Some.read so_far next pushed)
 
 pub byte_count-requires : goal.byte_count-requires
 byte_count-requires g c =
@@ -62,7 +70,13 @@ returns-in-Ok-None-clause-pieces g c =
     let so_far = c.reads.invariant in
     let end = rw c.in-Ok-None.field-0-is at
     c.in-Ok-None.ensures.given start c.args.limit so_far.reads so_far.given in
-    record { reads = so_far.reads; given = rw c.byte_count.ensures end.1; behind = so_far.behind }
+    record {
+      reads = so_far.reads;
+      given = rw c.byte_count.ensures end.1;
+      length_of_words = so_far.length_of_words;
+      size = so_far.size;
+      behind = so_far.behind;
+    }
 
 pub returns-in-Err-next_read-clause-fault : goal.returns-in-Err-next_read-clause-fault
 returns-in-Err-next_read-clause-fault g c =
