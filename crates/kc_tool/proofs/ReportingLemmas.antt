@@ -5,8 +5,7 @@ use Rattle.kc_fastx.specs.Reads.{Read}
 use Rattle.kc_io.specs.Sinks.{Written}
 use Rattle.kc_io.specs.Sources.{Seen}
 use Rattle.kc_tally.specs.Tally.{TallySeen, IsTallyOf}
-use Rattle.kc_tool.specs.Counting.{IsCountingFault}
-use Rattle.kc_tool.specs.Reading.{ReadsSources, RefusesSources}
+use Rattle.kc_tool.specs.Reading.{ReadsSources}
 use Rattle.kc_tool.specs.Reporting.{BeginsReport, CountEnds, IsReportOf, LeavesUnwritten, WritesReport, WritesText}
 use Rattle.kc_tool.specs.Reporting.{report_of, report_text}
 use Rattle.kc_tool.specs.Settings.{Settings, rule_of}
@@ -34,22 +33,6 @@ module _ {S : Type 0} (seen : S → Seen) (sources : List S) where
   unwritten text old new (Err (BadWord number)) h = absurd h
   unwritten text old new (Err (Run fault)) h = absurd h
   unwritten text old new (Err (OpenFailed name)) h = absurd h
-
-  -- The faults of the counting are faults of a count over sources that have reads.
-  pub counting_refused : (reads : List Read) → ReadsSources seen sources reads → (fault : ToolFault)
-      → IsCountingFault fault → RefusesSources seen sources fault
-  counting_refused reads are_reads (Run fault) h = (reads, are_reads)
-  counting_refused reads are_reads Memory h = tt
-  counting_refused reads are_reads (Fastx number fault) h = absurd h
-  counting_refused reads are_reads BadHeader h = absurd h
-  counting_refused reads are_reads (BadRow line) h = absurd h
-  counting_refused reads are_reads BadEnd h = absurd h
-  counting_refused reads are_reads TableTooLong h = absurd h
-  counting_refused reads are_reads TableRead h = absurd h
-  counting_refused reads are_reads (BadOption name) h = absurd h
-  counting_refused reads are_reads (BadWord number) h = absurd h
-  counting_refused reads are_reads Write h = absurd h
-  counting_refused reads are_reads (OpenFailed name) h = absurd h
 
 module _ {S : Type 0} (seen : S → Seen) (sources : List S) (settings : Settings) {report : Report}
     (tally : TallySeen) (reads : List Read) (are_reads : ReadsSources seen sources reads)

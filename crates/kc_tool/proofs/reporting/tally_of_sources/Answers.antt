@@ -1,5 +1,5 @@
 use Rattle.std.proofs.lemmas.Result.{IfErr-weaker, IfOk-weaker}
-use Rattle.kc_tool.proofs.ReportingLemmas.{counting_refused}
+use Rattle.kc_tool.proofs.CountingLemmas.{counting_refused}
 use Rattle.kc_tool.proofs.reporting.tally_of_sources.Goals as goal
 
 pub returns-clause-tally : goal.returns-clause-tally
@@ -10,4 +10,4 @@ returns-clause-tally g c =
 pub returns-clause-fault : goal.returns-clause-fault
 returns-clause-fault g c =
     let have = c.in_ok-pieces.ensures.pieces in
-    IfErr-weaker c.tally_of.result _ _ (counting_refused g.R.Source.seen c.args.sources.items have.0 have.1) c.tally_of.ensures.fault
+    IfErr-weaker c.tally_of.result _ _ (λ fault. counting_refused fault have.1) c.tally_of.ensures.fault
