@@ -4,7 +4,7 @@ use crate::{BookFault, Cut, Stripe};
 use kc_table::{Counts, LimitedCounts, PlainCounts, QuotientTable, TableFault};
 use kc_tally::Row;
 use kc_word::Word;
-use std::alloc::Global;
+use std::alloc::{AllocError, Global};
 use std::process::Abort;
 use std::test::Fail;
 
@@ -203,10 +203,16 @@ fn a_full_table_refuses(rt: HostRuntime) -> Result<(), Fail> {
 }
 
 // The same word 5,000 times, again 5,000 times, and 3 times.
-const SAME_WORD: &[u8] = &[b'A'; 10_005];
+fn same_word(alloc: Global) -> Result<Vec<u8>, AllocError> {
+    let mut bases = Vec::new(alloc);
+    for _ in 0..10_005 {
+        bases.push(b'A')?;
+    }
+    Ok(bases)
+}
 
 // The bins 5,000, 10,000 and 10,001 after each of them.
-const LAST_BINS: [[u64; 3]; 3] = [[1, 0, 0], [0, 1, 0], [0, 0, 1]];
+const LAST_BINS: &[[u64; 3]] = &[[1, 0, 0], [0, 1, 0], [0, 0, 1]];
 
 fn comes_to_the_last_bin<C: Counts + Drop>(
     rt: &impl Abort,
@@ -214,12 +220,12 @@ fn comes_to_the_last_bin<C: Counts + Drop>(
     mut stripe: Stripe<C>,
 ) -> Result<(), Fail> {
     let setup = setup_of(3, 1).ok_or("no setup")?;
-    let cuts = cuts_of(alloc, &setup, &[SAME_WORD], 5_000)?;
+    let cuts = cuts_of(alloc, &setup, &[&same_word(alloc)?], 5_000)?;
     assert_eq!(rt; cuts.len(), 3);
     for (cut, bins) in cuts.iter().zip(LAST_BINS) {
         stripe.book(cut)?;
         let now = [stripe.bin(5_000), stripe.bin(10_000), stripe.bin(10_001)];
-        assert_eq!(rt; now, bins);
+        assert_eq!(rt; now, *bins);
     }
     assert_eq!(rt; stripe.total(), 10_003);
     Ok(())

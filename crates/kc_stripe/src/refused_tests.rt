@@ -32,7 +32,7 @@ fn is_booked_again<C: Counts>(
 }
 
 // AAA, and the words of the text of 40 words.
-const ONCE: [u64; 41] = [
+const ONCE: &[u64] = &[
     0, 1, 2, 3, 4, 5, 6, 7, 8, 9, 10, 11, 12, 13, 14, 15, 16, 17, 18, 19, 20, 21, 22, 24, 25, 28,
     32, 33, 34, 35, 36, 37, 40, 44, 49, 50, 51, 52, 53, 56, 61,
 ];
@@ -56,7 +56,7 @@ fn assert_once_each<C: Counts>(
 ) -> Result<(), Fail> {
     let mut counts = Vec::new(alloc);
     for word in ONCE {
-        counts.push((word, 1))?;
+        counts.push((*word, 1))?;
     }
     let held = Held {
         journal: &[1, 0],
