@@ -3,8 +3,9 @@
 # the sorted rows; against the same steps in C, and against Jellyfish and KMC, which count the words of the same file
 # with as many threads and sort nothing. BATCHES (1,190) batches of 65,536 positions, k 21, both strands, of seeded
 # reads: 20 over each base, one error in a hundred bases. Wall time is that of the count alone; processor time and peak
-# memory are those of the whole program, which also reads the file. The C program tells where the time goes; of
-# gathering, and of cutting up by one thread, this one tells it too. The peers are Debian's (bench/count.sh).
+# memory are those of the whole program, which also reads the file. The C program tells where the time goes; this one
+# tells it of gathering, and of cutting up and booking by one thread, in a count step by step. The peers are Debian's
+# (bench/count.sh).
 . "$(dirname "$0")/lib.sh"
 batches=${BATCHES:-1190}
 rattle_program run kc_fastx kc_hash kc_table kc_tally kc_word kc_stripe kc_gather kc_run anyhow
@@ -38,9 +39,12 @@ for _ in $(seq "$rounds"); do
             key=$workers-$stripes
             measured "$key" rattle "$rattle" run "$workers" "$stripes" "$work/reads"
             measured "$key" plain "$plain" run "$workers" "$stripes" "$work/reads"
-            "$rattle" gather "$workers" "$stripes" "$work/reads" | sed "s/^/$key-/" >> "$work/times.rattle"
+            # cutting up and booking are those of one thread
+            kept=gather
+            [ "$workers" != 1 ] || kept='cut|book|gather'
+            "$rattle" steps "$workers" "$stripes" "$work/reads" | grep -E "^($kept) " \
+                | sed "s/^/$key-/" >> "$work/times.rattle"
         done
-        "$rattle" cut 1 "$stripes" "$work/reads" | sed "s/^/1-$stripes-/" >> "$work/times.rattle"
     done
 done
 for stripes in 16 64; do

@@ -4,7 +4,7 @@
 //   main run WORKERS STRIPES FILE    prints how long the count took, from the batches to the sorted rows, with the
 //                                    number of rows, the sum of their counts and the number of words counted once; how
 //                                    long the workers took on the average to cut up, to wait for locks and to book;
-//                                    and how long it took after them to take the rows, and to sort and join them
+//                                    and how long it took after them, by as many threads, to take the rows and to sort them
 #include <pthread.h>
 #include <stdatomic.h>
 #include <stdio.h>
@@ -89,6 +89,20 @@ static void work_all(Worker *all) {
     for (int i = 1; i < workers; i++) pthread_join(ids[i], 0);
 }
 
+// Whether each word is greater than the one before it.
+static int rise(void) {
+    int64_t last = -1;
+    for (int at = 0; at < PARTS; at++)
+        for (size_t i = 0; i < columns_of_parts[at].length; i++) {
+            int64_t word = columns_of_parts[at].pairs[i].word;
+            if (word <= last) return 0;
+            last = word;
+        }
+    return 1;
+}
+
+static Stripe *stripe_at(int number) { return &stripes[number].stripe; }
+
 // The least log with which the tables have together a million slots, as `quotient_tables` takes it.
 static int first_log(void) {
     int log = 20 - stripe_bits;
@@ -117,16 +131,20 @@ int main(int argc, char **argv) {
     static struct tables back;
     inverse(columns, BITS, back_columns);
     build(&back, back_columns);
-    for (int i = 0; i < 1 << stripe_bits; i++) take_rows(&stripes[i].stripe, i, stripe_bits, &back);
+    Gathering all_rows = {.stripe_at = stripe_at, .back = &back, .stripe_bits = stripe_bits, .threads = workers};
+    by_all(&all_rows, take_range);
     uint64_t taken = nanoseconds();
-    sort_parts(workers);
-    size_t length;
-    Pair *rows = joined(&length);
-    for (size_t i = 0; i < length; i++) total += rows[i].count, once += rows[i].count == 1;
+    deal(&all_rows);
+    by_all(&all_rows, sort_range);
+    size_t length = 0;
+    for (int at = 0; at < PARTS; at++) {
+        const Part *part = &columns_of_parts[at];
+        length += part->length;
+        for (size_t i = 0; i < part->length; i++) total += part->pairs[i].count, once += part->pairs[i].count == 1;
+    }
     uint64_t end = nanoseconds();
 
-    for (size_t i = 1; i < length; i++)
-        if (rows[i - 1].word >= rows[i].word) return 7;
+    if (!rise()) return 7;
     uint64_t cut = 0, wait = 0, booked = 0;
     for (int i = 0; i < workers; i++) cut += all[i].cut, wait += all[i].wait, booked += all[i].book;
     typedef unsigned long long Number;

@@ -158,8 +158,10 @@ spelled-four letters j n codes h small f s =
     subst (λ m. IsSpelled (take ((j + 1) * 4) letters) m) value four where
       is : {b : ℕ} (m : ℕ) → b ≡ base (m % 4) → is_base b ≡ true
       is {b} m e = ap is_base e ∙ is_base-base (m % 4) (omega arith)
+
       coded : {b : ℕ} (m : ℕ) → b ≡ base (m % 4) → m % 4 ≡ code b
       coded {b} m e = sym (ap code e ∙ code-base (m % 4) (omega arith))
+
       next : {n : ℕ} (i k : ℕ) → k ≡ i + 1 → (m : ℕ) → i < length letters → get_or letters i 0 ≡ base (m % 4)
           → IsSpelled (take i letters) n → IsSpelled (take k letters) (n * 4 + m % 4)
       next {n} i k e m h f s = subst (λ k. IsSpelled (take k letters) (n * 4 + m % 4)) (sym e)

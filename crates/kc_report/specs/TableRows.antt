@@ -32,8 +32,8 @@ pub record IsSpelled (letters : List ℕ) (n : ℕ) : Type 0 where
 abbrev pub count_text : ℕ → List ℕ
 count_text count = space ∷ decimal count ++ line_feed ∷ []
 
--- So many digits stand in front of the bytes, and no digit comes behind them. The number is the one that they write, but
--- for multiples of 2^64.
+-- So many digits stand in front of the bytes, and no digit comes behind them. The number is the one that they write,
+-- but for multiples of 2^64.
 pub record HasDigits (bytes : List ℕ) (number many : ℕ) : Type 0 where
   pub within : many ≤ length bytes
   pub digits : AllDigits 10 (take many bytes)

@@ -39,8 +39,8 @@ fn code_of(byte: u8) -> u8
     CODES[byte as usize]
 }
 
-// The letters of four bases with these codes as a number of 32 bits, the first letter lowest; the codes are two bits each,
-// the first highest.
+// The letters of four bases with these codes as a number of 32 bits, the first letter lowest; the codes are two bits
+// each, the first highest.
 #[rattlefmt::skip]
 static FOURS: [u32; 256] = [
     0x41414141, 0x43414141, 0x47414141, 0x54414141, 0x41434141, 0x43434141, 0x47434141, 0x54434141,

@@ -66,8 +66,8 @@ pub fn read_table<R: Source>(
     }
 }
 
-// Takes the rows in front of the bytes, up to one that is not whole or may not come next, and answers how many bytes they
-// have.
+// Takes the rows in front of the bytes, up to one that is not whole or may not come next, and answers how many bytes
+// they have.
 fn take_rows(rows: &mut TableRows, bytes: &[u8]) -> Result<usize, AllocError>
     ensures { IfOk result (λ taken. TakesRows rows.old rows.new bytes.now taken) }
 {

@@ -120,10 +120,11 @@ fn copied(alloc: Global, text: &[u8]) -> Result<Vec<u8>, Fail> {
 
 #[test]
 fn tables_are_read_as_they_were_written(rt: HostRuntime) -> Result<(), Fail> {
-    let texts: [&[u8]; 4] = [
+    let texts: [&[u8]; 5] = [
         TABLE,
         b"KCT 1 3 s\nEND 0 0\n",
         b"KCT 1 1 c\nA 3\nC 2\nEND 2 5\n",
+        b"KCT 1 9 s\nACGTTGCAC 7\nTGCAACGTA 12\nEND 2 19\n",
         b"KCT 1 31 s\nTTTTTTTTTTTTTTTTTTTTTTTTTTTTTTT 4611686018427387904\nEND 1 4611686018427387904\n",
     ];
     for text in texts {
@@ -135,7 +136,7 @@ fn tables_are_read_as_they_were_written(rt: HostRuntime) -> Result<(), Fail> {
 
 #[test]
 fn faults_of_tables(rt: HostRuntime) -> Result<(), Fail> {
-    let rows: [(&[u8], ReportFault); 16] = [
+    let rows: [(&[u8], ReportFault); 20] = [
         (b"", ReportFault::BadHeader),
         (b"KCT 1 32 s\nEND 0 0\n", ReportFault::BadHeader),
         (b"KCT 1 0 s\nEND 0 0\n", ReportFault::BadHeader),
@@ -150,6 +151,13 @@ fn faults_of_tables(rt: HostRuntime) -> Result<(), Fail> {
         (b"KCT 1 3 s\nACG 0\nEND 1 0\n", ReportFault::BadRow(2)),
         (b"KCT 1 3 s\n\nEND 0 0\n", ReportFault::BadRow(2)),
         (b"KCT 1 3 s\nACG +1\nEND 1 1\n", ReportFault::BadRow(2)),
+        (b"KCT 1 3 s\nACG 1:\nEND 1 1\n", ReportFault::BadRow(2)),
+        (b"KCT 1 5 s\nACGTN 1\nEND 1 1\n", ReportFault::BadRow(2)),
+        (b"KCT 1 5 s\nacgtA 1\nEND 1 1\n", ReportFault::BadRow(2)),
+        (
+            b"KCT 1 3 s\nACG 18446744073709551617\nEND 1 1\n",
+            ReportFault::BadRow(2),
+        ),
         (
             b"KCT 1 3 s\nACG 4611686018427387905\n",
             ReportFault::BadRow(2),

@@ -272,7 +272,7 @@ fn a_stripe_is_full_at_the_64th_word_of_one_place(rt: HostRuntime) -> Result<(),
         let tables = small_tables(alloc, &setup)?;
         match run_over(&rt, alloc, &setup, tables, &case, &NoGate)? {
             Ok(tally) => {
-                assert_eq!(rt; Ok(tally.rows().len()), want);
+                assert_eq!(rt; Ok(tally.row_count() as usize), want);
                 assert_eq!(rt; (tally.bin(1), tally.total()), (words, words));
             }
             Err(fault) => assert_eq!(rt; Err(fault), want),

@@ -1,10 +1,10 @@
 //! Batches that are booked in a stripe, over a `BTreeMap` and over a table.
 use crate::tests::{cuts_of, plain_stripe, setup_of};
-use crate::{BookFault, Stripe};
+use crate::{BookFault, Cut, Stripe};
 use kc_table::{Counts, LimitedCounts, PlainCounts, QuotientTable, TableFault};
 use kc_tally::Row;
 use kc_word::Word;
-use std::alloc::Global;
+use std::alloc::{AllocError, Global};
 use std::process::Abort;
 use std::test::Fail;
 
@@ -20,30 +20,49 @@ pub(crate) struct Held<'a> {
     pub(crate) counts: &'a [(u64, u64)],
 }
 
+// How often a word was counted, among the words whose count is not 0.
+fn count_among(counts: &[(u64, u64)], word: u64) -> u64 {
+    for (counted, count) in counts {
+        if *counted == word {
+            return *count;
+        }
+    }
+    0
+}
+
+// Each word of three bases has its count.
+fn assert_counts<C: Counts>(
+    rt: &impl Abort,
+    stripe: &Stripe<C>,
+    counts: &[(u64, u64)],
+) -> Result<(), Fail> {
+    if stripe.setup().rule().k().get() != 3 {
+        return Err(Fail::from("another setup"));
+    }
+    for word in 0..64 {
+        let count = stripe.count_of(Word(word));
+        assert_eq!(rt; count, count_among(counts, word));
+    }
+    Ok(())
+}
+
+// The journal has the batches of these numbers.
+fn assert_journal<C: Counts>(rt: &impl Abort, stripe: &Stripe<C>, numbers: &[u64]) {
+    assert_eq!(rt; stripe.journal().len(), numbers.len());
+    for (batch, number) in stripe.journal().iter().zip(numbers) {
+        assert_eq!(rt; batch.number(), *number);
+    }
+}
+
 pub(crate) fn assert_held<C: Counts>(
     rt: &impl Abort,
     stripe: &Stripe<C>,
     held: &Held<'_>,
 ) -> Result<(), Fail> {
-    if stripe.setup().rule().k().get() != 3 {
-        return Err(Fail::from("another setup"));
-    }
-    assert_eq!(rt; stripe.journal().len(), held.journal.len());
-    for (batch, number) in stripe.journal().iter().zip(held.journal) {
-        assert_eq!(rt; batch.number(), *number);
-    }
-    assert_eq!(rt; stripe.total(), held.total);
-    assert_eq!(rt; [stripe.bin(1), stripe.bin(2), stripe.bin(3)], held.bins);
-    for word in 0..64 {
-        let mut want = 0;
-        for (counted, count) in held.counts {
-            if *counted == word {
-                want = *count;
-            }
-        }
-        assert_eq!(rt; stripe.count_of(Word(word)), want);
-    }
-    Ok(())
+    assert_journal(rt, stripe, held.journal);
+    let bins = [stripe.bin(1), stripe.bin(2), stripe.bin(3)];
+    assert_eq!(rt; (stripe.total(), bins), (held.total, held.bins));
+    assert_counts(rt, stripe, held.counts)
 }
 
 pub(crate) const NOTHING: Held<'static> = Held {
@@ -68,33 +87,48 @@ const BOTH: Held<'static> = Held {
     counts: &[(0, 3)],
 };
 
-// What a stripe of one stripe's setup with k 3 does: batch 0 has AAA twice, batch 1 once.
-fn is_booked_in_order<C: Counts>(
+// The number of a cut that is booked, what is answered, and what the stripe then holds.
+const STEPS: &[(usize, Result<(), BookFault>, Held<'static>)] = &[
+    (0, Ok(()), ONE),
+    (0, Err(BookFault::Twice), ONE),
+    (2, Err(BookFault::Stranger), ONE),
+    (1, Ok(()), BOTH),
+    (2, Err(BookFault::Twice), BOTH),
+    (0, Err(BookFault::Twice), BOTH),
+];
+
+// AAA twice in batch 0, and once in batch 1.
+const TWO_BATCHES: &[&[u8]] = &[b"AAAA", b"AAA"];
+
+// The cut of batch 1 by another setup.
+fn stranger(alloc: Global) -> Result<Cut, Fail> {
+    let setup = setup_of(3, 2).ok_or("no setup")?;
+    let mut cuts = cuts_of(alloc, &setup, TWO_BATCHES, 2)?;
+    Ok(cuts.pop().ok_or("no batch")?)
+}
+
+// The cuts of both batches, and then the stranger.
+pub(crate) fn cuts_and_stranger(alloc: Global) -> Result<Vec<Cut>, Fail> {
+    let setup = setup_of(3, 1).ok_or("no setup")?;
+    let mut cuts = cuts_of(alloc, &setup, TWO_BATCHES, 2)?;
+    cuts.push(stranger(alloc)?)?;
+    Ok(cuts)
+}
+
+// What a stripe of one stripe's setup with k 3 does.
+fn is_booked_in_order<C: Counts + Drop>(
     rt: &impl Abort,
     alloc: Global,
-    stripe: &mut Stripe<C>,
+    mut stripe: Stripe<C>,
 ) -> Result<(), Fail> {
-    let setup = setup_of(3, 1).ok_or("no setup")?;
-    let texts: [&[u8]; 2] = [b"AAAA", b"AAA"];
-    let cuts = cuts_of(alloc, &setup, &texts, 2)?;
-    let [first, second] = cuts.as_slice() else {
-        return Err(Fail::from("other batches"));
-    };
-    let two = setup_of(3, 2).ok_or("no setup")?;
-    let others = cuts_of(alloc, &two, &texts, 2)?;
-    let stranger = others.last().ok_or("no batch")?;
-    assert_held(rt, stripe, &NOTHING)?;
-    stripe.book(first)?;
-    assert_held(rt, stripe, &ONE)?;
-    assert!(rt; stripe.book(first) == Err(BookFault::Twice));
-    assert_held(rt, stripe, &ONE)?;
-    assert!(rt; stripe.book(stranger) == Err(BookFault::Stranger));
-    assert_held(rt, stripe, &ONE)?;
-    stripe.book(second)?;
-    assert_held(rt, stripe, &BOTH)?;
-    assert!(rt; stripe.book(stranger) == Err(BookFault::Twice));
-    assert!(rt; stripe.book(first) == Err(BookFault::Twice));
-    assert_held(rt, stripe, &BOTH)?;
+    let cuts = cuts_and_stranger(alloc)?;
+    assert_eq!(rt; cuts.len(), 3);
+    assert_held(rt, &stripe, &NOTHING)?;
+    for (number, answer, held) in STEPS {
+        let cut = cuts.get(*number).ok_or("no cut")?;
+        assert_eq!(rt; stripe.book(cut), *answer);
+        assert_held(rt, &stripe, held)?;
+    }
     let rows = stripe.rows(alloc)?;
     assert_eq!(rt; rows.as_slice(), [Row { word: 0, count: 3 }].as_slice());
     Ok(())
@@ -119,59 +153,80 @@ pub(crate) fn map_stripe(alloc: Global) -> Result<Stripe<PlainCounts>, Fail> {
 #[test]
 fn batches_are_booked_in_order(rt: HostRuntime) -> Result<(), Fail> {
     let alloc = rt.alloc();
-    is_booked_in_order(&rt, alloc, &mut map_stripe(alloc)?)?;
-    is_booked_in_order(&rt, alloc, &mut quotient_stripe(alloc)?)
+    is_booked_in_order(&rt, alloc, map_stripe(alloc)?)?;
+    is_booked_in_order(&rt, alloc, quotient_stripe(alloc)?)
 }
 
-#[test]
-fn a_full_table_refuses(rt: HostRuntime) -> Result<(), Fail> {
-    let alloc = rt.alloc();
+// ACG alone, in batch 1.
+const ONE_WORD: Held<'static> = Held {
+    journal: &[1],
+    total: 1,
+    bins: [1, 0, 0],
+    counts: &[(6, 1)],
+};
+
+// A stripe over a table that takes two keys, and refuses a third like this.
+fn limited_stripe(alloc: Global, refusal: TableFault) -> Result<Stripe<LimitedCounts>, Fail> {
+    let setup = setup_of(3, 1).ok_or("no setup")?;
+    if setup.stripes() != 1 {
+        return Err(Fail::from("another setup"));
+    }
+    let table = LimitedCounts::new(alloc, setup.key_bits(), 2, refusal);
+    let stripe = Stripe::new(alloc, &setup, 0, table)?;
+    Ok(stripe)
+}
+
+// The stripe refuses a cut of three words so, and then takes one of one word.
+fn refuses_three(
+    rt: &impl Abort,
+    alloc: Global,
+    refusal: TableFault,
+    fault: BookFault,
+) -> Result<(), Fail> {
     let setup = setup_of(3, 1).ok_or("no setup")?;
     let cuts = cuts_of(alloc, &setup, &[b"ACGTA", b"ACG"], 3)?;
     let [three, one] = cuts.as_slice() else {
         return Err(Fail::from("other batches"));
     };
-    for (refusal, fault) in [
-        (TableFault::Full, BookFault::Full),
-        (TableFault::Memory, BookFault::Memory),
-    ] {
-        if setup.stripes() != 1 {
-            return Err(Fail::from("another setup"));
-        }
-        let table = LimitedCounts::new(alloc, setup.key_bits(), 2, refusal);
-        let mut stripe = Stripe::new(alloc, &setup, 0, table)?;
-        assert!(rt; stripe.book(three) == Err(fault));
-        assert_held(&rt, &stripe, &NOTHING)?;
-        assert_eq!(rt; stripe.rows(alloc)?.len(), 0);
-        stripe.book(one)?;
-        let held = Held {
-            journal: &[1],
-            total: 1,
-            bins: [1, 0, 0],
-            counts: &[(6, 1)],
-        };
-        assert_held(&rt, &stripe, &held)?;
-    }
-    Ok(())
+    let mut stripe = limited_stripe(alloc, refusal)?;
+    assert_eq!(rt; stripe.book(three), Err(fault));
+    assert_held(rt, &stripe, &NOTHING)?;
+    assert_eq!(rt; stripe.rows(alloc)?.len(), 0);
+    stripe.book(one)?;
+    assert_held(rt, &stripe, &ONE_WORD)
+}
+
+#[test]
+fn a_full_table_refuses(rt: HostRuntime) -> Result<(), Fail> {
+    refuses_three(&rt, rt.alloc(), TableFault::Full, BookFault::Full)?;
+    refuses_three(&rt, rt.alloc(), TableFault::Memory, BookFault::Memory)
 }
 
 // The same word 5,000 times, again 5,000 times, and 3 times.
-fn comes_to_the_last_bin<C: Counts>(
+fn same_word(alloc: Global) -> Result<Vec<u8>, AllocError> {
+    let mut bases = Vec::new(alloc);
+    for _ in 0..10_005 {
+        bases.push(b'A')?;
+    }
+    Ok(bases)
+}
+
+// The bins 5,000, 10,000 and 10,001 after each of them.
+const LAST_BINS: &[[u64; 3]] = &[[1, 0, 0], [0, 1, 0], [0, 0, 1]];
+
+fn comes_to_the_last_bin<C: Counts + Drop>(
     rt: &impl Abort,
     alloc: Global,
-    stripe: &mut Stripe<C>,
+    mut stripe: Stripe<C>,
 ) -> Result<(), Fail> {
     let setup = setup_of(3, 1).ok_or("no setup")?;
-    let bases = vec![in alloc; b'A'; 10_005]?;
-    let mut bins = Vec::new(alloc);
-    for cut in &cuts_of(alloc, &setup, &[&bases], 5_000)? {
+    let cuts = cuts_of(alloc, &setup, &[&same_word(alloc)?], 5_000)?;
+    assert_eq!(rt; cuts.len(), 3);
+    for (cut, bins) in cuts.iter().zip(LAST_BINS) {
         stripe.book(cut)?;
-        bins.push((stripe.bin(5_000), stripe.bin(10_000), stripe.bin(10_001)))?;
+        let now = [stripe.bin(5_000), stripe.bin(10_000), stripe.bin(10_001)];
+        assert_eq!(rt; now, *bins);
     }
-    assert_eq!(rt;
-        bins.as_slice(),
-        [(1, 0, 0), (0, 1, 0), (0, 0, 1)].as_slice()
-    );
     assert_eq!(rt; stripe.total(), 10_003);
     Ok(())
 }
@@ -179,6 +234,6 @@ fn comes_to_the_last_bin<C: Counts>(
 #[test]
 fn the_last_bin(rt: HostRuntime) -> Result<(), Fail> {
     let alloc = rt.alloc();
-    comes_to_the_last_bin(&rt, alloc, &mut map_stripe(alloc)?)?;
-    comes_to_the_last_bin(&rt, alloc, &mut quotient_stripe(alloc)?)
+    comes_to_the_last_bin(&rt, alloc, map_stripe(alloc)?)?;
+    comes_to_the_last_bin(&rt, alloc, quotient_stripe(alloc)?)
 }

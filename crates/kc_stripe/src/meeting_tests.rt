@@ -1,9 +1,10 @@
 //! Two stripes that are booked at the same time, each under its own lock.
-ghost use Rattle.std.specs.Prelude.{◌≡◌};
-ghost use Rattle.kc_stripe.specs.Setup.{stripe_count};
+ghost use Rattle.std.specs.Prelude.{◌≡◌, All, IfOk, vec_len};
+ghost use Rattle.std.specs.FinMap.{empty};
+ghost use Rattle.kc_stripe.specs.Setup.{stripe_count, key_bits};
 
-use crate::tests::{batches_of, reads_of, setup_of};
-use crate::{BookFault, Cut, Setup, Stripes, cut_up};
+use crate::tests::{cuts_in, setup_of};
+use crate::{BookFault, Cut, Setup, Stripes};
 use kc_share::{Books, Share, Sheet};
 use kc_table::{Counts, PlainCounts, TableFault};
 use std::alloc::{AllocError, Global};
@@ -90,17 +91,15 @@ fn book_once<C: Counts, N: Books, R: Wait>(
     }
 }
 
-// Two cuts are booked over two tables that look for one another, each cut by a thread of its own.
-fn book_at_once<N: Books + Send + Sync, R: Threads + Wait + Sync>(
-    rt: &R,
+// Two empty tables that look for one another.
+fn meeting_tables<'a>(
     alloc: Global,
     setup: &Setup,
-    sheet: Sheet,
-    cuts: (&Cut, &Cut),
-    flags: &Flags,
-) -> Result<[Result<(), BookFault>; 2], AllocError>
-    requires name { sheet.table ≡ N.table }
-    requires plan { (sheet.plan.stripes ≡ 2) × (sheet.plan.parts ≡ 2) × (stripe_count setup.now ≡ 2) }
+    flags: &'a Flags,
+) -> Result<Vec<MeetingCounts<'a>>, AllocError>
+    ensures count { IfOk result (λ tables. vec_len tables ≡ 2) }
+    ensures tables { IfOk result (λ tables.
+        All (λ table. (table.plain.counts ≡ empty) × (table.plain.bits ≡ key_bits setup.now)) tables.items) }
 {
     let mut tables = Vec::new(alloc);
     tables.push(MeetingCounts {
@@ -115,6 +114,22 @@ fn book_at_once<N: Books + Send + Sync, R: Threads + Wait + Sync>(
         other: &flags.raised.0,
         met: &flags.met.1,
     })?;
+    Ok(tables)
+}
+
+// Two cuts are booked over two tables that look for one another, each cut by a thread of its own.
+fn book_at_once<N: Books + Send + Sync, R: Threads + Wait + Sync>(
+    rt: &R,
+    alloc: Global,
+    setup: &Setup,
+    sheet: Sheet,
+    cuts: (&Cut, &Cut),
+    flags: &Flags,
+) -> Result<[Result<(), BookFault>; 2], AllocError>
+    requires name { sheet.table ≡ N.table }
+    requires plan { (sheet.plan.stripes ≡ 2) × (sheet.plan.parts ≡ 2) × (stripe_count setup.now ≡ 2) }
+{
+    let tables = meeting_tables(alloc, setup, flags)?;
     let (stripes, mut one) = Stripes::<MeetingCounts<'_>, N>::new(alloc, setup, tables, sheet)?;
     let other = stripes.split(&mut one);
     let (first, second) = cuts;
@@ -131,8 +146,7 @@ fn book_at_once<N: Books + Send + Sync, R: Threads + Wait + Sync>(
 fn two_stripes_are_booked_at_once(rt: HostRuntime) -> Result<(), Fail> {
     let alloc = rt.alloc();
     let setup = setup_of(3, 2).ok_or("no setup")?;
-    let batches = batches_of(alloc, &setup, &reads_of(alloc, &[b"AAAC"])?, 8)?;
-    let cuts = cut_up(alloc, &setup, batches.first().ok_or("no batch")?)?;
+    let cuts = cuts_in(alloc, &setup, b"AAAC")?;
     let [first, second] = cuts.as_slice() else {
         return Err(Fail::from("other cuts"));
     };

@@ -4,7 +4,7 @@ ghost use Rattle.std.specs.Prelude.{◌≡◌, ◌<◌};
 ghost use Rattle.kc_stripe.specs.Setup.{stripe_count, word_count};
 
 use crate::booking_tests::{Held, NOTHING, assert_held, map_stripe, quotient_stripe};
-use crate::sharing_tests::tables_of;
+use crate::sharing_tests::stripes_of;
 use crate::tests::{cuts_of, setup_of};
 use crate::{BookFault, Cut, Setup, Stripe, Stripes};
 use kc_share::{Books, Share, Sheet};
@@ -32,7 +32,7 @@ fn is_booked_again<C: Counts>(
 }
 
 // AAA, and the words of the text of 40 words.
-const ONCE: [u64; 41] = [
+const ONCE: &[u64] = &[
     0, 1, 2, 3, 4, 5, 6, 7, 8, 9, 10, 11, 12, 13, 14, 15, 16, 17, 18, 19, 20, 21, 22, 24, 25, 28,
     32, 33, 34, 35, 36, 37, 40, 44, 49, 50, 51, 52, 53, 56, 61,
 ];
@@ -40,43 +40,54 @@ const ONCE: [u64; 41] = [
 // 40 words, each once, and AAA.
 const TEXTS: [&[u8]; 2] = [b"AACAAGAATACCACGACTAGCAGGAGTATCATGATTCCCGCC", b"AAA"];
 
-// Books AAA, and then a batch of 40 other words, again where memory is refused.
-fn is_booked_at_last<C: Counts>(
+// AAA alone.
+const AAA: Held<'static> = Held {
+    journal: &[1],
+    total: 1,
+    bins: [1, 0, 0],
+    counts: &[(0, 1)],
+};
+
+// All 41 words were counted once.
+fn assert_once_each<C: Counts>(
     rt: &impl Abort,
     alloc: Global,
-    stripe: &mut Stripe<C>,
+    stripe: &Stripe<C>,
+) -> Result<(), Fail> {
+    let mut counts = Vec::new(alloc);
+    for word in ONCE {
+        counts.push((*word, 1))?;
+    }
+    let held = Held {
+        journal: &[1, 0],
+        total: 41,
+        bins: [41, 0, 0],
+        counts: &counts,
+    };
+    assert_held(rt, stripe, &held)
+}
+
+// Books AAA, and then a batch of 40 other words, again where memory is refused.
+fn is_booked_at_last<C: Counts + Drop>(
+    rt: &impl Abort,
+    alloc: Global,
+    mut stripe: Stripe<C>,
 ) -> Result<(), Fail> {
     let setup = setup_of(3, 1).ok_or("no setup")?;
     let cuts = cuts_of(alloc, &setup, &TEXTS, 40)?;
     let [forty, one] = cuts.as_slice() else {
         return Err(Fail::from("other batches"));
     };
-    let before = Held {
-        journal: &[1],
-        total: 1,
-        bins: [1, 0, 0],
-        counts: &[(0, 1)],
-    };
-    is_booked_again(rt, stripe, one, &NOTHING)?;
-    is_booked_again(rt, stripe, forty, &before)?;
-    let mut counts = Vec::new(alloc);
-    for word in ONCE {
-        counts.push((word, 1))?;
-    }
-    let after = Held {
-        journal: &[1, 0],
-        total: 41,
-        bins: [41, 0, 0],
-        counts: &counts,
-    };
-    assert_held(rt, stripe, &after)
+    is_booked_again(rt, &mut stripe, one, &NOTHING)?;
+    is_booked_again(rt, &mut stripe, forty, &AAA)?;
+    assert_once_each(rt, alloc, &stripe)
 }
 
 #[test]
 fn a_refused_growth_leaves_the_stripe(rt: HostRuntime) -> Result<(), Fail> {
     let alloc = rt.alloc();
-    is_booked_at_last(&rt, alloc, &mut map_stripe(alloc)?)?;
-    is_booked_at_last(&rt, alloc, &mut quotient_stripe(alloc)?)
+    is_booked_at_last(&rt, alloc, map_stripe(alloc)?)?;
+    is_booked_at_last(&rt, alloc, quotient_stripe(alloc)?)
 }
 
 // What a share tells of stripe 0: words and entries; and its parts.
@@ -149,8 +160,7 @@ fn share_at_last<N: Books, R: Wait + Abort>(
     if setup.rule().k().get() != 3 || forty.stripe() != 0 || one.stripe() != 0 {
         return Err(Fail::from("another setup"));
     }
-    let tables = tables_of(alloc, setup)?;
-    let (stripes, mut share) = Stripes::<PlainCounts, N>::new(alloc, setup, tables, sheet)?;
+    let (stripes, mut share) = stripes_of::<N>(alloc, setup, sheet)?;
     is_shared_again(rt, &stripes, &mut share, one, [0, 0, 1])?;
     is_shared_again(rt, &stripes, &mut share, forty, [1, 1, 1])?;
     let count = is_seen_again(rt, alloc, &stripes, &mut share, Word(1))?;

@@ -1,10 +1,12 @@
 //! Stripes that threads share, and a caller who counts with them.
-ghost use Rattle.std.specs.Prelude.{◌≡◌, ◌<◌, All, IfOk, vec_len};
+ghost use Rattle.std.specs.Prelude.{◌≡◌, ◌<◌, [], All, IfOk, vec_len};
 ghost use Rattle.std.specs.FinMap.{empty};
-ghost use Rattle.kc_stripe.specs.Setup.{stripe_count, key_bits};
+ghost use Rattle.kc_stripe.specs.Setup.{word_count, stripe_count, key_bits};
 ghost use Rattle.kc_stripe.specs.Locked.{IsAllOf};
+ghost use Rattle.kc_share.specs.Share.{share_of};
 
-use crate::tests::{batches_of, cut_of, reads_of, setup_of};
+use crate::booking_tests::cuts_and_stranger;
+use crate::tests::{batches_in, setup_of};
 use crate::{BookFault, Cut, Setup, Stripe, Stripes, cut_up};
 use kc_share::{Books, Share, Sheet};
 use kc_table::PlainCounts;
@@ -26,6 +28,21 @@ pub(crate) fn tables_of(alloc: Global, setup: &Setup) -> Result<Vec<PlainCounts>
         tables.push(PlainCounts::new(alloc, setup.key_bits()))?;
     }
     Ok(tables)
+}
+
+// Stripes over empty tables, and the share of everything.
+pub(crate) fn stripes_of<N: Books>(
+    alloc: Global,
+    setup: &Setup,
+    sheet: Sheet,
+) -> Result<(Stripes<PlainCounts, N>, Share<N>), AllocError>
+    requires name { sheet.table ≡ N.table }
+    requires stripes { sheet.plan.stripes ≡ stripe_count setup.now }
+    ensures setup { IfOk result (λ made. made.0.setup ≡ setup.now) }
+    ensures share { IfOk result (λ made. made.1 ≡ share_of sheet.plan sheet.plan.parts []) }
+{
+    let tables = tables_of(alloc, setup)?;
+    Stripes::new(alloc, setup, tables, sheet)
 }
 
 // Books a batch into the stripe of its cut.
@@ -96,8 +113,7 @@ fn count_by_two<N: Books + Send + Sync, R: Threads + Wait + Sync>(
     ensures count { IfOk result (λ counted. vec_len counted.0 ≡ stripe_count setup.now) }
     ensures whole { IfOk result (λ counted. All (λ stripe. IsAllOf counted.1.booked stripe) counted.0.items) }
 {
-    let tables = tables_of(alloc, setup)?;
-    let (stripes, mut one) = Stripes::<PlainCounts, N>::new(alloc, setup, tables, sheet)?;
+    let (stripes, mut one) = stripes_of::<N>(alloc, setup, sheet)?;
     let other = stripes.split(&mut one);
     let (first, second) = batches.split_at(batches.len() / 2);
     let (mut whole, other) = book_halves(rt, alloc, &stripes, (one, other), (first, second))?;
@@ -173,7 +189,7 @@ fn sums_by_two<N: Books + Send + Sync, R: Threads + Wait + Sync>(
 fn what_two_threads_booked_is_what_the_stripes_have(rt: HostRuntime) -> Result<(), Fail> {
     let alloc = rt.alloc();
     let setup = setup_of(3, 1).ok_or("no setup")?;
-    let batches = batches_of(alloc, &setup, &reads_of(alloc, &[b"AAAAAAAAAA"])?, 4)?;
+    let batches = batches_in(alloc, &setup, &[b"AAAAAAAAAA"], 4)?;
     assert_eq!(rt; batches.len(), 2);
     let sheet = Sheet::new(alloc, setup.stripes(), 2)?;
     let sums = sums_by_two::<Brand, _>(&rt, alloc, &setup, sheet, batches.as_slice())?;
@@ -181,8 +197,39 @@ fn what_two_threads_booked_is_what_the_stripes_have(rt: HostRuntime) -> Result<(
     Ok(())
 }
 
-// Books the first cut twice and then the second. Then AAA and CCC are looked up: how often each was counted, and in how
-// many batches; and what the share has.
+// Books the first cut twice and then the second.
+fn book_three<N: Books, R: Wait>(
+    rt: &R,
+    stripes: &Stripes<PlainCounts, N>,
+    share: &mut Share<N>,
+    cuts: (&Cut, &Cut),
+) -> [Result<(), BookFault>; 3]
+    requires first { cuts.0.now.stripe < stripe_count stripes.now.setup }
+    requires second { cuts.1.now.stripe < stripe_count stripes.now.setup }
+    ensures { share.new.plan ≡ share.old.plan }
+{
+    let first = book_cut(rt, stripes, share, cuts.0);
+    let again = book_cut(rt, stripes, share, cuts.0);
+    let other = book_cut(rt, stripes, share, cuts.1);
+    [first, again, other]
+}
+
+// How often a word was counted, and in how many batches.
+fn look_up<N: Books, R: Wait>(
+    rt: &R,
+    alloc: Global,
+    stripes: &Stripes<PlainCounts, N>,
+    share: &mut Share<N>,
+    word: u64,
+) -> Result<(u64, usize), BookFault>
+    requires { word < word_count stripes.now.setup }
+    ensures { share.new.plan ≡ share.old.plan }
+{
+    let seen = stripes.look(rt, alloc, share, Word(word))?;
+    Ok((seen.count(), seen.batches().len()))
+}
+
+// Books the first cut twice and then the second. Then AAA and CCC are looked up; and what the share has.
 fn book_and_look<N: Books, R: Wait>(
     rt: &R,
     alloc: Global,
@@ -193,37 +240,24 @@ fn book_and_look<N: Books, R: Wait>(
     requires name { sheet.table ≡ N.table }
     requires plan { (sheet.plan.stripes ≡ 1) × (stripe_count setup.now ≡ 1) }
 {
-    let (cut, stranger) = cuts;
-    if setup.rule().k().get() != 3 || cut.stripe() != 0 || stranger.stripe() != 0 {
+    if setup.rule().k().get() != 3 || cuts.0.stripe() != 0 || cuts.1.stripe() != 0 {
         return Err(Fail::from("another setup"));
     }
-    let tables = tables_of(alloc, setup)?;
-    let (stripes, mut share) = Stripes::<PlainCounts, N>::new(alloc, setup, tables, sheet)?;
-    let first = book_cut(rt, &stripes, &mut share, cut);
-    let again = book_cut(rt, &stripes, &mut share, cut);
-    let other = book_cut(rt, &stripes, &mut share, stranger);
-    let there = stripes.look(rt, alloc, &mut share, Word(0))?;
-    let missing = stripes.look(rt, alloc, &mut share, Word(21))?;
-    Ok((
-        [first, again, other],
-        [
-            (there.count(), there.batches().len()),
-            (missing.count(), missing.batches().len()),
-        ],
-        (share.words(0), share.entries(0)),
-    ))
+    let (stripes, mut share) = stripes_of::<N>(alloc, setup, sheet)?;
+    let booked = book_three(rt, &stripes, &mut share, cuts);
+    let there = look_up(rt, alloc, &stripes, &mut share, 0)?;
+    let missing = look_up(rt, alloc, &stripes, &mut share, 21)?;
+    Ok((booked, [there, missing], (share.words(0), share.entries(0))))
 }
 
 #[test]
 fn a_word_is_looked_up_among_the_batches(rt: HostRuntime) -> Result<(), Fail> {
     let alloc = rt.alloc();
     let setup = setup_of(3, 1).ok_or("no setup")?;
-    let batches = batches_of(alloc, &setup, &reads_of(alloc, &[b"AAAA", b"AAA"])?, 2)?;
-    let [first, second] = batches.as_slice() else {
+    let cuts = cuts_and_stranger(alloc)?;
+    let [cut, _, stranger] = cuts.as_slice() else {
         return Err(Fail::from("other batches"));
     };
-    let cut = cut_of(alloc, &setup, first, 0)?;
-    let stranger = cut_of(alloc, &setup_of(3, 2).ok_or("no setup")?, second, 0)?;
     if setup.stripes() != 1 {
         return Err(Fail::from("another setup"));
     }
@@ -233,7 +267,7 @@ fn a_word_is_looked_up_among_the_batches(rt: HostRuntime) -> Result<(), Fail> {
         alloc,
         &setup,
         sheet,
-        (&cut, &stranger),
+        (cut, stranger),
     )?;
     assert!(rt; booked == [Ok(()), Err(BookFault::Twice), Err(BookFault::Stranger)]);
     assert_eq!(rt; seen, [(2, 1), (0, 1)]);
@@ -256,27 +290,34 @@ fn book_look_and_end<N: Books, R: Wait>(
     if setup.rule().k().get() != 3 {
         return Err(Fail::from("another setup"));
     }
-    let tables = tables_of(alloc, setup)?;
-    let (stripes, mut share) = Stripes::<PlainCounts, N>::new(alloc, setup, tables, sheet)?;
+    let (stripes, mut share) = stripes_of::<N>(alloc, setup, sheet)?;
     book_batch(rt, alloc, &stripes, &mut share, batch)?;
     let counts = [
-        stripes.look(rt, alloc, &mut share, Word(6))?.count(),
-        stripes.look(rt, alloc, &mut share, Word(27))?.count(),
-        stripes.look(rt, alloc, &mut share, Word(0))?.count(),
+        look_up(rt, alloc, &stripes, &mut share, 6)?.0,
+        look_up(rt, alloc, &stripes, &mut share, 27)?.0,
+        look_up(rt, alloc, &stripes, &mut share, 0)?.0,
     ];
     let (stripes, _) = stripes.into_stripes(alloc, share)?;
+    Ok((counts, totals_of(alloc, &stripes)?))
+}
+
+// The numbers and the totals of stripes.
+fn totals_of(
+    alloc: Global,
+    stripes: &[Stripe<PlainCounts>],
+) -> Result<Vec<(u32, u64)>, AllocError> {
     let mut totals = Vec::new(alloc);
-    for stripe in &stripes {
+    for stripe in stripes {
         totals.push((stripe.number(), stripe.total()))?;
     }
-    Ok((counts, totals))
+    Ok(totals)
 }
 
 #[test]
 fn each_stripe_is_found_under_its_own_lock(rt: HostRuntime) -> Result<(), Fail> {
     let alloc = rt.alloc();
     let setup = setup_of(3, 4).ok_or("no setup")?;
-    let batches = batches_of(alloc, &setup, &reads_of(alloc, &[b"ACGT"])?, 8)?;
+    let batches = batches_in(alloc, &setup, &[b"ACGT"], 8)?;
     let batch = batches.first().ok_or("no batch")?;
     let sheet = Sheet::new(alloc, setup.stripes(), 1)?;
     let (counts, totals) = book_look_and_end::<Brand, _>(&rt, alloc, &setup, sheet, batch)?;

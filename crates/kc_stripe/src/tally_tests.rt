@@ -6,7 +6,7 @@ use crate::tests::{batches_of, plain_stripe};
 use crate::{Setup, Stripe, cut_up};
 use kc_fastx::SeqRead;
 use kc_hash::Hash;
-use kc_table::{Counts, QuotientTable};
+use kc_table::{Counts, PlainCounts, QuotientTable};
 use kc_word::slow::base_count;
 use kc_word::{K, Rule};
 use rand_core::SeedableRng;
@@ -106,27 +106,36 @@ fn words_in_bin<C: Counts>(stripes: &[Stripe<C>], bin: u64) -> u64
     words
 }
 
-// Books seeded reads in the eight stripes: rows, totals and bins are those of the slow tally.
-fn hold_the_tally<C: Counts>(
-    rt: &impl Abort,
-    alloc: Global,
-    stripes: &mut Vec<Stripe<C>>,
-) -> Result<(), Fail> {
-    let setup = seeded_setup().ok_or("no setup")?;
-    let reads = random_reads(alloc, &mut SplitMix64::seed_from_u64(11))?;
-    let want = slow_rows(alloc, &reads, setup.rule())?;
-    book_everywhere(alloc, &setup, stripes, &reads)?;
-    let stripes = stripes.as_slice();
-    assert_eq!(rt; sorted_rows(alloc, stripes)?.as_slice(), want.as_slice());
-    let total = want.iter().fold(0u64, |sum, row| sum.saturating_add(row.1));
+// The bins 1 to 8 are those of the rows.
+fn assert_bins<C: Counts>(rt: &impl Abort, stripes: &[Stripe<C>], rows: &[(u64, u64)]) {
+    for bin in 1..9 {
+        let words = rows.iter().filter(|row| row.1 == bin).count() as u64;
+        assert_eq!(rt; words_in_bin(stripes, bin), words);
+    }
+}
+
+// The totals of the stripes come to that of the rows.
+fn assert_total<C: Counts>(rt: &impl Abort, stripes: &[Stripe<C>], rows: &[(u64, u64)]) {
+    let total = rows.iter().fold(0u64, |sum, row| sum.saturating_add(row.1));
     let booked = stripes
         .iter()
         .fold(0u64, |sum, stripe| sum.saturating_add(stripe.total()));
     assert_eq!(rt; booked, total);
-    for bin in 1..9 {
-        let words = want.iter().filter(|row| row.1 == bin).count() as u64;
-        assert_eq!(rt; words_in_bin(stripes, bin), words);
-    }
+}
+
+// Books seeded reads in the eight stripes: rows, totals and bins are those of the slow tally.
+fn hold_the_tally<C: Counts + Drop>(
+    rt: &impl Abort,
+    alloc: Global,
+    mut stripes: Vec<Stripe<C>>,
+) -> Result<(), Fail> {
+    let setup = seeded_setup().ok_or("no setup")?;
+    let reads = random_reads(alloc, &mut SplitMix64::seed_from_u64(11))?;
+    let want = slow_rows(alloc, &reads, setup.rule())?;
+    book_everywhere(alloc, &setup, &mut stripes, &reads)?;
+    assert_eq!(rt; sorted_rows(alloc, &stripes)?.as_slice(), want.as_slice());
+    assert_total(rt, &stripes, &want);
+    assert_bins(rt, &stripes, &want);
     Ok(())
 }
 
@@ -144,16 +153,29 @@ fn quotient_stripe(
     Ok(stripe)
 }
 
+// The eight stripes over a `BTreeMap`.
+fn plain_stripes(alloc: Global) -> Result<Vec<Stripe<PlainCounts>>, Fail> {
+    let setup = seeded_setup().ok_or("no setup")?;
+    let mut stripes = Vec::new(alloc);
+    for number in 0..8 {
+        stripes.push(plain_stripe(alloc, &setup, number)?)?;
+    }
+    Ok(stripes)
+}
+
+// The eight stripes over quotient tables.
+fn quotient_stripes(alloc: Global) -> Result<Vec<Stripe<QuotientTable>>, Fail> {
+    let setup = seeded_setup().ok_or("no setup")?;
+    let mut stripes = Vec::new(alloc);
+    for number in 0..8 {
+        stripes.push(quotient_stripe(alloc, &setup, number)?)?;
+    }
+    Ok(stripes)
+}
+
 #[test]
 fn stripes_hold_the_tally(rt: HostRuntime) -> Result<(), Fail> {
     let alloc = rt.alloc();
-    let setup = seeded_setup().ok_or("no setup")?;
-    let mut plain = Vec::new(alloc);
-    let mut quotient = Vec::new(alloc);
-    for number in 0..8 {
-        plain.push(plain_stripe(alloc, &setup, number)?)?;
-        quotient.push(quotient_stripe(alloc, &setup, number)?)?;
-    }
-    hold_the_tally(&rt, alloc, &mut plain)?;
-    hold_the_tally(&rt, alloc, &mut quotient)
+    hold_the_tally(&rt, alloc, plain_stripes(alloc)?)?;
+    hold_the_tally(&rt, alloc, quotient_stripes(alloc)?)
 }

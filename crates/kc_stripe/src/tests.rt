@@ -8,6 +8,7 @@ use kc_hash::{Hash, Matrix};
 use kc_table::PlainCounts;
 use kc_word::{Batch, K, Rule, Word, clean, cut};
 use std::alloc::Global;
+use std::process::Abort;
 use std::sync::Arc;
 use std::test::Fail;
 
@@ -42,6 +43,16 @@ pub(crate) fn batches_of(
     Ok(batches)
 }
 
+// The reads of these bases as batches of so many positions.
+pub(crate) fn batches_in(
+    alloc: Global,
+    setup: &Setup,
+    texts: &[&[u8]],
+    size: u64,
+) -> Result<Vec<Arc<Batch>>, Fail> {
+    batches_of(alloc, setup, &reads_of(alloc, texts)?, size)
+}
+
 // The cut of a batch in a stripe.
 pub(crate) fn cut_of(
     alloc: Global,
@@ -56,6 +67,13 @@ pub(crate) fn cut_of(
     Ok(cuts.swap_remove(stripe))
 }
 
+// The cuts of the one batch of this text.
+pub(crate) fn cuts_in(alloc: Global, setup: &Setup, text: &[u8]) -> Result<Vec<Cut>, Fail> {
+    let batches = batches_in(alloc, setup, &[text], 8)?;
+    let cuts = cut_up(alloc, setup, batches.first().ok_or("no batch")?)?;
+    Ok(cuts)
+}
+
 // The cuts of the reads in stripe 0, in batches of so many positions.
 pub(crate) fn cuts_of(
     alloc: Global,
@@ -64,7 +82,7 @@ pub(crate) fn cuts_of(
     size: u64,
 ) -> Result<Vec<Cut>, Fail> {
     let mut cuts = Vec::new(alloc);
-    for batch in &batches_of(alloc, setup, &reads_of(alloc, texts)?, size)? {
+    for batch in &batches_in(alloc, setup, texts, size)? {
         cuts.push(cut_of(alloc, setup, batch, 0)?)?;
     }
     Ok(cuts)
@@ -84,23 +102,58 @@ pub(crate) fn plain_stripe(
     Ok(stripe)
 }
 
+// Lengths of words and numbers of stripes that make no setup.
+const NO_SETUPS: &[(u32, u32)] = &[(3, 0), (3, 3), (3, 128), (1, 8)];
+
+// Those that make one, and the bits of its keys and of its hash.
+const SETUPS: &[(u32, u32, u32, u32)] = &[
+    (1, 4, 0, 2),
+    (3, 1, 6, 6),
+    (3, 64, 0, 6),
+    (31, 16, 58, 62),
+];
+
+fn assert_setup(
+    rt: &impl Abort,
+    k: u32,
+    stripes: u32,
+    key_bits: u32,
+    bits: u32,
+) -> Result<(), Fail> {
+    let setup = setup_of(k, stripes).ok_or("no setup")?;
+    let found = [
+        setup.stripes(),
+        setup.key_bits(),
+        setup.rule().k().get(),
+        setup.hash().bits(),
+    ];
+    assert_eq!(rt; found, [stripes, key_bits, k, bits]);
+    Ok(())
+}
+
 #[test]
 fn setups(rt: HostRuntime) -> Result<(), Fail> {
-    for (k, stripes) in [(3, 0), (3, 3), (3, 128), (1, 8)] {
-        assert!(rt; setup_of(k, stripes).is_none());
+    for (k, stripes) in NO_SETUPS {
+        assert!(rt; setup_of(*k, *stripes).is_none());
     }
-    let k = K::new(3).ok_or("no length of a word")?;
-    let rule = Rule::new(k, false, b'!');
-    let hash = Hash::of_matrix(Matrix::identity(8))?;
-    assert!(rt; Setup::new(rule, hash, 4).is_none());
-    for (k, stripes, bits) in [(1, 4, 0), (3, 1, 6), (3, 64, 0), (31, 16, 58)] {
-        let setup = setup_of(k, stripes).ok_or("no setup")?;
-        assert_eq!(rt; (setup.stripes(), setup.key_bits()), (stripes, bits));
-        assert_eq!(rt; setup.rule().k().get(), k);
-        assert_eq!(rt; setup.hash().bits(), 2 * k);
+    for (k, stripes, key_bits, bits) in SETUPS {
+        assert_setup(&rt, *k, *stripes, *key_bits, *bits)?;
     }
-    assert!(rt; setup_of(3, 4).ok_or("no setup")? == setup_of(3, 4).ok_or("no setup")?);
-    assert!(rt; setup_of(3, 4).ok_or("no setup")? != setup_of(3, 2).ok_or("no setup")?);
+    Ok(())
+}
+
+#[test]
+fn a_setup_wants_the_hash_of_its_words(rt: HostRuntime) -> Result<(), Fail> {
+    let rule = Rule::new(K::new(3).ok_or("no length of a word")?, false, b'!');
+    assert!(rt; Setup::new(rule, Hash::of_matrix(Matrix::identity(8))?, 4).is_none());
+    Ok(())
+}
+
+#[test]
+fn setups_are_compared(rt: HostRuntime) -> Result<(), Fail> {
+    let setup = setup_of(3, 4).ok_or("no setup")?;
+    assert!(rt; setup == setup_of(3, 4).ok_or("no setup")?);
+    assert!(rt; setup != setup_of(3, 2).ok_or("no setup")?);
     Ok(())
 }
 
@@ -116,39 +169,48 @@ fn places_of_words(rt: HostRuntime) -> Result<(), Fail> {
     Ok(())
 }
 
+// The keys of each stripe in ACGT.
+const KEYS: [&[u64]; 4] = [&[], &[], &[1], &[6]];
+
+fn assert_cut(rt: &impl Abort, setup: &Setup, cut: &Cut, stripe: usize, keys: &[u64]) {
+    assert_eq!(rt; cut.keys(), keys);
+    assert_eq!(rt; (cut.stripe() as usize, cut.batch().number()), (stripe, 0));
+    assert!(rt; *cut.setup() == *setup);
+}
+
 #[test]
 fn cuts_of_a_batch(rt: HostRuntime) -> Result<(), Fail> {
     let setup = setup_of(3, 4).ok_or("no setup")?;
-    let batches = batches_of(rt.alloc(), &setup, &reads_of(rt.alloc(), &[b"ACGT"])?, 8)?;
-    let cuts = cut_up(rt.alloc(), &setup, batches.first().ok_or("no batch")?)?;
+    let cuts = cuts_in(rt.alloc(), &setup, b"ACGT")?;
     assert_eq!(rt; cuts.len(), 4);
-    let want: [&[u64]; 4] = [&[], &[], &[1], &[6]];
     for (stripe, cut) in cuts.iter().enumerate() {
-        assert_eq!(rt; cut.keys(), want[stripe]);
-        assert_eq!(rt; (cut.stripe() as usize, cut.batch().number()), (stripe, 0));
-        assert!(rt; *cut.setup() == setup);
+        assert_cut(&rt, &setup, cut, stripe, KEYS[stripe]);
     }
     Ok(())
 }
 
+// Stripe 2 of four, in which the one batch of this text is booked.
+fn stripe_of_text(alloc: Global, setup: &Setup, text: &[u8]) -> Result<Stripe<PlainCounts>, Fail> {
+    let mut stripe = plain_stripe(alloc, setup, 2)?;
+    let cuts = cuts_in(alloc, setup, text)?;
+    stripe.book(cuts.get(2).ok_or("no stripe")?)?;
+    Ok(stripe)
+}
+
+// ACG twice in this stripe, CGT in another, and GGG nowhere.
+const COUNTS: &[(u64, u64)] = &[(6, 2), (27, 0), (42, 0)];
+
 #[test]
 fn counts_of_words(rt: HostRuntime) -> Result<(), Fail> {
     let setup = setup_of(3, 4).ok_or("no setup")?;
-    if setup.rule().k().get() != 3 {
-        return Err(Fail::from("another setup"));
-    }
-    let batches = batches_of(rt.alloc(), &setup, &reads_of(rt.alloc(), &[b"ACGTACG"])?, 8)?;
-    let batch = batches.first().ok_or("no batch")?;
-    let mut stripe = plain_stripe(rt.alloc(), &setup, 2)?;
-    stripe.book(&cut_of(rt.alloc(), &setup, batch, 2)?)?;
+    let stripe = stripe_of_text(rt.alloc(), &setup, b"ACGTACG")?;
     assert_eq!(rt; stripe.number(), 2);
     assert!(rt; *stripe.setup() == setup);
     if stripe.setup().rule().k().get() != 3 {
         return Err(Fail::from("another setup"));
     }
-    // ACG twice in this stripe, CGT in another, and GGG nowhere
-    for (word, count) in [(6, 2), (27, 0), (42, 0)] {
-        assert_eq!(rt; stripe.count_of(Word(word)), count);
+    for (word, count) in COUNTS {
+        assert_eq!(rt; stripe.count_of(Word(*word)), *count);
     }
     Ok(())
 }

@@ -1,10 +1,10 @@
 //! Threads that book: many at once, and one that ends without giving its share back.
-ghost use Rattle.std.specs.Prelude.{◌≡◌};
+ghost use Rattle.std.specs.Prelude.{◌≡◌, IfOk};
 ghost use Rattle.kc_stripe.specs.Setup.{stripe_count};
 
-use crate::sharing_tests::{Sums, book_all, book_batch, sums_of, tables_of};
+use crate::sharing_tests::{Sums, book_all, book_batch, stripes_of, sums_of};
 use crate::tally_tests::{random_read, seeded_setup, slow_rows, sorted_rows};
-use crate::tests::{batches_of, reads_of, setup_of};
+use crate::tests::{batches_in, batches_of, setup_of};
 use crate::{BookFault, Setup, Stripes};
 use kc_fastx::SeqRead;
 use kc_share::{Books, Share, Sheet};
@@ -37,6 +37,43 @@ fn jobs_of<'a, N: Books>(
     Ok(jobs)
 }
 
+// Each part is booked by a thread of its own, and then the shares are joined.
+fn book_parts<N: Books + Send + Sync, R: Threads + Wait + Sync>(
+    rt: &R,
+    alloc: Global,
+    stripes: &Stripes<PlainCounts, N>,
+    whole: &mut Share<N>,
+    jobs: Vec<(Share<N>, &[Arc<Batch>])>,
+) -> Result<(), Fail>
+    ensures { whole.new.plan ≡ whole.old.plan }
+{
+    let ended = map_vec(
+        rt,
+        jobs,
+        &|(share, part)| { book_all(rt, alloc, stripes, share, part) },
+    )?;
+    for end in ended {
+        let (share, booked) = end;
+        booked?;
+        stripes.join(whole, share);
+    }
+    Ok(())
+}
+
+// The sharing ends: what the stripes and the share have, and the rows.
+fn ended<N: Books>(
+    alloc: Global,
+    setup: &Setup,
+    stripes: Stripes<PlainCounts, N>,
+    share: Share<N>,
+) -> Result<(Vec<Sums>, Vec<(u64, u64)>), Fail>
+    requires { share.plan.stripes ≡ stripe_count setup.now }
+{
+    let (stripes, share) = stripes.into_stripes(alloc, share)?;
+    let sums = sums_of(alloc, setup, &stripes, &share)?;
+    Ok((sums, sorted_rows(alloc, &stripes)?))
+}
+
 // Each eight batches are booked by a thread of their own; what the stripes and the joined shares have, and the rows.
 fn count_by_many<N: Books + Send + Sync, R: Threads + Wait + Sync>(
     rt: &R,
@@ -48,23 +85,10 @@ fn count_by_many<N: Books + Send + Sync, R: Threads + Wait + Sync>(
     requires name { sheet.table ≡ N.table }
     requires stripes { sheet.plan.stripes ≡ stripe_count setup.now }
 {
-    let tables = tables_of(alloc, setup)?;
-    let (stripes, mut whole) = Stripes::<PlainCounts, N>::new(alloc, setup, tables, sheet)?;
+    let (stripes, mut whole) = stripes_of::<N>(alloc, setup, sheet)?;
     let jobs = jobs_of(alloc, &stripes, &mut whole, batches)?;
-    let shared = &stripes;
-    let ended = map_vec(
-        rt,
-        jobs,
-        &|(share, part)| { book_all(rt, alloc, shared, share, part) },
-    )?;
-    for end in ended {
-        let (share, booked) = end;
-        booked?;
-        stripes.join(&mut whole, share);
-    }
-    let (stripes, whole) = stripes.into_stripes(alloc, whole)?;
-    let sums = sums_of(alloc, setup, &stripes, &whole)?;
-    Ok((sums, sorted_rows(alloc, &stripes)?))
+    book_parts(rt, alloc, &stripes, &mut whole, jobs)?;
+    ended(alloc, setup, stripes, whole)
 }
 
 // Sixteen random reads of 48 positions each.
@@ -110,6 +134,30 @@ fn book_and_return<N: Books, R: Wait>(
     (share, booked)
 }
 
+// One thread books the first batch and ends without giving its share back, and another books the second.
+fn book_apart<N: Books + Send + Sync, R: Threads + Wait + Sync>(
+    rt: &R,
+    alloc: Global,
+    stripes: &Stripes<PlainCounts, N>,
+    shares: (Share<N>, Share<N>),
+    batches: (&Arc<Batch>, &Arc<Batch>),
+) -> Result<Share<N>, BookFault>
+    ensures { IfOk result (λ share. share.plan ≡ shares.1.plan) }
+{
+    let (lost, kept) = shares;
+    let (first, second) = batches;
+    let (alone, (kept, booked)) = join(
+        rt,
+        move || -> Result<(), BookFault> { book_and_return(rt, alloc, stripes, lost, first).1 },
+        move || -> (Share<N>, Result<(), BookFault>)
+            ensures { result.0.plan ≡ kept.plan }
+        { book_and_return(rt, alloc, stripes, kept, second) },
+    );
+    alone?;
+    booked?;
+    Ok(kept)
+}
+
 // Three batches. One thread books the first and ends without giving its share back. Another books the second, and the
 // third is booked with its share afterwards. What the stripes and this share have, and the rows.
 fn count_without_one<N: Books + Send + Sync, R: Threads + Wait + Sync>(
@@ -124,31 +172,18 @@ fn count_without_one<N: Books + Send + Sync, R: Threads + Wait + Sync>(
     requires parts { sheet.plan.parts ≡ 2 }
 {
     let [first, second, third] = batches;
-    let tables = tables_of(alloc, setup)?;
-    let (stripes, mut kept) = Stripes::<PlainCounts, N>::new(alloc, setup, tables, sheet)?;
+    let (stripes, mut kept) = stripes_of::<N>(alloc, setup, sheet)?;
     let lost = stripes.split(&mut kept);
-    let shared = &stripes;
-    let (alone, (kept, booked)) = join(
-        rt,
-        move || -> Result<(), BookFault> { book_and_return(rt, alloc, shared, lost, first).1 },
-        move || -> (Share<N>, Result<(), BookFault>)
-            ensures { result.0.plan ≡ kept.plan }
-        { book_and_return(rt, alloc, shared, kept, second) },
-    );
-    alone?;
-    booked?;
-    let (kept, booked) = book_and_return(rt, alloc, &stripes, kept, third);
-    booked?;
-    let (stripes, kept) = stripes.into_stripes(alloc, kept)?;
-    let sums = sums_of(alloc, setup, &stripes, &kept)?;
-    Ok((sums, sorted_rows(alloc, &stripes)?))
+    let mut kept = book_apart(rt, alloc, &stripes, (lost, kept), (first, second))?;
+    book_batch(rt, alloc, &stripes, &mut kept, third)?;
+    ended(alloc, setup, stripes, kept)
 }
 
 #[test]
 fn a_share_that_is_lost_leaves_the_stripes_lawful(rt: HostRuntime) -> Result<(), Fail> {
     let alloc = rt.alloc();
     let setup = setup_of(3, 1).ok_or("no setup")?;
-    let batches = batches_of(alloc, &setup, &reads_of(alloc, &[b"AAAAAAAAAAAAAA"])?, 4)?;
+    let batches = batches_in(alloc, &setup, &[b"AAAAAAAAAAAAAA"], 4)?;
     let [first, second, third] = batches.as_slice() else {
         return Err(Fail::from("other batches"));
     };

@@ -67,8 +67,8 @@ impl Pieces {
         count
     }
 
-    /// The same, and behind them the bytes of a piece from `from` to before `to`. Conditions: these are in order, and at
-    /// most the piece's length.
+    /// The same, and behind them the bytes of a piece from `from` to before `to`. Conditions: these are in order, and
+    /// at most the piece's length.
     pub(crate) fn and_part(
         self,
         alloc: Global,

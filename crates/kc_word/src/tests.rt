@@ -48,7 +48,10 @@ fn shown(alloc: Global, batch: &Batch) -> Result<Vec<u8>, AllocError> {
     let pieces = batch.pieces();
     for i in 0..pieces.len() {
         let mut codes = pieces.codes(i);
-        while !codes.is_done() {
+        for _ in 0..u64::MAX {
+            if codes.is_done() {
+                break;
+            }
             line.push(letter(codes.take()))?;
         }
         line.push(b'|')?;
