@@ -17,11 +17,13 @@ entries-joined stripe xs ys = ap length (entries_in-append stripe xs ys) ∙ len
 
 one_there : (stripe : ℕ) (entry : Entry) → entry_total_in stripe (booking_of stripe entry ∷ []) ≡ 1
 unfolding entries_in
-one_there stripe entry = ap (λ b. length (map (λ (booking : Booking). booking.entry) (cond b (booking_of stripe entry ∷ []) []))) (eq-eqb stripe stripe refl)
+one_there stripe entry =
+    ap (λ b. length (map (λ (booking : Booking). booking.entry) (cond b (booking_of stripe entry ∷ []) []))) (eq-eqb stripe stripe refl)
 
 none_elsewhere : (stripe other : ℕ) (entry : Entry) → other ≢ stripe → entry_total_in stripe (booking_of other entry ∷ []) ≡ 0
 unfolding entries_in
-none_elsewhere stripe other entry apart = ap (λ b. length (map (λ (booking : Booking). booking.entry) (cond b (booking_of other entry ∷ []) []))) (ne_eqb other stripe apart)
+none_elsewhere stripe other entry apart =
+    ap (λ b. length (map (λ (booking : Booking). booking.entry) (cond b (booking_of other entry ∷ []) []))) (ne_eqb other stripe apart)
 
 -- an entry was booked into this stripe
 pub record IsBookedInto (stripe at : ℕ) (entry : Entry) (share new : ShareSeen) : Type 0 where
@@ -29,10 +31,10 @@ pub record IsBookedInto (stripe at : ℕ) (entry : Entry) (share new : ShareSeen
   pub here : at ≡ stripe
 
 -- one booking more into the one stripe
-pub HaveMoreIn-more : (old : List Booking) (share new : ShareSeen) (stripe n at : ℕ) (entry : Entry)
+pub HaveMoreIn-more : {old : List Booking} {n : ℕ} (stripe at : ℕ) (entry : Entry) (share new : ShareSeen)
     → IsBookedInto stripe at entry share new
     → HaveMoreIn stripe (stripe + 1) n old share.booked → HaveMoreIn stripe (stripe + 1) (n + 1) old new.booked
-HaveMoreIn-more old share new stripe n at entry booked before =
+HaveMoreIn-more stripe at entry share new booked before =
     let same = booked.here in
     let one_more = λ (other : ℕ). ap (λ (share : ShareSeen). entry_total_in other share.booked) booked.is
     ∙ entries-joined other share.booked (booking_of at entry ∷ []) in

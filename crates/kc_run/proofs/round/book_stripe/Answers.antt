@@ -25,7 +25,6 @@ loop-it-preserved g c =
     record {
       parts = c.book_cut.ensures.kept.0 ∙ i.parts;
       plan = c.book_cut.ensures.kept.1 ∙ i.plan;
-      booked = HaveMoreIn-more c.args.share.now.booked c.loop-it.share c.book_cut.new.share c.args.stripe
-          c.loop-it.it-index c.index.result.now.stripe _
+      booked = HaveMoreIn-more c.args.stripe c.index.result.now.stripe _ c.loop-it.share c.book_cut.new.share
           (record { is = c.in_ok-book_cut.ensures.booked; here = here }) i.booked;
     }
