@@ -95,12 +95,13 @@ refused_cleaning seen source later Write r h = absurd h
 refused_cleaning seen source later (OpenFailed name) r h = absurd h
 
 -- All sources were read.
-pub all_cut : {S : Type 0} (seen : S → Seen) (sources : List S) {rule : CountingRule} {batch : ℕ}
-    {cutting : OpenCutting} {left number : ℕ} → CutSoFar seen sources [] rule batch cutting left number
+pub all_cut : {S : Type 0} (seen : S → Seen) (sources : List S) {rest : List S} {rule : CountingRule} {batch : ℕ}
+    {cutting : OpenCutting} {left number : ℕ} → rest ≡ [] → CutSoFar seen sources rest rule batch cutting left number
     → CutsSources seen sources rule batch cutting
-all_cut seen sources {rule = rule} r = record {
+all_cut seen sources {rule = rule} {left = left} {number = number} none r = record {
   reads = r.reads;
-  are = ended seen sources r.reads _ _ r.so_far;
+  are = ended seen sources r.reads left number
+      (subst (λ v. ReadSoFar seen sources v r.reads left number) none r.so_far);
   length_of_words = r.length_of_words;
   size = r.size;
   taken = r.taken;

@@ -1,6 +1,7 @@
 use Rattle.std.proofs.Common.{refl, arith}
 use Rattle.kc_fastx.proofs.ReadingLemmas.{used_within}
-use Rattle.kc_tool.proofs.CleaningLemmas.{no_piece, one_more_piece}
+use Rattle.kc_word.specs.Cutting.{cleaned}
+use Rattle.kc_tool.proofs.CleaningLemmas.{TakesPiece, no_piece, one_more_piece}
 use Rattle.kc_tool.proofs.reading.cut_source.Goals as goal
 
 pub reads-init : goal.reads-init
@@ -25,10 +26,10 @@ reads-preserved-in_ok-push-in-Ok-Some g c =
     let next = rw c.in-Ok-Some.field-0-is at
     c.in-Ok-Some.ensures.given start c.args.limit so_far.reads so_far.given in
     let piece = c.in_ok-piece-in-Ok-Some.ensures.cleaned in
-    let pushed = record {
-      length_of_words = c.push-in-Ok-Some.ensures.k;
-      size = c.push-in-Ok-Some.ensures.size;
-      more = rw piece at c.in_ok-push-in-Ok-Some.ensures.more;
+    let pushed : TakesPiece c.reads.cutting c.push.new.self (cleaned c.args.rule.now c.in-Ok-Some.read) = record {
+      length_of_words = c.push.ensures.k;
+      size = c.push.ensures.size;
+      more = λ pieces taken. rw piece at c.in_ok-push-in-Ok-Some.ensures.more pieces taken;
     } in
     rw c.in-Ok-Some.field-0-is (one_more_piece c.in-Ok-Some.read so_far next pushed)
 
@@ -49,10 +50,10 @@ reads-preserved g c =
     let next = rw c.in-Ok-Some.field-0-is at
     c.in-Ok-Some.ensures.given start c.args.limit so_far.reads so_far.given in
     let piece = c.in_ok-piece-in-Ok-Some.ensures.cleaned in
-    let pushed = record {
-      length_of_words = c.push-in-Ok-Some.ensures.k;
-      size = c.push-in-Ok-Some.ensures.size;
-      more = rw piece at c.in_ok-push-in-Ok-Some.ensures.more;
+    let pushed : TakesPiece c.reads.cutting c.push.new.self (cleaned c.args.rule.now c.in-Ok-Some.read) = record {
+      length_of_words = c.push.ensures.k;
+      size = c.push.ensures.size;
+      more = λ pieces taken. rw piece at c.in_ok-push-in-Ok-Some.ensures.more pieces taken;
     } in
     rw c.in-Ok-Some.field-0-is (one_more_piece c.in-Ok-Some.read so_far next pushed)
 

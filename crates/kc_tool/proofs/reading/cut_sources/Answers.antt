@@ -1,6 +1,7 @@
-use Rattle.std.proofs.Common.{◌≡◌, ◌∙◌, ◌+◌, sym, length, arith}
+use Rattle.std.proofs.Common.{◌≡◌, ◌∙◌, ◌+◌, length, subst, arith}
 use Rattle.std.proofs.lemmas.Result.{err_from_is_err_and}
 use Rattle.std.specs.Vec.Iter.{into_iter_items}
+use Rattle.kc_tool.specs.Reading.{CutsSources}
 use Rattle.kc_tool.proofs.ReadingLemmas.{length-front}
 use Rattle.kc_tool.proofs.CleaningLemmas.{all_cut, cutting_begun, one_more_cut, refused_cleaning}
 use Rattle.kc_tool.proofs.reading.cut_sources.Goals as goal
@@ -37,4 +38,6 @@ returns-in_err-left-clause-fault g c =
 
 pub returns-clause-cut : goal.returns-clause-cut
 returns-clause-cut g c =
-    rw (sym c.rule-rule.ensures) (all_cut g.R.Source.seen c.args.sources.items c.loop-source.invariant.so_far)
+    let all = all_cut g.R.Source.seen c.args.sources.items c.in-None.ensures.steps.0 c.loop-source.invariant.so_far in
+    subst (λ rule. CutsSources g.R.Source.seen c.args.sources.items rule c.args.options.now.batch c.loop-source.cutting)
+    c.rule-rule.ensures all
