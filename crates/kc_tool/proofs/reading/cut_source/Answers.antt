@@ -25,13 +25,13 @@ reads-preserved-in_ok-push-in-Ok-Some g c =
     let so_far = c.reads.invariant in
     let next = rw c.in-Ok-Some.field-0-is at
     c.in-Ok-Some.ensures.given start c.args.limit so_far.reads so_far.given in
-    let piece = c.in_ok-piece-in-Ok-Some.ensures.cleaned in
+    let piece = rw c.in-Ok-Some.field-0-is at c.in_ok-piece-in-Ok-Some.ensures.cleaned in
     let pushed : TakesPiece c.reads.cutting c.push.new.self (cleaned c.args.rule.now c.in-Ok-Some.read) = record {
       length_of_words = c.push.ensures.k;
       size = c.push.ensures.size;
       more = λ pieces taken. rw piece at c.in_ok-push-in-Ok-Some.ensures.more pieces taken;
     } in
-    rw c.in-Ok-Some.field-0-is (one_more_piece c.in-Ok-Some.read so_far next pushed)
+    one_more_piece c.in-Ok-Some.read so_far next pushed
 
 pub reads-smaller : goal.reads-smaller
 reads-smaller g c =
@@ -49,13 +49,13 @@ reads-preserved g c =
     let so_far = c.reads.invariant in
     let next = rw c.in-Ok-Some.field-0-is at
     c.in-Ok-Some.ensures.given start c.args.limit so_far.reads so_far.given in
-    let piece = c.in_ok-piece-in-Ok-Some.ensures.cleaned in
+    let piece = rw c.in-Ok-Some.field-0-is at c.in_ok-piece-in-Ok-Some.ensures.cleaned in
     let pushed : TakesPiece c.reads.cutting c.push.new.self (cleaned c.args.rule.now c.in-Ok-Some.read) = record {
       length_of_words = c.push.ensures.k;
       size = c.push.ensures.size;
       more = λ pieces taken. rw piece at c.in_ok-push-in-Ok-Some.ensures.more pieces taken;
     } in
-    rw c.in-Ok-Some.field-0-is (one_more_piece c.in-Ok-Some.read so_far next pushed)
+    one_more_piece c.in-Ok-Some.read so_far next pushed
 
 pub byte_count-requires : goal.byte_count-requires
 byte_count-requires g c =

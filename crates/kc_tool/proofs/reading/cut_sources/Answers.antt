@@ -1,4 +1,5 @@
-use Rattle.std.proofs.Common.{◌≡◌, ◌∙◌, ◌+◌, length, subst, arith}
+use Rattle.std.proofs.Common.{◌≡◌, ◌∙◌, ◌+◌, length, sym, subst, arith}
+use Rattle.std.proofs.lemmas.List.{nil_from_length}
 use Rattle.std.proofs.lemmas.Result.{err_from_is_err_and}
 use Rattle.std.specs.Vec.Iter.{into_iter_items}
 use Rattle.kc_tool.specs.Reading.{CutsSources}
@@ -38,6 +39,8 @@ returns-in_err-left-clause-fault g c =
 
 pub returns-clause-cut : goal.returns-clause-cut
 returns-clause-cut g c =
-    let all = all_cut g.R.Source.seen c.args.sources.items c.in-None.ensures.steps.0 c.loop-source.invariant.so_far in
+    let rest = c.loop-source.source-iterator in
+    let none = nil_from_length (into_iter_items rest) (sym rest.rest.ok.0 ∙ c.in-None.ensures.steps.0) in
+    let all = all_cut g.R.Source.seen c.args.sources.items none c.loop-source.invariant.so_far in
     subst (λ rule. CutsSources g.R.Source.seen c.args.sources.items rule c.args.options.now.batch c.loop-source.cutting)
     c.rule-rule.ensures all
