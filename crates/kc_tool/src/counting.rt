@@ -40,7 +40,8 @@ pub(crate) fn tally_of<H: Threads + Wait + Sync, P: Progress + Sync>(
 ) -> Result<Tally, ToolFault>
     requires length_of_words { cutting.k ≡ (rule_of options.now).k }
     requires size { cutting.size ≡ options.now.batch }
-    requires few { (pieces : List (List ℕ)) × HasTaken cutting pieces × (sum_by (λ piece. length piece) pieces ≤ 2 ^ 36) }
+    requires few { (pieces : List (List ℕ)) × HasTaken cutting pieces
+        × (sum_by (λ piece. length piece) pieces ≤ 2 ^ 36) }
     ensures tally { IfOk result (λ tally. (reads : List Read)
         → HasTaken cutting (pieces_of (rule_of options.now) reads) → IsTallyOf (rule_of options.now) reads tally) }
     ensures fault { IfErr result IsCountingFault }

@@ -52,8 +52,8 @@ const CLEARED: &[u8] = b"\r\x1b[K";
 
 /// A line on a terminal that says how far a count has come: the bytes that were read, the batches that were counted,
 /// and how long it took. It is written over itself when something is told, at most ten times a second, and cleared at
-/// the end. Nothing is written where there is no terminal, or where the clock can't be read, and nothing of a count that
-/// is over sooner.
+/// the end. Nothing is written where there is no terminal, or where the clock can't be read, and nothing of a count
+/// that is over sooner.
 #[derive(Drop)]
 pub struct ProgressLine<'a, C: Clock, T: Print + IsTerminal> {
     clock: &'a C,

@@ -24,7 +24,8 @@ pub(crate) enum Task {
     Query(Vec<String>),
 }
 
-/// Does the task. How far a count has come is told. Conditions: a task over a table has one source; a histogram is for counts up to 1 to 10,000,000.
+/// Does the task. How far a count has come is told. Conditions: a task over a table has one source; a histogram is for
+/// counts up to 1 to 10,000,000.
 ///
 /// # Errors
 /// The fault of the sources or of the words. Nothing was written. `Write` where the writer failed or took no byte; a
