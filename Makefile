@@ -24,7 +24,7 @@ memory: build ## refuses each growth of memory in turn
 	for crate in $(TESTS_OF_MEMORY); do (cd crates/$$crate && rt test) || exit 1; done
 	tests/memory.sh
 
-files: build ## runs the program over files that are missing, are directories or are emptied
+files: build ## runs the program over files that are missing, are directories or are emptied, and on a terminal
 	tests/files.sh
 
 options: build ## compares the options of the man page and the completions with the help
