@@ -118,12 +118,12 @@ shows() {
     same "what stays on a terminal" "$wanted" "${shown##*$'\e[K'}" "$source"
     ran=$((ran + 1))
 }
-if command -v script > /dev/null; then
+if script -qec true /dev/null < /dev/null > "$work/script" 2>&1; then
     shows "$one" "$(declare -f slowly); slowly" ''
     shows '' "$(declare -f slowly); slowly" "> '$work/output'"
     same "its output" "$one" "$(cat "$work/output")" "beside a terminal"
     shows 'kcount: 2: bad base, source 1, line 2' "printf '>r1\nA@C'; sleep 1; printf 'A\n'" ''
 else
-    echo "files: what a terminal is shown was not tried, since script (of util-linux) is missing"
+    echo "files: what a terminal is shown was not tried, since script (of util-linux) is missing or gets no terminal"
 fi
 echo "files: $ran command lines said what they should, and left what they should in the file of the output"
