@@ -9,7 +9,7 @@ use Rattle.std.specs.List.{flat_map}
 use Rattle.kc_word.specs.declared.runs.Run.{Run}
 use Rattle.kc_word.specs.Runs.{run_end, is_in_run, is_in_runs, AreRuns, ArePassed, AreClipped}
 use Rattle.kc_word.proofs.RunLemmas.{inside-run, before-run, behind-run, is_in_runs-cons, is_in_runs-none}
-use Rattle.kc_word.proofs.RunLemmas.{AreRuns-lower, AreRuns-tail}
+use Rattle.kc_word.proofs.RunLemmas.{AreRuns-lower, AreRuns-tail, IsRunAt}
 use Rattle.kc_word.specs.Letter.{base}
 use Rattle.kc_word.specs.Cutting.{unusable}
 use Rattle.kc_word.specs.PackedPiece.{bytes_of, IsPiece}
@@ -130,11 +130,11 @@ pub record IsClipping (runs clipped : List Run) (first n from to : ℕ) : Type 0
   pub passed : ArePassed runs first from
   pub taken : clipped ≡ flat_map (λ run. clip from to run) (take (n - first) (drop first runs))
 
-pub clipping-more : (runs clipped next : List Run) (first n from to : ℕ) (run : Run) → n < length runs
-    → run ≡ get_or runs n run
+pub clipping-more : {runs clipped : List Run} {first n from to : ℕ} (next : List Run) (run : Run) → IsRunAt runs n run
     → IsClipping runs clipped first n from to → next ≡ clipped ++ clip from to run
     → IsClipping runs next first (n + 1) from to
-clipping-more runs clipped next first n from to run h is before e =
+clipping-more {runs} {clipped} {first} {n} {from} {to} next run here before e =
+    let h = here.within in
     let order = before.order in
     let place : first + (n - first) ≡ n = omega (arith, order) in
     let count : n + 1 - first ≡ (n - first) + 1 = omega (arith, order) in
@@ -146,7 +146,7 @@ clipping-more runs clipped next first n from to run h is before e =
           ∙ sym (ap (λ m. flat_map (λ r. clip from to r) (take m (drop first runs))) count
           ∙ ap (flat_map (λ r. clip from to r)) (take_more (drop first runs) (n - first) run (omega (arith, long, h, order))
           ∙ ap (λ r. take (n - first) (drop first runs) ++ r ∷ []) (get_or-drop first runs (n - first) run
-          ∙ ap (λ j. get_or runs j run) place ∙ sym is))
+          ∙ ap (λ j. get_or runs j run) place ∙ sym here.is))
           ∙ flat_map-append (λ r. clip from to r) (take (n - first) (drop first runs)) (run ∷ [])
           ∙ ap (λ rs. flat_map (λ r. clip from to r) (take (n - first) (drop first runs)) ++ rs)
           (clipped-cons from to run [] ∙ append-nil (clip from to run)));
@@ -171,15 +171,15 @@ clipping-end runs clipped first n from to h before =
     ∙ ap (flat_map (λ r. clip from to r)) (take_all (n - first) (drop first runs) (omega (arith, long, h))))
 
 -- at a run that begins behind the last index
-pub clipping-past : (runs clipped : List Run) (first n from to : ℕ) (run : Run) → n < length runs
-    → run ≡ get_or runs n run → to ≤ run.start
-    → IsClipping runs clipped first n from to → AreClipped runs clipped from to
-clipping-past runs clipped first n from to run h is low before =
+pub clipping-past : {runs clipped : List Run} {first n from to : ℕ} {run : Run} → IsRunAt runs n run
+    → IsClipping runs clipped first n from to → to ≤ run.start → AreClipped runs clipped from to
+clipping-past {runs} {clipped} {first} {n} {from} {to} {run} found before low =
+    let h = found.within in
     let order = before.order in
     let long = length-drop first runs in
     let place : first + (n - first) ≡ n = omega (arith, order) in
     let more = drop_more (drop first runs) (n - first) run (omega (arith, long, h, order)) in
-    let here = get_or-drop first runs (n - first) run ∙ ap (λ j. get_or runs j run) place ∙ sym is in
+    let here = get_or-drop first runs (n - first) run ∙ ap (λ j. get_or runs j run) place ∙ sym found.is in
     let split : drop (n - first) (drop first runs) ≡ run ∷ drop (n - first + 1) (drop first runs) =
     more ∙ ap (λ r. r ∷ drop (n - first + 1) (drop first runs)) here in
     let rising = AreRuns-tail 0 before.passed.rising.0 (n - first) (drop first runs) before.passed.rising.1 in
@@ -209,11 +209,11 @@ pub get_or-cut : {X : Type 0} (xs : List X) (from to i : ℕ) (d : X) → i < to
     → get_or (take (to - from) (drop from xs)) i d ≡ get_or xs (from + i) d
 get_or-cut xs from to i d h = get_or-take (to - from) (drop from xs) i d h ∙ get_or-drop from xs i d
 
-pub clipped-piece : (codes part : List ℕ) (runs clipped : List Run) (from to : ℕ)
+pub clipped-piece : {runs clipped : List Run} (codes part : List ℕ) (from to : ℕ)
     → (from ≤ to) × (to ≤ length codes) → IsPiece codes runs
     → part ≡ take (to - from) (drop from codes) → AreClipped runs clipped from to
     → IsPieceOf codes runs part clipped from to
-clipped-piece codes part runs clipped from to within piece is are = record {
+clipped-piece {runs} {clipped} codes part from to within piece is are = record {
   piece = record {
     rising = subst (λ n. AreRuns 0 n clipped) (sym long) are.rising;
     below = λ i. ⊎_elim (λ h. subst (λ n. n < 4) (sym (code i h)) (piece.below (from + i)))

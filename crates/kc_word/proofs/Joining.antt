@@ -97,7 +97,7 @@ pub record PartStep (codes others : List ℕ) (runs gaps : List Run) (from to : 
 pub part-joined : (codes others : List ℕ) (runs gaps : List Run) (from to : ℕ) (s : PartStep codes others runs gaps from to)
     → IsJoined (bytes_of codes runs) (take (to - from) (drop from (bytes_of others gaps))) s.all s.next
 part-joined codes others runs gaps from to s =
-    let part = clipped-piece others (take (to - from) (drop from others)) gaps s.clipped from to s.within s.other refl s.clipped_are in
+    let part = clipped-piece others (take (to - from) (drop from others)) from to s.within s.other refl s.clipped_are in
     let both : JoinedPieces codes (take (to - from) (drop from others)) runs s.clipped s.next =
     record { piece = s.piece; other = part.piece; joined = s.next_are } in
     record {

@@ -5,18 +5,19 @@ use Rattle.kc_word.specs.PackedPiece.{bytes_of, IsReading}
 use Rattle.kc_word.proofs.PieceLemmas.{length-bytes_of}
 use Rattle.kc_word.proofs.Clipping.{length-cut, get_or-cut}
 
-pub reading-long : (codes : List ℕ) (runs : List Run) (next from at to : ℕ) → IsReading codes runs next from at to
+pub reading-long : {codes : List ℕ} {runs : List Run} {next from at to : ℕ} → IsReading codes runs next from at to
     → length (take (to - from) (drop from (bytes_of codes runs))) ≡ to - from
-reading-long codes runs next from at to reading =
+reading-long {codes} {runs} {next} {from} {at} {to} reading =
     let count = length-bytes_of codes runs in
     let begun = reading.begun in
     let within = reading.within in
     let inside = reading.inside in
     length-cut (bytes_of codes runs) from to (omega (arith, begun, within)) (omega (arith, count, inside))
 
-pub reading-byte : (codes : List ℕ) (runs : List Run) (next from at to : ℕ) → IsReading codes runs next from at to → (i : ℕ) → at + i < to
+pub reading-byte : {codes : List ℕ} {runs : List Run} {next from at to : ℕ} → IsReading codes runs next from at to
+    → (i : ℕ) → at + i < to
     → get_or (bytes_of codes runs) (at + i) 0 ≡ get_or (take (to - from) (drop from (bytes_of codes runs))) (at - from + i) 0
-reading-byte codes runs next from at to reading i h =
+reading-byte {codes} {runs} {next} {from} {at} {to} reading i h =
     let begun = reading.begun in
     let place : from + (at - from + i) ≡ at + i = omega (arith, begun) in
     let here = get_or-cut (bytes_of codes runs) from to (at - from + i) 0 (omega (arith, begun, h)) in

@@ -119,9 +119,16 @@ split-last runs n d e =
 split-read : (runs : List Run) (n : ℕ) (last : Run) → suc n ≡ length runs → last ≡ get_or runs n last → runs ≡ take n runs ++ last ∷ []
 split-read runs n last e is = split-last runs n last e ∙ ap (λ run. take n runs ++ run ∷ []) (sym is)
 
-pub last-end : (to : ℕ) (runs : List Run) (n : ℕ) (last : Run) → suc n ≡ length runs → AreRuns 0 to runs → last ≡ get_or runs n last → run_end last ≤ to
-last-end to runs n last e rising is =
-    (AreRuns-last 0 to (take n runs) last (subst (AreRuns 0 to) (split-read runs n last e is) rising)).1
+-- the last of runs that rise to an index
+pub record IsLastRun (to : ℕ) (runs : List Run) (n : ℕ) (last : Run) : Type 0 where
+  pub count : suc n ≡ length runs
+  pub rising : AreRuns 0 to runs
+  pub is : last ≡ get_or runs n last
+
+pub last-end : {to n : ℕ} {runs : List Run} {last : Run} → IsLastRun to runs n last → run_end last ≤ to
+last-end {to} {n} {runs} {last} found =
+    let split = split-read runs n last found.count found.is in
+    (AreRuns-last 0 to (take n runs) last (subst (AreRuns 0 to) split found.rising)).1
 
 -- a run of so many indices from an index on
 new_run : ℕ → ℕ → Run
@@ -154,16 +161,16 @@ AreGrown-first at count runs some e = record {
 }
 
 -- or the runs before it end earlier
-pub AreGrown-push : (at count : ℕ) (runs : List Run) (n : ℕ) (last : Run) → (1 ≤ count) × (suc n ≡ length runs) → AreRuns 0 at runs
-    → last ≡ get_or runs n last → run_end last ≢ at → AreGrown runs (runs ++ record { start = at; length = count } ∷ []) at count
+pub AreGrown-push : {at n : ℕ} {runs : List Run} {last : Run} (count : ℕ) → IsLastRun at runs n last → 1 ≤ count
+    → run_end last ≢ at → AreGrown runs (runs ++ record { start = at; length = count } ∷ []) at count
 unfolding new_run
-AreGrown-push at count runs n last fits rising is apart =
-    let split = split-read runs n last fits.1 is in
-    let ends = AreRuns-last 0 at (take n runs) last (subst (AreRuns 0 at) split rising) in
+AreGrown-push {at} {n} {runs} {last} count found some apart =
+    let split = split-read runs n last found.count found.is in
+    let ends = AreRuns-last 0 at (take n runs) last (subst (AreRuns 0 at) split found.rising) in
     let below = ends.1 in
     record {
       rising = AreRuns-push 0 (run_end last) (at + count) runs (new_run at count)
-          (omega arith, omega (arith, below, apart), fits.0, omega arith) (subst (AreRuns 0 (run_end last)) (sym split) ends.0);
+          (omega arith, omega (arith, below, apart), some, omega arith) (subst (AreRuns 0 (run_end last)) (sym split) ends.0);
       inside = λ i low high. new-inside at count runs i low high;
       below = λ i h. new-below at count runs i h;
       above = λ i h. new-above at count runs i h;
@@ -189,12 +196,13 @@ unfolding longer
 longer-above at count last i end h =
     behind-run (longer last count) i (omega (arith, h, end)) ∙ sym (behind-run last i (omega (arith, h, end)))
 
-pub AreGrown-longer : (at count : ℕ) (runs : List Run) (n : ℕ) (last : Run) → suc n ≡ length runs → AreRuns 0 at runs → last ≡ get_or runs n last
-    → run_end last ≡ at → AreGrown runs (set runs n (record { start = last.start; length = last.length + count })) at count
+pub AreGrown-longer : {at n : ℕ} {runs : List Run} {last : Run} (count : ℕ) → IsLastRun at runs n last → run_end last ≡ at
+    → AreGrown runs (set runs n (record { start = last.start; length = last.length + count })) at count
 unfolding longer
-AreGrown-longer at count runs n last e rising is end = record {
+AreGrown-longer {at} {n} {runs} {last} count found end = record {
   rising = subst (AreRuns 0 (at + count)) (sym written)
-      (AreRuns-grown 0 at (at + count) (take n runs) last (longer last count) (refl, omega arith, omega (arith, end)) (subst (AreRuns 0 at) split rising));
+      (AreRuns-grown 0 at (at + count) (take n runs) last (longer last count) (refl, omega arith, omega (arith, end))
+      (subst (AreRuns 0 at) split found.rising));
   inside = λ i low high. ap (λ rs. is_in_runs rs i) written ∙ is_in_runs-push (take n runs) (longer last count) i
       ∙ or_right (is_in_runs (take n runs) i) _ (longer-inside at count last i end low high);
   below = λ i h. same i (longer-below at count last i end h);
@@ -202,11 +210,11 @@ AreGrown-longer at count runs n last e rising is end = record {
 }
   where
     split : runs ≡ take n runs ++ last ∷ []
-    split = split-read runs n last e is
+    split = split-read runs n last found.count found.is
 
     written : set runs n (longer last count) ≡ take n runs ++ longer last count ∷ []
     written = ap (λ rs. set rs n (longer last count)) split
-        ∙ set_at (take n runs) last [] (longer last count) n (length-take-le n runs (omega (arith, e)))
+        ∙ set_at (take n runs) last [] (longer last count) n (length-take-le n runs (omega (arith, found.count)))
 
     same : (i : ℕ) → is_in_run (longer last count) i ≡ is_in_run last i → is_in_runs (set runs n (longer last count)) i ≡ is_in_runs runs i
     same i h = ap (λ rs. is_in_runs rs i) written ∙ is_in_runs-push (take n runs) (longer last count) i
@@ -459,10 +467,15 @@ free-behind runs next at n passed e =
       free = λ i l h. sym (passed.same i l) ∙ ap (λ rs. is_in_runs rs i) none ∙ is_in_runs-none i;
     }
 
-pub free-before : (runs : List Run) (next at n : ℕ) (run : Run) → ArePassed runs next at → next < length runs → run ≡ get_or runs next run
+-- the run with a number
+pub record IsRunAt (runs : List Run) (n : ℕ) (run : Run) : Type 0 where
+  pub within : n < length runs
+  pub is : run ≡ get_or runs n run
+
+pub free-before : (runs : List Run) (next at n : ℕ) (run : Run) → ArePassed runs next at → IsRunAt runs next run
     → at + n ≤ run.start → AreFree runs next at n
-free-before runs next at n run passed h is low =
-    let ahead = is_ahead runs next at run passed h is in
+free-before runs next at n run passed here low =
+    let ahead = is_ahead runs next at run passed here.within here.is in
     let rising = ahead.rising in
     record {
       passed = record {
@@ -494,6 +507,9 @@ is_in_runs-all runs i n h e = ap (λ rs. is_in_runs rs i) (sym (take_all n runs 
 pub read-run : (runs : List Run) (n : ℕ) → n < length runs
     → get_or runs n (record { start = 0; length = 0 }) ≡ get_or runs n (get_or runs n (record { start = 0; length = 0 }))
 read-run runs n h = get_or_default runs n (record { start = 0; length = 0 }) (get_or runs n (record { start = 0; length = 0 })) h
+
+pub run-at : (runs : List Run) (n : ℕ) → n < length runs → IsRunAt runs n (get_or runs n (record { start = 0; length = 0 }))
+run-at runs n h = record { within = h; is = read-run runs n h }
 
 -- ---- equal runs
 
@@ -559,15 +575,17 @@ AreRuns-tail from to (suc n) (run ∷ runs) rising =
     AreRuns-lower (run_end run + 1) to from (drop n runs) (omega (arith, start)) (AreRuns-tail (run_end run + 1) to n runs rising.3)
 
 -- with a run all before it are dropped
-dropped-with : (from to n at : ℕ) (runs : List Run) (run : Run) → AreRuns from to runs → n < length runs → run ≡ get_or runs n run → run_end run ≤ at
+dropped-with : {run : Run} (from to n at : ℕ) (runs : List Run) → AreRuns from to runs → IsRunAt runs n run → run_end run ≤ at
     → AreDropped runs (n + 1) at × (from ≤ run.start)
-dropped-with from to n at [] run rising h is end = absurd (omega (arith, h))
-dropped-with from to zero at (r ∷ runs) run rising h is end = (
-  AreDropped-more (r ∷ runs) 0 at run h is end (AreDropped-none (r ∷ runs) at (to, AreRuns-lower from to 0 (r ∷ runs) (omega arith) rising)),
-  subst (λ s. from ≤ s) (sym (ap (λ x. x.start) is)) rising.0,
+dropped-with from to n at [] rising here end = absurd (omega (arith, here.within))
+dropped-with {run} from to zero at (r ∷ runs) rising here end = (
+  AreDropped-more (r ∷ runs) 0 at run here.within here.is end
+      (AreDropped-none (r ∷ runs) at (to, AreRuns-lower from to 0 (r ∷ runs) (omega arith) rising)),
+  subst (λ s. from ≤ s) (sym (ap (λ x. x.start) here.is)) rising.0,
 )
-dropped-with from to (suc n) at (r ∷ runs) run rising h is end =
-    let rest = dropped-with (run_end r + 1) to n at runs run rising.3 (omega (arith, h)) is end in
+dropped-with {run} from to (suc n) at (r ∷ runs) rising here end =
+    let behind : IsRunAt runs n run = record { within = omega (arith, here.within); is = here.is } in
+    let rest = dropped-with (run_end r + 1) to n at runs rising.3 behind end in
     let above = rest.1 in
     let start = rising.0 in
     let count : suc (n + 1) ≡ suc n + 1 = omega arith in (
@@ -587,11 +605,11 @@ pub record IsSearch (runs : List Run) (low high at : ℕ) : Type 0 where
   pub within : high ≤ length runs
   pub ends : (run : Run) → high < length runs → run ≡ get_or runs high run → at < run_end run
 
-pub search-above : (runs : List Run) (low high middle at : ℕ) (run : Run) → IsSearch runs low high at → middle < high → run ≡ get_or runs middle run
-    → run_end run ≤ at → IsSearch runs (middle + 1) high at
-search-above runs low high middle at run before h is end = record {
+pub search-above : {runs : List Run} {low high middle at : ℕ} {run : Run} → IsSearch runs low high at → middle < high
+    → IsRunAt runs middle run → run_end run ≤ at → IsSearch runs (middle + 1) high at
+search-above {runs} {low} {high} {middle} {at} {run} before h here end = record {
   rising = before.rising;
-  dropped = (dropped-with 0 before.rising.0 middle at runs run before.rising.1 (let within = before.within in omega (arith, h, within)) is end).0;
+  dropped = (dropped-with 0 before.rising.0 middle at runs before.rising.1 here end).0;
   order = omega (arith, h);
   within = before.within;
   ends = before.ends;

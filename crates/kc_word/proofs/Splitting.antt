@@ -155,10 +155,10 @@ pub record IsCounted (k : ℕ) (bytes ends : List ℕ) (i count : ℕ) : Type 0 
 pub IsCounted-none : (k : ℕ) (bytes ends : List ℕ) → IsCounted k bytes ends 0 0
 IsCounted-none k bytes ends = record { value = refl; most = omega arith }
 
-pub IsCounted-more : (k : ℕ) (bytes ends : List ℕ) (i count more : ℕ) → AreEnds ends (length bytes) → i < length ends
-    → more ≡ position_count k (get_or ends i 0 - start_of ends i) → more ≤ get_or ends i 0 - start_of ends i
-    → IsCounted k bytes ends i count → IsCounted k bytes ends (i + 1) (count + more)
-IsCounted-more k bytes ends i count more are h e few before =
+pub IsCounted-more : {k i count : ℕ} {bytes ends : List ℕ} (more : ℕ) → IsCounted k bytes ends i count
+    → AreEnds ends (length bytes) → i < length ends → more ≡ position_count k (get_or ends i 0 - start_of ends i)
+    → more ≤ get_or ends i 0 - start_of ends i → IsCounted k bytes ends (i + 1) (count + more)
+IsCounted-more {k} {i} {count} {bytes} {ends} more before are h e few =
     let pieces = length-pieces_in bytes ends in
     let sum = sum_by_more (λ p. position_count k (length p)) (pieces_in bytes ends) i [] (omega (arith, pieces, h)) in
     let here = ap (λ p. position_count k (length p)) (get_or-pieces_in bytes ends i [] h) ∙ ap (position_count k) (length-piece bytes ends i are h) in

@@ -252,12 +252,12 @@ next-walked rule bytes at taken digit before words s =
     (code-walked (record { rule = rule; bytes = bytes; taken = at + taken }) (code_step rule bytes at taken digit before words s) s.stretched.walking))
 
 -- no word ends in it
-pub stretched-on : (rule : CountingRule) (bytes : List ℕ) (at taken digit : ℕ) (before words next : List ℕ) (s : StretchStep rule bytes at taken digit before words)
-    → s.run + 1 < rule.k → next ≡ words
+pub stretched-on : {rule : CountingRule} {bytes : List ℕ} {at taken digit : ℕ} {before words : List ℕ} (next : List ℕ)
+    (s : StretchStep rule bytes at taken digit before words) → s.run + 1 < rule.k → next ≡ words
     → IsStretched rule bytes at (taken + 1) before next (bit_and (s.forward * 4 + digit) (1 * 2 ^ (2 * s.bases) % 2 ^ 64 - 1))
     (s.backward / 4 + (3 - digit) * 2 ^ (2 * (s.bases - 1)) % 2 ^ 64) (s.run + 1)
 unfolding code_step
-stretched-on rule bytes at taken digit before words next s short same = record {
+stretched-on {rule} {bytes} {at} {taken} {digit} {before} {words} next s short same = record {
   walking = next-walked rule bytes at taken digit before words s;
   words_are = let place : at + (taken + 1) ≡ at + taken + 1 = omega arith in
       ap (λ ws. ws ++ words_left (record { rule = rule; bytes = bytes; taken = at + (taken + 1) })) same
@@ -268,14 +268,14 @@ stretched-on rule bytes at taken digit before words next s short same = record {
 }
 
 -- a word ends in it
-pub stretched-word : (rule : CountingRule) (bytes : List ℕ) (at taken digit word : ℕ) (before words next : List ℕ)
+pub stretched-word : {rule : CountingRule} {bytes : List ℕ} {at taken digit word : ℕ} {before words : List ℕ} (next : List ℕ)
     (s : StretchStep rule bytes at taken digit before words) → rule.k ≤ s.run + 1 → next ≡ words ++ word ∷ []
     → word ≡ cond rule.both (min (s.backward / 4 + (3 - digit) * 2 ^ (2 * (s.bases - 1)) % 2 ^ 64)
     (bit_and (s.forward * 4 + digit) (1 * 2 ^ (2 * s.bases) % 2 ^ 64 - 1))) (bit_and (s.forward * 4 + digit) (1 * 2 ^ (2 * s.bases) % 2 ^ 64 - 1))
     → IsStretched rule bytes at (taken + 1) before next (bit_and (s.forward * 4 + digit) (1 * 2 ^ (2 * s.bases) % 2 ^ 64 - 1))
     (s.backward / 4 + (3 - digit) * 2 ^ (2 * (s.bases - 1)) % 2 ^ 64) (s.run + 1)
 unfolding code_step
-stretched-word rule bytes at taken digit word before words next s long pushed is = record {
+stretched-word {rule} {bytes} {at} {taken} {digit} {word} {before} {words} next s long pushed is = record {
   walking = next-walked rule bytes at taken digit before words s;
   words_are = let place : at + (taken + 1) ≡ at + taken + 1 = omega arith in
       let masked = sym (digit-masked rule bytes at taken digit before words s) in

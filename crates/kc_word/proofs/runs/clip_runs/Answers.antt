@@ -2,7 +2,7 @@ use Rattle.std.proofs.Common.{◌≡◌, ◌<◌, ◌++◌, min, length, ap, sym
 use Rattle.std.proofs.lemmas.List.{append-nil}
 use Rattle.kc_word.specs.declared.runs.Run.{Run}
 use Rattle.kc_word.specs.Runs.{run_end}
-use Rattle.kc_word.proofs.RunLemmas.{read-run}
+use Rattle.kc_word.proofs.RunLemmas.{run-at}
 use Rattle.kc_word.proofs.Clipping.{clip-pushed, clip-left, clipping-more, clipping-end, clipping-past}
 use Rattle.kc_word.proofs.runs.clip_runs.Goals as goal
 use Rattle.kc_word.proofs.runs.clip_runs.Goals.{then-start-end+in_ok-push, else-start-end, else-loop-n-test}
@@ -16,8 +16,7 @@ loop-n-preserved c =
     let least = c.min-end.ensures in
     let fits = c.ranges.to.fits in
     let end : c.min-end.result ≡ min (run_end run) c.args.to = omega (arith, whole, least, fits) in
-    clipping-more c.args.runs.now c.loop-n.clipped.items c.if-start-end.clipped.items c.runs_before-first.result c.loop-n.n c.args.from c.args.to run inside
-    (read-run c.args.runs.now c.loop-n.n inside) c.loop-n.invariant
+    clipping-more c.if-start-end.clipped.items run (run-at c.args.runs.now c.loop-n.n inside) c.loop-n.invariant
     (elim c.if-start-end.branch [
       | then-start-end+in_ok-push w ↦ ap (λ v. v.items) w.clipped-is ∙ w.in_ok-push.ensures.items
           ∙ ap (λ rs. c.loop-n.clipped.items ++ rs)
@@ -32,6 +31,6 @@ returns c =
     elim c.loop-n-test.branch [
       | else-loop-n-test w ↦ clipping-end c.args.runs.now c.loop-n.clipped.items c.runs_before-first.result c.loop-n.n c.args.from c.args.to
           (w.loop-n-test.false) c.loop-n.invariant
-      | then-loop-n-test+then-run-to w ↦ clipping-past c.args.runs.now c.loop-n.clipped.items c.runs_before-first.result c.loop-n.n c.args.from c.args.to _
-          w.loop-n-test.true (read-run c.args.runs.now c.loop-n.n w.loop-n-test.true) w.if-run-to.true c.loop-n.invariant
+      | then-loop-n-test+then-run-to w ↦ clipping-past (run-at c.args.runs.now c.loop-n.n w.loop-n-test.true) c.loop-n.invariant
+          w.if-run-to.true
     ]

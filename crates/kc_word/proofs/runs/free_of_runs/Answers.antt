@@ -1,5 +1,5 @@
 use Rattle.std.proofs.Common.{◌<◌, length, get_or, arith}
-use Rattle.kc_word.proofs.RunLemmas.{free-behind, free-before, read-run}
+use Rattle.kc_word.proofs.RunLemmas.{free-behind, free-before, run-at}
 use Rattle.kc_word.proofs.runs.free_of_runs.Goals as goal
 
 pub returns-then-next-runs-clause-free : goal.returns-then-next-runs-clause-free
@@ -13,5 +13,5 @@ returns-clause-free c =
     let below : c.args.next < length c.args.runs.now = omega (arith, within, more) in
     let start = c.if-start-at.false in
     let least = c.min.ensures in
-    free-before c.args.runs.now c.args.next c.args.at c.min.result (get_or c.args.runs.now c.args.next (record { start = 0; length = 0 })) c.requires below
-    (read-run c.args.runs.now c.args.next below) (omega (arith, start, least))
+    free-before c.args.runs.now c.args.next c.args.at c.min.result (get_or c.args.runs.now c.args.next (record { start = 0; length = 0 })) c.requires
+    (run-at c.args.runs.now c.args.next below) (omega (arith, start, least))

@@ -5,7 +5,7 @@ use Rattle.kc_word.proofs.codes.Codes.is_done.Goals as goal
 
 pub returns : goal.returns
 returns c =
-    let long = reading-long c.self.inside.bases.now c.self.inside.runs.now c.self.inside.next c.self.inside.from c.self.inside.at c.self.inside.to c.self.invariant in
+    let long = reading-long c.self.invariant in
     let begun = c.self.invariant.begun in
     let within = c.self.invariant.within in
     ⊎_elim

@@ -8,8 +8,7 @@ use Rattle.kc_word.proofs.codes.Codes.take.Goals as goal
 
 pub is_next_in_runs-is_gap-requires-clause-fits : goal.is_next_in_runs-is_gap-requires-clause-fits
 is_next_in_runs-is_gap-requires-clause-fits c =
-    let long = sym (reading-long c.self.inside.bases.now c.self.inside.runs.now c.self.inside.next c.self.inside.from c.self.inside.at c.self.inside.to c.self.invariant)
-    ∙ ap (λ r. length r.bytes) c.self.view_is in
+    let long = sym (reading-long c.self.invariant) ∙ ap (λ r. length r.bytes) c.self.view_is in
     let begun = c.self.invariant.begun in
     let inside = c.self.invariant.inside in
     let at = ap (λ r. r.taken) c.self.view_is in
@@ -19,8 +18,7 @@ is_next_in_runs-is_gap-requires-clause-fits c =
 
 pub overflow_add-self : goal.overflow_add-self
 overflow_add-self c =
-    let long = sym (reading-long c.self.inside.bases.now c.self.inside.runs.now c.self.inside.next c.self.inside.from c.self.inside.at c.self.inside.to c.self.invariant)
-    ∙ ap (λ r. length r.bytes) c.self.view_is in
+    let long = sym (reading-long c.self.invariant) ∙ ap (λ r. length r.bytes) c.self.view_is in
     let begun = c.self.invariant.begun in
     let inside = c.self.invariant.inside in
     let at = ap (λ r. r.taken) c.self.view_is in
@@ -30,8 +28,7 @@ overflow_add-self c =
 
 pub invariant_of-self : goal.invariant_of-self
 invariant_of-self c =
-    let long = sym (reading-long c.self.inside.bases.now c.self.inside.runs.now c.self.inside.next c.self.inside.from c.self.inside.at c.self.inside.to c.self.invariant)
-    ∙ ap (λ r. length r.bytes) c.self.view_is in
+    let long = sym (reading-long c.self.invariant) ∙ ap (λ r. length r.bytes) c.self.view_is in
     let begun = c.self.invariant.begun in
     let inside = c.self.invariant.inside in
     let at = ap (λ r. r.taken) c.self.view_is in
@@ -47,8 +44,7 @@ invariant_of-self c =
 
 pub returns-then-is_gap-clause-value : goal.returns-then-is_gap-clause-value
 returns-then-is_gap-clause-value c =
-    let long = sym (reading-long c.self.inside.bases.now c.self.inside.runs.now c.self.inside.next c.self.inside.from c.self.inside.at c.self.inside.to c.self.invariant)
-    ∙ ap (λ r. length r.bytes) c.self.view_is in
+    let long = sym (reading-long c.self.invariant) ∙ ap (λ r. length r.bytes) c.self.view_is in
     let begun = c.self.invariant.begun in
     let inside = c.self.invariant.inside in
     let at = ap (λ r. r.taken) c.self.view_is in
@@ -57,15 +53,13 @@ returns-then-is_gap-clause-value c =
     (sym c.is_next_in_runs-is_gap.ensures.value ∙ c.if-is_gap.true)
     ∙ ap (λ b. cond (is_base (to_ascii_uppercase b)) (code (to_ascii_uppercase b)) 4)
     (ap (λ j. get_or (bytes_of c.self.inside.bases.now c.self.inside.runs.now) j 0) (omega arith)
-    ∙ reading-byte c.self.inside.bases.now c.self.inside.runs.now c.self.inside.next c.self.inside.from c.self.inside.at c.self.inside.to c.self.invariant 0
-    (omega (arith, long, at, below, begun, inside))
+    ∙ reading-byte c.self.invariant 0 (omega (arith, long, at, below, begun, inside))
     ∙ ap (λ j. get_or (take (c.self.inside.to - c.self.inside.from) (drop c.self.inside.from (bytes_of c.self.inside.bases.now c.self.inside.runs.now))) j 0) (omega arith))
     ∙ ap (λ r. cond (is_base (to_ascii_uppercase (get_or r.bytes r.taken 0))) (code (to_ascii_uppercase (get_or r.bytes r.taken 0))) 4) c.self.view_is
 
 pub code-requires : goal.code-requires
 code-requires c =
-    let long = sym (reading-long c.self.inside.bases.now c.self.inside.runs.now c.self.inside.next c.self.inside.from c.self.inside.at c.self.inside.to c.self.invariant)
-    ∙ ap (λ r. length r.bytes) c.self.view_is in
+    let long = sym (reading-long c.self.invariant) ∙ ap (λ r. length r.bytes) c.self.view_is in
     let begun = c.self.invariant.begun in
     let inside = c.self.invariant.inside in
     let at = ap (λ r. r.taken) c.self.view_is in
@@ -74,8 +68,7 @@ code-requires c =
 
 pub invariant_of-self-2 : goal.invariant_of-self-2
 invariant_of-self-2 c =
-    let long = sym (reading-long c.self.inside.bases.now c.self.inside.runs.now c.self.inside.next c.self.inside.from c.self.inside.at c.self.inside.to c.self.invariant)
-    ∙ ap (λ r. length r.bytes) c.self.view_is in
+    let long = sym (reading-long c.self.invariant) ∙ ap (λ r. length r.bytes) c.self.view_is in
     let begun = c.self.invariant.begun in
     let inside = c.self.invariant.inside in
     let at = ap (λ r. r.taken) c.self.view_is in
@@ -91,8 +84,7 @@ invariant_of-self-2 c =
 
 pub returns-clause-value : goal.returns-clause-value
 returns-clause-value c =
-    let long = sym (reading-long c.self.inside.bases.now c.self.inside.runs.now c.self.inside.next c.self.inside.from c.self.inside.at c.self.inside.to c.self.invariant)
-    ∙ ap (λ r. length r.bytes) c.self.view_is in
+    let long = sym (reading-long c.self.invariant) ∙ ap (λ r. length r.bytes) c.self.view_is in
     let begun = c.self.invariant.begun in
     let inside = c.self.invariant.inside in
     let at = ap (λ r. r.taken) c.self.view_is in
@@ -101,7 +93,6 @@ returns-clause-value c =
     (sym c.is_next_in_runs-is_gap.ensures.value ∙ c.if-is_gap.false) c.code.ensures.value
     ∙ ap (λ b. cond (is_base (to_ascii_uppercase b)) (code (to_ascii_uppercase b)) 4)
     (ap (λ j. get_or (bytes_of c.self.inside.bases.now c.self.inside.runs.now) j 0) (omega arith)
-    ∙ reading-byte c.self.inside.bases.now c.self.inside.runs.now c.self.inside.next c.self.inside.from c.self.inside.at c.self.inside.to c.self.invariant 0
-    (omega (arith, long, at, below, begun, inside))
+    ∙ reading-byte c.self.invariant 0 (omega (arith, long, at, below, begun, inside))
     ∙ ap (λ j. get_or (take (c.self.inside.to - c.self.inside.from) (drop c.self.inside.from (bytes_of c.self.inside.bases.now c.self.inside.runs.now))) j 0) (omega arith))
     ∙ ap (λ r. cond (is_base (to_ascii_uppercase (get_or r.bytes r.taken 0))) (code (to_ascii_uppercase (get_or r.bytes r.taken 0))) 4) c.self.view_is

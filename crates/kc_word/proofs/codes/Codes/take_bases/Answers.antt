@@ -7,8 +7,7 @@ use Rattle.kc_word.proofs.codes.Codes.take_bases.Goals as goal
 
 pub window-word-requires : goal.window-word-requires
 window-word-requires c =
-    let long = sym (reading-long c.self.inside.bases.now c.self.inside.runs.now c.self.inside.next c.self.inside.from c.self.inside.at c.self.inside.to c.self.invariant)
-    ∙ ap (λ r. length r.bytes) c.self.view_is in
+    let long = sym (reading-long c.self.invariant) ∙ ap (λ r. length r.bytes) c.self.view_is in
     let begun = c.self.invariant.begun in
     let end = c.self.invariant.inside in
     let at = ap (λ r. r.taken) c.self.view_is in
@@ -17,8 +16,7 @@ window-word-requires c =
 
 pub returns-clause-codes : goal.returns-clause-codes
 returns-clause-codes c = λ i h.
-    let long = sym (reading-long c.self.inside.bases.now c.self.inside.runs.now c.self.inside.next c.self.inside.from c.self.inside.at c.self.inside.to c.self.invariant)
-    ∙ ap (λ r. length r.bytes) c.self.view_is in
+    let long = sym (reading-long c.self.invariant) ∙ ap (λ r. length r.bytes) c.self.view_is in
     let begun = c.self.invariant.begun in
     let end = c.self.invariant.inside in
     let at = ap (λ r. r.taken) c.self.view_is in
@@ -30,14 +28,12 @@ returns-clause-codes c = λ i h.
     (c.free_of_runs-count.ensures.free.free (c.self.inside.at + i) (omega arith) (omega (arith, h)))
     (c.window-word.ensures i (omega (arith, most, least, h)) inside)
     ∙ ap (λ b. cond (is_base (to_ascii_uppercase b)) (code (to_ascii_uppercase b)) 4)
-    (reading-byte c.self.inside.bases.now c.self.inside.runs.now c.self.inside.next c.self.inside.from c.self.inside.at c.self.inside.to c.self.invariant i
-    (omega (arith, long, at, below, begun, most, least, h)))
+    (reading-byte c.self.invariant i (omega (arith, long, at, below, begun, most, least, h)))
     ∙ ap (λ r. cond (is_base (to_ascii_uppercase (get_or r.bytes (r.taken + i) 0))) (code (to_ascii_uppercase (get_or r.bytes (r.taken + i) 0))) 4) c.self.view_is
 
 pub returns-clause-within : goal.returns-clause-within
 returns-clause-within c =
-    let long = sym (reading-long c.self.inside.bases.now c.self.inside.runs.now c.self.inside.next c.self.inside.from c.self.inside.at c.self.inside.to c.self.invariant)
-    ∙ ap (λ r. length r.bytes) c.self.view_is in
+    let long = sym (reading-long c.self.invariant) ∙ ap (λ r. length r.bytes) c.self.view_is in
     let begun = c.self.invariant.begun in
     let end = c.self.invariant.inside in
     let at = ap (λ r. r.taken) c.self.view_is in

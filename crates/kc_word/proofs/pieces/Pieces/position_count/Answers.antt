@@ -16,10 +16,9 @@ loop-i-preserved c =
     let end = get_or_read_under c.self.inside.ends.items c.loop-i.i _ _ 0 c.index.ensures within c.self.inside.ends.ok.0 in
     let same : c.index.result.now - c.start_of.result ≡ get_or c.self.inside.ends.items c.loop-i.i 0 - start_of c.self.inside.ends.items c.loop-i.i =
     omega (arith, start, end) in
-    IsCounted-more c.args.k c.self.inside.bytes c.self.inside.ends.items c.loop-i.i c.loop-i.count c.positions-count.result
-    c.self.invariant (omega (arith, long, within))
+    IsCounted-more c.positions-count.result c.loop-i.invariant c.self.invariant (omega (arith, long, within))
     (c.positions-count.ensures.value ∙ ap (position_count c.args.k) same)
-    (subst (λ n. c.positions-count.result ≤ n) same c.positions-count.ensures.most) c.loop-i.invariant
+    (subst (λ n. c.positions-count.result ≤ n) same c.positions-count.ensures.most)
 
 pub returns : goal.returns
 returns c =

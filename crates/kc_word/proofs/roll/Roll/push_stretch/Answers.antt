@@ -65,9 +65,7 @@ loop-i-preserved c =
     } in
     elim c.if-run-k.branch [
       | then-run-k+in_ok-push w ↦
-          stretched-word c.args.self.rule c.args.self.bytes c.args.self.taken c.loop-i.i
-          (bit_and (c.take_bases-stretch.result.word / 2 ^ (62 - 2 * c.loop-i.i)) 3) _ c.args.words.now.items c.loop-i.words.items
-          c.if-run-k.words.items step (let long = w.if-run-k.true in omega (arith, same, value, long))
+          stretched-word c.if-run-k.words.items step (let long = w.if-run-k.true in omega (arith, same, value, long))
           (ap (λ v. v.items) w.words-is ∙ w.in_ok-push.ensures.items)
           (elim w.if-both.branch [
             | then-both v ↦ word-lesser c.args.self.rule.both c.both-both.result _ _ _ (c.both-both.ensures
@@ -78,7 +76,6 @@ loop-i-preserved c =
                 v.push-is
           ])
       | else-run-k w ↦
-          stretched-on c.args.self.rule c.args.self.bytes c.args.self.taken c.loop-i.i
-          (bit_and (c.take_bases-stretch.result.word / 2 ^ (62 - 2 * c.loop-i.i)) 3) c.args.words.now.items c.loop-i.words.items
-          c.if-run-k.words.items step (let short = w.if-run-k.false in omega (arith, same, value, short)) (ap (λ v. v.items) w.words-is)
+          stretched-on c.if-run-k.words.items step (let short = w.if-run-k.false in omega (arith, same, value, short))
+          (ap (λ v. v.items) w.words-is)
     ]
