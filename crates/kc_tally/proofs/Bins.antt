@@ -326,16 +326,25 @@ joined-none old long =
     let zero_ = bin_size-nil (i + 1) in
     omega (arith, is, none, zero_))
 
-pub room-for-row : (old bins : List ℕ) (rows : List Row) (i bin : ℕ) → length old ≡ last_bin → All (λ size. size + length rows < 2 ^ 64) old
-    → i < length rows → bin ≤ last_bin → bins ≡ joined_bins old (bins_of (counts_of (take i rows))) → bin_at bins bin + 1 < 2 ^ 64
-room-for-row old bins rows i bin long fits h within is =
+-- so many of the rows are counted, one at least is left, and the bins had room for all
+pub record IsCounting (old bins : List ℕ) (rows : List Row) (i : ℕ) : Type 0 where
+  pub long : length old ≡ last_bin
+  pub fits : All (λ size. size + length rows < 2 ^ 64) old
+  pub left : i < length rows
+  pub is : bins ≡ joined_bins old (bins_of (counts_of (take i rows)))
+
+pub room-for-row : {old bins : List ℕ} {rows : List Row} {i : ℕ} (bin : ℕ) → IsCounting old bins rows i → bin ≤ last_bin
+    → bin_at bins bin + 1 < 2 ^ 64
+room-for-row {old} {bins} {rows} {i} bin counting within =
+    let long = counting.long in
+    let h = counting.left in
     let at : bin - 1 < last_bin = omega (arith, within) in
     let sum = get_or-joined_bins old (bins_of (counts_of (take i rows))) (bin - 1) (long ∙ sym (length-bins_of (counts_of (take i rows)))) in
     let most = bin_at-most (counts_of (take i rows)) bin within in
     let few = length-map (take i rows) (λ (row : Row). row.count) in
     let front = length-take-le i rows (omega (arith, h)) in
-    let same = ap (λ b. bin_at b bin) is in
-    let room = fits (bin - 1) 0 (omega (arith, at, long)) in
+    let same = ap (λ b. bin_at b bin) counting.is in
+    let room = counting.fits (bin - 1) 0 (omega (arith, at, long)) in
     omega (arith, sum, most, few, front, same, room, h)
 
 -- the bins of some counts have room for as many words more as fit with them
