@@ -106,17 +106,18 @@ pub record AreCounted (high : ℕ) (rows left : List Row) (words : List ℕ) : T
 pub counted-none : (rows : List Row) (words : List ℕ) → words ≡ words_by_count (length words) [] → AreCounted (length words) rows rows words
 counted-none rows words none = record { seen = []; split = refl; counted = none }
 
-pub counted-row : (high : ℕ) (rows left later : List Row) (words : List ℕ) (row : Row) → AreCounted high rows left words → left ≡ row ∷ later
-    → 1 ≤ row.count → row.count ≤ high → AreCounted high rows later (set words (row.count - 1) (get_or words (row.count - 1) 0 + 1))
-counted-row high rows left later words row is next some most = record {
+pub counted-row : {high : ℕ} {rows left later : List Row} {words : List ℕ} {row : Row} → AreCounted high rows left words
+    → left ≡ row ∷ later → 1 ≤ row.count → row.count ≤ high
+    → AreCounted high rows later (set words (row.count - 1) (get_or words (row.count - 1) 0 + 1))
+counted-row {high} {rows} {left} {later} {words} {row} is next some most = record {
   seen = is.seen ++ row ∷ [];
   split = is.split ∙ ap (λ v. is.seen ++ v) next ∙ sym (append_assoc is.seen (row ∷ []) later);
   counted = ap (λ v. set v (row.count - 1) (get_or v (row.count - 1) 0 + 1)) is.counted ∙ words_by_count-row high is.seen row some most;
 }
 
-pub counted-past : (high : ℕ) (rows left later : List Row) (words : List ℕ) (row : Row) → AreCounted high rows left words → left ≡ row ∷ later
-    → high < row.count → AreCounted high rows later words
-counted-past high rows left later words row is next past = record {
+pub counted-past : {high : ℕ} {rows left later : List Row} {words : List ℕ} {row : Row} → AreCounted high rows left words
+    → left ≡ row ∷ later → high < row.count → AreCounted high rows later words
+counted-past {high} {rows} {left} {later} {words} {row} is next past = record {
   seen = is.seen ++ row ∷ [];
   split = is.split ∙ ap (λ v. is.seen ++ v) next ∙ sym (append_assoc is.seen (row ∷ []) later);
   counted = is.counted ∙ words_by_count-past high is.seen row past;
@@ -127,9 +128,9 @@ counted-all high rows left words is none =
     is.counted ∙ ap (words_by_count high) (sym (append-nil is.seen) ∙ ap (λ v. is.seen ++ v) (sym none) ∙ sym is.split)
 
 -- while a row is left, no place is as full as there are rows
-pub counted-most : (high : ℕ) (rows left later : List Row) (words : List ℕ) (row : Row) → AreCounted high rows left words → left ≡ row ∷ later
-    → (j : ℕ) → j < high → get_or words j 0 < length rows
-counted-most high rows left later words row is next j below =
+pub counted-most : {high : ℕ} {rows left later : List Row} {words : List ℕ} {row : Row} → AreCounted high rows left words
+    → left ≡ row ∷ later → (j : ℕ) → j < high → get_or words j 0 < length rows
+counted-most {high} {rows} {left} {later} {words} {row} is next j below =
     let at : get_or words j 0 ≡ words_with_count is.seen (j + 1) =
     ap (λ v. get_or v j 0) is.counted ∙ get_or-words_by_count high is.seen j below in
     let long = ap length is.split ∙ length-append is.seen left in

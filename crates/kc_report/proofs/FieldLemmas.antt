@@ -168,9 +168,9 @@ spelled-four letters j n codes h small f s =
           (spelled-more letters i n (m % 4) h (is m f) (coded m f) s)
 
 -- the codes of four bases, and the number of their letters
-pub four_codes : (a b c d n : ℕ) → Four a b c d n → is_base a ≡ true → is_base b ≡ true → is_base c ≡ true
+pub four_codes : {a b c d n : ℕ} → Four a b c d n → is_base a ≡ true → is_base b ≡ true → is_base c ≡ true
     → is_base d ≡ true → (codes : ℕ) × (codes < 256) × (n ≡ four_letters codes)
-four_codes a b c d n f ia ib ic id =
+four_codes {a} {b} {c} {d} {n} f ia ib ic id =
     let ca = code-lt a in
     let cb = code-lt b in
     let cc_ = code-lt c in
@@ -184,13 +184,13 @@ four_codes a b c d n f ia ib ic id =
     (codes, omega (arith, ca, cb, cc_, cd), omega (arith, whole, la, lb, lc, ld))
 
 -- no four letters of bases
-pub no_four : (letters : List ℕ) (j n found entry : ℕ) → j < length letters / 4
+pub no_four : {n entry : ℕ} (letters : List ℕ) (j found : ℕ) → j < length letters / 4
     → Four (get_or letters (j * 4) 0) (get_or letters (j * 4 + 1) 0) (get_or letters (j * 4 + 2) 0)
     (get_or letters (j * 4 + 3) 0) n
     → ((codes : ℕ) → codes < 256 → n ≡ four_letters codes → found ≡ codes) → entry ≢ n → entry ≡ four_letters found
     → are_bases letters ≡ false
-no_four letters j n found entry h f inverse other is = unless_bases letters (λ all.
-    let told = four_codes _ _ _ _ n f (base_at letters (j * 4) (omega (arith, h)) all)
+no_four {n} {entry} letters j found h f inverse other is = unless_bases letters (λ all.
+    let told = four_codes f (base_at letters (j * 4) (omega (arith, h)) all)
     (base_at letters (j * 4 + 1) (omega (arith, h)) all) (base_at letters (j * 4 + 2) (omega (arith, h)) all)
     (base_at letters (j * 4 + 3) (omega (arith, h)) all) in
     let same = inverse told.0 told.1 told.2 in
@@ -235,9 +235,9 @@ digit-isnt b d small e h = ⊎_elim
     (λ l. let range = digit_from_value b l in absurd (omega (arith, small, e, h, range.0, range.1)))
     (λ l. l) (cases_lt (digit_value b) 10)
 
-pub digits-more : (bytes : List ℕ) (i n d m : ℕ) → i < length bytes → digit_value (get_or bytes i 0) ≡ d → d ≤ 9
-    → m ≡ (n * 10 % 2 ^ 64 + d) % 2 ^ 64 → Digits bytes i n → Digits bytes (i + 1) m
-digits-more bytes i n d m h is small e s = record {
+pub digits-more : {n m : ℕ} (bytes : List ℕ) (i d : ℕ) → Digits bytes i n → i < length bytes
+    → digit_value (get_or bytes i 0) ≡ d → d ≤ 9 → m ≡ (n * 10 % 2 ^ 64 + d) % 2 ^ 64 → Digits bytes (i + 1) m
+digits-more {n} {m} bytes i d s h is small e = record {
   digits = subst (AllDigits 10) (sym (take_more bytes i 0 h))
       (digits_push 10 (take i bytes) (get_or bytes i 0) s.digits (omega (arith, is, small)));
   value = let more = digits_value_more 10 bytes i h in
@@ -383,26 +383,32 @@ fields_are {bytes} k g row same left at =
           (drop-append_seam (text k row.word) rest),
     )
 
+-- so many bytes for letters, and the bytes behind them
+pub record IsSplitAt (bytes : List ℕ) (g : ℕ) (letters fields : List ℕ) : Type 0 where
+  pub within : g ≤ length bytes
+  pub front : letters ≡ take g bytes
+  pub back : fields ≡ drop g bytes
+
 -- and the row that they make
-pub row_said : {letters fields : List ℕ} (bytes : List ℕ) (g k word count size : ℕ) → letters ≡ take g bytes → fields ≡ drop g bytes
-    → g ≤ length bytes → letters ≡ text k word → take size fields ≡ count_text count
+pub row_said : {bytes letters fields : List ℕ} {g : ℕ} (k word count size : ℕ) → IsSplitAt bytes g letters fields
+    → letters ≡ text k word → take size fields ≡ count_text count
     → take (length letters + size) bytes ≡ row_in_columns k false (record { word = word; count = count })
-row_said {letters} {fields} bytes g k word count size front back within spelled said =
-    let long : length letters ≡ g = ap length front ∙ length-take-le g bytes within in
+row_said {bytes} {letters} {fields} {g} k word count size split spelled said =
+    let long : length letters ≡ g = ap length split.front ∙ length-take-le g bytes split.within in
     ap (λ m. take (m + size) bytes) long ∙ take-add g size bytes
-    ∙ ap (λ v. v ++ take size (drop g bytes)) (sym front ∙ spelled)
-    ∙ ap (λ v. text k word ++ take size v) (sym back) ∙ ap (λ v. text k word ++ v) said
+    ∙ ap (λ v. v ++ take size (drop g bytes)) (sym split.front ∙ spelled)
+    ∙ ap (λ v. text k word ++ take size v) (sym split.back) ∙ ap (λ v. text k word ++ v) said
     ∙ sym (row_apart k (record { word = word; count = count }))
 
 -- ---- one row
 
 -- bytes begin with no other row
-pub one_row : (k : ℕ) (row other : Row) (bytes rest more : List ℕ) → Fits k row → Fits k other
-    → bytes ≡ row_in_columns k false row ++ rest → bytes ≡ row_in_columns k false other ++ more → row ≡ other
-one_row k row other bytes rest more fits fits_ e f =
+pub one_row : (k : ℕ) (row other : Row) (bytes : List ℕ) → Fits k row → Fits k other
+    → BeginsWith bytes (row_in_columns k false row) → BeginsWith bytes (row_in_columns k false other) → row ≡ other
+one_row k row other bytes fits fits_ at at_ =
     same_row k row other fits fits_
-    (first_line (row_line k row) (row_line k other) rest more (Without-row k row fits.count)
-    (Without-row k other fits_.count) (sym e ∙ f)).0
+    (first_line (row_line k row) (row_line k other) at.0 at_.0 (Without-row k row fits.count)
+    (Without-row k other fits_.count) (sym at.1 ∙ at_.1)).0
 
 -- ---- bytes in front of which stands no row
 

@@ -36,7 +36,7 @@ pub no_other_row : {bytes : List ℕ} {found : Row} (t u : TallySeen) → t ≡ 
     → (row : Row) → MayFollow u row → BeginsWith bytes (row_in_columns u.k false row) → ⊥
 no_other_row {bytes} {found} t u view says refused row follows f =
     let here = subst (λ k. Says k bytes found) (ap (λ (t : TallySeen). t.k) view) says in
-    let same = one_row u.k found row bytes here.at.0 f.0 here.fits (follower_fits u row follows) here.at.1 f.1 in
+    let same = one_row u.k found row bytes here.fits (follower_fits u row follows) here.at f in
     refused (subst (λ row. MayFollow u row) (sym same) follows)
 
 pub no_row : (t u : TallySeen) (bytes : List ℕ) → t ≡ u → SaysNone t.k bytes

@@ -190,11 +190,11 @@ still_left bytes taken =
     let left = length-drop taken bytes in take_all (length bytes - taken) (drop taken bytes) (omega (arith, left))
 
 -- one more was
-pub takes_more : {front before : TallySeen} {rest : List ℕ} (bytes : List ℕ) (taken size : ℕ) (row : Row)
+pub takes_more : {front before : TallySeen} {bytes rest : List ℕ} {taken : ℕ} (size : ℕ) (row : Row)
     → TakesRows front before bytes taken → rest ≡ drop taken bytes → MayFollow before row → size ≤ length rest
     → take size rest ≡ row_in_columns before.k false row
     → TakesRows front (record before { rows = before.rows ++ row ∷ [] }) bytes (taken + size)
-takes_more {front} {before} {rest} bytes taken size row t behind follows shorter said =
+takes_more {front} {before} {bytes} {rest} {taken} size row t behind follows shorter said =
     let within : size ≤ length (drop taken bytes) = subst (λ v. size ≤ length v) behind shorter in
     let e : take size (drop taken bytes) ≡ row_in_columns before.k false row =
     subst (λ v. take size v ≡ row_in_columns before.k false row) behind said in

@@ -9,5 +9,4 @@ loop-i-preserved c =
     let b = get_or bytes i 0 in
     let small : b < 256 = omega arith in
     let is = digit-is b ((b + 208) % 256) small refl c.if-digit-gt9.false in
-    digits-more bytes i c.loop-i.number ((b + 208) % 256) _ c.loop-i-test.true (sym is.1) c.if-digit-gt9.false refl
-    c.loop-i.invariant
+    digits-more bytes i ((b + 208) % 256) c.loop-i.invariant c.loop-i-test.true (sym is.1) c.if-digit-gt9.false refl

@@ -21,7 +21,7 @@ returns-then-codes-four-clause-none c =
       fourth = omega arith;
       whole = refl;
     } in
-    no_four letters c.loop-j.j _ c.codes_of_four-codes.result _ c.loop-j-test.true four
+    no_four letters c.loop-j.j c.codes_of_four-codes.result c.loop-j-test.true four
     c.codes_of_four-codes.ensures.inverse c.if-codes-four.true
     (table_at four_letters _ 256 refl c.codes_of_four-codes.result c.codes_of_four-codes.ensures.below)
 

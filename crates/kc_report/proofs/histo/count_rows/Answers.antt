@@ -20,8 +20,7 @@ overflow_add-words c =
     let one = some (goal.at.overflow_add-words c).In-Some in
     let few = rows-few tally.k tally.both tally.rows c.rows-row-items.ensures.lawful in
     let below : count - 1 < length c.args.words.now = omega (arith, one, c.if-row-words.true) in
-    let most = counted-most (length c.args.words.now) tally.rows c.loop-row.row-iterator c.next.new.self c.loop-row.words c.in-Some.row
-    c.loop-row.invariant.counted c.in-Some.ensures.steps (count - 1) below in
+    let most = counted-most c.loop-row.invariant.counted c.in-Some.ensures.steps (count - 1) below in
     record { fits = omega (arith, few, most) }
 
 pub loop-row-preserved-then-row-words : goal.loop-row-preserved-then-row-words
@@ -30,8 +29,7 @@ loop-row-preserved-then-row-words c =
     record {
       can_next = tt;
       is_finite = tt;
-      counted = counted-row (length c.args.words.now) c.args.tally.now.rows c.loop-row.row-iterator c.next.new.self c.loop-row.words c.in-Some.row
-          c.loop-row.invariant.counted c.in-Some.ensures.steps (some shared) (omega (arith, c.if-row-words.true));
+      counted = counted-row c.loop-row.invariant.counted c.in-Some.ensures.steps (some shared) (omega (arith, c.if-row-words.true));
       present = rest shared;
     }
 
@@ -41,7 +39,6 @@ loop-row-preserved c =
     record {
       can_next = tt;
       is_finite = tt;
-      counted = counted-past (length c.args.words.now) c.args.tally.now.rows c.loop-row.row-iterator c.next.new.self c.loop-row.words c.in-Some.row
-          c.loop-row.invariant.counted c.in-Some.ensures.steps (omega (arith, c.if-row-words.false));
+      counted = counted-past c.loop-row.invariant.counted c.in-Some.ensures.steps (omega (arith, c.if-row-words.false));
       present = rest shared;
     }

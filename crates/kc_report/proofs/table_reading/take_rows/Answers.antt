@@ -7,5 +7,5 @@ rows-init c = takes_none c.args.rows.now c.args.bytes.now
 pub rows-preserved : goal.rows-preserved
 rows-preserved c =
     let next = c.in-Some in
-    rw c.in_ok-push.ensures (takes_more c.args.bytes.now c.rows.taken next.size next.row c.rows.invariant
+    rw c.in_ok-push.ensures (takes_more next.size next.row c.rows.invariant
     (still_left c.args.bytes.now c.rows.taken) next.ensures.follows next.ensures.within next.ensures.some)

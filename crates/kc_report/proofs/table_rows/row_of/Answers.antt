@@ -1,5 +1,5 @@
 use Rattle.std.proofs.Common.{arith}
-use Rattle.kc_report.proofs.FieldLemmas.{long_enough, letters_are, fields_are, row_said, says_none}
+use Rattle.kc_report.proofs.FieldLemmas.{long_enough, letters_are, fields_are, IsSplitAt, row_said, says_none}
 use Rattle.kc_report.proofs.table_rows.row_of.Goals as goal
 
 pub returns-in_err-letters-clause-none : goal.returns-in_err-letters-clause-none
@@ -24,6 +24,8 @@ returns-in_err-count-clause-none c =
 
 pub returns-clause-some : goal.returns-clause-some
 returns-clause-some c =
-    row_said c.args.bytes.now c.get.result c.args.k c.in_ok-word.word c.in_ok-count.count c.in_ok-count.size
-    c.in_ok-letters.ensures.cases.1 c.in_ok-letters.ensures.cases.2 c.in_ok-letters.ensures.cases.0
+    let cases = c.in_ok-letters.ensures.cases in
+    let split : IsSplitAt c.args.bytes.now c.get.result _ _ =
+    record { within = cases.0; front = cases.1; back = cases.2 } in
+    row_said c.args.k c.in_ok-word.word c.in_ok-count.count c.in_ok-count.size split
     c.in_ok-word.ensures.some c.in_ok-count.ensures.some
