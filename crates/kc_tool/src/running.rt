@@ -78,8 +78,8 @@ pub fn program_showing<
 
 /// What `program_showing` does, over streams that the caller keeps. Status 0: the output, or the file that the
 /// arguments name for it, has what the arguments ask for: a report, the answer to a query, help or the version.
-/// Status 1: the line of a fault went to the errors, and the output is as it was, or has a beginning of the answer where
-/// writing failed. Status 2: the output is as it was, and why the arguments are refused went to the errors.
+/// Status 1: the line of a fault went to the errors, and the output is as it was, or has a beginning of the answer
+/// where writing failed. Status 2: the output is as it was, and why the arguments are refused went to the errors.
 pub fn run<
     H: Files + Threads + Wait + Sync,
     R: Source + Drop,
