@@ -33,7 +33,8 @@ pub(crate) fn rows_of_each<C: Counts + Drop>(
     Ok(taken)
 }
 
-/// The same with at most so many threads. Condition: one at the least.
+/// The same with at most so many threads. A single one is started too: the C library lets threads use again what the
+/// threads before them freed, and so rows come to lie where tables were. Condition: one at the least.
 pub(crate) fn rows_in_parallel<C: Counts + Drop + Send, H: Threads + Sync>(
     rt: &H,
     alloc: Global,
@@ -43,9 +44,6 @@ pub(crate) fn rows_in_parallel<C: Counts + Drop + Send, H: Threads + Sync>(
     requires { 1 ≤ threads }
     ensures { IfOk result (λ taken. HaveRowsOf stripes.items taken.items) }
 {
-    if threads == 1 {
-        return rows_of_each(alloc, stripes);
-    }
     let piles = dealt(alloc, stripes, threads)?;
     let answers = thread::map_vec(rt, piles, &|pile| rows_of_each(alloc, pile))?;
     let lists = all_ok(alloc, answers)?;
