@@ -27,6 +27,7 @@ use Rattle.kc_report.specs.Bytes.{line_feed, space}
 use Rattle.kc_report.specs.Dumping.{row_in_columns}
 use Rattle.kc_report.specs.TableReading.{BeginsWith}
 use Rattle.kc_report.specs.TableRows.{capital_code, four_letters, IsSpelled, count_text, HasDigits}
+use Rattle.kc_report.proofs.LetterLemmas.{letter-small}
 use Rattle.kc_report.proofs.TableLines.{row_line, first_line, Without-row, Fits, same_row}
 
 pub never : false ≡ true → ⊥
@@ -106,10 +107,6 @@ no_bases letters i c h e is =
     unless_bases letters (λ all. capital-none (get_or letters i 0) c e is (base_at letters i h all))
 
 -- ---- four letters
-
-letter-small : (n : ℕ) → n < 4 → base n < 256
-unfolding base
-letter-small = below_four (λ n. base n < 256) (lit< tt) (lit< tt) (lit< tt) (lit< tt)
 
 -- four bytes, and their number
 pub record Four (a b c d n : ℕ) : Type 0 where
