@@ -20,7 +20,7 @@ use Rattle.std.proofs.lemmas.List.Sums.{AllPass-from_list_all}
 use Rattle.kc_word.specs.Letter.{is_base, are_bases, code, base}
 use Rattle.kc_word.specs.Word.{number, text, canonical, form}
 use Rattle.kc_word.proofs.WordLemmas.{code-lt, number-nil, number-lt, number_push-base, list_all-append, text-number}
-use Rattle.kc_word.proofs.WordLemmas.{below_four, base-code, code-base, is_base-base}
+use Rattle.kc_word.proofs.WordLemmas.{base-code, code-base, is_base-base}
 use Rattle.kc_word.proofs.WordLemmas.{length-text, are_bases-text, same_from_text}
 use Rattle.kc_tally.specs.declared.row.Row.{Row}
 use Rattle.kc_report.specs.Bytes.{line_feed, space}

@@ -5,7 +5,7 @@ use Rattle.std.specs.Int.{w32, to_le_bytes}
 use Rattle.std.proofs.Math.Nat.{div-div-eq-div-mul, mod-eq_of_lt, mul-lt-mul_of_pos_right, mul-div_cancel}
 use Rattle.std.proofs.lemmas.List.{take_all, take-append-le, length-append, length-drop, length-take-le}
 use Rattle.std.proofs.lemmas.Slice.{take-put_mid}
-use borrow.Rule.Slice.PartMut.{put_mid, post_of}
+use borrow.Rule.Slice.PartMut.{put_mid}
 use Rattle.std.proofs.lemmas.Nat.{pow-add, pow_pos, and_mask}
 use Rattle.kc_word.specs.Letter.{base}
 use Rattle.kc_word.specs.Word.{text}

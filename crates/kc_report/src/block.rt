@@ -1,5 +1,5 @@
 //! Bytes gathered in a fixed array, so that a sink gets blocks and not single fields.
-ghost use Rattle.std.specs.Prelude.{◌≡◌, ◌+◌, ◌≤◌, ◌++◌, [], length, take, decimal, OnOk, OnErr};
+ghost use Rattle.std.specs.Prelude.{◌≡◌, ◌+◌, ◌≤◌, ◌<◌, ◌++◌, [], length, take, decimal, OnOk, OnErr};
 ghost use Rattle.kc_io.specs.Sinks.{HasBegun, Drains};
 
 use itoa::Buffer;
@@ -94,9 +94,10 @@ impl Block {
         ensures pushed { self.new ≡ self.old ++ decimal number }
         ensures short { length self.new ≤ length self.old + NUMBER_SIZE }
     {
-        if number < 10 {
+        if number < 100 {
             // most counts are so small
-            self.push(&[b'0' + number as u8]);
+            let (digits, count) = small_decimal(number as u8);
+            self.push_front(&digits, count);
         } else {
             self.push_digits(number);
         }
@@ -128,5 +129,21 @@ impl Block {
             self.clear();
         }
         Ok(())
+    }
+}
+
+// The digits of a number that has one or two, and how many it has. Both come in no order among counts: no branch is
+// taken on it.
+#[inline(always)]
+fn small_decimal(number: u8) -> ([u8; 2], usize)
+    requires { number < 100 }
+    ensures most { result.1 ≤ 2 }
+    ensures digits { take result.1 result.0 ≡ decimal number }
+{
+    let (tens, ones) = (b'0' + number / 10, b'0' + number % 10);
+    if number < 10 {
+        ([ones, ones], 1)
+    } else {
+        ([tens, ones], 2)
     }
 }

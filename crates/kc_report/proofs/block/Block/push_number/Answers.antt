@@ -1,7 +1,7 @@
-use Rattle.std.proofs.Common.{◌∙◌, ◌++◌, ap, sym}
-use Rattle.std.proofs.lemmas.Fmt.{decimal_digit}
+use Rattle.kc_report.proofs.BlockLemmas.{small_behind}
 use Rattle.kc_report.proofs.block.Block.push_number.Goals as goal
 
-pub returns-then-number-lt10-clause-pushed : goal.returns-then-number-lt10-clause-pushed
-returns-then-number-lt10-clause-pushed c =
-    c.push.ensures.pushed ∙ ap (λ bs. c.args.self.now ++ bs) (sym (decimal_digit c.args.number c.if-number-lt10.true))
+pub returns-then-number-lt100-clause-short : goal.returns-then-number-lt100-clause-short
+returns-then-number-lt100-clause-short c =
+    small_behind c.args.number c.args.self.now c.push_front.new.self _ c.if-number-lt100.true
+    c.small_decimal-count.ensures.digits c.push_front.ensures.pushed
