@@ -132,8 +132,8 @@ impl Block {
     }
 }
 
-// The digits of a number that has one or two, and how many it has. Both come in no order among counts: no branch is
-// taken on it.
+// The digits of a number that has one or two, and how many they are. Both are common among counts, in no order, and so
+// each way gives two bytes: that takes no branch.
 #[inline(always)]
 fn small_decimal(number: u8) -> ([u8; 2], usize)
     requires { number < 100 }

@@ -175,6 +175,7 @@ pub(crate) fn push_word(block: &mut Block, k: K, word: Word)
     ensures short { length block.new ≤ length block.old + WORD_SIZE }
 {
     let bases = k.get();
+    // the codes of the word in the highest bits, so that its letters come first
     let letters = letters_of(word.0 << (64 - 2 * bases));
     block.push_front(&letters, bases as usize);
 }

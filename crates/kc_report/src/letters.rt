@@ -41,7 +41,7 @@ static FOURS: [u32; 256] = [
     0x41475454, 0x43475454, 0x47475454, 0x54475454, 0x41545454, 0x43545454, 0x47545454, 0x54545454,
 ];
 
-/// The letters of four bases with these codes, as the table has them. Condition: the codes are below 256.
+/// The letters of four bases with these codes, of which there are 256.
 #[inline(always)]
 pub(crate) fn four_of(codes: usize) -> u32
     requires { codes < 256 }
@@ -61,7 +61,7 @@ pub(crate) fn codes_of_four(letters: u32) -> usize
     (codes.wrapping_mul(0x4010_0401) >> 24) as usize
 }
 
-/// The most letters that `letters_of` writes.
+/// How many letters `letters_of` gives, one more than a word may have.
 pub(crate) const LETTERS_SIZE: usize = 32;
 
 /// The letters of 32 bases with these codes, two bits each, the first highest.
