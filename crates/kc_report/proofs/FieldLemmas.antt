@@ -20,13 +20,14 @@ use Rattle.std.proofs.lemmas.List.Sums.{AllPass-from_list_all}
 use Rattle.kc_word.specs.Letter.{is_base, are_bases, code, base}
 use Rattle.kc_word.specs.Word.{number, text, canonical, form}
 use Rattle.kc_word.proofs.WordLemmas.{code-lt, number-nil, number-lt, number_push-base, list_all-append, text-number}
-use Rattle.kc_word.proofs.WordLemmas.{below_four, base-code, code-base, is_base-base}
+use Rattle.kc_word.proofs.WordLemmas.{base-code, code-base, is_base-base}
 use Rattle.kc_word.proofs.WordLemmas.{length-text, are_bases-text, same_from_text}
 use Rattle.kc_tally.specs.declared.row.Row.{Row}
 use Rattle.kc_report.specs.Bytes.{line_feed, space}
 use Rattle.kc_report.specs.Dumping.{row_in_columns}
 use Rattle.kc_report.specs.TableReading.{BeginsWith}
 use Rattle.kc_report.specs.TableRows.{capital_code, four_letters, IsSpelled, count_text, HasDigits}
+use Rattle.kc_report.proofs.LetterLemmas.{letter-small}
 use Rattle.kc_report.proofs.TableLines.{row_line, first_line, Without-row, Fits, same_row}
 
 pub never : false ≡ true → ⊥
@@ -106,10 +107,6 @@ no_bases letters i c h e is =
     unless_bases letters (λ all. capital-none (get_or letters i 0) c e is (base_at letters i h all))
 
 -- ---- four letters
-
-letter-small : (n : ℕ) → n < 4 → base n < 256
-unfolding base
-letter-small = below_four (λ n. base n < 256) (lit< tt) (lit< tt) (lit< tt) (lit< tt)
 
 -- four bytes, and their number
 pub record Four (a b c d n : ℕ) : Type 0 where

@@ -1,3 +1,5 @@
+pub mod BlockLemmas
+pub mod LetterLemmas
 pub mod CountLemmas
 pub mod DumpLemmas
 pub mod TableLemmas

@@ -1,5 +1,5 @@
 //! Bytes gathered in a fixed array, so that a sink gets blocks and not single fields.
-ghost use Rattle.std.specs.Prelude.{◌≡◌, ◌+◌, ◌≤◌, ◌++◌, [], length, decimal, OnOk, OnErr};
+ghost use Rattle.std.specs.Prelude.{◌≡◌, ◌+◌, ◌≤◌, ◌<◌, ◌++◌, [], length, take, decimal, OnOk, OnErr};
 ghost use Rattle.kc_io.specs.Sinks.{HasBegun, Drains};
 
 use itoa::Buffer;
@@ -62,6 +62,7 @@ impl Block {
     }
 
     /// Puts `bytes` behind those that are there.
+    #[inline(always)]
     pub fn push(&mut self, bytes: &[u8])
         requires room { length self.old + length bytes.now ≤ BLOCK_SIZE }
         ensures pushed { self.new ≡ self.old ++ bytes.now }
@@ -70,11 +71,40 @@ impl Block {
         self.bytes[self.len..end].copy_from_slice(bytes);
         self.len = end;
     }
+
+    /// Puts the first `count` of the bytes behind those that are there. All of them are copied, since a copy of a fixed
+    /// size is fast. Condition: there is room for all.
+    #[inline(always)]
+    pub(crate) fn push_front<const N: usize>(&mut self, bytes: &[u8; N], count: usize)
+        requires room { length self.old + N ≤ BLOCK_SIZE }
+        requires within { count ≤ N }
+        ensures pushed { self.new ≡ self.old ++ take count bytes.now }
+    {
+        let start = self.len;
+        self.bytes[start..start + N].copy_from_slice(bytes);
+        self.len = start + count;
+    }
 }
 
 impl Block {
     /// Puts a number behind the bytes that are there, in decimal.
+    #[inline(always)]
     pub fn push_number(&mut self, number: u64)
+        requires room { length self.old + NUMBER_SIZE ≤ BLOCK_SIZE }
+        ensures pushed { self.new ≡ self.old ++ decimal number }
+        ensures short { length self.new ≤ length self.old + NUMBER_SIZE }
+    {
+        if number < 100 {
+            // most counts are so small
+            let (digits, count) = small_decimal(number as u8);
+            self.push_front(&digits, count);
+        } else {
+            self.push_digits(number);
+        }
+    }
+
+    // Puts a number behind the bytes that are there, in decimal, of however many digits.
+    fn push_digits(&mut self, number: u64)
         requires room { length self.old + NUMBER_SIZE ≤ BLOCK_SIZE }
         ensures pushed { self.new ≡ self.old ++ decimal number }
         ensures short { length self.new ≤ length self.old + NUMBER_SIZE }
@@ -87,6 +117,7 @@ impl Block {
     ///
     /// # Errors
     /// `Failed` where the writer failed or took no byte. It took a beginning of the bytes.
+    #[inline(always)]
     pub fn make_room<W: Sink>(&mut self, writer: &mut W, count: usize) -> Result<(), Failed>
         requires { count ≤ BLOCK_SIZE }
         ensures ok { OnOk result (Drains (W.seen writer.old) (W.seen writer.new) self.old self.new) }
@@ -98,5 +129,21 @@ impl Block {
             self.clear();
         }
         Ok(())
+    }
+}
+
+// The digits of a number that has one or two, and how many they are. Both are common among counts, in no order, and so
+// each way gives two bytes: that takes no branch.
+#[inline(always)]
+fn small_decimal(number: u8) -> ([u8; 2], usize)
+    requires { number < 100 }
+    ensures most { result.1 ≤ 2 }
+    ensures digits { take result.1 result.0 ≡ decimal number }
+{
+    let (tens, ones) = (b'0' + number / 10, b'0' + number % 10);
+    if number < 10 {
+        ([ones, ones], 1)
+    } else {
+        ([tens, ones], 2)
     }
 }

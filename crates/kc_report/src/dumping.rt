@@ -7,9 +7,10 @@ ghost use Rattle.kc_report.specs.Dumping.{dump_text, row_text, row_in_columns, r
 
 use crate::block::{BLOCK_SIZE, Block, NUMBER_SIZE};
 use crate::faults::ReportFault;
+use crate::letters::{LETTERS_SIZE, letters_of};
 use kc_io::{Failed, Sink, write_out};
 use kc_tally::{Row, Tally};
-use kc_word::{K, Word, text};
+use kc_word::{K, Word};
 
 /// The greatest count that a dump can bound, which no count passes.
 pub const GREATEST_COUNT: u64 = 1 << 62;
@@ -86,6 +87,7 @@ fn dump_by_blocks<W: Sink>(writer: &mut W, tally: &Tally, dump: &Dump) -> Result
 }
 
 // Puts the row behind the block, where it is shown. A block without room goes to the writer first.
+#[inline(always)]
 fn put_row<W: Sink>(
     writer: &mut W,
     block: &mut Block,
@@ -106,6 +108,7 @@ fn put_row<W: Sink>(
 }
 
 // Whether the row's count stands within the bounds.
+#[inline(always)]
 fn is_shown(dump: &Dump, row: Row) -> bool
     ensures { result ≡ is_shown dump.now row }
 {
@@ -119,6 +122,7 @@ pub(crate) const WORD_SIZE: usize = 31;
 pub(crate) const ROW_SIZE: usize = WORD_SIZE + NUMBER_SIZE + 3;
 
 // A row, at the end of the block.
+#[inline(always)]
 fn push_row(block: &mut Block, k: K, dump: &Dump, row: Row)
     requires room { length block.old + ROW_SIZE ≤ BLOCK_SIZE }
     requires below { row.word < 4 ^ k }
@@ -132,6 +136,7 @@ fn push_row(block: &mut Block, k: K, dump: &Dump, row: Row)
 }
 
 // A row in columns, at the end of the block.
+#[inline(always)]
 pub(crate) fn push_columns(block: &mut Block, k: K, tab: bool, row: Row)
     requires room { length block.old + ROW_SIZE ≤ BLOCK_SIZE }
     requires below { row.word < 4 ^ k }
@@ -148,6 +153,7 @@ pub(crate) fn push_columns(block: &mut Block, k: K, tab: bool, row: Row)
 }
 
 // A row in two lines, at the end of the block.
+#[inline(always)]
 fn push_lines(block: &mut Block, k: K, row: Row)
     requires room { length block.old + ROW_SIZE ≤ BLOCK_SIZE }
     requires below { row.word < 4 ^ k }
@@ -161,13 +167,15 @@ fn push_lines(block: &mut Block, k: K, row: Row)
 }
 
 // The letters of a word, at the end of the block.
+#[inline(always)]
 pub(crate) fn push_word(block: &mut Block, k: K, word: Word)
-    requires room { length block.old + WORD_SIZE ≤ BLOCK_SIZE }
+    requires room { length block.old + LETTERS_SIZE ≤ BLOCK_SIZE }
     requires below { word.0 < 4 ^ k }
     ensures pushed { block.new ≡ block.old ++ text k word.0 }
     ensures short { length block.new ≤ length block.old + WORD_SIZE }
 {
-    let mut letters = [0u8; WORD_SIZE];
-    text(word, k, &mut letters);
-    block.push(&letters[..k.get() as usize]);
+    let bases = k.get();
+    // the codes of the word in the highest bits, so that its letters come first
+    let letters = letters_of(word.0 << (64 - 2 * bases));
+    block.push_front(&letters, bases as usize);
 }

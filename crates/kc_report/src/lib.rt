@@ -16,6 +16,7 @@ mod dumping;
 mod faults;
 mod fields;
 mod histo;
+mod letters;
 mod lines;
 mod querying;
 mod statistics;

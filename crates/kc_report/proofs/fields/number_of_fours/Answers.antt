@@ -1,16 +1,12 @@
 use Rattle.std.proofs.Common.{◌*◌, ◌+◌, get_or, refl, sym, ◌∙◌, arith}
-use Rattle.kc_word.specs.Letter.{base}
-use Rattle.kc_word.proofs.TableLemmas.{table_at}
-use Rattle.kc_report.specs.TableRows.{four_letters}
 use Rattle.kc_report.proofs.FieldLemmas.{Four, spelled-none, spelled-fits_four, spelled-four, four_found, no_four}
 use Rattle.kc_report.proofs.fields.number_of_fours.Goals as goal
 
 pub loop-j-init : goal.loop-j-init
 loop-j-init c = spelled-none
 
-pub returns-then-codes-four-clause-none : goal.returns-then-codes-four-clause-none
-unfolding base
-returns-then-codes-four-clause-none c =
+pub returns-then-four_of-four-clause-none : goal.returns-then-four_of-four-clause-none
+returns-then-four_of-four-clause-none c =
     let letters = c.args.letters.now in
     let at = c.loop-j.j * 4 in
     let four : Four (get_or letters at 0) (get_or letters (at + 1) 0) (get_or letters (at + 2) 0)
@@ -22,8 +18,8 @@ returns-then-codes-four-clause-none c =
       whole = refl;
     } in
     no_four letters c.loop-j.j c.codes_of_four-codes.result c.loop-j-test.true four
-    c.codes_of_four-codes.ensures.inverse c.if-codes-four.true
-    (table_at four_letters _ 256 refl c.codes_of_four-codes.result c.codes_of_four-codes.ensures.below)
+    c.codes_of_four-codes.ensures.inverse c.if-four_of-four.true
+    c.four_of.ensures
 
 pub overflow_mul-number : goal.overflow_mul-number
 overflow_mul-number c =
@@ -39,7 +35,6 @@ overflow_add-number c =
     omega (arith, small, below)
 
 pub loop-j-preserved : goal.loop-j-preserved
-unfolding base
 loop-j-preserved c =
     let letters = c.args.letters.now in
     let at = c.loop-j.j * 4 in
@@ -53,6 +48,5 @@ loop-j-preserved c =
       whole = refl;
     } in
     spelled-four letters c.loop-j.j c.loop-j.number codes c.loop-j-test.true c.codes_of_four-codes.ensures.below
-    (four_found codes four (sym c.if-codes-four.false
-    ∙ table_at four_letters _ 256 refl codes c.codes_of_four-codes.ensures.below))
+    (four_found codes four (sym c.if-four_of-four.false ∙ c.four_of.ensures))
     c.loop-j.invariant

@@ -4,7 +4,7 @@ use lib.Bits.{bit_xor}
 use Rattle.kc_word.specs.Letter.{base}
 use Rattle.kc_word.proofs.TableLemmas.{table_at}
 use Rattle.kc_report.specs.TableRows.{four_letters}
-use Rattle.kc_report.proofs.fields.codes_of_four.Goals as goal
+use Rattle.kc_report.proofs.letters.codes_of_four.Goals as goal
 
 abbrev codes_in : ℕ → ℕ
 codes_in letters = bit_and (bit_xor (letters / 2) (letters / 4)) 50529027 * 1074791425 % 4294967296 / 16777216
