@@ -27,7 +27,7 @@ impl Counter {
     pub fn and_one(&self) -> Counter
         ensures { result.count ≡ self.now.count + 1 }
     {
-        Counter {}
+        Self {}
     }
 
     /// Once more.

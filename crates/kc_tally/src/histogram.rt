@@ -1,8 +1,9 @@
 //! Histograms: how many words have which count.
-ghost use Rattle.std.specs.Prelude.{◌≡◌, ◌+◌, ◌^◌, ◌<◌, ◌≤◌, ℕ, [], length, All, IfOk};
+ghost use Rattle.std.specs.Prelude.{◌≡◌, ◌+◌, ◌%◌, ◌^◌, ◌<◌, ◌≤◌, ℕ, [], length, All, IfOk};
 ghost use Rattle.std.specs.List.{flat_map};
 ghost use Rattle.kc_tally.specs.Histogram.{last_bin, bin_of, bins_of, bin_at, gained, lost, counted_in, raised};
 ghost use Rattle.kc_tally.specs.Histogram.{joined_bins, counts_of};
+ghost use Rattle.kc_tally.specs.Tally.{total_of};
 
 use crate::row::Row;
 use std::alloc::{AllocError, Global};
@@ -47,16 +48,23 @@ impl Histogram {
         Ok(histogram)
     }
 
-    /// The histogram of the counts of the rows of all parts. Condition: the number of rows fits.
-    pub(crate) fn of_parts(alloc: Global, parts: &[Vec<Row>]) -> Result<Histogram, AllocError>
-        requires { length (flat_map (λ part. part.items) parts.now) < 2 ^ 64 }
-        ensures { IfOk result (λ bins. bins ≡ bins_of (counts_of (flat_map (λ part. part.items) parts.now))) }
+    /// The histogram of the counts of the rows of all parts, and the sum of these counts. Each row is read once.
+    /// Conditions: the number of rows fits, and so does the sum.
+    pub(crate) fn of_parts(
+        alloc: Global,
+        parts: &[Vec<Row>],
+    ) -> Result<(Histogram, u64), AllocError>
+        requires rows { length (flat_map (λ part. part.items) parts.now) < 2 ^ 64 }
+        requires total { total_of (flat_map (λ part. part.items) parts.now) < 2 ^ 64 }
+        ensures bins { IfOk result (λ pair. pair.0 ≡ bins_of (counts_of (flat_map (λ part. part.items) parts.now))) }
+        ensures total { IfOk result (λ pair. pair.1 ≡ total_of (flat_map (λ part. part.items) parts.now)) }
     {
         let mut histogram = Histogram::new(alloc)?;
+        let mut total = 0;
         for part in parts {
-            histogram.count_all(part);
+            total += histogram.count_all(part);
         }
-        Ok(histogram)
+        Ok((histogram, total))
     }
 
     /// How many words have a count that falls in the bin. Condition: the bin is 1 to 10,001.
@@ -95,15 +103,19 @@ impl Histogram {
         }
     }
 
-    // Counts in the words of these rows.
-    fn count_all(&mut self, rows: &[Row])
+    // Counts in the words of these rows, and gives the sum of their counts, which wraps where it does not fit.
+    fn count_all(&mut self, rows: &[Row]) -> u64
         requires long { length self.old ≡ last_bin }
         requires fits { All (λ size. size + length rows.now < 2 ^ 64) self.old }
-        ensures { self.new ≡ joined_bins self.old (bins_of (counts_of rows.now)) }
+        ensures bins { self.new ≡ joined_bins self.old (bins_of (counts_of rows.now)) }
+        ensures total { result ≡ total_of rows.now % 2 ^ 64 }
     {
+        let mut total: u64 = 0;
         for row in rows {
+            total = total.wrapping_add(row.count);
             self.count_in(row.count);
         }
+        total
     }
 
     // Counts in one more word.

@@ -64,8 +64,7 @@ impl Tally {
         ensures { IfOk result (λ tally. tally
             ≡ record { k = k; both = both; rows = flat_map (λ part. part.items) parts.items }) }
     {
-        let histogram = Histogram::of_parts(alloc, &parts)?;
-        let total = total_of_parts(&parts);
+        let (histogram, total) = Histogram::of_parts(alloc, &parts)?;
         Ok(Tally {
             k,
             both,
@@ -156,28 +155,4 @@ fn row_count(parts: &[Vec<Row>]) -> u64
         count += part.len() as u64;
     }
     count
-}
-
-// The sum of the counts of all parts.
-fn total_of_parts(parts: &[Vec<Row>]) -> u64
-    requires { total_of (flat_map (λ part. part.items) parts.now) ≤ 2 ^ 62 }
-    ensures { result ≡ total_of (flat_map (λ part. part.items) parts.now) }
-{
-    let mut total = 0;
-    for part in parts {
-        total += total_of(part);
-    }
-    total
-}
-
-// The sum of the counts.
-fn total_of(rows: &[Row]) -> u64
-    requires { total_of rows.now ≤ 2 ^ 62 }
-    ensures { result ≡ total_of rows.now }
-{
-    let mut total = 0;
-    for row in rows {
-        total += row.count;
-    }
-    total
 }

@@ -11,5 +11,5 @@ count_all-requires-clause-fits c = room-for-all c.in_ok-histogram.histogram [] (
 
 pub returns : goal.returns
 returns c =
-    c.count_all.ensures ∙ ap (λ bins. joined_bins bins (bins_of (counts_of c.args.rows.now))) c.in_ok-histogram.ensures
+    c.count_all.ensures.bins ∙ ap (λ bins. joined_bins bins (bins_of (counts_of c.args.rows.now))) c.in_ok-histogram.ensures
     ∙ bins_of-append [] (counts_of c.args.rows.now)
