@@ -6,8 +6,8 @@ use Rattle.std.proofs.lemmas.Bool.{cases_eq, cases_lt, eq-eqb, ne_eqb, cond-true
 use Rattle.std.proofs.lemmas.Bool.Decides.{eqb_tells}
 use Rattle.std.proofs.lemmas.Nat.{pow_pos}
 use Rattle.std.proofs.Math.Nat.{mod-lt}
-use Rattle.std.proofs.lemmas.List.{map-append, get_or_default, get_or-append_right, length-append}
-use Rattle.std.proofs.lemmas.List.Elements.{All-head, All-tail, All-append, All-nil, All-map, All-from_recursion, recursion_from_All}
+use Rattle.std.proofs.lemmas.List.{map-append, map_push, get_or_default, get_or-append_right, length-append}
+use Rattle.std.proofs.lemmas.List.Elements.{All-head, All-tail, All-append, All-push, All-nil, All-map, All-from_recursion, recursion_from_All}
 use Rattle.std.proofs.lemmas.List.Sums.{sum_by-cons, sum_by-append}
 use Rattle.std.proofs.lemmas.List.Sorted.{All-permutation, sum_by-IsPermutation, IsPermutation-map, IsPermutation-trans, IsPermutation-append_comm, IsPermutation-append_left}
 use Rattle.std.proofs.Math.ListN.{get_or-append}
@@ -23,7 +23,8 @@ use Rattle.kc_tally.specs.Tally.{count_of}
 use Rattle.kc_stripe.specs.Setup.{StripeSetup, word_count, stripe_count, stripe_of}
 use Rattle.kc_stripe.specs.Stripe.{StripeState, numbers_of, word_occurrences, AreStripeRows}
 use Rattle.kc_gather.specs.Parts.{ArePartsOf, column_rows}
-use Rattle.kc_gather.specs.Gathering.{IsWhole, AreRowsFrom, HasRowsOf, HaveRowsOf}
+use Rattle.kc_gather.specs.declared.placed.Placed.{Placed}
+use Rattle.kc_gather.specs.Gathering.{IsWhole, IsWholeThere, AreRowsFrom, HasRowsOf, HaveRowsOf}
 use Rattle.kc_gather.proofs.Journals.{weighs_whole}
 
 abbrev pub words_in_rows : List Row → List ℕ
@@ -223,6 +224,30 @@ HaveRowsOf-push {C} stripes stripe taken parts have has = HaveRowsOf-append stri
     one : (i : ℕ) (s : StripeState C) (p : Vec (Vec Row Global) Global) → i < 1 → HasRowsOf (get_or (stripe ∷ []) i s) (get_or (parts ∷ []) i p)
     one zero s p within = has
     one (suc i) s p within = absurd (omega (arith, within))
+
+-- what was taken of stripes at their places: each is whole, and these are its rows
+abbrev pub AreTaken : {C : Type 0} → StripeSetup → List NumberedPieces → List (Placed C) → List (Vec (Vec Row Global) Global) → Type 0
+AreTaken setup batches placed taken = All (IsWholeThere setup batches) placed × HaveRowsOf (map (λ there. there.stripe) placed) taken
+
+pub AreTaken-none : {C : Type 0} (setup : StripeSetup) (batches : List NumberedPieces) → AreTaken {C = C} setup batches [] []
+AreTaken-none {C} setup batches = (All-nil (IsWholeThere setup batches), HaveRowsOf-none)
+
+pub AreTaken-append : {C : Type 0} (setup : StripeSetup) (batches : List NumberedPieces) (placed more : List (Placed C)) (taken others : List (Vec (Vec Row Global) Global))
+    → AreTaken setup batches placed taken → AreTaken setup batches more others → AreTaken setup batches (placed ++ more) (taken ++ others)
+AreTaken-append {C} setup batches placed more taken others first second =
+    let stripe = λ (there : Placed C). there.stripe in (
+      All-append (IsWholeThere setup batches) placed more first.0 second.0,
+      subst (λ stripes. HaveRowsOf stripes (taken ++ others)) (sym (map-append stripe placed more)) (HaveRowsOf-append (map stripe placed) (map stripe more) taken others first.1 second.1),
+    )
+
+pub AreTaken-push : {C : Type 0} (setup : StripeSetup) (batches : List NumberedPieces) (placed : List (Placed C)) (there : Placed C) (taken : List (Vec (Vec Row Global) Global))
+    (parts : Vec (Vec Row Global) Global) → AreTaken setup batches placed taken → IsWholeThere setup batches there → HasRowsOf there.stripe parts
+    → AreTaken setup batches (placed ++ there ∷ []) (taken ++ parts ∷ [])
+AreTaken-push {C} setup batches placed there taken parts before whole has =
+    let stripe = λ (one : Placed C). one.stripe in (
+      All-push (IsWholeThere setup batches) placed there before.0 whole,
+      subst (λ stripes. HaveRowsOf stripes (taken ++ parts ∷ [])) (sym (map_push stripe placed there)) (HaveRowsOf-push (map stripe placed) there.stripe taken parts before.1 has),
+    )
 
 -- of stripes of one setup they are parts of its words
 pub parts-all : {C : Type 0} (setup : StripeSetup) (stripes : List (StripeState C)) (taken : List (Vec (Vec Row Global) Global)) → All (λ stripe. stripe.setup ≡ setup) stripes

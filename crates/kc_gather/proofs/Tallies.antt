@@ -1,5 +1,5 @@
 -- The tally that the rows of all stripes are when they are sorted.
-use Rattle.std.proofs.Common.{◌≡◌, ℕ, ◌+◌, ◌^◌, ◌<◌, ◌≤◌, eqb, nat_eq, List, [], ◌∷◌, length, get_or, map, Vec, Global, refl, ap, sym, subst, ◌∙◌, arith}
+use Rattle.std.proofs.Common.{◌≡◌, ℕ, ◌+◌, ◌^◌, ◌<◌, ◌≤◌, eqb, nat_eq, List, [], ◌∷◌, length, get_or, map, All, Vec, Global, refl, ap, sym, subst, ◌∙◌, arith}
 use Rattle.std.specs.List.{IsDistinct, flat_map}
 use Rattle.std.specs.List.Sorted.{IsPermutation, IsNonDecreasingBy, IsStrictlyIncreasing}
 use Rattle.std.proofs.lemmas.Bool.{eq-eqb, cond-true}
@@ -24,9 +24,11 @@ use Rattle.kc_tally.proofs.Tallies.{tally_total}
 use Rattle.kc_stripe.specs.Setup.{StripeSetup, word_count, stripe_count, stripe_of}
 use Rattle.kc_stripe.specs.Stripe.{StripeState, reads_in}
 use Rattle.kc_gather.specs.Parts.{ArePartsOf, AreSorted, column_rows, part_shift}
-use Rattle.kc_gather.specs.Gathering.{AreRowsFrom, AreWholeBefore, HaveRowsOf, IsWhole, position_sum}
-use Rattle.kc_gather.proofs.PartLemmas.{AreSorted-permutation, AreSorted-rise}
-use Rattle.kc_gather.proofs.Rows.{words_in_rows, weight_of, count_of-sum, distinct-permuted, AreRowsFrom-taken}
+use Rattle.kc_gather.specs.declared.placed.Placed.{Placed}
+use Rattle.kc_gather.specs.Gathering.{AreRowsFrom, AreAtPlaces, HaveRowsOf, IsWhole, IsWholeThere, position_sum}
+use Rattle.kc_gather.proofs.PartLemmas.{Part, AreSorted-permutation, AreSorted-rise}
+use Rattle.kc_gather.proofs.Rows.{words_in_rows, weight_of, count_of-sum, distinct-permuted, AreRowsFrom-taken, parts-all}
+use Rattle.kc_gather.proofs.Stripes.{whole-at_places, setups-same}
 
 rising-sorted : (sorted : List Row) → IsNonDecreasingBy (λ row. row.word) sorted → IsDistinct nat_eq (words_in_rows sorted) → IsStrictlyIncreasing (words_in_rows sorted)
 rising-sorted sorted up distinct =
@@ -41,7 +43,7 @@ rising-sorted sorted up distinct =
     omega (arith, step, here, there)) distinct
 
 -- sorted, the rows of all stripes are the tally
-pub IsTally-sorted : (setup : StripeSetup) (batches : List NumberedPieces) (rows sorted : List Row) → AreRowsFrom setup batches 0 rows → IsPermutation rows sorted
+IsTally-sorted : (setup : StripeSetup) (batches : List NumberedPieces) (rows sorted : List Row) → AreRowsFrom setup batches 0 rows → IsPermutation rows sorted
     → IsNonDecreasingBy (λ row. row.word) sorted → IsTally setup.rule (reads_in batches) sorted
 IsTally-sorted setup batches rows sorted from same up = record {
   ordered = record {
@@ -70,7 +72,7 @@ few_words setup (batch ∷ batches) =
     omega (arith, rest, this, joined, long, sum)
 
 -- and is one that a `Tally` may be
-pub AreRows-sorted : (setup : StripeSetup) (batches : List NumberedPieces) (rows sorted : List Row) → position_sum setup.rule.k batches ≤ 2 ^ 62
+AreRows-sorted : (setup : StripeSetup) (batches : List NumberedPieces) (rows sorted : List Row) → position_sum setup.rule.k batches ≤ 2 ^ 62
     → AreRowsFrom setup batches 0 rows → IsPermutation rows sorted → IsNonDecreasingBy (λ row. row.word) sorted → AreRows setup.rule.k setup.rule.both sorted
 AreRows-sorted setup batches rows sorted few from same up = record {
   ordered = tally.ordered;
@@ -90,7 +92,7 @@ AreRows-sorted setup batches rows sorted few from same up = record {
     tally = IsTally-sorted setup batches rows sorted from same up
 
 -- and a `Tally` of these rows is the tally
-pub IsTallyOf-sorted : (setup : StripeSetup) (batches : List NumberedPieces) (sorted : List Row) (tally : TallySeen) → tally ≡ record { k = setup.rule.k; both = setup.rule.both; rows = sorted }
+IsTallyOf-sorted : (setup : StripeSetup) (batches : List NumberedPieces) (sorted : List Row) (tally : TallySeen) → tally ≡ record { k = setup.rule.k; both = setup.rule.both; rows = sorted }
     → IsTally setup.rule (reads_in batches) sorted → IsTallyOf setup.rule (reads_in batches) tally
 IsTallyOf-sorted setup batches sorted tally is of = record {
   k = ap (λ (t : TallySeen). t.k) is;
@@ -101,33 +103,58 @@ IsTallyOf-sorted setup batches sorted tally is of = record {
 -- ---- from the stripes to the sorted rows
 
 -- the rows of whole stripes, and the same rows in the order of their words
-pub record AreGathered (setup : StripeSetup) (batches : List NumberedPieces) (sorted : List Row) : Type 0 where
+record AreGathered (setup : StripeSetup) (batches : List NumberedPieces) (sorted : List Row) : Type 0 where
   pub rows : List Row
   pub from : AreRowsFrom setup batches 0 rows
   pub same : IsPermutation rows sorted
   pub up : IsNonDecreasingBy (λ row. row.word) sorted
 
--- what was done of it: the stripes are whole, their rows were taken and brought into columns, and these were sorted
+-- what was done of it: the stripes at their places are whole, their rows were taken and brought into columns, and these were sorted
 pub record IsGathering {C : Type 0} (setup : StripeSetup) (batches : List NumberedPieces) (stripes : List (StripeState C)) (sorted : List Row) : Type 0 where
+  pub placed : List (Placed C)
   pub taken : List (Vec (Vec Row Global) Global)
   pub columns : List (Vec (Vec Row Global) Global)
+  pub k : ℕ
   pub one_each : length stripes ≡ stripe_count setup
-  pub whole : AreWholeBefore setup batches stripes (length stripes)
-  pub have : HaveRowsOf stripes taken
-  pub parted : ArePartsOf setup.rule.k (map column_rows columns)
+  pub at : AreAtPlaces stripes placed
+  pub whole : All (IsWholeThere setup batches) placed
+  pub have : HaveRowsOf (map (λ there. there.stripe) placed) taken
+  pub same_k : k ≡ setup.rule.k
+  pub parted : ArePartsOf k (map column_rows columns)
   pub same : IsPermutation (flat_map column_rows taken) (flat_map column_rows columns)
   pub sorted_are : AreSorted column_rows columns sorted
 
-pub are_gathered : {C : Type 0} (setup : StripeSetup) (batches : List NumberedPieces) (stripes : List (StripeState C)) (sorted : List Row) → IsGathering setup batches stripes sorted → AreGathered setup batches sorted
+are_gathered : {C : Type 0} (setup : StripeSetup) (batches : List NumberedPieces) (stripes : List (StripeState C)) (sorted : List Row) → IsGathering setup batches stripes sorted → AreGathered setup batches sorted
 are_gathered {C} setup batches stripes sorted of = record {
   rows = flat_map column_rows of.taken;
-  from = AreRowsFrom-taken setup batches 0 stripes of.taken (let all = of.one_each in omega (arith, all)) of.have (λ i stripe within.
-      let (found, there, whole) = of.whole i within in
+  from = AreRowsFrom-taken setup batches 0 stripes of.taken (let all = of.one_each in omega (arith, all)) (subst (λ xs. HaveRowsOf xs of.taken) of.at.stripes_are of.have) (λ i stripe within.
+      let (found, there, whole) = whole-at_places stripes of.placed of.at of.whole i within in
       subst (λ n. IsWhole setup batches n (get_or stripes i stripe)) (from_zero i)
       (subst (IsWhole setup batches i) (sym (get_or_from_slice_get stripes i found stripe there)) whole));
   same = IsPermutation-trans (flat_map column_rows of.taken) (flat_map column_rows of.columns) sorted of.same (AreSorted-permutation column_rows of.columns sorted of.sorted_are);
-  up = AreSorted-rise column_rows (part_shift setup.rule.k) of.columns sorted of.parted.parted of.sorted_are;
+  up = AreSorted-rise column_rows (part_shift of.k) of.columns sorted of.parted.parted of.sorted_are;
 }
   where
     from_zero : (i : ℕ) → i ≡ 0 + i
     from_zero i = omega arith
+
+-- the rows that were taken of whole stripes are in parts
+pub parts-taken : {C : Type 0} (setup : StripeSetup) (batches : List NumberedPieces) (stripes : List (StripeState C)) (placed : List (Placed C)) (taken : List (Vec (Vec Row Global) Global)) (k : ℕ)
+    → AreAtPlaces stripes placed → All (IsWholeThere setup batches) placed → HaveRowsOf (map (λ there. there.stripe) placed) taken → k ≡ setup.rule.k
+    → All (λ parts. ArePartsOf k (map (λ part. part.items) parts.items)) taken
+parts-taken {C} setup batches stripes placed taken k at whole have same =
+    subst (λ n. All (λ parts. ArePartsOf n (map (λ (part : Part). part.items) parts.items)) taken) (sym same)
+    (parts-all setup stripes taken (setups-same stripes (whole-at_places stripes placed at whole)) (subst (λ xs. HaveRowsOf xs taken) at.stripes_are have))
+
+-- what was gathered is one that a `Tally` may be, and is the tally
+pub AreRows-gathered : {C : Type 0} (setup : StripeSetup) (batches : List NumberedPieces) (stripes : List (StripeState C)) (sorted : List Row) → position_sum setup.rule.k batches ≤ 2 ^ 62
+    → IsGathering setup batches stripes sorted → AreRows setup.rule.k setup.rule.both sorted
+AreRows-gathered setup batches stripes sorted few of =
+    let made = are_gathered setup batches stripes sorted of in
+    AreRows-sorted setup batches made.rows sorted few made.from made.same made.up
+
+pub IsTallyOf-gathered : {C : Type 0} (setup : StripeSetup) (batches : List NumberedPieces) (stripes : List (StripeState C)) (sorted : List Row) (tally : TallySeen)
+    → tally ≡ record { k = setup.rule.k; both = setup.rule.both; rows = sorted } → IsGathering setup batches stripes sorted → IsTallyOf setup.rule (reads_in batches) tally
+IsTallyOf-gathered setup batches stripes sorted tally is of =
+    let made = are_gathered setup batches stripes sorted of in
+    IsTallyOf-sorted setup batches sorted tally is (IsTally-sorted setup batches made.rows sorted made.from made.same made.up)

@@ -1,7 +1,7 @@
 -- When the stripes of a count may be gathered, and why not.
 -- Source: this project's own.
-use Rattle.std.specs.Prelude.{◌≡◌, ℕ, ◌<◌, ◌≤◌, List, length, map, sum_by, All, Some, nat_eq, slice_get}
-use Rattle.std.specs.Prelude.{slice_index_or, Vec}
+use Rattle.std.specs.Prelude.{◌≡◌, ◌≢◌, ℕ, ◌<◌, ◌≤◌, List, ◌∷◌, ◌++◌, length, map, sum_by, All, Some, nat_eq}
+use Rattle.std.specs.Prelude.{slice_get, slice_index_or, Vec}
 use Rattle.std.specs.List.{IsDistinct}
 use Rattle.std.specs.List.Sorted.{IsPermutation}
 use Rattle.kc_word.specs.Cutting.{NumberedPieces, position_total}
@@ -12,6 +12,7 @@ use Rattle.kc_stripe.specs.Stripe.{StripeState, IsBooked, AreStripeRows, numbers
 use Rattle.kc_gather.specs.Parts.{ArePartsOf, column_rows}
 use Rattle.kc_gather.specs.declared.fault.GatherFault.{GatherFault}
 use Rattle.kc_gather.specs.declared.fault.GatherFault.TheVariants.{Foreign, Missing, Memory}
+use Rattle.kc_gather.specs.declared.placed.Placed.{Placed}
 
 -- how many positions the batches have together
 abbrev pub position_sum : ℕ → List NumberedPieces → ℕ
@@ -71,6 +72,26 @@ module _ {C : Type 0} (setup : StripeSetup) (batches : List NumberedPieces) wher
   IsRefusal stripes (Foreign i) = AreWholeBefore stripes i × IsForeign stripes i
   IsRefusal stripes (Missing i n) = AreWholeBefore stripes i × IsLacking stripes i n
   IsRefusal stripes Memory = Unit
+
+  -- the stripe that was given at this index is the one of this index, and whole
+  abbrev pub IsWholeThere : Placed C → Type 0
+  IsWholeThere there = IsWhole there.index there.stripe
+
+  -- the first of these stripes that is refused, wherever they were given, is refused for this; it lacks no batch if its
+  -- journal has as many entries as there are batches
+  pub record IsFirstRefusal (stripes : List (Placed C)) (fault : GatherFault) : Type 0 where
+    pub before : List (Placed C)
+    pub refused : Placed C
+    pub behind : List (Placed C)
+    pub stripes_are : stripes ≡ before ++ refused ∷ behind
+    pub whole : All IsWholeThere before
+    pub refusal : IsStripeRefusal refused.index refused.stripe fault
+    pub counted : (index n : ℕ) → fault ≡ Missing index n → length refused.stripe.journal ≢ length batches
+
+-- each of the stripes with its index
+pub record AreAtPlaces {C : Type 0} (stripes : List (StripeState C)) (placed : List (Placed C)) : Type 0 where
+  pub stripes_are : map (λ there. there.stripe) placed ≡ stripes
+  pub indices_are : (i : ℕ) (there : Placed C) → i < length placed → (slice_index_or placed i there).index ≡ i
 
 -- the rows are the words that fall in the stripes from number n on and occur in the batches, each once, with its
 -- occurrences

@@ -5,13 +5,13 @@ ghost use Rattle.kc_tally.specs.Tally.{AreRows, IsTallyOf};
 ghost use Rattle.kc_stripe.specs.Setup.{stripe_count};
 ghost use Rattle.kc_stripe.specs.Stripe.{reads_in};
 ghost use Rattle.kc_gather.specs.Parts.{column_rows};
-ghost use Rattle.kc_gather.specs.Gathering.{position_sum, IsWhole, AreWholeBefore};
-ghost use Rattle.kc_gather.specs.Gathering.{IsRefusal, IsStripeRefusal, StandsThere};
+ghost use Rattle.kc_gather.specs.Gathering.{position_sum, AreWholeBefore};
+ghost use Rattle.kc_gather.specs.Gathering.{IsRefusal, StandsThere};
 
 use crate::columns::{columns_of, sorted_each, sorted_in_parallel};
 use crate::fault::GatherFault;
-use crate::journal::{booked_marks, first_unset};
-use crate::taking::{rows_in_parallel, rows_of_each};
+use crate::placed::at_places;
+use crate::taking::{taken_in_parallel, taken_of_each};
 use kc_stripe::{Setup, Stripe};
 use kc_table::Counts;
 use kc_tally::{Row, Tally};
@@ -39,14 +39,14 @@ pub fn gather<C: Counts + Drop>(
     ensures counted { (index batch : ℕ) → result ≡ Err (GatherFault.Missing index batch)
         → StandsThere stripes.items index (λ stripe. length stripe.journal ≢ length batches.now) }
 {
-    check_stripes(alloc, &stripes, batches, setup)?;
-    let taken = rows_of_each(alloc, stripes)?;
+    let placed = at_places(alloc, stripes, setup)?;
+    let taken = taken_of_each(alloc, placed, batches, setup)?;
     let columns = columns_of(alloc, setup.rule().k(), taken)?;
     let parts = sorted_each(alloc, columns)?;
     Ok(tally_of(alloc, parts, setup)?)
 }
 
-/// What `gather` answers. The rows are taken from the stripes and sorted by at most so many threads.
+/// What `gather` answers. The stripes are looked at, and their rows taken and sorted, by at most so many threads.
 ///
 /// Conditions: those of `gather`, and at least one thread.
 pub fn gather_in_parallel<C: Counts + Drop + Send, H: Threads + Sync>(
@@ -66,57 +66,11 @@ pub fn gather_in_parallel<C: Counts + Drop + Send, H: Threads + Sync>(
     ensures counted { (index batch : ℕ) → result ≡ Err (GatherFault.Missing index batch)
         → StandsThere stripes.items index (λ stripe. length stripe.journal ≢ length batches.now) }
 {
-    check_stripes(alloc, &stripes, batches, setup)?;
-    let taken = rows_in_parallel(rt, alloc, threads, stripes)?;
+    let placed = at_places(alloc, stripes, setup)?;
+    let taken = taken_in_parallel(rt, alloc, threads, placed, batches, setup)?;
     let columns = columns_of(alloc, setup.rule().k(), taken)?;
     let parts = sorted_in_parallel(rt, alloc, threads, columns)?;
     Ok(tally_of(alloc, parts, setup)?)
-}
-
-// Whether the journal of each stripe holds exactly the given batches.
-fn check_stripes<C: Counts>(
-    alloc: Global,
-    stripes: &[Stripe<C>],
-    batches: &[Arc<Batch>],
-    setup: &Setup,
-) -> Result<(), GatherFault>
-    requires { length stripes.now ≡ stripe_count setup.now }
-    ensures whole { OnOk result (AreWholeBefore setup.now (values batches.now) stripes.now (length stripes.now)) }
-    ensures refused { IfErr result (IsRefusal setup.now (values batches.now) stripes.now) }
-    ensures counted { (index batch : ℕ) → result ≡ Err (GatherFault.Missing index batch)
-        → StandsThere stripes.now index (λ stripe. length stripe.journal ≢ length batches.now) }
-{
-    for i in 0..setup.stripes() {
-        check_stripe(alloc, i, &stripes[i as usize], batches, setup)?;
-    }
-    Ok(())
-}
-
-// Whether the stripe is that of this index, and its journal holds exactly the given batches.
-fn check_stripe<C: Counts>(
-    alloc: Global,
-    index: u32,
-    stripe: &Stripe<C>,
-    batches: &[Arc<Batch>],
-    setup: &Setup,
-) -> Result<(), GatherFault>
-    ensures whole { OnOk result (IsWhole setup.now (values batches.now) index stripe.now) }
-    ensures refused { IfErr result (IsStripeRefusal setup.now (values batches.now) index stripe.now) }
-    ensures counted { (at batch : ℕ) → result ≡ Err (GatherFault.Missing at batch)
-        → length stripe.now.journal ≢ length batches.now }
-{
-    if stripe.setup() != setup || stripe.number() != index {
-        return Err(GatherFault::Foreign(index));
-    }
-    // what is known of the journal
-    stripe.is_lawful();
-    let Some(marks) = booked_marks(alloc, stripe.journal(), batches)? else {
-        return Err(GatherFault::Foreign(index));
-    };
-    match first_unset(&marks) {
-        Some(number) => Err(GatherFault::Missing(index, number)),
-        None => Ok(()),
-    }
 }
 
 // The tally of the rows of these parts, which are sorted.

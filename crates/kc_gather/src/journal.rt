@@ -1,13 +1,43 @@
-//! A stripe's journal beside the batches that were given.
-ghost use Rattle.std.specs.Prelude.{◌≡◌, ℕ, ◌<◌, ◌↔◌, length, All, true, false};
-ghost use Rattle.std.specs.Prelude.{IsTrue, IsSome, IfOk, IfSome, IfNone, slice_index_or};
+//! Whether a stripe's journal holds the batches that were given.
+ghost use Rattle.std.specs.Prelude.{◌≡◌, ◌≢◌, ℕ, ◌<◌, ◌↔◌, length, All, true, false};
+ghost use Rattle.std.specs.Prelude.{IsTrue, IsSome, IfOk, OnOk, IfErr, IfSome, IfNone, slice_index_or};
 ghost use Rattle.kc_word.specs.Shared.{values};
 ghost use Rattle.kc_stripe.specs.Stripe.{IsBooked};
-ghost use Rattle.kc_gather.specs.Gathering.{IsGiven};
+ghost use Rattle.kc_gather.specs.Gathering.{IsGiven, IsWhole, IsStripeRefusal};
 
+use crate::fault::GatherFault;
+use kc_stripe::{Setup, Stripe};
+use kc_table::Counts;
 use kc_word::Batch;
 use std::alloc::{AllocError, Global};
 use std::sync::Arc;
+
+/// Whether the stripe is that of this index, and its journal holds exactly the given batches.
+pub(crate) fn check_stripe<C: Counts>(
+    alloc: Global,
+    index: u32,
+    stripe: &Stripe<C>,
+    batches: &[Arc<Batch>],
+    setup: &Setup,
+) -> Result<(), GatherFault>
+    ensures whole { OnOk result (IsWhole setup.now (values batches.now) index stripe.now) }
+    ensures refused { IfErr result (IsStripeRefusal setup.now (values batches.now) index stripe.now) }
+    ensures counted { (at batch : ℕ) → result ≡ Err (GatherFault.Missing at batch)
+        → length stripe.now.journal ≢ length (values batches.now) }
+{
+    if stripe.setup() != setup || stripe.number() != index {
+        return Err(GatherFault::Foreign(index));
+    }
+    // what is known of the journal
+    stripe.is_lawful();
+    let Some(marks) = booked_marks(alloc, stripe.journal(), batches)? else {
+        return Err(GatherFault::Foreign(index));
+    };
+    match first_unset(&marks) {
+        Some(number) => Err(GatherFault::Missing(index, number)),
+        None => Ok(()),
+    }
+}
 
 // Whether the batch is the one that is given under its number.
 fn is_given(batch: &Batch, batches: &[Arc<Batch>]) -> bool
@@ -19,7 +49,7 @@ fn is_given(batch: &Batch, batches: &[Arc<Batch>]) -> bool
 
 // For each given batch, in order, whether the journal holds one of its number; and None where a batch in the journal is
 // not the one that is given under its number.
-pub(crate) fn booked_marks(
+fn booked_marks(
     alloc: Global,
     journal: &[Arc<Batch>],
     batches: &[Arc<Batch>],
@@ -40,7 +70,7 @@ pub(crate) fn booked_marks(
 }
 
 // The index of the first mark that isn't set.
-pub(crate) fn first_unset(marks: &[bool]) -> Option<u64>
+fn first_unset(marks: &[bool]) -> Option<u64>
     ensures found { IfSome result (λ n. (n < length marks.now) × (slice_index_or marks.now n true ≡ false)) }
     ensures before { IfSome result (λ n. (m : ℕ) → m < n → slice_index_or marks.now m false ≡ true) }
     ensures none { IfNone result ((m : ℕ) → m < length marks.now → slice_index_or marks.now m false ≡ true) }

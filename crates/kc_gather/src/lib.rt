@@ -9,6 +9,7 @@ mod journal;
 pub mod laws;
 mod parts;
 mod piles;
+mod placed;
 mod tables;
 mod taking;
 

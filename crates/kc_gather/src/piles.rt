@@ -1,6 +1,7 @@
 //! Items that are dealt out in piles, one for each thread, and what the threads answer, joined.
-ghost use Rattle.std.specs.Prelude.{◌≡◌, ◌≤◌, ◌^◌, ◌-◌, length, map, min, IfOk, Ok};
+ghost use Rattle.std.specs.Prelude.{◌≡◌, ◌≤◌, ◌^◌, ◌-◌, length, map, min, IfOk, IfErr, Ok};
 ghost use Rattle.std.specs.List.{flat_map};
+ghost use Rattle.kc_gather.specs.Piles.{IsFirstFault};
 
 use std::alloc::{AllocError, Global};
 use std::mem::replace;
@@ -47,18 +48,22 @@ fn total_weight<T: Weighed>(items: &[T]) -> usize {
     total
 }
 
-/// The lists that were answered, where no answer is want of memory.
-pub(crate) fn all_ok<T: Drop>(
+/// The lists that were answered, or the first fault that was answered.
+pub(crate) fn all_ok<T: Drop, E: Drop>(
     alloc: Global,
-    answers: Vec<Result<Vec<T>, AllocError>>,
-) -> Result<Vec<Vec<T>>, AllocError>
-    ensures { IfOk result (λ lists. map (λ list. Ok list) lists.items ≡ answers.items) }
+    answers: Vec<Result<Vec<T>, E>>,
+) -> Result<Result<Vec<Vec<T>>, E>, AllocError>
+    ensures lists { IfOk result (λ all. IfOk all (λ lists. map (λ list. Ok list) lists.items ≡ answers.items)) }
+    ensures fault { IfOk result (λ all. IfErr all (λ fault. IsFirstFault answers.items fault)) }
 {
     let mut lists = Vec::with_capacity(alloc, answers.len())?;
     for answer in answers {
-        lists.push(answer?)?;
+        match answer {
+            Ok(list) => lists.push(list)?,
+            Err(fault) => return Ok(Err(fault)),
+        }
     }
-    Ok(lists)
+    Ok(Ok(lists))
 }
 
 /// All items, one list after the other. Each list is freed as soon as its items are taken.

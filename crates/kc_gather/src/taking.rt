@@ -1,52 +1,78 @@
-//! The rows that are taken from the stripes of a count.
-ghost use Rattle.std.specs.Prelude.{◌≤◌, IfOk};
-ghost use Rattle.kc_gather.specs.Gathering.{HasRowsOf, HaveRowsOf};
+//! The rows that are taken from the stripes of a count, where these hold what was given.
+ghost use Rattle.std.specs.Prelude.{◌≡◌, ◌≢◌, ◌≤◌, map, All, IfOk, OnOk, IfErr};
+ghost use Rattle.kc_word.specs.Shared.{values};
+ghost use Rattle.kc_gather.specs.declared.fault.GatherFault.TheVariants.{Memory};
+ghost use Rattle.kc_gather.specs.Gathering.{IsWholeThere, IsFirstRefusal, HasRowsOf, HaveRowsOf};
 
+use crate::fault::GatherFault;
+use crate::journal::check_stripe;
 use crate::parts::parted;
-use crate::piles::{Weighed, all_ok, dealt, joined};
-use kc_stripe::Stripe;
+use crate::piles::{all_ok, dealt, joined};
+use crate::placed::Placed;
+use kc_stripe::{Setup, Stripe};
 use kc_table::Counts;
 use kc_tally::Row;
+use kc_word::Batch;
 use std::alloc::{AllocError, Global};
+use std::sync::Arc;
 use std::thread;
 use std::thread::Threads;
 
-// Stripes have about as many words each.
-impl<C: Counts> Weighed for Stripe<C> {
-    fn weight(&self) -> usize {
-        1
-    }
-}
-
-/// The rows of each stripe in parts. Each stripe is freed as soon as its rows are taken.
-pub(crate) fn rows_of_each<C: Counts + Drop>(
+/// The rows of each stripe in parts. It is refused at the first stripe that isn't that of its index, or whose journal
+/// doesn't hold exactly the given batches. Each stripe is freed as soon as its rows are taken.
+pub(crate) fn taken_of_each<C: Counts + Drop>(
     alloc: Global,
-    stripes: Vec<Stripe<C>>,
-) -> Result<Vec<Vec<Vec<Row>>>, AllocError>
-    ensures { IfOk result (λ taken. HaveRowsOf stripes.items taken.items) }
+    stripes: Vec<Placed<C>>,
+    batches: &[Arc<Batch>],
+    setup: &Setup,
+) -> Result<Vec<Vec<Vec<Row>>>, GatherFault>
+    ensures whole { OnOk result (All (IsWholeThere setup.now (values batches.now)) stripes.items) }
+    ensures rows { IfOk result (λ taken. HaveRowsOf (map (λ there. there.stripe) stripes.items) taken.items) }
+    ensures refused { IfErr result (λ fault. fault ≢ Memory
+        → IsFirstRefusal setup.now (values batches.now) stripes.items fault) }
 {
     let mut taken = Vec::with_capacity(alloc, stripes.len())?;
-    for stripe in stripes {
+    for placed in stripes {
+        let Placed { index, stripe } = placed;
+        check_stripe(alloc, index, &stripe, batches, setup)?;
         let parts = rows_of(alloc, stripe)?;
-        taken.push(parts)?;
+        let Ok(()) = taken.push(parts) else {
+            return Err(GatherFault::Memory);
+        };
     }
     Ok(taken)
 }
 
-/// The same with at most so many threads. A single one is started too: the C library lets threads use again what the
-/// threads before them freed, and so rows come to lie where tables were. Condition: one at the least.
-pub(crate) fn rows_in_parallel<C: Counts + Drop + Send, H: Threads + Sync>(
+/// The same with at most so many threads, each of which looks at the stripes that it takes. A single one is started
+/// too: the C library lets threads use again what the threads before them freed, and so rows come to lie where tables
+/// were. Condition: one at the least.
+pub(crate) fn taken_in_parallel<C: Counts + Drop + Send, H: Threads + Sync>(
     rt: &H,
     alloc: Global,
     threads: u32,
-    stripes: Vec<Stripe<C>>,
-) -> Result<Vec<Vec<Vec<Row>>>, AllocError>
+    stripes: Vec<Placed<C>>,
+    batches: &[Arc<Batch>],
+    setup: &Setup,
+) -> Result<Vec<Vec<Vec<Row>>>, GatherFault>
     requires { 1 ≤ threads }
-    ensures { IfOk result (λ taken. HaveRowsOf stripes.items taken.items) }
+    ensures whole { OnOk result (All (IsWholeThere setup.now (values batches.now)) stripes.items) }
+    ensures rows { IfOk result (λ taken. HaveRowsOf (map (λ there. there.stripe) stripes.items) taken.items) }
+    ensures refused { IfErr result (λ fault. fault ≢ Memory
+        → IsFirstRefusal setup.now (values batches.now) stripes.items fault) }
 {
     let piles = dealt(alloc, stripes, threads)?;
-    let answers = thread::map_vec(rt, piles, &|pile| rows_of_each(alloc, pile))?;
-    let lists = all_ok(alloc, answers)?;
+    let answers = thread::map_vec(
+        rt,
+        piles,
+        &|pile: Vec<Placed<C>>| -> Result<Vec<Vec<Vec<Row>>>, GatherFault>
+            ensures whole { OnOk result (All (IsWholeThere setup.entry.now (values batches.entry.now)) pile.items) }
+            ensures rows { IfOk result (λ taken. HaveRowsOf (map (λ there. there.stripe) pile.items) taken.items) }
+            ensures refused { IfErr result (λ fault. fault ≢ Memory
+                → IsFirstRefusal setup.entry.now (values batches.entry.now) pile.items fault) }
+        { taken_of_each(alloc, pile, batches, setup) },
+    )?;
+    let answered = all_ok(alloc, answers)?;
+    let lists = answered?;
     let taken = joined(alloc, lists)?;
     Ok(taken)
 }

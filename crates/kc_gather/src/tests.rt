@@ -164,13 +164,15 @@ fn a_stripe_that_lacks_a_batch_or_has_another(rt: HostRuntime) -> Result<(), Fai
     let setup = setup_of(3, 1).ok_or("no setup")?;
     let booked = batches_of(alloc, &setup, b"AAAA", 2)?;
     let rows = [
-        (b"AAAAC", GatherFault::Missing(0, 1)),
-        (b"CCCCC", GatherFault::Foreign(0)),
+        (b"AAAAC", GatherFault::Missing(0, 1), 0),
+        (b"CCCCC", GatherFault::Foreign(0), 0),
+        (b"AAAAC", GatherFault::Missing(0, 1), 2),
+        (b"CCCCC", GatherFault::Foreign(0), 2),
     ];
-    for (bases, fault) in rows {
+    for (bases, fault, threads) in rows {
         let mut stripes = Vec::new(alloc);
         stripes.push(stripe_of(alloc, &setup, 0, &booked)?)?;
-        let Err(found) = gathered(&rt, 0, alloc, &setup, stripes, bases, 2)? else {
+        let Err(found) = gathered(&rt, threads, alloc, &setup, stripes, bases, 2)? else {
             return Err(Fail::from("a tally"));
         };
         assert!(rt; found == fault);

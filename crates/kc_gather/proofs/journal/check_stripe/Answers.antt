@@ -1,9 +1,8 @@
-use Rattle.std.proofs.Common.{All, refl, sym, ◌∙◌, rules}
-use Rattle.std.proofs.lemmas.List.{length-map}
+use Rattle.std.proofs.Common.{All, refl, rules}
 use Rattle.kc_word.specs.Shared.{values}
 use Rattle.kc_gather.specs.Gathering.{IsGiven}
 use Rattle.kc_gather.proofs.Journals.{none_missing, marks_of, as_many_marks, least_missing, all_numbers}
-use Rattle.kc_gather.proofs.gathering.check_stripe.Goals as goal
+use Rattle.kc_gather.proofs.journal.check_stripe.Goals as goal
 
 pub returns-in-Some-first_unset-clause-refused : goal.returns-in-Some-first_unset-clause-refused
 returns-in-Some-first_unset-clause-refused g c =
@@ -37,7 +36,7 @@ returns-in-Some-first_unset-clause-counted g c =
     let told = rw c.in-Some.is at c.in_ok-marks.ensures in
     let marks = c.deref.result.now in
     let given : All (IsGiven (values c.args.batches.now)) c.args.stripe.now.journal = search rules in
-    none_missing batches journal c.in-Some-first_unset.number c.is_lawful.ensures.numbers_differ given (many ∙ sym (length-map c.args.batches.now (λ batch. batch.value)))
+    none_missing batches journal c.in-Some-first_unset.number c.is_lawful.ensures.numbers_differ given many
     (least_missing batches journal marks c.in-Some-first_unset.number
     (as_many_marks c.args.batches.now c.in-Some.marks.items marks c.deref.ensures.value told.one_each)
     (marks_of c.args.batches.now (values c.journal.result.now) journal c.in-Some.marks.items marks c.journal.ensures c.deref.ensures.value told.marks)
