@@ -8,6 +8,7 @@
 #   COVERAGE    reads over each base (20)
 #   REPORTS     "dump histo"
 #   OPTIONS     more options of kcount, as "--stripes 64"
+#   PEERS       "jellyfish kmc"
 # It needs bin/kcount. The peers are Debian's (apt-get install jellyfish kmc time); one that is missing is left out. Where perf is there
 # (linux-perf), a second table says where kcount's processor time goes, by the functions that its samples fell in.
 . "$(dirname "$0")/lib.sh"
@@ -57,7 +58,7 @@ echo "|---|---|---|---|---|---|---|"
 for report in ${REPORTS:-dump histo}; do
     for threads in ${THREADS:-1 4}; do
         ours=
-        for tool in kcount jellyfish kmc; do
+        for tool in kcount ${PEERS:-jellyfish kmc}; do
             declare -F ${tool}_$report > "$work/which" || continue
             [ $tool = kcount ] || command -v $tool > "$work/which" || continue
             read -r wall processor peak <<< "$(measured $tool "$report" "$threads")"
