@@ -12,14 +12,8 @@
 # It needs bin/kcount. The peers are Debian's (apt-get install jellyfish kmc time); one that is missing is left out. Where perf is there
 # (linux-perf), a second table says where kcount's processor time goes, by the functions that its samples fell in.
 . "$(dirname "$0")/lib.sh"
-genome=${1:-4900000}
+whole_command "${1:-4900000}"
 k=${2:-21}
-kcount=$top/bin/kcount
-[ -x "$kcount" ] || fail "no bin/kcount: run make build first"
-command -v /usr/bin/time > "$work/which" || fail "no /usr/bin/time: apt-get install time"
-"${CC:-cc}" -O2 -o "$work/reads" "$bench/reads.c"
-reads=$work/reads.fq
-"$work/reads" "$genome" "${COVERAGE:-20}" 100 10 1 > "$reads"
 
 # what a tool does with so many threads
 kcount_dump() { "$kcount" count -m $k -C -t "$1" ${OPTIONS:-} --print dump --column -o "$work/kcount.txt" "$reads"; }
@@ -87,8 +81,8 @@ steps() {
                 : /cut_batch|kc_stripe::cut|cut_up/ ? "cut up" \
                 : /book/ ? "book" \
                 : /sort/ ? "sort" \
-                : /kc_gather|gathered|kc_tally/ ? "rows" \
-                : /kc_report|itoa/ ? "text" \
+                : /kc_gather|gathered|fork::run_jobs|kc_tally/ ? "rows" \
+                : /kc_report|write_report|itoa/ ? "text" \
                 : "C library and others"
             shares[step] += $1
         }

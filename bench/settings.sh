@@ -4,15 +4,10 @@
 # the different k-mers stay the same.
 #   bench/settings.sh [GENOME_BASES]       4,900,000
 #   THREADS     numbers of threads ("1 4")
+#   COVERAGE    reads over each base (20)
 # It needs bin/kcount and /usr/bin/time (apt-get install time).
 . "$(dirname "$0")/lib.sh"
-genome=${1:-4900000}
-kcount=$top/bin/kcount
-[ -x "$kcount" ] || fail "no bin/kcount: run make build first"
-command -v /usr/bin/time > "$work/which" || fail "no /usr/bin/time: apt-get install time"
-"${CC:-cc}" -O2 -o "$work/reads" "$bench/reads.c"
-reads=$work/reads.fq
-"$work/reads" "$genome" 20 100 10 1 > "$reads"
+whole_command "${1:-4900000}"
 
 # measured NAME THREADS ARGUMENT..: a line of the table, of the run with the least wall time
 measured() {
