@@ -21,7 +21,7 @@ use crate::progress::{NoProgress, Progress};
 use crate::verbs::{carry_out, verb_named};
 use clap::ArgMatches;
 use clap::error::ErrorKind;
-use kc_command::command;
+use kc_command::command::command;
 use kc_io::{Failed, FromRead, Sink, Source, ToWrite, write_out};
 use std::alloc::{AllocError, AllocFailed, Global};
 use std::io;
