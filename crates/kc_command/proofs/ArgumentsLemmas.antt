@@ -91,18 +91,33 @@ from_threads rows = judged option.Threads (threads_of rows) ∷ from_floor rows
 abbrev from_size : List Row → List Judged
 from_size rows = judged option.Size (size_of rows) ∷ from_threads rows
 
--- where the options before those of a dump are allowed, what is refused of a dump is refused of a count
-pub refused_in_dump : (rows : List Row) (k size workers floor stripes batch : ℕ) (print : Print) (name : OptionName)
-    → mer_len_of rows ≡ Some k → size_of rows ≡ Some size → threads_of rows ≡ Some workers → floor_of rows ≡ Some floor
-    → stripes_of rows ≡ Some stripes → batch_of rows ≡ Some batch → print_of rows ≡ Some print
+-- the options of a count before those of a dump are allowed
+pub record AreAllowedBeforeDump (rows : List Row) : Type 0 where
+  pub k : ℕ
+  pub size : ℕ
+  pub workers : ℕ
+  pub floor : ℕ
+  pub stripes : ℕ
+  pub batch : ℕ
+  pub print : Print
+  pub mer_len_is : mer_len_of rows ≡ Some k
+  pub size_is : size_of rows ≡ Some size
+  pub threads_are : threads_of rows ≡ Some workers
+  pub floor_is : floor_of rows ≡ Some floor
+  pub stripes_are : stripes_of rows ≡ Some stripes
+  pub batch_is : batch_of rows ≡ Some batch
+  pub print_is : print_of rows ≡ Some print
+
+-- where they are, what is refused of a dump is refused of a count
+pub refused_in_dump : (rows : List Row) (name : OptionName) → AreAllowedBeforeDump rows
     → first_bad_of_dump rows ≡ Some name → first_bad rows ≡ Some name
-refused_in_dump rows k size workers floor stripes batch print name a b c d e f g h =
-    passed option.MerLen (mer_len_of rows) k (from_size rows) a
-    ∙ passed option.Size (size_of rows) size (from_threads rows) b
-    ∙ passed option.Threads (threads_of rows) workers (from_floor rows) c
-    ∙ passed option.MinQualChar (floor_of rows) floor (from_stripes rows) d
-    ∙ passed option.Stripes (stripes_of rows) stripes (from_batch rows) e
-    ∙ passed option.Batch (batch_of rows) batch (from_print rows) f
-    ∙ passed option.Print (print_of rows) print (from_lower rows) g
+refused_in_dump rows name of refused =
+    passed option.MerLen (mer_len_of rows) of.k (from_size rows) of.mer_len_is
+    ∙ passed option.Size (size_of rows) of.size (from_threads rows) of.size_is
+    ∙ passed option.Threads (threads_of rows) of.workers (from_floor rows) of.threads_are
+    ∙ passed option.MinQualChar (floor_of rows) of.floor (from_stripes rows) of.floor_is
+    ∙ passed option.Stripes (stripes_of rows) of.stripes (from_batch rows) of.stripes_are
+    ∙ passed option.Batch (batch_of rows) of.batch (from_print rows) of.batch_is
+    ∙ passed option.Print (print_of rows) of.print (from_lower rows) of.print_is
     ∙ longer (judged option.LowerCount (lower_of rows)) (judged option.UpperCount (upper_of rows))
-    (judged option.High (high_of rows) ∷ []) name h
+    (judged option.High (high_of rows) ∷ []) name refused

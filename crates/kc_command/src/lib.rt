@@ -6,8 +6,8 @@
 //! first option whose value is outside its limits is answered as its `OptionName`. `laws` has worked command lines.
 //!
 //! ```text
-//! let words = ["kcount", "count", "-m", "3", "--print=dump"];
-//! let matches = command::command(alloc)?.try_get_matches_from(words)?;
+//! let arguments = ["kcount", "count", "-m", "3", "--print=dump"];
+//! let matches = command::command(alloc)?.try_get_matches_from(arguments)?;
 //! let (name, matches) = matches.subcommand().ok_or("a command")?;
 //! let options = options(alloc, matches)?;    // Options::new(K::new(3)).with_print(Print::Dump)
 //! ```
