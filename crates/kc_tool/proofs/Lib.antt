@@ -1,14 +1,10 @@
-pub mod ArgumentsLemmas
 pub mod CleaningLemmas
-pub mod CommandLemmas
 pub mod CountingLemmas
 pub mod FaultLinesLemmas
 pub mod FilesLemmas
-pub mod NumbersLemmas
 pub mod ReadingLemmas
 pub mod ReportingLemmas
 pub mod RunningLemmas
 pub mod SourcesLemmas
 pub mod TasksLemmas
 pub mod VerbsLemmas
-pub mod SettingsLemmas

@@ -8,7 +8,7 @@ use Rattle.kc_tally.specs.Tally.{TallySeen, IsTallyOf}
 use Rattle.kc_tool.specs.Reading.{ReadsSources}
 use Rattle.kc_tool.specs.Reporting.{BeginsReport, CountEnds, IsReportOf, LeavesUnwritten, WritesReport, WritesText}
 use Rattle.kc_tool.specs.Reporting.{report_of, report_text}
-use Rattle.kc_tool.specs.Settings.{Settings, rule_of}
+use Rattle.kc_command.specs.Settings.{Settings, rule_of}
 use Rattle.kc_tool.specs.declared.faults.ToolFault.{ToolFault}
 use Rattle.kc_tool.specs.declared.faults.ToolFault.TheVariants.{Fastx, BadHeader, BadRow, BadEnd, TableTooLong}
 use Rattle.kc_tool.specs.declared.faults.ToolFault.TheVariants.{TableRead, Memory, BadOption, BadWord, Write, Run}

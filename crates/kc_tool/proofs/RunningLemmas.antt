@@ -12,7 +12,7 @@ use Rattle.clap.specs.declared.error.Error.{Error}
 use Rattle.clap.specs.declared.error.kind.ErrorKind.{ErrorKind}
 use Rattle.clap.specs.declared.error.kind.ErrorKind.TheVariants.{DisplayHelp, DisplayVersion, OutOfMemory}
 use Rattle.kc_io.specs.Sources.{Seen}
-use Rattle.kc_tool.specs.Command.{IsCommand, kcount_app}
+use Rattle.kc_command.specs.Command.{IsCommand, kcount_app}
 use Rattle.kc_tool.specs.Running.{AskForHelp, AreTaken, CarriesOut, DoesCommand, IsHelp, IsTold, ShowsSo}
 use Rattle.kc_tool.specs.Verbs.{EndsSo, name_of, verb_named}
 use Rattle.kc_tool.specs.declared.verbs.Verb.{Verb}
@@ -35,7 +35,7 @@ use Rattle.kc_tool.specs.declared.faults.ToolFault.TheVariants.{
 }
 use Rattle.kc_tool.specs.declared.running.Ending.{Ending}
 use Rattle.kc_tool.specs.declared.running.Ending.TheVariants.{Fault, Refused}
-use Rattle.kc_tool.proofs.CommandLemmas.{names_command}
+use Rattle.kc_command.proofs.CommandLemmas.{names_command}
 
 among : (kinds : Kinds) (error : Error) (kind : ErrorKind) → HasKind kinds error → kind_of error ≡ kind → (kind ≡ OutOfMemory → ⊥) → IsAmong kind kinds
 among kinds error kind (inl none) is other = absurd (other (sym is ∙ none))

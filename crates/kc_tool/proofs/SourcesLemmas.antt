@@ -6,7 +6,7 @@ use Rattle.kc_fastx.specs.Reads.{Read}
 use Rattle.kc_fastx.specs.declared.faults.FastxFault.{FastxFault}
 use Rattle.kc_tool.specs.Reading.{FailsAt, GaveInputs, GaveReads, ReadsSources, RefusesSources}
 use Rattle.kc_tool.specs.Reporting.{IsReportOf}
-use Rattle.kc_tool.specs.Settings.{Settings}
+use Rattle.kc_command.specs.Settings.{Settings}
 use Rattle.kc_tool.specs.declared.faults.ToolFault.{ToolFault}
 use Rattle.kc_tool.specs.declared.faults.ToolFault.TheVariants.{Fastx, BadHeader, BadRow, BadEnd, TableTooLong, TableRead, Memory, BadOption, BadWord, Write, Run, OpenFailed}
 

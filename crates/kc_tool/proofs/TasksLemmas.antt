@@ -4,7 +4,7 @@ use Rattle.std.specs.Prelude.{IsErrOf}
 use Rattle.kc_io.specs.Sinks.{Written}
 use Rattle.kc_io.specs.Sources.{Seen}
 use Rattle.kc_tool.specs.Reporting.{BeginsReport, LeavesUnwritten, WritesReport}
-use Rattle.kc_tool.specs.Settings.{Settings}
+use Rattle.kc_command.specs.Settings.{Settings}
 use Rattle.kc_tool.specs.Tasks.{Does, HasFaultFor}
 use Rattle.kc_tool.specs.declared.faults.ToolFault.{ToolFault}
 use Rattle.kc_tool.specs.declared.faults.ToolFault.TheVariants.{

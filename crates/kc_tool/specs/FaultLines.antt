@@ -2,8 +2,7 @@
 use Rattle.std.specs.Prelude.{ℕ, List, [], ◌∷◌, ◌++◌, codes, decimal, string_bytes}
 use Rattle.kc_fastx.specs.declared.FastxFault.{FastxFault}
 use Rattle.kc_fastx.specs.declared.FastxFault.TheVariants as fastx
-use Rattle.kc_tool.specs.declared.faults.OptionName.{OptionName}
-use Rattle.kc_tool.specs.declared.faults.OptionName.TheVariants as option
+use Rattle.kc_command.specs.OptionName.{option_text}
 use Rattle.kc_tool.specs.declared.faults.ToolFault.{ToolFault}
 use Rattle.kc_tool.specs.declared.faults.ToolFault.TheVariants.{
   Fastx,
@@ -21,19 +20,6 @@ use Rattle.kc_tool.specs.declared.faults.ToolFault.TheVariants.{
 }
 use Rattle.kc_run.specs.declared.fault.RunFault.{RunFault}
 use Rattle.kc_run.specs.declared.fault.RunFault.TheVariants as run
-
--- the long name of an option
-abbrev pub option_text : OptionName → List ℕ
-option_text option.MerLen = codes "--mer-len"
-option_text option.Size = codes "--size"
-option_text option.Threads = codes "--threads"
-option_text option.MinQualChar = codes "--min-qual-char"
-option_text option.Stripes = codes "--stripes"
-option_text option.Batch = codes "--batch"
-option_text option.Print = codes "--print"
-option_text option.LowerCount = codes "--lower-count"
-option_text option.UpperCount = codes "--upper-count"
-option_text option.High = codes "--high"
 
 -- a refusal of a source
 abbrev pub in_source : List ℕ → ℕ → List ℕ

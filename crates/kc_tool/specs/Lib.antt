@@ -1,15 +1,10 @@
-pub mod Arguments
-pub mod Command
 pub mod Counting
 pub mod FaultLines
 pub mod Faults
 pub mod Files
-pub mod Laws
-pub mod Numbers
 pub mod Progress
 pub mod Reading
 pub mod Reporting
 pub mod Running
-pub mod Settings
 pub mod Tasks
 pub mod Verbs

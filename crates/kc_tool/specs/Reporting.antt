@@ -14,9 +14,9 @@ use Rattle.kc_tool.specs.declared.faults.ToolFault.{ToolFault}
 use Rattle.kc_tool.specs.declared.faults.ToolFault.TheVariants.{Memory, Write}
 use Rattle.kc_tool.specs.declared.reporting.Report.{Report}
 use Rattle.kc_tool.specs.declared.reporting.Report.TheVariants.{Table, Dump, Histo, Stats}
-use Rattle.kc_tool.specs.declared.settings.Print.{Print}
-use Rattle.kc_tool.specs.declared.settings.Print.TheVariants as print
-use Rattle.kc_tool.specs.Settings.{Settings, rule_of}
+use Rattle.kc_command.specs.declared.settings.Print.{Print}
+use Rattle.kc_command.specs.declared.settings.Print.TheVariants as print
+use Rattle.kc_command.specs.Settings.{Settings, rule_of}
 
 -- the text of a report on a tally
 abbrev pub report_text : Report → TallySeen → List ℕ

@@ -9,7 +9,7 @@ use Rattle.clap.specs.declared.error.kind.ErrorKind.{ErrorKind}
 use Rattle.clap.specs.declared.error.kind.ErrorKind.TheVariants.{DisplayHelp, DisplayVersion, OutOfMemory}
 use Rattle.kc_io.specs.Sinks.{Written, HasWritten, HasBegun}
 use Rattle.kc_io.specs.Sources.{Seen}
-use Rattle.kc_tool.specs.Command.{kcount_app}
+use Rattle.kc_command.specs.Command.{kcount_app}
 use Rattle.kc_tool.specs.FaultLines.{fault_line}
 use Rattle.kc_tool.specs.Verbs.{EndsSo, name_of}
 use Rattle.kc_tool.specs.declared.verbs.Verb.{Verb}

@@ -5,12 +5,12 @@ use Rattle.std.specs.Str.{bytes_eq}
 use Rattle.clap.specs.Words.{Row, Text}
 use Rattle.kc_io.specs.Sinks.{Written}
 use Rattle.kc_io.specs.Sources.{Seen}
-use Rattle.kc_tool.specs.Arguments.{AsksFor, AsksForDump, first_bad, first_bad_of_dump, first_bad_of_histo, high_of}
+use Rattle.kc_command.specs.Arguments.{AsksFor, AsksForDump, first_bad, first_bad_of_dump, first_bad_of_histo, high_of}
 use Rattle.kc_tool.specs.Files.{AreSources, HappensTo, files_named, output_of, words_asked}
 use Rattle.kc_tool.specs.Tasks.{Does}
 use Rattle.kc_tool.specs.declared.verbs.Verb.{Verb}
 use Rattle.kc_tool.specs.declared.verbs.Verb.TheVariants as verb
-use Rattle.kc_tool.specs.declared.faults.OptionName.{OptionName}
+use Rattle.kc_command.specs.declared.option_name.OptionName.{OptionName}
 use Rattle.kc_tool.specs.declared.faults.ToolFault.{ToolFault}
 use Rattle.kc_tool.specs.declared.faults.ToolFault.TheVariants.{Memory, BadOption, OpenFailed}
 use Rattle.kc_tool.specs.declared.reporting.Report.TheVariants.{Dump, Histo, Stats}

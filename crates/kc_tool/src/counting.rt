@@ -6,12 +6,12 @@ ghost use Rattle.kc_tally.specs.Tally.{IsTallyOf};
 ghost use Rattle.kc_stripe.specs.Setup.{stripe_count};
 ghost use Rattle.kc_tool.specs.Counting.{IsCountingFault};
 ghost use Rattle.kc_tool.specs.Reading.{pieces_of};
-ghost use Rattle.kc_tool.specs.Settings.{rule_of};
+ghost use Rattle.kc_command.specs.Settings.{rule_of};
 
 use crate::faults::ToolFault;
 use crate::progress::Progress;
-use crate::settings::Options;
 use crate::telling::ToldGate;
+use kc_command::Options;
 use kc_gather::laws;
 use kc_hash::Hash;
 use kc_run::{quotient_tables, run};

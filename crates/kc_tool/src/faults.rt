@@ -1,40 +1,15 @@
 //! The refusals of the program.
 ghost use Rattle.std.specs.Prelude.{◌≡◌};
-ghost use Rattle.kc_tool.specs.declared.faults.ToolFault.TheVariants.{Memory, Run, Write};
-ghost use Rattle.kc_tool.specs.FaultLines.{option_text};
+ghost use Rattle.kc_tool.specs.declared.faults.ToolFault.TheVariants.{BadOption, Memory, Run, Write};
 ghost use Rattle.kc_tool.specs.Faults.{report_fault};
 
+use kc_command::OptionName;
 use kc_fastx::FastxFault;
 use kc_io::Failed;
 use kc_report::ReportFault;
 use kc_run::RunFault;
 use std::alloc::{AllocError, AllocFailed};
 use thiserror::Error;
-
-/// An option of the command line whose value can be refused, in the order in which they are judged.
-#[derive(Clone, Copy, Debug, PartialEq, Eq)]
-pub enum OptionName {
-    /// `--mer-len`
-    MerLen,
-    /// `--size`
-    Size,
-    /// `--threads`
-    Threads,
-    /// `--min-qual-char`
-    MinQualChar,
-    /// `--stripes`
-    Stripes,
-    /// `--batch`
-    Batch,
-    /// `--print`
-    Print,
-    /// `--lower-count`
-    LowerCount,
-    /// `--upper-count`
-    UpperCount,
-    /// `--high`
-    High,
-}
 
 /// Why a command could not be carried out.
 #[derive(Debug, Drop, PartialEq, Eq, Error)]
@@ -82,26 +57,6 @@ pub enum ToolFault {
     OpenFailed(String),
 }
 
-impl OptionName {
-    /// The long name, as it stands on the command line.
-    pub fn text(self) -> &'static str
-        ensures { result.now ≡ option_text self }
-    {
-        match self {
-            OptionName::MerLen => "--mer-len",
-            OptionName::Size => "--size",
-            OptionName::Threads => "--threads",
-            OptionName::MinQualChar => "--min-qual-char",
-            OptionName::Stripes => "--stripes",
-            OptionName::Batch => "--batch",
-            OptionName::Print => "--print",
-            OptionName::LowerCount => "--lower-count",
-            OptionName::UpperCount => "--upper-count",
-            OptionName::High => "--high",
-        }
-    }
-}
-
 impl From<AllocError> for ToolFault {
     ghost from_gives = { λ _ fault. fault ≡ Memory };
 
@@ -123,6 +78,14 @@ impl From<Failed> for ToolFault {
 
     fn from(_error: Failed) -> ToolFault {
         ToolFault::Write
+    }
+}
+
+impl From<OptionName> for ToolFault {
+    ghost from_gives = { λ name fault. fault ≡ BadOption name };
+
+    fn from(name: OptionName) -> ToolFault {
+        ToolFault::BadOption(name)
     }
 }
 

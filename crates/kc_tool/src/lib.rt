@@ -18,27 +18,22 @@
 #![tactic(auto)]
 
 mod arguments;
-mod command;
-mod command_arguments;
 mod counting;
 mod fault_lines;
 mod faults;
 mod files;
-mod help;
-pub mod laws;
-mod numbers;
 mod progress;
 mod reading;
 mod reporting;
 mod running;
-mod settings;
 mod tasks;
 mod telling;
 mod verbs;
 
 pub use arguments::{dump_options, high_of, options};
 pub use fault_lines::write_fault;
-pub use faults::{OptionName, ToolFault};
+pub use faults::ToolFault;
+pub use kc_command::{OptionName, Options, Print, laws};
 pub use kc_io::{Sink, ToVec, ToWrite};
 pub use kc_report::{
     Dump, GREATEST_HIGH, ReportFault, query, read_table, write_dump, write_histo, write_stats,
@@ -50,4 +45,3 @@ pub use kc_word::K;
 pub use progress::{NoProgress, Progress, ProgressLine};
 pub use reporting::count_reads;
 pub use running::{program, program_showing, run};
-pub use settings::{Options, Print};

@@ -2,12 +2,12 @@
 ghost use Rattle.std.specs.Prelude.{◌≤◌, IfOk, IfErr};
 ghost use Rattle.kc_fastx.specs.Parsing.{most_bytes};
 ghost use Rattle.kc_tool.specs.Reading.{CutsSources, RefusesSources, CutsPieces, RefusesSource};
-ghost use Rattle.kc_tool.specs.Settings.{rule_of};
+ghost use Rattle.kc_command.specs.Settings.{rule_of};
 
 use crate::faults::ToolFault;
 use crate::progress::Progress;
-use crate::settings::Options;
 use crate::telling::ToldSource;
+use kc_command::Options;
 use kc_fastx::{FastxFault, Reading, Source};
 use kc_word::{Cutting, Rule, clean};
 use std::alloc::Global;

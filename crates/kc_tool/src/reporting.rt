@@ -8,7 +8,7 @@ use crate::counting::tally_of;
 use crate::faults::ToolFault;
 use crate::progress::{NoProgress, Progress};
 use crate::reading::cut_sources;
-use crate::settings::{Options, Print};
+use kc_command::{Options, Print};
 use kc_io::{Sink, Source};
 use kc_report::{write_dump, write_histo, write_stats, write_table};
 use kc_tally::Tally;

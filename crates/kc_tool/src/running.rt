@@ -2,7 +2,7 @@
 ghost use Rattle.std.specs.Prelude.{◌≡◌, ◌≤◌, ◌⊎◌, IfErr, IfOk, map, string_bytes};
 ghost use Rattle.clap.specs.Faults.{fault_of};
 ghost use Rattle.clap.specs.Kinds.{HasKind};
-ghost use Rattle.kc_tool.specs.Command.{kcount_app};
+ghost use Rattle.kc_command.specs.Command.{kcount_app};
 ghost use Rattle.kc_tool.specs.Running.{
   AreTaken,
   CarriesOut,
@@ -15,13 +15,13 @@ ghost use Rattle.kc_tool.specs.Running.{
 ghost use Rattle.kc_tool.specs.declared.faults.ToolFault.TheVariants.{Memory, Write};
 ghost use Rattle.kc_tool.specs.declared.running.Ending.TheVariants.{Fault};
 
-use crate::command::command;
 use crate::fault_lines::write_fault;
 use crate::faults::ToolFault;
 use crate::progress::{NoProgress, Progress};
 use crate::verbs::{carry_out, verb_named};
 use clap::ArgMatches;
 use clap::error::ErrorKind;
+use kc_command::command::command;
 use kc_io::{Failed, FromRead, Sink, Source, ToWrite, write_out};
 use std::alloc::{AllocError, AllocFailed, Global};
 use std::io;

@@ -5,7 +5,7 @@ ghost use Rattle.kc_tool.specs.Tasks.{CanBeDone, Does, TellOneTable, TellNoTable
 use crate::faults::ToolFault;
 use crate::progress::Progress;
 use crate::reporting::{Report, count_showing, write_report};
-use crate::settings::Options;
+use kc_command::Options;
 use kc_io::{Sink, Source};
 use kc_report::{query, read_table};
 use kc_tally::Tally;

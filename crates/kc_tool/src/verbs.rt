@@ -6,14 +6,15 @@ ghost use Rattle.kc_tool.specs.Files.{HappensTo, IsUncreated};
 ghost use Rattle.kc_tool.specs.Tasks.{CanBeDone, Does, HasWritableReport};
 ghost use Rattle.kc_tool.specs.Verbs.{AsksForTask, EndsSo, IsRefused, files_of, verb_named};
 
-use crate::arguments::{dump_options, high_of, options, text_of};
-use crate::command::{COUNT, DUMP, HISTO, QUERY, STATS};
+use crate::arguments::{dump_options, high_of, options};
 use crate::faults::ToolFault;
 use crate::files::{create_file, open_files};
 use crate::progress::Progress;
 use crate::reporting::Report;
 use crate::tasks::{Task, do_task};
 use clap::ArgMatches;
+use kc_command::command::{COUNT, DUMP, HISTO, QUERY, STATS};
+use kc_command::text_of;
 use kc_io::{Sink, Source};
 use std::alloc::{AllocError, Global};
 use std::rt::Files;

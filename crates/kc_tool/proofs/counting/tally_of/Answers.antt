@@ -1,7 +1,7 @@
 use Rattle.std.proofs.Common.{◌∙◌, ap, sym, length, arith}
 use Rattle.std.proofs.lemmas.List.{length-map}
 use Rattle.kc_tool.specs.Reading.{pieces_of}
-use Rattle.kc_tool.specs.Settings.{rule_of}
+use Rattle.kc_command.specs.Settings.{rule_of}
 use Rattle.kc_tool.proofs.CountingLemmas.{few_batches, small_cutting}
 use Rattle.kc_tool.proofs.counting.tally_of.Goals as goal
 

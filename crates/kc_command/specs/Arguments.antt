@@ -1,0 +1,153 @@
+-- What the options of a command ask for: source, the table of options in the README. A row is what `clap` found for an
+-- option: its values and where they came from.
+use Rattle.std.specs.Prelude.{◌≡◌, ℕ, ◌^◌, ◌==◌, Bool, true, false, nat_le, ◌&&◌, List, [], ◌∷◌, codes, if◌then◌else◌}
+use Rattle.std.specs.Prelude.{Option, Some, None, is_none, option_map, Result, Ok, Err}
+use Rattle.std.specs.List.{list_any}
+use Rattle.std.specs.Option.{option_and_then}
+use Rattle.std.specs.Str.{bytes_eq}
+use Rattle.clap.specs.Words.{Row, Text, first_of, one_of}
+use Rattle.kc_report.specs.declared.dumping.Dump.{Dump}
+use Rattle.kc_command.specs.Numbers.{number_between, scaled_between}
+use Rattle.kc_command.specs.Settings.{Settings, lowered}
+use Rattle.kc_command.specs.declared.option_name.OptionName.{OptionName}
+use Rattle.kc_command.specs.declared.option_name.OptionName.TheVariants as option
+use Rattle.kc_command.specs.declared.settings.Print.{Print}
+use Rattle.kc_command.specs.declared.settings.Print.TheVariants as report
+
+-- What an option asks for: what its text says, where that is allowed; and where it is not given, its default.
+
+abbrev pub or_default : {X : Type 0} → X → (Text → Option X) → Option Text → Option X
+or_default default value None = Some default
+or_default default value (Some text) = value text
+
+-- `--mer-len`, the length of the words, 1 to 31; it has to be given
+abbrev pub mer_len_of : List Row → Option ℕ
+mer_len_of rows = option_and_then (number_between 1 31) (first_of (codes "mer-len") rows)
+
+-- `--size`, the slots that the tables begin with, 1 to 2^40, with a suffix or without one; 1000000
+abbrev pub size_of : List Row → Option ℕ
+size_of rows = or_default 1000000 (scaled_between 1 (2 ^ 40)) (first_of (codes "size") rows)
+
+-- `--threads`, 1 to 64; 1
+abbrev pub threads_of : List Row → Option ℕ
+threads_of rows = or_default 1 (number_between 1 64) (first_of (codes "threads") rows)
+
+-- the one byte of a text, where it is 33 to 126
+abbrev pub quality_byte : Text → Option ℕ
+quality_byte (byte ∷ []) = if nat_le 33 byte && nat_le byte 126 then Some byte else None
+quality_byte _ = None
+
+-- `--min-qual-char`, the floor of qualities; `!`, which every quality passes
+abbrev pub floor_of : List Row → Option ℕ
+floor_of rows = or_default 33 quality_byte (first_of (codes "min-qual-char") rows)
+
+-- the powers of two up to 64
+abbrev pub is_stripe_count : ℕ → Bool
+is_stripe_count number = list_any (λ power. number == power) (1 ∷ 2 ∷ 4 ∷ 8 ∷ 16 ∷ 32 ∷ 64 ∷ [])
+
+-- the number, where it is one of them
+abbrev pub as_stripes : ℕ → Option ℕ
+as_stripes number = if is_stripe_count number then Some number else None
+
+-- `--stripes`, before it is lowered to the number of words; 16
+abbrev pub stripes_of : List Row → Option ℕ
+stripes_of rows =
+    or_default 16 (λ text. option_and_then as_stripes (number_between 1 64 text)) (first_of (codes "stripes") rows)
+
+-- `--batch`, the positions of a batch, 1 to 2^36; 65536
+abbrev pub batch_of : List Row → Option ℕ
+batch_of rows = or_default 65536 (number_between 1 (2 ^ 36)) (first_of (codes "batch") rows)
+
+-- the report of this name
+abbrev pub report_named : Text → Option Print
+report_named text = if bytes_eq text (codes "table") then Some report.Table
+    else if bytes_eq text (codes "dump") then Some report.Dump
+    else if bytes_eq text (codes "histo") then Some report.Histo
+    else if bytes_eq text (codes "stats") then Some report.Stats
+    else None
+
+-- `--print`, the report that is written; the table
+abbrev pub print_of : List Row → Option Print
+print_of rows = or_default report.Table report_named (first_of (codes "print") rows)
+
+-- `--lower-count`, the least count that a dump shows, 0 to 2^62; 0
+abbrev pub lower_of : List Row → Option ℕ
+lower_of rows = or_default 0 (number_between 0 (2 ^ 62)) (first_of (codes "lower-count") rows)
+
+-- `--upper-count`, the greatest count that a dump shows, 0 to 2^62; 2^62
+abbrev pub upper_of : List Row → Option ℕ
+upper_of rows = or_default (2 ^ 62) (number_between 0 (2 ^ 62)) (first_of (codes "upper-count") rows)
+
+-- `--high`, the greatest count that has a line of its own in a histogram, 1 to 10000000; 10000
+abbrev pub high_of : List Row → Option ℕ
+high_of rows = or_default 10000 (number_between 1 10000000) (first_of (codes "high") rows)
+
+-- the value is the one that is asked for; or where it is outside its limits, its option is refused
+abbrev pub IsValueOf : {X : Type 0} → OptionName → Option X → Result X OptionName → Type 0
+IsValueOf name asked (Ok value) = asked ≡ Some value
+IsValueOf name asked (Err refused) = (asked ≡ None) × (refused ≡ name)
+
+-- Which value is refused: the first that is outside its limits, in the order of the help, whether it acts or not.
+
+-- an option, and whether its value is outside its limits
+pub record Judged : Type 0 where
+  pub name : OptionName
+  pub is_bad : Bool
+
+abbrev pub first_of_bad : List Judged → Option OptionName
+first_of_bad [] = None
+first_of_bad (judged ∷ rest) = if judged.is_bad then Some judged.name else first_of_bad rest
+
+abbrev pub judged : {X : Type 0} → OptionName → Option X → Judged
+judged name value = record { name = name; is_bad = is_none value }
+
+-- of `count`
+abbrev pub first_bad : List Row → Option OptionName
+first_bad rows = first_of_bad (judged option.MerLen (mer_len_of rows)
+    ∷ judged option.Size (size_of rows)
+    ∷ judged option.Threads (threads_of rows)
+    ∷ judged option.MinQualChar (floor_of rows)
+    ∷ judged option.Stripes (stripes_of rows)
+    ∷ judged option.Batch (batch_of rows)
+    ∷ judged option.Print (print_of rows)
+    ∷ judged option.LowerCount (lower_of rows)
+    ∷ judged option.UpperCount (upper_of rows)
+    ∷ judged option.High (high_of rows)
+    ∷ [])
+
+-- of `dump`
+abbrev pub first_bad_of_dump : List Row → Option OptionName
+first_bad_of_dump rows =
+    first_of_bad (judged option.LowerCount (lower_of rows) ∷ judged option.UpperCount (upper_of rows) ∷ [])
+
+-- of `histo`
+abbrev pub first_bad_of_histo : List Row → Option OptionName
+first_bad_of_histo rows = first_of_bad (judged option.High (high_of rows) ∷ [])
+
+-- What all options together ask for.
+
+-- a flag is up where it was given, and down where it was not
+pub record IsFlag (rows : List Row) (id : Text) (flag : Bool) : Type 0 where
+  pub given : one_of id rows ≡ Some (codes "true") → flag ≡ true
+  pub unset : one_of id rows ≡ Some (codes "false") → flag ≡ false
+  pub absent : one_of id rows ≡ None → flag ≡ false
+
+-- the options of a dump ask for this dump
+pub record AsksForDump (rows : List Row) (dump : Dump) : Type 0 where
+  pub column : IsFlag rows (codes "column") dump.column
+  pub tab : IsFlag rows (codes "tab") dump.tab
+  pub lower : lower_of rows ≡ Some dump.lower
+  pub upper : upper_of rows ≡ Some dump.upper
+
+-- the options of a count ask for these settings
+pub record AsksFor (rows : List Row) (settings : Settings) : Type 0 where
+  pub mer_len : mer_len_of rows ≡ Some settings.k
+  pub size : size_of rows ≡ Some settings.size
+  pub threads : threads_of rows ≡ Some settings.workers
+  pub canonical : IsFlag rows (codes "canonical") settings.both
+  pub min_qual_char : floor_of rows ≡ Some settings.floor
+  pub stripes : option_map (lowered settings.k) (stripes_of rows) ≡ Some settings.stripes
+  pub batch : batch_of rows ≡ Some settings.batch
+  pub print : print_of rows ≡ Some settings.print
+  pub dump : AsksForDump rows settings.dump
+  pub high : high_of rows ≡ Some settings.high

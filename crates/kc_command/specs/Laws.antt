@@ -1,0 +1,169 @@
+-- Worked rows of the command line, computed from the definitions.
+use Rattle.std.specs.Prelude.{◌≡◌, ◌^◌, List, [], ◌∷◌, Option, Some, None, codes, option_map, unwrap_or}
+use Rattle.clap.specs.Faults.{fault_of}
+use Rattle.clap.specs.Words.{Row, Text, all_of, first_of, one_of, subcommand_of}
+use Rattle.clap.specs.declared.error.kind.ErrorKind.TheVariants.{
+  ArgumentConflict,
+  DisplayHelp,
+  DisplayVersion,
+  InvalidSubcommand,
+  MissingRequiredArgument,
+  MissingSubcommand,
+  UnknownArgument,
+}
+use Rattle.kc_command.specs.Arguments.{
+  batch_of,
+  first_bad,
+  first_bad_of_dump,
+  first_bad_of_histo,
+  floor_of,
+  high_of,
+  lower_of,
+  mer_len_of,
+  print_of,
+  size_of,
+  stripes_of,
+  threads_of,
+  upper_of,
+}
+use Rattle.kc_command.specs.Command.{kcount_app}
+use Rattle.kc_command.specs.Numbers.{scaled_between}
+use Rattle.kc_command.specs.Settings.{lowered}
+use Rattle.kc_command.specs.declared.option_name.OptionName.{OptionName}
+use Rattle.kc_command.specs.declared.option_name.OptionName.TheVariants as option
+use Rattle.kc_command.specs.declared.settings.Print.TheVariants as report
+
+-- what was found of the options of a command
+abbrev pub options_of : List Text → List Row
+options_of arguments = unwrap_or (option_map (λ met. met.1) (subcommand_of kcount_app arguments)) []
+
+-- `kcount count`, with these arguments behind it
+abbrev pub count_with : List Text → List Text
+count_with options = codes "kcount" ∷ codes "count" ∷ options
+
+-- `kcount dump`, with these arguments behind it
+abbrev pub dump_with : List Text → List Text
+dump_with options = codes "kcount" ∷ codes "dump" ∷ options
+
+-- `kcount query`, with these arguments behind it
+abbrev pub query_with : List Text → List Text
+query_with options = codes "kcount" ∷ codes "query" ∷ options
+
+-- which option of `kcount count -m 3`, with one more option and its value, is refused
+abbrev pub refused : Text → Text → Option OptionName
+refused option value = first_bad (options_of (count_with (codes "-m" ∷ codes "3" ∷ option ∷ value ∷ [])))
+
+-- `kcount count -Cm3 --print=dump --batch 7`
+abbrev pub both_strands : List Text
+both_strands = count_with (codes "-Cm3" ∷ codes "--print=dump" ∷ codes "--batch" ∷ codes "7" ∷ [])
+
+-- counts words of length 3 on both strands, in batches of 7, and dumps them in lines; all else is as it is usual
+pub record CountsBothStrands : Type 0 where
+  pub taken : fault_of kcount_app both_strands ≡ []
+  pub good : first_bad (options_of both_strands) ≡ None
+  pub mer_len : mer_len_of (options_of both_strands) ≡ Some 3
+  pub canonical : one_of (codes "canonical") (options_of both_strands) ≡ Some (codes "true")
+  pub batch : batch_of (options_of both_strands) ≡ Some 7
+  pub print : print_of (options_of both_strands) ≡ Some report.Dump
+  pub size : size_of (options_of both_strands) ≡ Some 1000000
+  pub threads : threads_of (options_of both_strands) ≡ Some 1
+  pub floor : floor_of (options_of both_strands) ≡ Some 33
+  pub stripes : stripes_of (options_of both_strands) ≡ Some 16
+  pub column : one_of (codes "column") (options_of both_strands) ≡ Some (codes "false")
+  pub lower : lower_of (options_of both_strands) ≡ Some 0
+  pub upper : upper_of (options_of both_strands) ≡ Some (2 ^ 62)
+  pub high : high_of (options_of both_strands) ≡ Some 10000
+  pub files : all_of (codes "file") (options_of both_strands) ≡ None
+
+-- `kcount count a.fa -m 3 -o out b.fa`
+abbrev pub two_files : List Text
+two_files = count_with (codes "a.fa" ∷ codes "-m" ∷ codes "3" ∷ codes "-o" ∷ codes "out" ∷ codes "b.fa" ∷ [])
+
+-- counts two files into a third
+pub record CountsFiles : Type 0 where
+  pub taken : fault_of kcount_app two_files ≡ []
+  pub files : all_of (codes "file") (options_of two_files) ≡ Some (codes "a.fa" ∷ codes "b.fa" ∷ [])
+  pub output : first_of (codes "output") (options_of two_files) ≡ Some (codes "out")
+
+-- numbers with a suffix: what they are where they are 1 to 2^40, and else none
+pub record ScalesNumbers : Type 0 where
+  pub thousands : scaled_between 1 (2 ^ 40) (codes "2k") ≡ Some 2000
+  pub millions : scaled_between 1 (2 ^ 40) (codes "0030M") ≡ Some 30000000
+  pub billions : scaled_between 1 (2 ^ 40) (codes "1G") ≡ Some 1000000000
+  pub plain : scaled_between 1 (2 ^ 40) (codes "1099511627776") ≡ Some (2 ^ 40)
+  pub above : scaled_between 1 (2 ^ 40) (codes "1099511627777") ≡ None
+  pub scaled_above : scaled_between 1 (2 ^ 40) (codes "1100G") ≡ None
+  pub never_wraps : scaled_between 1 (2 ^ 40) (codes "18446744073709551617") ≡ None
+  pub nor_scaled : scaled_between 1 (2 ^ 40) (codes "18446744073709551617k") ≡ None
+  pub below : scaled_between 1 (2 ^ 40) (codes "0k") ≡ None
+  pub no_digits : scaled_between 1 (2 ^ 40) (codes "k") ≡ None
+  pub empty : scaled_between 1 (2 ^ 40) [] ≡ None
+  pub other_case : scaled_between 1 (2 ^ 40) (codes "2K") ≡ None
+  pub two_suffixes : scaled_between 1 (2 ^ 40) (codes "2kk") ≡ None
+  pub signed : scaled_between 1 (2 ^ 40) (codes "+2") ≡ None
+
+-- values of `kcount count -m 3` at their limits and past them
+pub record KeepsLimits : Type 0 where
+  pub size : refused (codes "-s") (codes "1100G") ≡ Some option.Size
+  pub threads : refused (codes "-t") (codes "65") ≡ Some option.Threads
+  pub most_threads : refused (codes "-t") (codes "64") ≡ None
+  pub no_suffix : refused (codes "-t") (codes "1k") ≡ Some option.Threads
+  pub blank : refused (codes "--min-qual-char") (codes " ") ≡ Some option.MinQualChar
+  pub minus : refused (codes "--min-qual-char") (codes "-") ≡ None
+  pub two_bytes : refused (codes "--min-qual-char") (codes "II") ≡ Some option.MinQualChar
+  pub stripes : refused (codes "--stripes") (codes "3") ≡ Some option.Stripes
+  pub most_stripes : refused (codes "--stripes") (codes "64") ≡ None
+  pub batch : refused (codes "--batch") (codes "68719476737") ≡ Some option.Batch
+  pub print : refused (codes "--print") (codes "Table") ≡ Some option.Print
+  pub lower : refused (codes "--lower-count") (codes "4611686018427387905") ≡ Some option.LowerCount
+  pub upper : refused (codes "--upper-count") (codes "4611686018427387904") ≡ None
+  pub high : refused (codes "--high") (codes "0") ≡ Some option.High
+  pub greatest_high : refused (codes "--high") (codes "10000000") ≡ None
+
+-- `kcount count -t 0 -s 0 -m 3`
+abbrev pub two_bad : List Text
+two_bad = count_with (codes "-t" ∷ codes "0" ∷ codes "-s" ∷ codes "0" ∷ codes "-m" ∷ codes "3" ∷ [])
+
+-- `kcount count -m 1 --stripes 64`
+abbrev pub many_stripes : List Text
+many_stripes = count_with (codes "-m" ∷ codes "1" ∷ codes "--stripes" ∷ codes "64" ∷ [])
+
+-- of several bad values the first in the order of the help is told; `--mer-len` has to be given; and stripes are
+-- lowered to the number of words
+pub record JudgesInOrder : Type 0 where
+  pub first : first_bad (options_of two_bad) ≡ Some option.Size
+  pub mer_len : first_bad (options_of (count_with (codes "--batch=0" ∷ codes "-m32" ∷ []))) ≡ Some option.MerLen
+  pub absent : first_bad (options_of (count_with [])) ≡ Some option.MerLen
+  pub good : first_bad (options_of many_stripes) ≡ None
+  pub lowered_stripes : option_map (lowered 1) (stripes_of (options_of many_stripes)) ≡ Some 4
+
+-- `kcount dump -ctL 2 -U5 t.kct`
+abbrev pub bounded_dump : List Text
+bounded_dump = dump_with (codes "-ctL" ∷ codes "2" ∷ codes "-U5" ∷ codes "t.kct" ∷ [])
+
+-- the commands over a table
+pub record ReadsTables : Type 0 where
+  pub taken : fault_of kcount_app bounded_dump ≡ []
+  pub good : first_bad_of_dump (options_of bounded_dump) ≡ None
+  pub column : one_of (codes "column") (options_of bounded_dump) ≡ Some (codes "true")
+  pub tab : one_of (codes "tab") (options_of bounded_dump) ≡ Some (codes "true")
+  pub lower : lower_of (options_of bounded_dump) ≡ Some 2
+  pub upper : upper_of (options_of bounded_dump) ≡ Some 5
+  pub file : all_of (codes "file") (options_of bounded_dump) ≡ Some (codes "t.kct" ∷ [])
+  pub second_file : fault_of kcount_app (dump_with (codes "a" ∷ codes "b" ∷ [])) ≡ UnknownArgument ∷ []
+  pub high : first_bad_of_histo (options_of (codes "kcount" ∷ codes "histo" ∷ codes "--high=0" ∷ []))
+      ≡ Some option.High
+  pub no_word : fault_of kcount_app (query_with (codes "t.kct" ∷ [])) ≡ MissingRequiredArgument ∷ []
+  pub words : all_of (codes "word") (options_of (query_with (codes "t.kct" ∷ codes "CGT" ∷ codes "aaa" ∷ [])))
+      ≡ Some (codes "CGT" ∷ codes "aaa" ∷ [])
+
+-- these are no command lines, or ask for help
+pub record Refuses : Type 0 where
+  pub no_command : fault_of kcount_app (codes "kcount" ∷ []) ≡ MissingSubcommand ∷ []
+  pub other_command : fault_of kcount_app (codes "kcount" ∷ codes "frob" ∷ [])
+      ≡ UnknownArgument ∷ InvalidSubcommand ∷ []
+  pub other_option : fault_of kcount_app (count_with (codes "--frob" ∷ [])) ≡ UnknownArgument ∷ []
+  pub option_of_dump : fault_of kcount_app (count_with (codes "-L" ∷ codes "2" ∷ [])) ≡ UnknownArgument ∷ []
+  pub twice : fault_of kcount_app (count_with (codes "-m3" ∷ codes "-m4" ∷ [])) ≡ ArgumentConflict ∷ []
+  pub help : fault_of kcount_app (count_with (codes "--help" ∷ [])) ≡ DisplayHelp ∷ []
+  pub version : fault_of kcount_app (codes "kcount" ∷ codes "--version" ∷ []) ≡ DisplayVersion ∷ []

@@ -1,0 +1,6 @@
+pub mod Arguments
+pub mod Command
+pub mod Laws
+pub mod Numbers
+pub mod OptionName
+pub mod Settings

@@ -1,0 +1,70 @@
+-- How to count, and what to write: source, the table of options in the README.
+use Rattle.std.specs.Prelude.{◌≡◌, ℕ, ◌^◌, ◌≤◌, Bool, false, min}
+use Rattle.kc_word.specs.Rule.{CountingRule}
+use Rattle.kc_report.specs.declared.dumping.Dump.{Dump}
+use Rattle.kc_command.specs.declared.settings.Print.{Print}
+use Rattle.kc_command.specs.declared.settings.Print.TheVariants.{Table}
+
+-- the length of the words; the slots that the tables begin with, over all stripes; the threads; whether both strands
+-- count; the least quality byte that counts; the stripes; the positions of a batch; which report is written; how a dump
+-- is; and the greatest count that has a line of its own in a histogram
+pub record Settings : Type 0 where
+  pub k : ℕ
+  pub size : ℕ
+  pub workers : ℕ
+  pub both : Bool
+  pub floor : ℕ
+  pub stripes : ℕ
+  pub batch : ℕ
+  pub print : Print
+  pub dump : Dump
+  pub high : ℕ
+
+-- a number of stripes that can be asked for: a power of two, at most 64
+pub record AreStripes (stripes : ℕ) : Type 0 where
+  pub power : (s : ℕ) × (stripes ≡ 2 ^ s)
+  pub at_most : stripes ≤ 64
+
+-- the limits of what can be set; there are no more stripes than words
+pub record IsWithinLimits (settings : Settings) : Type 0 where
+  pub size_low : 1 ≤ settings.size
+  pub size_high : settings.size ≤ 2 ^ 40
+  pub workers_low : 1 ≤ settings.workers
+  pub workers_high : settings.workers ≤ 64
+  pub floor_low : 33 ≤ settings.floor
+  pub floor_high : settings.floor ≤ 126
+  pub stripes : AreStripes settings.stripes
+  pub stripes_few : settings.stripes ≤ 4 ^ settings.k
+  pub batch_low : 1 ≤ settings.batch
+  pub batch_high : settings.batch ≤ 2 ^ 36
+  pub lower : settings.dump.lower ≤ 2 ^ 62
+  pub upper : settings.dump.upper ≤ 2 ^ 62
+  pub high_low : 1 ≤ settings.high
+  pub high_high : settings.high ≤ 10000000
+
+-- so many stripes, or as many as there are words of length k where these are fewer
+abbrev pub lowered : ℕ → ℕ → ℕ
+lowered k stripes = min stripes (4 ^ k)
+
+-- a dump of all rows, in lines
+abbrev pub whole_dump : Dump
+whole_dump = record { column = false; tab = false; lower = 0; upper = 2 ^ 62 }
+
+-- what is set where nothing else is asked for
+abbrev pub defaults : ℕ → Settings
+defaults k = record {
+  k = k;
+  size = 1000000;
+  workers = 1;
+  both = false;
+  floor = 33;
+  stripes = lowered k 16;
+  batch = 65536;
+  print = Table;
+  dump = whole_dump;
+  high = 10000;
+}
+
+-- by which rule the words count
+abbrev pub rule_of : Settings → CountingRule
+rule_of settings = record { k = settings.k; both = settings.both; floor = settings.floor }

@@ -1,0 +1,255 @@
+//! The options and arguments of the commands, each as `clap` reads it, with its help.
+ghost use Rattle.std.specs.Prelude.{◌≡◌, false};
+ghost use Rattle.clap.specs.Words.{rule_of};
+ghost use Rattle.kc_command.specs.Command.{
+  batch_option,
+  canonical_option,
+  column_option,
+  file_argument,
+  files_argument,
+  flag_option,
+  high_option,
+  lower_count_option,
+  mer_len_option,
+  min_qual_char_option,
+  one_argument,
+  output_option,
+  print_option,
+  required,
+  several_arguments,
+  size_option,
+  stripes_option,
+  tab_option,
+  table_argument,
+  threads_option,
+  upper_count_option,
+  value_option,
+  with_short,
+  words_argument,
+};
+
+use clap::{Arg, ArgAction};
+use std::alloc::Global;
+
+/// `-m`, `--mer-len`
+pub(crate) fn mer_len<'a>(alloc: Global) -> Arg<'a>
+    ensures rule { rule_of result ≡ mer_len_option }
+    ensures own { result.global ≡ false }
+{
+    let help = "Length of the k-mers, 1 to 31; it has to be given";
+    with_short(value_option(alloc, "mer-len", "K", help), 'm')
+}
+
+/// `-s`, `--size`
+pub(crate) fn size<'a>(alloc: Global) -> Arg<'a>
+    ensures rule { rule_of result ≡ size_option }
+    ensures own { result.global ≡ false }
+{
+    let help = "Slots that the tables begin with, one for each different k-mer, 1 to 2^40,{n}\
+        as 500, 20k or 2G [default: 1M]";
+    with_short(value_option(alloc, "size", "N", help), 's')
+}
+
+/// `-t`, `--threads`
+pub(crate) fn threads<'a>(alloc: Global) -> Arg<'a>
+    ensures rule { rule_of result ≡ threads_option }
+    ensures own { result.global ≡ false }
+{
+    let help = "Threads that count, 1 to 64 [default: 1]";
+    with_short(value_option(alloc, "threads", "N", help), 't')
+}
+
+/// `-C`, `--canonical`
+pub(crate) fn canonical<'a>(alloc: Global) -> Arg<'a>
+    ensures rule { rule_of result ≡ canonical_option }
+    ensures own { result.global ≡ false }
+{
+    let help = "Count both strands: a k-mer under the lesser of it and its reverse complement";
+    with_short(flag_option(alloc, "canonical", help), 'C')
+}
+
+/// `-o`, `--output`
+pub(crate) fn output<'a>(alloc: Global) -> Arg<'a>
+    ensures rule { rule_of result ≡ output_option }
+    ensures own { result.global ≡ false }
+{
+    let help = "Write to this file, which is emptied first, and not to standard output";
+    with_short(value_option(alloc, "output", "FILE", help), 'o')
+}
+
+/// `--min-qual-char`
+pub(crate) fn min_qual_char<'a>(alloc: Global) -> Arg<'a>
+    ensures rule { rule_of result ≡ min_qual_char_option }
+    ensures own { result.global ≡ false }
+{
+    let help = "Least quality character of a base that counts, one of ASCII 33 to 126{n}\
+        [default: !, so that all count]";
+    value_option(alloc, "min-qual-char", "C", help)
+}
+
+/// `--stripes`
+pub(crate) fn stripes<'a>(alloc: Global) -> Arg<'a>
+    ensures rule { rule_of result ≡ stripes_option }
+    ensures own { result.global ≡ false }
+{
+    let help = "Tables that are locked each on its own: 1, 2, 4, 8, 16, 32 or 64,{n}\
+        lowered to 4^K where that is less [default: 16]";
+    value_option(alloc, "stripes", "N", help)
+}
+
+/// `--batch`
+pub(crate) fn batch<'a>(alloc: Global) -> Arg<'a>
+    ensures rule { rule_of result ≡ batch_option }
+    ensures own { result.global ≡ false }
+{
+    let help = "Positions that a thread counts at a time, 1 to 2^36 [default: 65536]";
+    value_option(alloc, "batch", "N", help)
+}
+
+/// `--print`
+pub(crate) fn print<'a>(alloc: Global) -> Arg<'a>
+    ensures rule { rule_of result ≡ print_option }
+    ensures own { result.global ≡ false }
+{
+    let help = "What to write: table, dump, histo or stats [default: table]";
+    value_option(alloc, "print", "WHAT", help)
+}
+
+/// `--column`
+pub(crate) fn column<'a>(alloc: Global) -> Arg<'a>
+    ensures rule { rule_of result ≡ column_option }
+    ensures own { result.global ≡ false }
+{
+    let help = "Dump a k-mer and its count in one line, `KMER COUNT`";
+    flag_option(alloc, "column", help)
+}
+
+/// `--tab`
+pub(crate) fn tab<'a>(alloc: Global) -> Arg<'a>
+    ensures rule { rule_of result ≡ tab_option }
+    ensures own { result.global ≡ false }
+{
+    let help = "With --column, put a tab between a k-mer and its count";
+    flag_option(alloc, "tab", help)
+}
+
+/// `--lower-count`
+pub(crate) fn lower_count<'a>(alloc: Global) -> Arg<'a>
+    ensures rule { rule_of result ≡ lower_count_option }
+    ensures own { result.global ≡ false }
+{
+    let help = "Dump no k-mer with a count below this one, 0 to 2^62 [default: 0]";
+    value_option(alloc, "lower-count", "N", help)
+}
+
+/// `--upper-count`
+pub(crate) fn upper_count<'a>(alloc: Global) -> Arg<'a>
+    ensures rule { rule_of result ≡ upper_count_option }
+    ensures own { result.global ≡ false }
+{
+    let help = "Dump no k-mer with a count above this one, 0 to 2^62 [default: 2^62]";
+    value_option(alloc, "upper-count", "N", help)
+}
+
+/// `--high`
+pub(crate) fn high<'a>(alloc: Global) -> Arg<'a>
+    ensures rule { rule_of result ≡ high_option }
+    ensures own { result.global ≡ false }
+{
+    let help =
+        "Greatest count with a line of its own in a histogram, 1 to 10000000 [default: 10000]";
+    value_option(alloc, "high", "N", help)
+}
+
+/// FILE, any number of them
+pub(crate) fn files<'a>(alloc: Global) -> Arg<'a>
+    ensures rule { rule_of result ≡ files_argument }
+    ensures own { result.global ≡ false }
+{
+    let help = "FASTA or FASTQ files [default: standard input]";
+    several_arguments(alloc, "file", "FILE", help)
+}
+
+/// FILE, one or none
+pub(crate) fn file<'a>(alloc: Global) -> Arg<'a>
+    ensures rule { rule_of result ≡ file_argument }
+    ensures own { result.global ≡ false }
+{
+    let help = "Table that `kcount count` wrote [default: standard input]";
+    one_argument(alloc, "file", "FILE", help)
+}
+
+/// TABLE, a file that has to be given
+pub(crate) fn table<'a>(alloc: Global) -> Arg<'a>
+    ensures rule { rule_of result ≡ table_argument }
+    ensures own { result.global ≡ false }
+{
+    let help = "Table that `kcount count` wrote";
+    required(one_argument(alloc, "file", "TABLE", help))
+}
+
+/// WORD, at least one
+pub(crate) fn words<'a>(alloc: Global) -> Arg<'a>
+    ensures rule { rule_of result ≡ words_argument }
+    ensures own { result.global ≡ false }
+{
+    let help = "K-mers of the table's length, of the letters ACGT or acgt";
+    required(several_arguments(alloc, "word", "WORD", help))
+}
+
+/// The option, with a short name too.
+pub(crate) fn with_short(option: Arg<'_>, letter: char) -> Arg<'_>
+    ensures rule { rule_of result ≡ with_short letter (rule_of option.entry) }
+    ensures own { result.global ≡ option.entry.global }
+{
+    option.short(letter)
+}
+
+// An option with one value, which the help calls `value`.
+fn value_option<'a>(alloc: Global, name: &'a str, value: &'a str, help: &'a str) -> Arg<'a>
+    ensures rule { rule_of result ≡ value_option name.entry.now }
+    ensures own { result.global ≡ false }
+{
+    Arg::new(alloc, name)
+        .long(name)
+        .value_name(value)
+        .help(help)
+}
+
+// An option without a value.
+fn flag_option<'a>(alloc: Global, name: &'a str, help: &'a str) -> Arg<'a>
+    ensures rule { rule_of result ≡ flag_option name.entry.now }
+    ensures own { result.global ≡ false }
+{
+    Arg::new(alloc, name)
+        .long(name)
+        .action(ArgAction::SetTrue)
+        .help(help)
+}
+
+// An argument that is given once or not at all, which the help calls `value`.
+fn one_argument<'a>(alloc: Global, name: &'a str, value: &'a str, help: &'a str) -> Arg<'a>
+    ensures rule { rule_of result ≡ one_argument name.entry.now }
+    ensures own { result.global ≡ false }
+{
+    Arg::new(alloc, name).value_name(value).help(help)
+}
+
+// An argument that is given any number of times, each of which the help calls `value`.
+fn several_arguments<'a>(alloc: Global, name: &'a str, value: &'a str, help: &'a str) -> Arg<'a>
+    ensures rule { rule_of result ≡ several_arguments name.entry.now }
+    ensures own { result.global ≡ false }
+{
+    Arg::new(alloc, name)
+        .value_name(value)
+        .action(ArgAction::Append)
+        .help(help)
+}
+
+// The argument, which has to be given.
+fn required(argument: Arg<'_>) -> Arg<'_>
+    ensures rule { rule_of result ≡ required (rule_of argument.entry) }
+    ensures own { result.global ≡ argument.entry.global }
+{
+    argument.required(true)
+}

@@ -1,0 +1,25 @@
+//! Laws of command lines. Each is the contract of a function that does nothing.
+ghost use Rattle.kc_command.specs.Laws.{
+  CountsBothStrands,
+  CountsFiles,
+  JudgesInOrder,
+  KeepsLimits,
+  ReadsTables,
+  Refuses,
+  ScalesNumbers,
+};
+
+/// What some command lines ask for, and why others are refused.
+pub fn command_lines()
+    ensures counts { CountsBothStrands }
+    ensures files { CountsFiles }
+    ensures tables { ReadsTables }
+    ensures refuses { Refuses }
+{}
+
+/// Values at their limits and past them, and which one of several bad ones is told.
+pub fn limits()
+    ensures scaled { ScalesNumbers }
+    ensures kept { KeepsLimits }
+    ensures order { JudgesInOrder }
+{}

@@ -1,0 +1,48 @@
+//! The names of the options whose values are judged.
+ghost use Rattle.std.specs.Prelude.{◌≡◌};
+ghost use Rattle.kc_command.specs.OptionName.{option_text};
+
+/// An option of the command line whose value can be refused, in the order in which they are judged.
+#[derive(Clone, Copy, Debug, PartialEq, Eq)]
+pub enum OptionName {
+    /// `--mer-len`
+    MerLen,
+    /// `--size`
+    Size,
+    /// `--threads`
+    Threads,
+    /// `--min-qual-char`
+    MinQualChar,
+    /// `--stripes`
+    Stripes,
+    /// `--batch`
+    Batch,
+    /// `--print`
+    Print,
+    /// `--lower-count`
+    LowerCount,
+    /// `--upper-count`
+    UpperCount,
+    /// `--high`
+    High,
+}
+
+impl OptionName {
+    /// The long name, as it stands on the command line.
+    pub fn text(self) -> &'static str
+        ensures { result.now ≡ option_text self }
+    {
+        match self {
+            OptionName::MerLen => "--mer-len",
+            OptionName::Size => "--size",
+            OptionName::Threads => "--threads",
+            OptionName::MinQualChar => "--min-qual-char",
+            OptionName::Stripes => "--stripes",
+            OptionName::Batch => "--batch",
+            OptionName::Print => "--print",
+            OptionName::LowerCount => "--lower-count",
+            OptionName::UpperCount => "--upper-count",
+            OptionName::High => "--high",
+        }
+    }
+}
