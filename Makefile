@@ -2,22 +2,31 @@
 PREFIX ?= /usr/local
 DESTDIR ?=
 CRATE ?=
+ARCHIVE ?=
 # The crates with a test that tests/memory.sh runs with each growth refused.
 TESTS_OF_MEMORY = kc_report kc_run kc_table kc_stripe kc_gather
 
-.PHONY: build demo check edits memory files options examples test bench figures install clean help
+.PHONY: demo build dist verify check edits bodies memory files options examples test bench figures install clean help
+
+demo: ## shows the program at work within two minutes: its source with checks, not yet proved
+	@tools/demo.sh
 
 build: ## proves the program and everything below it, and builds it as bin/kcount
-	cd crates/kcount && rt run -- --version > /dev/null
-	install -D crates/kcount/out/kcount bin/kcount
+	@tools/build.py
 
-demo: build ## counts the words of length 4 in a small FASTA file
-	./bin/kcount count -m 4 --print dump --column < examples/reads.fa
+dist: build ## packs program, man page, completions and licence into dist/, with the SHA-256
+	@tools/dist.sh dist
+
+verify: build ## compares an archive with what is proved and built here: make verify ARCHIVE=FILE
+	@tools/verify.sh "$(ARCHIVE)"
 
 check: ## proves one crate over what earlier runs kept: make check CRATE=kc_word (none: all)
 	$(if $(CRATE),cd crates/$(CRATE) && rt check,rt all check)
 
-edits: ## tries one crate's must-fail edits: make edits CRATE=kc_word (none: all)
+edits: ## tries the edits that the prover must refuse, many at once: make edits CRATE=kc_word (none: all)
+	@tools/edits.py $(CRATE)
+
+bodies: ## tries the wrong bodies of must-fail one by one: make bodies CRATE=kc_word (none: all)
 	rt must-fail $(CRATE)
 
 memory: build ## refuses each growth of memory in turn
@@ -33,7 +42,7 @@ options: build ## compares the options of the man page and the completions with 
 examples: build ## runs the examples of README.md and docs/USING.md as they are written
 	tests/examples.sh
 
-test: ## the gate: all proofs from nothing, the edits that must fail, the tests, the stored run; then memory, files, options, examples
+test: ## the gate: all proofs from nothing, the tests, the stored run, the edits that must fail; then memory, files, options, examples
 	tests/gate.sh
 
 bench: build ## runs the benchmarks and prints the table of docs/STATUS.md
@@ -50,7 +59,7 @@ install: build ## installs bin/kcount, its man page and its completions under PR
 	install -D -m 644 share/kcount.fish $(DESTDIR)$(PREFIX)/share/fish/vendor_completions.d/kcount.fish
 
 clean: ## removes what was built
-	rm -rf bin crates/*/out
+	rm -rf bin dist crates/*/out
 
 help: ## lists the targets
 	@sed -n 's/^\([a-z]*\):.*## \(.*\)/\1	\2/p' Makefile | expand -t 12

@@ -3,7 +3,8 @@
 #   tests/examples.sh
 # An example is a line that begins with "$ " in a block of README.md or docs/USING.md; what it prints, to either stream,
 # stands below it, up to the next one or the end of the block. All run one after the other in one directory, which has
-# examples/ in it. A line that names a tool that isn't installed here is left out, and it is said so.
+# examples/ in it. A line that names a tool that isn't installed here is left out, and it is said so. A block that isn't
+# closed, and a line that begins with "$ " and was not reached, fail the test.
 set -euo pipefail
 here=$(cd "$(dirname "$0")" && pwd)
 top=$here/..
@@ -45,7 +46,9 @@ run_example() {
 }
 
 for document in README.md docs/USING.md; do
-    before=$ran
+    fences=$(grep -c '^```' "$top/$document")
+    [ $((fences % 2)) = 0 ] || { echo "examples: a block of $document isn't closed: it has $fences lines of \`\`\`"; exit 1; }
+    before=$((ran + left_out))
     command=
     wanted=
     while IFS= read -r line; do
@@ -58,6 +61,9 @@ for document in README.md docs/USING.md; do
         fi
     done < <(examples_of "$top/$document")
     [ -z "$command" ] || run_example "$command" "$wanted"
-    [ "$ran" -gt "$before" ] || { echo "examples: $document has none"; exit 1; }
+    seen=$((ran + left_out - before))
+    written=$(grep -c '^\$ ' "$top/$document")
+    [ "$seen" = "$written" ] || { echo "examples: of the $written in $document $seen were reached"; exit 1; }
+    [ "$seen" -gt 0 ] || { echo "examples: $document has none"; exit 1; }
 done
 echo "examples: $ran printed what the documents say, $left_out left out"

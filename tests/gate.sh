@@ -1,16 +1,47 @@
 #!/bin/bash
-# The gate, and then what the gate can't do, over the program and the tests that it has built:
+# The toolchain's gate, and then what it can't do, over the libraries, the program and the tests that it has built:
 #   tests/gate.sh
-# Each growth of memory is refused, files are missing or directories, the man page and the completions are compared with
-# the help, and the examples of the documents are run. Where all of it passed, the gate's last line stands at the end again.
+# All other edits have to be refused, each by the function that it names; beside that each growth of memory is refused, files are missing or
+# directories, the man page and the completions are compared with the help, and the examples of the documents are run. Where all of it passed,
+# the last line is `N passed, 0 failed`, N counting proofs and edits.
 set -euo pipefail
 cd "$(dirname "$0")/.."
-log=$(mktemp)
-trap 'rm -f "$log"' EXIT
-rt ci | tee "$log"
+work=$(mktemp -d)
+trap 'kill $(jobs -p) 2> /dev/null || true; rm -rf "$work"' EXIT
+# (the toolchain runs programs as nobody, in folders below)
+chmod 755 "$work"
+mkdir -m 1777 "$work/tmp"
+mkdir "$work/kept"
+begun=$SECONDS
+minutes() {
+    echo "gate: $1 after $(((SECONDS - begun + 30) / 60)) minutes"
+}
+
+# While the toolchain tries the wrong bodies of a crate, it keeps what it proved in a folder that it removes afterwards. The other edits are tried over
+# the same, so its files are linked before that; what is missed is only proved once more.
+link_what_is_kept() {
+    while sleep 2; do
+        for folder in "$work"/tmp/rt-edits-*/; do
+            cp -alf "$folder." "$work/kept/" 2> /dev/null || true
+        done
+    done
+}
+link_what_is_kept &
+linking=$!
+TMPDIR=$work/tmp rt ci | tee "$work/ci"
+kill "$linking"
+minutes "proofs, tests and the wrong bodies in must-fail"
 install -D crates/kcount/out/kcount bin/kcount
+tools/edits.py --kept "$work/kept" > "$work/edits" 2>&1 &
+edits=$!
+tests/edits.sh
 tests/memory.sh
 tests/files.sh
 tests/options.sh
 tests/examples.sh
-tail -n 1 "$log"
+wait "$edits" || { cat "$work/edits"; exit 1; }
+cat "$work/edits"
+minutes "all"
+passed=$(tail -n 1 "$work/ci" | sed -n 's/^\([0-9]*\) passed, 0 failed$/\1/p')
+refused=$(tail -n 1 "$work/edits" | sed -n 's/^\([0-9]*\) refused, 0 failed$/\1/p')
+echo "$((passed + refused)) passed, 0 failed"

@@ -1,0 +1,288 @@
+#!/usr/bin/env python3
+"""Tries the edits that the prover must refuse, many by one check:
+    tools/edits.py [--kept FOLDER] [CRATE..]
+The crates are proved first, from what earlier runs kept. With --kept they are taken as the gate has proved and built them, and the folder has what
+checks of them kept, as far as it was saved.
+
+An edit is a file crates/NAME/edits/WHAT_IS_WRONG.edit. Besides the lines of a must-fail edit of the toolchain (`file:`, `old:`, `new:`) it
+has a line `refused:` with the function that has to be refused by it, as the checker names it, without the crate's name.
+
+A function is proved against the contracts of those that it calls, so edits of different functions don't hide one another. The edits of a
+crate are put together into few groups, never two of one function in one group; an edit that changes more than bodies of functions is tried
+alone. Each group is made in a copy of the crate and checked once, over what the checks before it kept. Of each function that an edit names a
+goal or an answer of its own has to be open: that it calls what is not proved doesn't count, nor that the edited text can't be read, nor
+that the checker could not tell. What isn't refused so in its group is tried once more alone, and that decides.
+
+The last line is `N refused, M failed`.
+"""
+
+import os
+import re
+import sys
+from dataclasses import dataclass, field
+
+import kit
+
+FOLDER = "edits"
+
+
+@dataclass(frozen=True)
+class Function:
+    """A function of a source file: how the checker names it, and its lines."""
+
+    name: str
+    path: str
+    first: int
+    last: int
+
+
+def module_of(path):
+    return [it for it in path.removeprefix("src/").removesuffix(".rt").split("/") if it not in ("lib", "main", "mod")]
+
+
+def homes_of(folder):
+    """Returns the module in which each type of the crate is declared."""
+    homes = {}
+    for at, _, files in os.walk(f"{folder}/src"):
+        for name in files:
+            path = os.path.relpath(f"{at}/{name}", folder)
+            for it in re.findall(r"(?m)^(?:pub(?:\(\w+\))? )?(?:struct|enum) (\w+)", text_of(folder, path)):
+                homes[it] = module_of(path)
+    return homes
+
+
+def without_parameters(text):
+    """Returns the parameters at the front of the text, between < and >, and the rest."""
+    depth = 0
+    for at, letter in enumerate(text):
+        depth += (letter == "<") - (letter == ">" and text[at - 1] != "-")
+        if depth == 0:
+            return (text[1:at], text[at + 1 :]) if text.startswith("<") else ("", text)
+    return "", text
+
+
+def joined_names(text, parameters):
+    """Returns the names of a type or trait, one behind the other, but for the impl's own parameters and lifetimes: From<TakeFault> is FromTakeFault."""
+    names = re.findall(r"(?<![\w'])[A-Za-z_]\w*(?!\w*::)", text)
+    return "".join(it for it in names if it not in parameters)
+
+
+def owner_of(header, module, homes):
+    """Returns the path that an impl or a trait gives its functions, as `impl Source for FromBytes<'a>` in sources.rt gives sources::FromBytesSource."""
+    kind, rest = re.match(r"(?:pub(?:\(\w+\))? )?(impl|trait)(.*)", header).groups()
+    parameters, rest = without_parameters(rest)
+    own = re.findall(r"(?:^|, *)(\w+)", parameters)
+    rest = re.split(r" where\b|: ", rest)[0] if kind == "trait" else re.split(r" where\b", rest)[0]
+    first, _, implementor = rest.strip().partition(" for ")
+    if kind == "trait" or implementor:
+        return [*module, joined_names(implementor, own) + joined_names(first, own)]
+    name = joined_names(first, own)
+    return [*homes.get(name, module), name]
+
+
+def functions_of(path, text, homes):
+    """Returns the functions of a source file that is laid out as `rt fmt` does: each ends at the first line that closes it in its own column."""
+    module = module_of(path)
+    lines, found, owner, at = text.split("\n"), [], module, 0
+    while at < len(lines):
+        if re.match(r"(pub(\(\w+\))? )?(impl|trait)\b", lines[at]):
+            head = at
+            while not lines[at].rstrip().endswith(("{", "}", ";")):
+                at += 1
+            owner = owner_of(" ".join(it.strip() for it in lines[head : at + 1]).rstrip("{} "), module, homes)
+        begun = re.match(r"( *)(?:pub(?:\(\w+\))? )?(?:const )?fn (\w+)", lines[at])
+        if begun:
+            last = end_of(lines, at, begun[1])
+            found.append(Function("::".join([*(owner if begun[1] else module), begun[2]]), path, at, last))
+            at = last
+        at += 1
+    return found
+
+
+def end_of(lines, at, indent):
+    """Returns the line that a function's item ends in: the first that closes its body or, without one, its signature."""
+    while at < len(lines) - 1:
+        line = lines[at].rstrip()
+        if line == f"{indent}}}" or line.endswith(";") and not line.startswith(f"{indent} ") or re.fullmatch(rf"{indent}\S.*\{{.*\}}", line):
+            break
+        at += 1
+    return at
+
+
+@dataclass
+class Edit:
+    """An edit of a crate: the function that it has to be refused by, the lines that it changes, and the functions that these belong to."""
+
+    name: str
+    refused: str
+    lines: dict = field(default_factory=dict)
+    changed: set = field(default_factory=set)
+    is_of_bodies: bool = True
+
+    def functions(self):
+        return self.changed | {self.refused}
+
+    def goes_with(self, other):
+        is_apart = not self.functions() & other.functions() and not self.lines.keys() & other.lines.keys()
+        return self.is_of_bodies and other.is_of_bodies and is_apart
+
+
+class BadEdit(Exception):
+    """Why an edit can't be tried."""
+
+
+def text_of(folder, path):
+    with open(f"{folder}/{path}", encoding="utf-8") as file:
+        return file.read()
+
+
+def read(rt, folder, name):
+    """Returns the edit of that name of the crate in this folder."""
+    file = f"{folder}/{FOLDER}/{name}.edit"
+    named = re.findall(r"(?m)^refused: (\S+)$", text_of(folder, f"{FOLDER}/{name}.edit"))
+    if len(named) != 1:
+        raise BadEdit("it wants one line 'refused:' with a function's name")
+    texts, why = rt.read_edit(file, folder)
+    if why:
+        raise BadEdit(why)
+    edit, homes = Edit(name, named[0]), homes_of(folder)
+    for path, text in texts.items():
+        if not path.startswith("src/"):
+            raise BadEdit(f"{path} is no code")
+        before = text_of(folder, path).split("\n")
+        functions = functions_of(path, "\n".join(before), homes)
+        for at, (old, new) in enumerate(zip(before, text.split("\n"))):
+            if old != new:
+                edit.lines[path, at] = new
+                around = {it.name for it in functions if it.first <= at <= it.last}
+                edit.changed |= around
+                edit.is_of_bodies &= bool(around)
+    return edit
+
+
+def grouped(edits):
+    """Returns the edits in groups, each edit in the first one where it goes with all."""
+    groups = []
+    for edit in edits:
+        for group in groups:
+            if all(edit.goes_with(it) for it in group):
+                group.append(edit)
+                break
+        else:
+            groups.append([edit])
+    return groups
+
+
+def made(folder, group):
+    """Returns the texts of the files that the edits of the group change."""
+    texts = {}
+    for edit in group:
+        for (path, at), line in edit.lines.items():
+            lines = texts.setdefault(path, text_of(folder, path).split("\n"))
+            lines[at] = line
+    return {path: "\n".join(lines) for path, lines in texts.items()}
+
+
+NAMES = r"is not in scope|has no field|has no `|was not admitted|is no name"
+
+
+def own_refusal(crate, function, said):
+    """Returns the line by which the checker refuses this function for a goal or an answer of its own, or None."""
+    name = re.escape(f"{crate}::{function}")
+    told = re.search(rf"(?m)^fn {name}: (not proved|no proof)(.*)$", said)
+    if not told or told[1] == "no proof" and "did not prove" not in told[2]:
+        return None
+    if told[1] == "no proof":
+        return told[0]
+    at = re.escape(f"proofs/{function.replace('::', '/')}/")
+    errors = re.findall(rf"(?m)^(?:\./)?{at}\S+: error: .*$", said)
+    return next((it for it in errors if not re.search(NAMES, it)), None)
+
+
+def is_there(crate, function, said):
+    return re.search(rf"(?m)^fn {re.escape(f'{crate}::{function}')}: ", said)
+
+
+def judge(rt, crate, group, kept):
+    """Checks the crate with these edits, and returns for each why it failed, or None where its function is refused."""
+    texts = made(crate.folder, group)
+    ran = rt.checked(crate, texts, ["--jobs", "1"], kept)
+    unread = next((it for it in ran.stdout.split("\n") if rt.unread(it, texts)), None)
+    failed = {}
+    for edit in group:
+        if unread:
+            failed[edit.name] = f"the edited text can't be read: {unread[:200]}"
+        elif ran.returncode not in (0, 1) or rt.rtlib.STALE.search(ran.stdout):
+            failed[edit.name] = "the checker could not tell: " + ran.stdout.strip().split("\n")[-1][:200]
+        elif ran.returncode and not is_there(crate.name, edit.refused, ran.stdout):
+            failed[edit.name] = f"there is no function {edit.refused}"
+        elif not own_refusal(crate.name, edit.refused, ran.stdout):
+            failed[edit.name] = f"{edit.refused} is not refused for a goal or an answer of its own"
+        else:
+            failed[edit.name] = None
+    return failed
+
+
+def names_in(folder):
+    """Returns the names of the edits of the crate in this folder, in order, and what else lies beside them."""
+    files = sorted(os.listdir(f"{folder}/{FOLDER}")) if os.path.isdir(f"{folder}/{FOLDER}") else []
+    edits = [it.removesuffix(".edit") for it in files if it.endswith(".edit")]
+    return edits, [it for it in files if not it.endswith(".edit")]
+
+
+def try_crate(rt, crate, kept):
+    """Tries the edits of a crate, and returns for each why it failed, or None."""
+    names, others = names_in(crate.folder)
+    failed, edits = {it: "it is no .edit file" for it in others}, []
+    for name in names:
+        try:
+            edits.append(read(rt, crate.folder, name))
+        except BadEdit as why:
+            failed[name] = str(why)
+    groups = grouped(edits)
+    for group in groups:
+        judged = judge(rt, crate, group, kept)
+        for edit in group:
+            if judged[edit.name] and len(group) > 1:
+                judged |= judge(rt, crate, [edit], kept)
+        failed |= judged
+    return len(groups), failed
+
+
+def try_crates(rt, crates, kept):
+    """Tries the edits of these crates side by side, over what that folder has of them, or each over its own, and returns what came of each."""
+    tasks = {}
+    for it in crates:
+        if names_in(it.folder)[0]:
+            call = lambda given, jobs, it=it: try_crate(rt, it, kept or f"{it.folder}/out/incremental")
+            tasks[it.name, "edits"] = ([], it.count(rb"\n"), rt.need(it), call)
+    return {name: tried for (name, _), tried in rt.in_lanes(tasks).items()}
+
+
+def are_proved(crates):
+    """Proves and builds the libraries from what earlier runs kept, and returns whether they are."""
+    libraries = [it for it in crates if it.makes_rlib()]
+    return not any(it.build_rlib(["--jobs", "1"], anew=False) for it in libraries)
+
+
+def main(words):
+    rt = kit.load()
+    kept, names = (words[1], words[2:]) if words[:1] == ["--kept"] else (None, words)
+    crates = [it for it in kit.crates_of(rt) if not names or it.name in names]
+    below = [it for crate in crates for it in crate.below()]
+    if not kept and not are_proved(dict.fromkeys([*below, *crates])):
+        return 1
+    refused = failures = 0
+    for name, (groups, failed) in try_crates(rt, crates, kept).items():
+        for edit, why in failed.items():
+            if why:
+                print(f"NOT REFUSED: {name}/{FOLDER}/{edit}: {why}", flush=True)
+        bad = sum(bool(it) for it in failed.values())
+        refused, failures = refused + len(failed) - bad, failures + bad
+        print(f"edits of {name}: {len(failed) - bad} refused by {groups} checks, {bad} failed", flush=True)
+    print(f"{refused} refused, {failures} failed")
+    return 1 if failures or not refused else 0
+
+
+if __name__ == "__main__":
+    sys.exit(main(sys.argv[1:]))
