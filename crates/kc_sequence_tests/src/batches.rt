@@ -76,10 +76,15 @@ fn cut_into<H: AllocGlobal + Abort>(
     let batches = cut_texts(rt.alloc(), texts, &rule, size)?;
     let others = cut_texts(rt.alloc(), pieces, &rule, size)?;
     assert_same(rt, "batches", &are_same(&batches, &others), &true);
+    assert_numbered(rt, &batches);
+    Ok(batches)
+}
+
+// Asserts that each batch has the number of its place.
+fn assert_numbered<H: Abort>(rt: &H, batches: &[Arc<Batch>]) {
     for (i, batch) in batches.iter().enumerate() {
         assert_same(rt, i, &batch.number(), &(i as u64));
     }
-    Ok(batches)
 }
 
 #[test]

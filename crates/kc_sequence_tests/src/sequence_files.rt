@@ -95,12 +95,26 @@ fn collected<S: Source + Drop>(
     let mut reads = Reads::new(alloc, source, u64::from(limit))?;
     let mut given = Vec::new(alloc);
     for _ in 0..limit {
-        match reads.next_read()? {
-            Some(read) => given.push(read)?,
-            None => return Ok(given),
+        if !take_read(&mut reads, &mut given)? {
+            return Ok(given);
         }
     }
     Ok(given)
+}
+
+// Takes one more read of the reader, where one comes.
+fn take_read<S: Source + Drop>(
+    reads: &mut Reads<S>,
+    given: &mut Vec<SeqRead>,
+) -> Result<bool, FastxFault> {
+    match reads.next_read() {
+        Ok(Some(read)) => {
+            given.push(read)?;
+            Ok(true)
+        }
+        Ok(None) => Ok(false),
+        Err(fault) => Err(fault),
+    }
 }
 
 // What a reader gives of these bytes.
