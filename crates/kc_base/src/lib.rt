@@ -4,6 +4,3 @@
 mod counter;
 
 pub use counter::Counter;
-
-#[cfg(test)]
-mod tests;

@@ -30,8 +30,6 @@ mod reader;
 mod reading;
 mod reads;
 mod records;
-#[cfg(test)]
-mod tests;
 
 pub use faults::FastxFault;
 pub use kc_io::{Failed, FromBytes, FromRead, Source};

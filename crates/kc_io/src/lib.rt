@@ -21,8 +21,6 @@ mod recorded;
 mod sinks;
 mod sources;
 mod taking;
-#[cfg(test)]
-mod tests;
 mod writing;
 
 pub use failures::Failed;

@@ -44,6 +44,3 @@ pub use roll::{read_words, words};
 pub use rule::Rule;
 pub use walk::Walk;
 pub use word::{Word, canonical, pack, reverse_complement, text};
-
-#[cfg(test)]
-mod tests;

@@ -1,7 +1,15 @@
 use Rattle.std.proofs.Common.{◌≡◌, ◌+◌, ◌<◌, ◌≤◌, ◌++◌, length, take, arith}
 use Rattle.std.proofs.lemmas.List.{length-append, length-take-le}
-use Rattle.kc_io.proofs.TakingLemmas.{read_some, read_end, taken_more, taken_all, taken_too_long}
+use Rattle.kc_io.proofs.TakingLemmas.{read_some, read_end, read_failed, taken_more, taken_all, taken_too_long, taken_failed}
 use Rattle.kc_io.proofs.intakes.skip_by_blocks.Goals as goal
+
+pub returns-in_default-clause-fault : goal.returns-in_default-clause-fault
+returns-in_default-clause-fault g c =
+    let seen = g.S.Source.seen in
+    let so_far = c.reading.invariant in
+    let roomy : 0 < length c.read.new.buffer = omega arith in
+    let read = read_failed (seen c.reading.source) (seen c.read.new.self) c.in_default.field-0 c.read.new.buffer roomy c.in_default.ensures.bytes c.in_default.ensures.history in
+    taken_failed so_far.1 read
 
 pub returns-then-count-eq0-clause-skipped : goal.returns-then-count-eq0-clause-skipped
 returns-then-count-eq0-clause-skipped g c =

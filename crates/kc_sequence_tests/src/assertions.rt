@@ -1,0 +1,23 @@
+//! Assertions that tell what they were about, by its name or its number.
+use std::fmt::{Debug, Display};
+use std::process::Abort;
+
+/// Asserts that a value is the wanted one.
+pub fn assert_same<H: Abort, W: Display + Drop, T: PartialEq + Debug>(
+    rt: &H,
+    what: W,
+    got: &T,
+    want: &T,
+) {
+    assert_eq!(rt; got, want, "{what}");
+}
+
+/// Asserts that bytes are the wanted ones.
+pub fn assert_bytes<H: Abort, W: Display + Drop>(rt: &H, what: W, got: &[u8], want: &[u8]) {
+    assert_eq!(rt; got, want, "{what}");
+}
+
+/// Asserts that numbers are the wanted ones.
+pub fn assert_numbers<H: Abort, W: Display + Drop>(rt: &H, what: W, got: &[u64], want: &[u64]) {
+    assert_eq!(rt; got, want, "{what}");
+}

@@ -1,0 +1,349 @@
+//! The cutting of pieces into batches, and the words of these.
+use crate::assertions::{assert_numbers, assert_same};
+use crate::samples::{cleaned, k_of, pieces_of, rule_of, words_of_all};
+use kc_fastx::SeqRead;
+use kc_word::{Batch, Cutting, K, Rule, clean, cut, read_words, words};
+use std::alloc::{AllocError, Global};
+use std::process::Abort;
+use std::sync::Arc;
+use std::test::Fail;
+
+// The batches of pieces of these bases.
+fn cut_texts(
+    alloc: Global,
+    texts: &[&[u8]],
+    rule: &Rule,
+    size: u64,
+) -> Result<Vec<Arc<Batch>>, Fail> {
+    let pieces = pieces_of(alloc, texts, rule)?;
+    Ok(cut(alloc, pieces, rule.k(), size.max(1))?)
+}
+
+// The words of a batch, taken one by one.
+fn walked(alloc: Global, batch: &Batch, rule: &Rule) -> Result<Vec<u64>, AllocError> {
+    let mut found = Vec::new(alloc);
+    for word in batch.walk(rule) {
+        found.push(word)?;
+    }
+    Ok(found)
+}
+
+// Asserts that a batch has these words, taken all at once and one by one.
+fn assert_words<H: AllocGlobal + Abort>(
+    rt: &H,
+    batch: &Batch,
+    rule: &Rule,
+    want: &[u64],
+) -> Result<(), AllocError> {
+    let found = words(rt.alloc(), batch, rule)?;
+    assert_numbers(rt, "at once", found.as_slice(), want);
+    let found = walked(rt.alloc(), batch, rule)?;
+    assert_numbers(rt, "one by one", found.as_slice(), want);
+    Ok(())
+}
+
+// A batch: how many bytes and how many positions for words of three it has, the codes of its bases, and its words of
+// three, of one strand and of both.
+type Row = (usize, usize, &'static [u64], &'static [u64], &'static [u64]);
+
+// The batches ACGT, GTA and NGT, and GTN.
+const BATCHES: &[Row] = &[
+    (4, 2, &[0, 1, 2, 3], &[6, 27], &[6, 6]),
+    (6, 2, &[2, 3, 0, 2, 3], &[44], &[44]),
+    (3, 1, &[2, 3], &[], &[]),
+];
+
+// Asserts what a batch has.
+fn assert_batch<H: AllocGlobal + Abort>(rt: &H, batch: &Batch, row: &Row) -> Result<(), Fail> {
+    let (bytes, positions, bases, one, both) = row;
+    assert_same(rt, "bytes", &batch.position_count(k_of(1)?), bytes);
+    assert_same(rt, "positions", &batch.position_count(k_of(3)?), positions);
+    assert_words(rt, batch, &rule_of(1, false)?, *bases)?;
+    assert_words(rt, batch, &rule_of(3, false)?, *one)?;
+    assert_words(rt, batch, &rule_of(3, true)?, *both)?;
+    Ok(())
+}
+
+// Asserts that two texts are cut into the same batches, each with its number, and answers those of the first. Of the
+// second no piece passes the border of a batch, so that its pieces are those that the batches have.
+fn cut_into<H: AllocGlobal + Abort>(
+    rt: &H,
+    texts: &[&[u8]],
+    pieces: &[&[u8]],
+    size: u64,
+) -> Result<Vec<Arc<Batch>>, Fail> {
+    let rule = rule_of(3, false)?;
+    let batches = cut_texts(rt.alloc(), texts, &rule, size)?;
+    let others = cut_texts(rt.alloc(), pieces, &rule, size)?;
+    assert_same(rt, "batches", &are_same(&batches, &others), &true);
+    assert_numbered(rt, &batches);
+    Ok(batches)
+}
+
+// Asserts that each batch has the number of its place.
+fn assert_numbered<H: Abort>(rt: &H, batches: &[Arc<Batch>]) {
+    for (i, batch) in batches.iter().enumerate() {
+        assert_same(rt, i, &batch.number(), &(i as u64));
+    }
+}
+
+#[test]
+fn batches(rt: HostRuntime) -> Result<(), Fail> {
+    let batches = cut_into(
+        &rt,
+        &[b"ACGTA", b"AC", b"NGTN"],
+        &[b"ACGT", b"GTA", b"NGT", b"GTN"],
+        2,
+    )?;
+    assert_same(&rt, "batches", &batches.len(), &BATCHES.len());
+    for (batch, row) in batches.iter().zip(BATCHES) {
+        assert_batch(&rt, batch, row)?;
+    }
+    Ok(())
+}
+
+// Asserts that ten A, of which so many positions go into a batch, give so many batches.
+fn assert_batches_of_size<H: AllocGlobal + Abort>(
+    rt: &H,
+    rule: &Rule,
+    size: u64,
+    want: usize,
+) -> Result<(), Fail> {
+    let batches = cut_texts(rt.alloc(), &[b"AAAAAAAAAA"], rule, size)?;
+    assert_same(rt, size, &batches.len(), &want);
+    let found = words_of_all(rt.alloc(), &batches, rule)?;
+    assert_numbers(rt, size, found.as_slice(), EIGHT_WORDS);
+    Ok(())
+}
+
+// The words of three of ten A.
+const EIGHT_WORDS: &[u64] = &[0, 0, 0, 0, 0, 0, 0, 0];
+
+// How many batches there are of one position each, of two, and so on.
+const BATCH_COUNTS: &[usize] = &[8, 4, 3, 2, 2, 2, 2, 1, 1, 1, 1];
+
+#[test]
+fn batches_of_each_size(rt: HostRuntime) -> Result<(), Fail> {
+    let rule = rule_of(3, false)?;
+    for (i, want) in BATCH_COUNTS.iter().enumerate() {
+        assert_batches_of_size(&rt, &rule, i as u64 + 1, *want)?;
+    }
+    Ok(())
+}
+
+// The next number of a row that looks random.
+fn next_seed(seed: u64) -> u64 {
+    let first = seed ^ (seed << 13);
+    let second = first ^ (first >> 7);
+    second ^ (second << 17)
+}
+
+// Up to 99 bases by a seed, with an N among nine.
+fn seeded_bases(alloc: Global, seed: &mut u64) -> Result<Vec<u8>, AllocError> {
+    let mut bases = Vec::new(alloc);
+    *seed = next_seed(*seed);
+    for _ in 0..*seed % 100 {
+        *seed = next_seed(*seed);
+        bases.push(b"ACGTACGTN"[(*seed % 9) as usize])?;
+    }
+    Ok(bases)
+}
+
+// A read of such bases.
+fn seeded_read(alloc: Global, seed: &mut u64) -> Result<SeqRead, Fail> {
+    let bases = seeded_bases(alloc, seed)?;
+    match SeqRead::new(bases, None) {
+        Some(read) => Ok(read),
+        None => Err(Fail::from("no read")),
+    }
+}
+
+fn seeded_reads(alloc: Global) -> Result<Vec<SeqRead>, Fail> {
+    let mut seed = 88_172_645_463_325_252u64;
+    let mut reads = Vec::new(alloc);
+    for _ in 0..30 {
+        reads.push(seeded_read(alloc, &mut seed)?)?;
+    }
+    Ok(reads)
+}
+
+// The batches of the reads, cut all at once.
+fn cut_at_once(
+    alloc: Global,
+    reads: &[SeqRead],
+    rule: &Rule,
+    size: u64,
+) -> Result<Vec<Arc<Batch>>, AllocError> {
+    cut(alloc, cleaned(alloc, reads, rule)?, rule.k(), size.max(1))
+}
+
+// Takes the piece of a read.
+fn push_read(
+    alloc: Global,
+    cutting: &mut Cutting,
+    read: &SeqRead,
+    rule: &Rule,
+) -> Result<(), AllocError> {
+    let piece = clean(alloc, read, rule)?;
+    cutting.push(alloc, &piece)
+}
+
+// The batches of the reads, cut as they come.
+fn cut_one_by_one(
+    alloc: Global,
+    reads: &[SeqRead],
+    rule: &Rule,
+    size: u64,
+) -> Result<Vec<Arc<Batch>>, AllocError> {
+    let mut cutting = Cutting::new(alloc, rule.k(), size.max(1));
+    for read in reads {
+        push_read(alloc, &mut cutting, read, rule)?;
+    }
+    cutting.finish(alloc)
+}
+
+// Whether each batch is the same as the other one at its index.
+fn are_same(batches: &[Arc<Batch>], others: &[Arc<Batch>]) -> bool {
+    if batches.len() != others.len() {
+        return false;
+    }
+    for (batch, other) in batches.iter().zip(others) {
+        if !is_same(batch, other) {
+            return false;
+        }
+    }
+    true
+}
+
+fn is_same(batch: &Batch, other: &Batch) -> bool {
+    batch == other
+}
+
+fn words_of_reads_one_by_one(
+    alloc: Global,
+    reads: &[SeqRead],
+    rule: &Rule,
+) -> Result<Vec<u64>, AllocError> {
+    let mut found = Vec::new(alloc);
+    for read in reads {
+        found.extend_from_slice(read_words(alloc, read, rule)?.as_slice())?;
+    }
+    Ok(found)
+}
+
+// Asserts that reads are cut into the same batches as they come and all at once, and that these have their words.
+fn assert_cut_as_they_come<H: AllocGlobal + Abort>(
+    rt: &H,
+    reads: &[SeqRead],
+    rule: &Rule,
+    size: u64,
+) -> Result<(), AllocError> {
+    let batches = cut_one_by_one(rt.alloc(), reads, rule, size)?;
+    let others = cut_at_once(rt.alloc(), reads, rule, size)?;
+    assert_same(rt, size, &are_same(&batches, &others), &true);
+    let want = words_of_reads_one_by_one(rt.alloc(), reads, rule)?;
+    let found = words_of_all(rt.alloc(), &batches, rule)?;
+    assert_numbers(rt, size, found.as_slice(), want.as_slice());
+    Ok(())
+}
+
+// Pieces that come one at a time are cut as they are all at once, and no word is lost.
+#[test]
+fn pieces_as_they_come(rt: HostRuntime) -> Result<(), Fail> {
+    let rule = rule_of(5, true)?;
+    let reads = seeded_reads(rt.alloc())?;
+    assert_cut_as_they_come(&rt, &reads, &rule, 1)?;
+    assert_cut_as_they_come(&rt, &reads, &rule, 7)?;
+    assert_cut_as_they_come(&rt, &reads, &rule, 100)?;
+    Ok(())
+}
+
+// The word of 31 T, twice.
+const BESIDE_A_GAP: &[u64] = &[4_611_686_018_427_387_903, 4_611_686_018_427_387_903];
+
+#[test]
+fn words_beside_a_gap(rt: HostRuntime) -> Result<(), Fail> {
+    let rule = rule_of(31, false)?;
+    let bases = b"TTTTTTTTTTTTTTTTTTTTTTTTTTTTTTTNTTTTTTTTTTTTTTTTTTTTTTTTTTTTTTT".as_slice();
+    let batches = cut_texts(rt.alloc(), &[bases], &rule, 100)?;
+    assert_same(&rt, "batches", &batches.len(), &1);
+    let found = words_of_all(rt.alloc(), &batches, &rule)?;
+    assert_numbers(&rt, "words", found.as_slice(), BESIDE_A_GAP);
+    Ok(())
+}
+
+// A batch may be asked for longer words than those that it was cut for: its pieces then have fewer positions.
+#[test]
+fn words_of_another_length(rt: HostRuntime) -> Result<(), Fail> {
+    let batches = cut_into(&rt, &[b"ACGTACG", b"ACG"], &[b"ACGTAC", b"ACG", b"ACG"], 4)?;
+    let [first, second] = batches.as_slice() else {
+        return Err(Fail::from("not two batches"));
+    };
+    let longer = rule_of(5, false)?;
+    assert_words(&rt, first, &longer, &[108, 433])?;
+    assert_words(&rt, second, &longer, &[])?;
+    Ok(())
+}
+
+// Asserts which of the two batches of these bases are those of ACGTA and ACG.
+fn assert_same_batches<H: AllocGlobal + Abort>(
+    rt: &H,
+    texts: &[&[u8]],
+    is_first_same: bool,
+    is_second_same: bool,
+) -> Result<(), Fail> {
+    let rule = rule_of(3, false)?;
+    let batches = cut_texts(rt.alloc(), &[b"ACGTA", b"ACG"], &rule, 2)?;
+    let others = cut_texts(rt.alloc(), texts, &rule, 2)?;
+    let ([first, second], [other, later]) = (batches.as_slice(), others.as_slice()) else {
+        return Err(Fail::from("not two batches each"));
+    };
+    assert_same(rt, "first", &is_same(first, other), &is_first_same);
+    assert_same(rt, "second", &is_same(second, later), &is_second_same);
+    assert_same(rt, "first and second", &is_same(first, second), &false);
+    Ok(())
+}
+
+#[test]
+fn batches_by_value(rt: HostRuntime) -> Result<(), Fail> {
+    assert_same_batches(&rt, &[b"acgta", b"acg"], true, true)?;
+    assert_same_batches(&rt, &[b"ACGTA", b"ACC"], true, false)
+}
+
+// Reads that have no word of five bases.
+const WITHOUT_POSITIONS: &[&[&[u8]]] = &[&[], &[b"ACGT", b"", b"NNNN"]];
+
+#[test]
+fn no_batches(rt: HostRuntime) -> Result<(), Fail> {
+    let rule = rule_of(5, false)?;
+    for (row, texts) in WITHOUT_POSITIONS.iter().enumerate() {
+        let batches = cut_texts(rt.alloc(), *texts, &rule, 65536)?;
+        assert_same(&rt, row, &batches.len(), &0);
+    }
+    Ok(())
+}
+
+// Run with each allocation refused in turn: `rt try --test --fail-alloc N`.
+#[test]
+fn memory_or_the_words(rt: HostRuntime) {
+    match words_of_batches(rt.alloc()) {
+        Ok(found) => assert_numbers(&rt, "words", found.as_slice(), &[6, 27, 44]),
+        Err(AllocError) => {}
+    }
+}
+
+// The words of the read ACGTANA, cleaned, cut and counted.
+fn words_of_batches(alloc: Global) -> Result<Vec<u64>, AllocError> {
+    let bases = b"ACGTANA".to_vec(alloc)?;
+    match (K::new(3), SeqRead::new(bases, None)) {
+        (Some(k), Some(read)) => words_of_read(alloc, &read, &Rule::new(k, false, b'!')),
+        _ => Ok(Vec::new(alloc)),
+    }
+}
+
+fn words_of_read(alloc: Global, read: &SeqRead, rule: &Rule) -> Result<Vec<u64>, AllocError> {
+    let mut pieces = Vec::new(alloc);
+    pieces.push(clean(alloc, read, rule)?)?;
+    let batches = cut(alloc, pieces, rule.k(), 2)?;
+    words_of_all(alloc, &batches, rule)
+}

@@ -1,0 +1,18 @@
+//! Tests of the counter that only contracts see, of the streams, of the readers of sequence files, and of words and
+//! their batches, as a caller sees them.
+#![tactic(auto)]
+
+#[cfg(test)]
+mod assertions;
+#[cfg(test)]
+mod batches;
+#[cfg(test)]
+mod counters;
+#[cfg(test)]
+mod samples;
+#[cfg(test)]
+mod sequence_files;
+#[cfg(test)]
+mod streams;
+#[cfg(test)]
+mod words;

@@ -1,0 +1,484 @@
+//! Worked rows of both formats, and sources that give their bytes slowly or fail.
+use crate::assertions::{assert_bytes, assert_numbers, assert_same};
+use kc_fastx::{FastxFault, FromBytes, FromRead, Reads, SeqRead, Source, parse, read_all};
+use std::alloc::{AllocError, Global};
+use std::io;
+use std::io::Read;
+use std::process::Abort;
+use std::test::Fail;
+
+// Puts the bases of a read behind a text, then its qualities behind a blank where it has them, and a bar.
+fn push_read(text: &mut Vec<u8>, read: &SeqRead) -> Result<(), AllocError> {
+    text.extend_from_slice(read.bases())?;
+    if let Some(quals) = read.quals() {
+        push_parts(text, b" ", quals)?;
+    }
+    text.extend_from_slice(b"|")
+}
+
+// Puts two parts behind a text.
+fn push_parts(text: &mut Vec<u8>, part: &[u8], next: &[u8]) -> Result<(), AllocError> {
+    text.extend_from_slice(part)?;
+    text.extend_from_slice(next)
+}
+
+// Reads as one text.
+fn text_of_reads(alloc: Global, reads: &[SeqRead]) -> Result<Vec<u8>, AllocError> {
+    let mut text = Vec::new(alloc);
+    for read in reads {
+        push_read(&mut text, read)?;
+    }
+    Ok(text)
+}
+
+// What was answered as one text: the reads, or the fault.
+fn shown(alloc: Global, answer: &Result<Vec<SeqRead>, FastxFault>) -> Result<Vec<u8>, AllocError> {
+    match answer {
+        Ok(reads) => text_of_reads(alloc, reads),
+        Err(fault) => format!(in alloc; "{fault}")?.as_bytes().to_vec(alloc),
+    }
+}
+
+// Asserts that this was answered. A failure tells the number of its row, its bytes or its read.
+fn assert_shown<H: AllocGlobal + Abort>(
+    rt: &H,
+    number: u64,
+    answer: &Result<Vec<SeqRead>, FastxFault>,
+    want: &[u8],
+) -> Result<(), AllocError> {
+    let got = shown(rt.alloc(), answer)?;
+    assert_bytes(rt, number, got.as_slice(), want);
+    Ok(())
+}
+
+// A reader that gives one byte at a time, and fails at its read of this number, from 0.
+#[derive(Drop)]
+struct Slow<'a> {
+    left: &'a [u8],
+    reads: u64,
+    fails_at: u64,
+}
+
+impl Read for Slow<'_> {
+    fn read(&mut self, buf: &mut [u8]) -> io::Result<usize> {
+        let read = self.reads;
+        self.reads = read.saturating_add(1);
+        if read == self.fails_at {
+            return Err(io::Error::from(io::ErrorKind::Other));
+        }
+        match (self.left, buf) {
+            ([first, rest @ ..], [place, ..]) => {
+                *place = *first;
+                self.left = rest;
+                Ok(1)
+            }
+            _ => Ok(0),
+        }
+    }
+}
+
+// A source of these bytes, which come one at a time.
+fn slow_source(bytes: &[u8], fails_at: u64) -> FromRead<Slow<'_>> {
+    FromRead::new(Slow {
+        left: bytes,
+        reads: 0,
+        fails_at,
+    })
+}
+
+// What a reader gives of this source up to its end or a fault.
+fn collected<S: Source + Drop>(
+    alloc: Global,
+    source: S,
+    limit: u32,
+) -> Result<Vec<SeqRead>, FastxFault> {
+    let mut reads = Reads::new(alloc, source, u64::from(limit))?;
+    let mut given = Vec::new(alloc);
+    for _ in 0..limit {
+        if !take_read(&mut reads, &mut given)? {
+            return Ok(given);
+        }
+    }
+    Ok(given)
+}
+
+// Takes one more read of the reader, where one comes.
+fn take_read<S: Source + Drop>(
+    reads: &mut Reads<S>,
+    given: &mut Vec<SeqRead>,
+) -> Result<bool, FastxFault> {
+    match reads.next_read() {
+        Ok(Some(read)) => {
+            given.push(read)?;
+            Ok(true)
+        }
+        Ok(None) => Ok(false),
+        Err(fault) => Err(fault),
+    }
+}
+
+// What a reader gives of these bytes.
+fn collected_bytes(alloc: Global, bytes: &[u8]) -> Result<Vec<SeqRead>, FastxFault> {
+    collected(alloc, FromBytes::new(bytes), 1 << 20)
+}
+
+// What a reader gives of these bytes, which come one at a time.
+fn collected_slowly(
+    alloc: Global,
+    bytes: &[u8],
+    fails_at: u64,
+) -> Result<Vec<SeqRead>, FastxFault> {
+    collected(alloc, slow_source(bytes, fails_at), 1 << 20)
+}
+
+// What `read_all` answers of these bytes, given one at a time.
+fn read_slowly(alloc: Global, bytes: &[u8], fails_at: u64) -> Result<Vec<SeqRead>, FastxFault> {
+    let (reads, _count) = read_all(alloc, &mut slow_source(bytes, fails_at), 1 << 36)?;
+    Ok(reads)
+}
+
+// Bytes, and what is answered of them.
+type Row = (&'static [u8], &'static [u8]);
+
+// Asserts the answers of all rows, at once, read by read and byte by byte.
+fn assert_rows<H: AllocGlobal + Abort>(rt: &H, rows: &[Row]) -> Result<(), AllocError> {
+    let alloc = rt.alloc();
+    for (row, (bytes, want)) in rows.iter().enumerate() {
+        let row = row as u64;
+        assert_shown(rt, row, &parse(alloc, *bytes), *want)?;
+        assert_shown(rt, row, &collected_bytes(alloc, *bytes), *want)?;
+        assert_shown(rt, row, &collected_slowly(alloc, *bytes, u64::MAX), *want)?;
+    }
+    Ok(())
+}
+
+const FASTA_ROWS: &[Row] = &[
+    (b">r1\nACGTA\n", b"ACGTA|"),
+    (b">a\nAC\nGT\r\n>b\n\n>c\nac", b"ACGT||ac|"),
+    (b">r\nACNGT\n", b"ACNGT|"),
+    (b"", b""),
+    (b"\n\r\n\n", b""),
+    (b"\r", b""),
+    (b"\n\n>r", b"|"),
+    (b"\n>r\r\nA.-*z\r", b"A.-*z|"),
+    (b">r\nA@C\n", b"bad base, line 2"),
+    (b">r\nAC\r\r\n", b"bad base, line 2"),
+    (b">r\nAC\n A\n", b"bad base, line 3"),
+    (b"\nACGT\n", b"bad start, line 2"),
+];
+
+#[test]
+fn fasta_rows(rt: HostRuntime) -> Result<(), AllocError> {
+    assert_rows(&rt, FASTA_ROWS)
+}
+
+const FASTQ_ROWS: &[Row] = &[
+    (b"@q\nACGT\n+\nII!I\n", b"ACGT II!I|"),
+    (b"@q\nAC\nGT\n+q\n@I\nII\n", b"ACGT @III|"),
+    (b"@q\r\nAC\r\n+\r\n+~\r\n\r\n", b"AC +~|"),
+    (b"@q\n\n+\n\n@r\nAC\n+\nII\n", b" |AC II|"),
+    (b"@q\nAC\n+\nI\n\nI\n", b"AC II|"),
+    (b"\n@q\n+", b" |"),
+    (b"@q\nAC\n+\nIII\n", b"long quality, line 4"),
+    (b"@q\nAC\n+\nI\nII\n", b"long quality, line 5"),
+    (b"@q\nAC\n+\nII \n", b"bad quality, line 4"),
+    (b"@q\nAC\n+\nI \n", b"bad quality, line 4"),
+    (b"@q\nAC\n+\nI\x7f\n", b"bad quality, line 4"),
+    (b"@q\nACGT\n+\nII", b"truncated, line 4"),
+    (b"@q\nACGT\n+\nII\n\n\n", b"truncated, line 6"),
+    (b"@q\nAC\n+\n#I\n@r\n", b"truncated, line 5"),
+    (b"@q\nAC\n+\nII\nxx\n", b"bad start, line 5"),
+    (b"@q\n+\nII\n", b"bad start, line 3"),
+    (b"@q\nAC\n@x\n+\nIIII\n", b"bad base, line 3"),
+    (b" @q\n", b"bad start, line 1"),
+    (b"@q\nAC\n+\nII\n>r\nAC\n", b"bad start, line 5"),
+];
+
+#[test]
+fn fastq_rows(rt: HostRuntime) -> Result<(), AllocError> {
+    assert_rows(&rt, FASTQ_ROWS)
+}
+
+const WRAPPED_READ: &[u8] = b"@q\nAC\nGT\n+q\n@I\nII\n";
+
+// What is answered of the first bytes of the wrapped read: of none, of one, and so on.
+const FRONTS: &[&[u8]] = &[
+    b"",
+    b"truncated, line 1",
+    b"truncated, line 1",
+    b"truncated, line 1",
+    b"truncated, line 2",
+    b"truncated, line 2",
+    b"truncated, line 2",
+    b"truncated, line 3",
+    b"truncated, line 3",
+    b"truncated, line 3",
+    b"truncated, line 4",
+    b"truncated, line 4",
+    b"truncated, line 4",
+    b"truncated, line 5",
+    b"truncated, line 5",
+    b"truncated, line 5",
+    b"truncated, line 6",
+    b"ACGT @III|",
+    b"ACGT @III|",
+];
+
+#[test]
+fn every_front_of_a_wrapped_read(rt: HostRuntime) -> Result<(), AllocError> {
+    let alloc = rt.alloc();
+    assert_same(&rt, "fronts", &FRONTS.len(), &(WRAPPED_READ.len() + 1));
+    for (count, want) in FRONTS.iter().enumerate() {
+        let (front, _) = WRAPPED_READ.split_at(count.min(WRAPPED_READ.len()));
+        assert_front(&rt, front, *want)?;
+    }
+    Ok(())
+}
+
+// Asserts what is answered of these bytes, at once and byte by byte.
+fn assert_front<H: AllocGlobal + Abort>(
+    rt: &H,
+    front: &[u8],
+    want: &[u8],
+) -> Result<(), AllocError> {
+    let count = front.len() as u64;
+    assert_shown(rt, count, &parse(rt.alloc(), front), want)?;
+    assert_shown(rt, count, &read_slowly(rt.alloc(), front, u64::MAX), want)
+}
+
+#[test]
+fn every_failed_read(rt: HostRuntime) -> Result<(), AllocError> {
+    let whole = b">r1\nACGTA\n".as_slice();
+    for fails_at in 0..11u64 {
+        let answer = read_slowly(rt.alloc(), whole, fails_at);
+        assert_shown(&rt, fails_at, &answer, b"read failed")?;
+    }
+    assert_shown(&rt, 11, &read_slowly(rt.alloc(), whole, 11), b"ACGTA|")
+}
+
+const FAULTY: &[u8] = b">r\nA@C\n>s\nAC\n";
+
+// A fault of the lines is told at once by a reader, and by `read_all` behind a failed read and a passed limit.
+#[test]
+fn faults_behind_faults(rt: HostRuntime) -> Result<(), AllocError> {
+    let alloc = rt.alloc();
+    assert_shown(&rt, 8, &read_slowly(alloc, FAULTY, 8), b"read failed")?;
+    assert_shown(
+        &rt,
+        20,
+        &read_slowly(alloc, FAULTY, 20),
+        b"bad base, line 2",
+    )?;
+    assert_shown(
+        &rt,
+        8,
+        &collected_slowly(alloc, FAULTY, 8),
+        b"bad base, line 2",
+    )?;
+    assert_shown(
+        &rt,
+        20,
+        &collected_slowly(alloc, FAULTY, 20),
+        b"bad base, line 2",
+    )?;
+    let passed = fault_of(alloc, &mut slow_source(FAULTY, u64::MAX), 9);
+    assert_same(&rt, "passed", &passed, &Some(FastxFault::TooLong));
+    Ok(())
+}
+
+// Why all bytes of a source, of which there are more than this limit, are refused.
+fn fault_of<S: Source>(alloc: Global, source: &mut S, limit: u32) -> Option<FastxFault> {
+    match read_all(alloc, source, u64::from(limit)) {
+        Ok(_) => None,
+        Err(fault) => Some(fault),
+    }
+}
+
+// Whether one more read comes.
+fn has_more<S: Source + Drop>(reads: &mut Reads<S>) -> Result<bool, FastxFault> {
+    match reads.next_read() {
+        Ok(Some(_)) => Ok(true),
+        Ok(None) => Ok(false),
+        Err(fault) => Err(fault),
+    }
+}
+
+// What a reader answers once more behind the end, and behind a failed read.
+#[test]
+fn asked_again(rt: HostRuntime) -> Result<(), AllocError> {
+    let mut reads = Reads::new(rt.alloc(), FromBytes::new(b">r\nAC\n\n"), 8)?;
+    assert_same(&rt, "first", &has_more(&mut reads), &Ok(true));
+    for _ in 0..2 {
+        assert_same(&rt, "end", &has_more(&mut reads), &Ok(false));
+    }
+    asked_again_after_a_failure(&rt)
+}
+
+fn asked_again_after_a_failure<H: AllocGlobal + Abort>(rt: &H) -> Result<(), AllocError> {
+    let source = slow_source(b"@q\nAC\n+\nII\n@r\nACGTACGT\n", 20);
+    let mut reads = Reads::new(rt.alloc(), source, 100)?;
+    assert_same(rt, "first", &has_more(&mut reads), &Ok(true));
+    for _ in 0..2 {
+        assert_same(rt, "failure", &has_more(&mut reads), &Err(FastxFault::Read));
+    }
+    Ok(())
+}
+
+// How many bases a long read has.
+const LONG: usize = 200_000;
+
+// A text of so many bytes in lines of a width.
+fn wrapped(alloc: Global, byte: u8, width: usize) -> Result<Vec<u8>, AllocError> {
+    let mut text = Vec::new(alloc);
+    let mut in_line = 0usize;
+    for _ in 0..LONG {
+        if in_line == width {
+            text.push(b'\n')?;
+            in_line = 0;
+        }
+        text.push(byte)?;
+        in_line = in_line.wrapping_add(1);
+    }
+    text.push(b'\n')?;
+    Ok(text)
+}
+
+// A long read in lines of a width.
+fn long_fasta(alloc: Global, width: usize) -> Result<Vec<u8>, AllocError> {
+    let mut text = b">q\n".to_vec(alloc)?;
+    text.extend_from_slice(&wrapped(alloc, b'A', width)?)?;
+    Ok(text)
+}
+
+// The same with qualities, and a short read behind it.
+fn long_fastq(alloc: Global, width: usize) -> Result<Vec<u8>, AllocError> {
+    let mut text = b"@q\n".to_vec(alloc)?;
+    push_parts(&mut text, &wrapped(alloc, b'A', width)?, b"+\n")?;
+    push_parts(&mut text, &wrapped(alloc, b'I', width)?, b"@r\nAC\n+\nII\n")?;
+    Ok(text)
+}
+
+// How many bases the reads of these bytes have.
+fn base_counts(alloc: Global, bytes: &[u8]) -> Result<Vec<u64>, FastxFault> {
+    let reads = collected_bytes(alloc, bytes)?;
+    let mut counts = Vec::new(alloc);
+    for read in &reads {
+        counts.push(read.bases().len() as u64)?;
+    }
+    Ok(counts)
+}
+
+// The bases of the last of the reads of these bytes.
+fn last_bases(alloc: Global, bytes: &[u8]) -> Result<Vec<u8>, FastxFault> {
+    let reads = collected_bytes(alloc, bytes)?;
+    match reads.last() {
+        Some(read) => Ok(read.bases().to_vec(alloc)?),
+        None => Ok(Vec::new(alloc)),
+    }
+}
+
+// Records that are longer than a block, in one line and in many.
+#[test]
+fn long_records(rt: HostRuntime) -> Result<(), Fail> {
+    for width in [60usize, LONG] {
+        let fasta = long_fasta(rt.alloc(), width)?;
+        assert_numbers(&rt, width, &base_counts(rt.alloc(), &fasta)?, &[200_000]);
+        let fastq = long_fastq(rt.alloc(), width)?;
+        assert_numbers(&rt, width, &base_counts(rt.alloc(), &fastq)?, &[200_000, 2]);
+        assert_bytes(&rt, width, &last_bases(rt.alloc(), &fastq)?, b"AC");
+    }
+    Ok(())
+}
+
+// Bytes, and a limit that they pass.
+const PASSED_LIMITS: &[(&[u8], u32)] = &[(b">r1\nACGTA\n", 9), (b"ACGT\n", 3), (b"A", 0)];
+
+#[test]
+fn limits(rt: HostRuntime) -> Result<(), Fail> {
+    let (reads, count) = read_all(rt.alloc(), &mut FromBytes::new(b">r1\nACGTA\n"), 10)?;
+    assert_same(&rt, "bytes", &count, &10);
+    assert_shown(&rt, 10, &Ok(reads), b"ACGTA|")?;
+    for (bytes, limit) in PASSED_LIMITS {
+        let passed = fault_of(rt.alloc(), &mut FromBytes::new(*bytes), *limit);
+        assert_same(&rt, *limit, &passed, &Some(FastxFault::TooLong));
+    }
+    Ok(())
+}
+
+// Whether there is a read of these parts.
+fn is_read(alloc: Global, bases: &[u8], quals: Option<&[u8]>) -> Result<bool, AllocError> {
+    let quals = match quals {
+        None => None,
+        Some(quals) => Some(quals.to_vec(alloc)?),
+    };
+    Ok(SeqRead::new(bases.to_vec(alloc)?, quals).is_some())
+}
+
+// Bases, qualities, and whether there is a read of them.
+const PARTS: &[(&[u8], Option<&[u8]>, bool)] = &[
+    (b"ACnt.-*", Some(b"!~@+III"), true),
+    (b"ACnt.-*", None, true),
+    (b"ACnt.-*", Some(b"!~"), false),
+    (b"A C", None, false),
+    (b"A", Some(b" "), false),
+];
+
+#[test]
+fn reads_of_given_parts(rt: HostRuntime) -> Result<(), AllocError> {
+    for (row, (bases, quals, want)) in PARTS.iter().enumerate() {
+        assert_same(&rt, row, &is_read(rt.alloc(), *bases, *quals)?, want);
+    }
+    Ok(())
+}
+
+// Faults and their numbers.
+const NUMBERS: &[(FastxFault, u32)] = &[
+    (FastxFault::BadStart(9), 1),
+    (FastxFault::BadBase(9), 2),
+    (FastxFault::BadQuality(9), 3),
+    (FastxFault::LongQuality(9), 4),
+    (FastxFault::Truncated(9), 5),
+    (FastxFault::TooLong, 6),
+    (FastxFault::Read, 7),
+    (FastxFault::Memory, 8),
+];
+
+#[test]
+fn numbers(rt: HostRuntime) {
+    for (fault, number) in NUMBERS {
+        assert_same(&rt, *number, &fault.number(), number);
+    }
+}
+
+// The reads of a FASTQ of 27 bytes that come one at a time.
+fn read_all_slowly(alloc: Global) -> Result<(Vec<SeqRead>, u64), FastxFault> {
+    let bytes = b"@q\nAC\nGT\n+q\n@I\nII\n@r\nA\n+\nI\n".as_slice();
+    read_all(alloc, &mut slow_source(bytes, u64::MAX), 27)
+}
+
+// Asserts that these are reads of ACGT and of A.
+fn assert_two_reads<H: Abort>(rt: &H, reads: &[SeqRead]) {
+    match reads {
+        [first, second] => {
+            assert_bytes(rt, "first", first.bases(), b"ACGT");
+            assert_bytes(rt, "second", second.bases(), b"A");
+        }
+        _ => assert!(rt; false),
+    }
+}
+
+// Run with each allocation refused in turn: `rt try --test --fail-alloc N`.
+#[test]
+fn memory_or_the_reads(rt: HostRuntime) {
+    match read_all_slowly(rt.alloc()) {
+        Ok((reads, count)) => {
+            assert_same(&rt, "bytes", &count, &27);
+            assert_two_reads(&rt, &reads);
+        }
+        Err(fault) => assert_same(&rt, "fault", &fault, &FastxFault::Memory),
+    }
+    match collected(rt.alloc(), FromBytes::new(b">r\nAC\n"), 7) {
+        Ok(reads) => assert_same(&rt, "reads", &reads.len(), &1),
+        Err(fault) => assert_same(&rt, "fault", &fault, &FastxFault::Memory),
+    }
+}
