@@ -24,6 +24,3 @@ pub use elimination::Inverse;
 pub use hash::{Hash, HashFault};
 pub use matrix::Matrix;
 pub use tables::MatrixTables;
-
-#[cfg(test)]
-mod tests;

@@ -20,14 +20,10 @@ mod letters;
 mod lines;
 mod querying;
 mod statistics;
-#[cfg(test)]
-mod stream_tests;
 mod table;
 pub mod table_laws;
 mod table_reading;
 mod table_rows;
-#[cfg(test)]
-mod tests;
 
 pub use block::{BLOCK_SIZE, Block, NUMBER_SIZE};
 pub use dumping::{Dump, GREATEST_COUNT, write_dump};

@@ -35,6 +35,3 @@ pub use kc_base::Counter as Steps;
 pub use limited::LimitedCounts;
 pub use plain::PlainCounts;
 pub use quotient::QuotientTable;
-
-#[cfg(test)]
-mod tests;

@@ -27,6 +27,3 @@ pub use histogram::Histogram;
 pub use row::Row;
 pub use rows::Rows;
 pub use tally::Tally;
-
-#[cfg(test)]
-mod tests;

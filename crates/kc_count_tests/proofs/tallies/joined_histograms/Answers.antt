@@ -1,6 +1,6 @@
 use Rattle.std.proofs.Common.{[], ◌∷◌, arith}
 use Rattle.kc_tally.proofs.Bins.{joined_bins-fit}
-use Rattle.kc_tally.proofs.tests.joined_histograms.Goals as goal
+use Rattle.kc_count_tests.proofs.tallies.joined_histograms.Goals as goal
 
 pub add-requires : goal.add-requires
 add-requires g c =

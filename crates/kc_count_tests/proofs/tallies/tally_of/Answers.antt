@@ -1,7 +1,7 @@
 use Rattle.std.proofs.Common.{ap, subst, arith}
 use Rattle.kc_word.specs.Rule.{CountingRule}
 use Rattle.kc_tally.specs.Tally.{AreRows}
-use Rattle.kc_tally.proofs.tests.tally_of.Goals as goal
+use Rattle.kc_count_tests.proofs.tallies.tally_of.Goals as goal
 
 pub of_rows-requires : goal.of_rows-requires
 of_rows-requires c =

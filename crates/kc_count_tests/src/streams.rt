@@ -1,13 +1,14 @@
 //! Tables and reports over streams that give and take few bytes at a time, and fail.
-
-use crate::{
+use crate::reports::strings_of;
+use kc_io::{FromBytes, FromRead, ToWrite};
+use kc_report::{
     Dump, ReportFault, query, read_table, write_dump, write_histo, write_stats, write_table,
 };
-use kc_io::{FromBytes, FromRead, Sink, ToWrite};
 use kc_tally::Tally;
 use std::alloc::{AllocError, Global};
 use std::io;
 use std::io::{Read, Write};
+use std::process::Abort;
 use std::test::Fail;
 
 const TABLE: &[u8] = b"KCT 1 3 c\nACG 2\nGTA 1\nEND 2 3\n";
@@ -84,9 +85,9 @@ enum Report {
     Query,
 }
 
-fn write_report<W: Sink>(
+fn write_report(
     alloc: Global,
-    writer: &mut W,
+    writer: &mut ToWrite<Narrow>,
     tally: &Tally,
     report: Report,
     asked: &[String],
@@ -100,7 +101,7 @@ fn write_report<W: Sink>(
     }
 }
 
-const REPORTS: [(Report, &[u8]); 5] = [
+const REPORTS: &[(Report, &[u8])] = &[
     (Report::Table, TABLE),
     (Report::Dump, b">2\nACG\n>1\nGTA\n"),
     (Report::Histogram, b"1 1\n2 1\n"),
@@ -111,46 +112,61 @@ const REPORTS: [(Report, &[u8]); 5] = [
     (Report::Query, b"ACG 2\nAAA 0\n"),
 ];
 
-// How the writing of a report ends in a narrow writer, and what that took.
-fn written(
-    alloc: Global,
+// A narrow writer, if there is memory.
+fn narrow_writer(alloc: Global, room: usize, flushes: bool) -> Result<ToWrite<Narrow>, AllocError> {
+    let bytes = Vec::with_capacity(alloc, 100)?;
+    Ok(ToWrite::new(Narrow {
+        bytes,
+        room,
+        flushes,
+    }))
+}
+
+// The writing of a report: its writer's room, whether the writer flushes, how it ends, and what the writer took.
+#[derive(Drop)]
+struct Writing<'a> {
     report: Report,
     room: usize,
     flushes: bool,
-) -> Result<(Result<(), ReportFault>, Vec<u8>), Fail> {
+    outcome: Result<(), ReportFault>,
+    taken: &'a [u8],
+}
+
+// Asserts that a report is written so.
+fn assert_written<H: Abort + AllocGlobal>(rt: &H, writing: &Writing<'_>) -> Result<(), Fail> {
+    let alloc = rt.alloc();
+    let (report, room) = (writing.report, writing.room);
     let tally = read_table(alloc, &mut FromBytes::new(TABLE), 100)?;
-    let asked = vec![in alloc;
-        String::from_str(alloc, "CGT")?,
-        String::from_str(alloc, "aaa")?,
-    ]?;
-    let mut sink = ToWrite::new(Narrow {
-        bytes: Vec::with_capacity(alloc, 100)?,
-        room,
-        flushes,
-    });
+    let asked = strings_of(alloc, &["CGT", "aaa"])?;
+    let mut sink = narrow_writer(alloc, room, writing.flushes)?;
     let outcome = write_report(alloc, &mut sink, &tally, report, &asked);
-    Ok((outcome, sink.into_inner().bytes))
+    let bytes = sink.into_inner().bytes;
+    assert_eq!(rt; outcome, writing.outcome, "{report:?}, room for {room}");
+    assert!(rt;
+        bytes.as_slice() == writing.taken,
+        "{report:?}, room for {room}"
+    );
+    Ok(())
 }
 
 #[test]
 fn a_writer_without_room_has_a_beginning(rt: HostRuntime) -> Result<(), Fail> {
     for (report, text) in REPORTS {
-        for room in 0..text.len() {
-            let (outcome, bytes) = written(rt.alloc(), report, room, true)?;
-            assert_eq!(rt;
+        for room in 0..=text.len() {
+            let outcome = if room < text.len() {
+                Err(ReportFault::Write)
+            } else {
+                Ok(())
+            };
+            let writing = Writing {
+                report: *report,
+                room,
+                flushes: true,
                 outcome,
-                Err(ReportFault::Write),
-                "{report:?}, room for {room}"
-            );
-            assert_eq!(rt;
-                bytes.as_slice(),
-                &text[..room],
-                "{report:?}, room for {room}"
-            );
+                taken: &text[..room],
+            };
+            assert_written(&rt, &writing)?;
         }
-        let (outcome, bytes) = written(rt.alloc(), report, text.len(), true)?;
-        assert_eq!(rt; outcome, Ok(()), "{report:?}");
-        assert_eq!(rt; bytes.as_slice(), text, "{report:?}");
     }
     Ok(())
 }
@@ -158,50 +174,65 @@ fn a_writer_without_room_has_a_beginning(rt: HostRuntime) -> Result<(), Fail> {
 #[test]
 fn a_failing_flush_has_the_whole_text(rt: HostRuntime) -> Result<(), Fail> {
     for (report, text) in REPORTS {
-        let (outcome, bytes) = written(rt.alloc(), report, text.len(), false)?;
-        assert_eq!(rt; outcome, Err(ReportFault::Write), "{report:?}");
-        assert_eq!(rt; bytes.as_slice(), text, "{report:?}");
+        let writing = Writing {
+            report: *report,
+            room: text.len(),
+            flushes: false,
+            outcome: Err(ReportFault::Write),
+            taken: *text,
+        };
+        assert_written(&rt, &writing)?;
     }
     Ok(())
 }
 
+// Asserts that a text that is read by single bytes is refused so.
+fn assert_refused<H: Abort + AllocGlobal>(
+    rt: &H,
+    text: &[u8],
+    reads: usize,
+    limit: u64,
+    want: ReportFault,
+) {
+    let fault = read_slowly(rt.alloc(), text, reads, limit).err();
+    assert_eq!(rt; fault, Some(want), "{reads} reads, limit {limit}");
+}
+
 #[test]
-fn fronts_of_a_table_byte_by_byte(rt: HostRuntime) -> Result<(), Fail> {
+fn fronts_of_a_table_byte_by_byte(rt: HostRuntime) -> Result<(), ReportFault> {
     for count in 0..TABLE.len() {
         let want = if count < 10 {
             ReportFault::BadHeader
         } else {
             ReportFault::BadEnd
         };
-        let fault = read_slowly(rt.alloc(), &TABLE[..count], usize::MAX, 100).err();
-        assert_eq!(rt; fault, Some(want), "{count} bytes");
+        assert_refused(&rt, &TABLE[..count], usize::MAX, 100, want);
     }
     let tally = read_slowly(rt.alloc(), TABLE, usize::MAX, 30)?;
     assert_eq!(rt; tally.total(), 3);
     assert_eq!(rt; tally.row_count(), 2);
     let more = b"KCT 1 3 c\nACG 2\nGTA 1\nEND 2 3\n\n";
-    let fault = read_slowly(rt.alloc(), more, usize::MAX, 100).err();
-    assert_eq!(rt; fault, Some(ReportFault::BadEnd));
+    assert_refused(&rt, more, usize::MAX, 100, ReportFault::BadEnd);
     Ok(())
 }
 
+// Tables, and texts whose fault stands before their end.
+const TEXTS: &[&[u8]] = &[
+    TABLE,
+    b"KCT 2 3 c\nACG 2\nGTA 1\nEND 2 3\n",
+    b"KCT 1 3 c\nGTA 1\nACG 2\nEND 2 3\n",
+    b"KCT 1 3 c\nACG 2\nEND 2 3\nGTA 1\n",
+];
+
 // The end is told by one read more than there are bytes.
 #[test]
-fn every_failed_read(rt: HostRuntime) -> Result<(), Fail> {
-    let texts: [&[u8]; 4] = [
-        TABLE,
-        b"KCT 2 3 c\nACG 2\nGTA 1\nEND 2 3\n",
-        b"KCT 1 3 c\nGTA 1\nACG 2\nEND 2 3\n",
-        b"KCT 1 3 c\nACG 2\nEND 2 3\nGTA 1\n",
-    ];
-    for text in texts {
+fn every_failed_read(rt: HostRuntime) -> Result<(), ReportFault> {
+    for text in TEXTS {
         for reads in 0..=text.len() {
-            let fault = read_slowly(rt.alloc(), text, reads, 100).err();
-            assert_eq!(rt; fault, Some(ReportFault::TableRead), "read {reads}");
+            assert_refused(&rt, *text, reads, 100, ReportFault::TableRead);
         }
         for limit in 0..text.len() as u64 {
-            let fault = read_slowly(rt.alloc(), text, usize::MAX, limit).err();
-            assert_eq!(rt; fault, Some(ReportFault::TableTooLong), "limit {limit}");
+            assert_refused(&rt, *text, usize::MAX, limit, ReportFault::TableTooLong);
         }
     }
     let tally = read_slowly(rt.alloc(), TABLE, TABLE.len() + 1, 100)?;
@@ -209,23 +240,23 @@ fn every_failed_read(rt: HostRuntime) -> Result<(), Fail> {
     Ok(())
 }
 
+// The tally of a table text. Asserts that nothing but want of memory refuses it.
+fn read_if_memory<H: Abort + AllocGlobal>(rt: &H, text: &[u8]) -> Result<Tally, AllocError> {
+    match read_table(rt.alloc(), &mut FromBytes::new(text), 100) {
+        Ok(tally) => Ok(tally),
+        Err(fault) => {
+            assert_eq!(rt; fault, ReportFault::Memory);
+            Err(AllocError)
+        }
+    }
+}
+
 // Run with each growth refused in turn (tests/memory.sh): then it ends as refused, and nothing was written.
 #[test]
 fn memory_or_the_report(rt: HostRuntime) -> Result<(), AllocError> {
     let text = b"KCT 1 2 s\nAA 1\nAC 1\nAG 1\nAT 1\nCA 2\nCC 1\nCG 1\nCT 1\nGA 1\nEND 9 10\n";
-    let bytes = Vec::with_capacity(rt.alloc(), 100)?;
-    let tally = match read_table(rt.alloc(), &mut FromBytes::new(text), 100) {
-        Ok(tally) => tally,
-        Err(fault) => {
-            assert_eq!(rt; fault, ReportFault::Memory);
-            return Err(AllocError);
-        }
-    };
-    let mut sink = ToWrite::new(Narrow {
-        bytes,
-        room: 100,
-        flushes: true,
-    });
+    let mut sink = narrow_writer(rt.alloc(), 100, true)?;
+    let tally = read_if_memory(&rt, text)?;
     let outcome = write_histo(rt.alloc(), &mut sink, &tally, 20_000);
     let written = sink.into_inner().bytes;
     if let Err(fault) = outcome {

@@ -2,7 +2,7 @@ use Rattle.std.proofs.Common.{rules, false, List, [], ◌∷◌, refl}
 use Rattle.kc_word.specs.Word.{form}
 use Rattle.kc_tally.specs.declared.row.Row.{Row}
 use Rattle.kc_tally.specs.Tally.{AreRows, row_of}
-use Rattle.kc_tally.proofs.tests.parted_tally.Goals as goal
+use Rattle.kc_count_tests.proofs.tallies.parted_tally.Goals as goal
 
 rows : List Row
 rows = row_of 1 2 ∷ row_of 6 1 ∷ row_of 11 70_000 ∷ row_of 15 1 ∷ []

@@ -1,6 +1,6 @@
 use Rattle.std.proofs.Common.{rules, ◌∙◌, ap, arith}
 use Rattle.kc_tally.proofs.Parts.{joined, joined-on}
-use Rattle.kc_tally.proofs.tests.in_parts.Goals as goal
+use Rattle.kc_count_tests.proofs.tallies.in_parts.Goals as goal
 
 pub loop-end-preserved : goal.loop-end-preserved
 loop-end-preserved c =

@@ -2,7 +2,7 @@ use Rattle.std.proofs.Common.{rules, false, List, [], ◌∷◌, refl}
 use Rattle.kc_word.specs.Word.{form}
 use Rattle.kc_tally.specs.declared.row.Row.{Row}
 use Rattle.kc_tally.specs.Tally.{AreRows}
-use Rattle.kc_report.proofs.tests.worked_tally.Goals as goal
+use Rattle.kc_count_tests.proofs.reports.worked_tally.Goals as goal
 
 rows : List Row
 rows = record { word = 1; count = 2 } ∷ record { word = 6; count = 1 } ∷ record { word = 11; count = 70000 } ∷ []

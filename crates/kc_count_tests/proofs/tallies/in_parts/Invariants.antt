@@ -1,6 +1,6 @@
 use Rattle.std.proofs.Common.{◌≡◌, ◌≤◌, length, take}
 use Rattle.kc_tally.proofs.Parts.{joined}
-use Rattle.kc_tally.proofs.tests.in_parts.Given as goal
+use Rattle.kc_count_tests.proofs.tallies.in_parts.Given as goal
 
 abbrev pub invariant-loop-end : goal.invariant-loop-end
 invariant-loop-end l = record {

@@ -1,7 +1,7 @@
 use Rattle.std.proofs.Common.{sym, subst}
 use Rattle.kc_table.specs.Counts.{KeyCounts, IsStored}
 use Rattle.kc_table.proofs.KeyCounts.{IsStored-readied}
-use Rattle.kc_table.proofs.tests.count.Goals as goal
+use Rattle.kc_count_tests.proofs.tables.count.Goals as goal
 
 pub add-requires-clause-stored : goal.add-requires-clause-stored
 add-requires-clause-stored g c =
