@@ -16,6 +16,3 @@ mod taking;
 pub use fault::GatherFault;
 pub use gathering::{gather, gather_in_parallel};
 pub use tables::{plain_tables, quotient_tables};
-
-#[cfg(test)]
-mod tests;

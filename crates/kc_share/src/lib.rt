@@ -19,6 +19,3 @@ pub use crate::entry::{Booking, Entry, KeptStripe, Plan};
 pub use crate::keeper::Keeper;
 pub use crate::share::Share;
 pub use crate::sheet::{OpenSheet, Opening, Sheet};
-
-#[cfg(test)]
-mod tests;

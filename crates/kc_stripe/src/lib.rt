@@ -17,18 +17,3 @@ pub use seen::Seen;
 pub use setup::Setup;
 pub use stripe::Stripe;
 pub use stripes::Stripes;
-
-#[cfg(test)]
-mod booking_tests;
-#[cfg(test)]
-mod meeting_tests;
-#[cfg(test)]
-mod refused_tests;
-#[cfg(test)]
-mod sharing_tests;
-#[cfg(test)]
-mod tally_tests;
-#[cfg(test)]
-mod tests;
-#[cfg(test)]
-mod thread_tests;

@@ -1,4 +1,0 @@
-use Rattle.kc_stripe.proofs.refused_tests.a_refused_growth_leaves_the_share.Given as goal
-
-abbrev pub ghosts-share_at_last : goal.ghosts-share_at_last
-ghosts-share_at_last g a = record { table = a.sheet.table }

@@ -1,0 +1,123 @@
+//! Worked rows of setups and cuts.
+use crate::samples::{count_in, cuts_in, made_setup, plain_stripe, setup_of};
+use kc_hash::{Hash, Matrix};
+use kc_stripe::{Cut, Setup, Stripe};
+use kc_table::PlainCounts;
+use kc_word::{K, Rule, Word};
+use std::alloc::Global;
+use std::process::Abort;
+use std::test::Fail;
+
+// Lengths of words and numbers of stripes that make no setup.
+const NO_SETUPS: &[(u32, u32)] = &[(3, 0), (3, 3), (3, 128), (1, 8)];
+
+// Those that make one, and the bits of its keys and of its hash.
+const SETUPS: &[(u32, u32, u32, u32)] = &[
+    (1, 4, 0, 2),
+    (3, 1, 6, 6),
+    (3, 64, 0, 6),
+    (31, 16, 58, 62),
+];
+
+fn assert_setup(
+    rt: &impl Abort,
+    k: u32,
+    stripes: u32,
+    key_bits: u32,
+    bits: u32,
+) -> Result<(), Fail> {
+    let setup = made_setup(k, stripes)?;
+    let found = [
+        setup.stripes(),
+        setup.key_bits(),
+        setup.rule().k().get(),
+        setup.hash().bits(),
+    ];
+    assert_eq!(rt; found, [stripes, key_bits, k, bits]);
+    Ok(())
+}
+
+#[test]
+fn setups(rt: HostRuntime) -> Result<(), Fail> {
+    for (k, stripes) in NO_SETUPS {
+        assert!(rt; setup_of(*k, *stripes).is_none());
+    }
+    for (k, stripes, key_bits, bits) in SETUPS {
+        assert_setup(&rt, *k, *stripes, *key_bits, *bits)?;
+    }
+    Ok(())
+}
+
+#[test]
+fn a_setup_wants_the_hash_of_its_words(rt: HostRuntime) -> Result<(), Fail> {
+    let rule = Rule::new(K::new(3).ok_or("no length of a word")?, false, b'!');
+    assert!(rt; Setup::new(rule, Hash::of_matrix(Matrix::identity(8))?, 4).is_none());
+    Ok(())
+}
+
+#[test]
+fn setups_are_compared(rt: HostRuntime) -> Result<(), Fail> {
+    let setup = made_setup(3, 4)?;
+    assert!(rt; setup == made_setup(3, 4)?);
+    assert!(rt; setup != made_setup(3, 2)?);
+    Ok(())
+}
+
+#[test]
+fn places_of_words(rt: HostRuntime) -> Result<(), Fail> {
+    let setup = made_setup(3, 4)?;
+    if setup.key_bits() != 4 || setup.stripes() != 4 || setup.rule().k().get() != 3 {
+        return Err(Fail::from("another setup"));
+    }
+    assert_eq!(rt; setup.stripe_of(Word(27)), 3);
+    assert_eq!(rt; setup.key_of(Word(27)), 6);
+    assert_eq!(rt; setup.word_of(3, 6), Word(27));
+    Ok(())
+}
+
+// The keys of each stripe in ACGT.
+const KEYS: [&[u64]; 4] = [&[], &[], &[1], &[6]];
+
+fn assert_cut(rt: &impl Abort, setup: &Setup, cut: &Cut, stripe: usize, keys: &[u64]) {
+    assert_eq!(rt; cut.keys(), keys);
+    assert_eq!(rt; (cut.stripe() as usize, cut.batch().number()), (stripe, 0));
+    assert!(rt; *cut.setup() == *setup);
+}
+
+#[test]
+fn cuts_of_a_batch(rt: HostRuntime) -> Result<(), Fail> {
+    let setup = made_setup(3, 4)?;
+    let cuts = cuts_in(rt.alloc(), &setup, b"ACGT")?;
+    assert_eq!(rt; cuts.len(), 4);
+    for (stripe, cut) in cuts.iter().enumerate() {
+        assert_cut(&rt, &setup, cut, stripe, KEYS[stripe]);
+    }
+    Ok(())
+}
+
+// Stripe 2 of four, in which the one batch of this text is booked.
+fn stripe_of_text(alloc: Global, setup: &Setup, text: &[u8]) -> Result<Stripe<PlainCounts>, Fail> {
+    let mut stripe = plain_stripe(alloc, setup, 2)?;
+    let cuts = cuts_in(alloc, setup, text)?;
+    stripe.book(cuts.get(2).ok_or("no stripe")?)?;
+    Ok(stripe)
+}
+
+// ACG twice in this stripe, CGT in another, and GGG nowhere.
+const COUNTS: &[(u64, u64)] = &[(6, 2), (27, 0), (42, 0)];
+
+fn assert_counts(rt: &impl Abort, stripe: &Stripe<PlainCounts>) {
+    for (word, count) in COUNTS {
+        assert_eq!(rt; count_in(stripe, *word), Some(*count));
+    }
+}
+
+#[test]
+fn counts_of_words(rt: HostRuntime) -> Result<(), Fail> {
+    let setup = made_setup(3, 4)?;
+    let stripe = stripe_of_text(rt.alloc(), &setup, b"ACGTACG")?;
+    assert_eq!(rt; stripe.number(), 2);
+    assert!(rt; *stripe.setup() == setup);
+    assert_counts(&rt, &stripe);
+    Ok(())
+}

@@ -1,0 +1,291 @@
+//! Worked rows of tables and of gathering.
+ghost use Rattle.std.specs.Prelude.{◌≡◌, ◌≤◌, ◌^◌, IfOk};
+ghost use Rattle.kc_word.specs.Shared.{values};
+ghost use Rattle.kc_gather.specs.Gathering.{position_sum};
+
+use crate::samples::{cut_of, made_setup, plain_stripe};
+use kc_fastx::SeqRead;
+use kc_gather::{GatherFault, gather, gather_in_parallel, plain_tables, quotient_tables};
+use kc_stripe::{Setup, Stripe};
+use kc_table::{Counts, PlainCounts, QuotientTable};
+use kc_tally::{Row, Tally};
+use kc_word::{Batch, clean, cut, laws};
+use std::alloc::{AllocError, Global};
+use std::process::Abort;
+use std::sync::Arc;
+use std::test::Fail;
+use std::thread::Threads;
+
+// Lengths of words, numbers of stripes, and the bits of their keys.
+const TABLES: &[(u32, u32, u32)] = &[(1, 4, 0), (3, 1, 6), (31, 16, 58)];
+
+// The tables are so many, have no row, and take keys of so many bits.
+fn assert_tables<C: Counts>(
+    rt: &impl Abort,
+    alloc: Global,
+    tables: &[C],
+    count: u32,
+    bits: u32,
+) -> Result<(), AllocError> {
+    assert_eq!(rt; tables.len(), count as usize);
+    for table in tables {
+        assert_eq!(rt; table.key_bits(), bits);
+        assert_eq!(rt; table.rows(alloc)?.len(), 0);
+    }
+    Ok(())
+}
+
+#[test]
+fn a_table_for_each_stripe(rt: HostRuntime) -> Result<(), Fail> {
+    let alloc = rt.alloc();
+    for (k, stripes, bits) in TABLES {
+        let setup = made_setup(*k, *stripes)?;
+        assert_tables(&rt, alloc, &plain_tables(alloc, &setup)?, *stripes, *bits)?;
+        assert_tables(
+            &rt,
+            alloc,
+            &quotient_tables(alloc, &setup, 1_000)?,
+            *stripes,
+            *bits,
+        )?;
+    }
+    Ok(())
+}
+
+// Lengths of words, numbers of stripes, sizes, and the logs with which the tables begin.
+const LOGS: &[(u32, u32, u64, u32)] = &[
+    (31, 16, 1_000_000, 16),
+    (31, 16, 1, 4),
+    (31, 16, 1 << 20, 16),
+    (31, 16, (1 << 20) + 1, 17),
+    (3, 4, 0, 4),
+    (3, 4, u64::MAX, 4),
+];
+
+fn assert_logs(rt: &impl Abort, tables: &[QuotientTable], log: u32) {
+    for table in tables {
+        assert_eq!(rt; table.log(), log);
+    }
+}
+
+#[test]
+fn quotient_tables_begin_with_the_size(rt: HostRuntime) -> Result<(), Fail> {
+    for (k, stripes, size, log) in LOGS {
+        let setup = made_setup(*k, *stripes)?;
+        assert_logs(&rt, &quotient_tables(rt.alloc(), &setup, *size)?, *log);
+    }
+    Ok(())
+}
+
+// The batches of one read, of so many positions each.
+fn batches_of(
+    alloc: Global,
+    setup: &Setup,
+    bases: &[u8],
+    size: u64,
+) -> Result<Vec<Arc<Batch>>, Fail>
+    ensures { IfOk result (λ batches. position_sum setup.now.rule.k (values batches.items) ≤ 2 ^ 62) }
+{
+    // what is known of the positions
+    laws::cutting_positions();
+    laws::positions_within_bytes();
+    laws::cleaned_length();
+    if bases.len() > 1_000 {
+        return Err(Fail::from("too many bases"));
+    }
+    let read = SeqRead::new(Vec::from_slice(alloc, bases)?, None).ok_or("no read")?;
+    let mut pieces = Vec::new(alloc);
+    pieces.push(clean(alloc, &read, setup.rule())?)?;
+    let batches = cut(alloc, pieces, setup.rule().k(), size.max(1))?;
+    Ok(batches)
+}
+
+// The stripe of this number in which the batches were booked.
+fn stripe_of(
+    alloc: Global,
+    setup: &Setup,
+    number: u32,
+    batches: &[Arc<Batch>],
+) -> Result<Stripe<PlainCounts>, Fail> {
+    let mut stripe = plain_stripe(alloc, setup, number)?;
+    for batch in batches {
+        stripe.book(&cut_of(alloc, setup, batch, number as usize)?)?;
+    }
+    Ok(stripe)
+}
+
+// A stripe of each number in which the batches were booked.
+fn stripes_of(
+    alloc: Global,
+    setup: &Setup,
+    batches: &[Arc<Batch>],
+) -> Result<Vec<Stripe<PlainCounts>>, Fail> {
+    let mut stripes = Vec::new(alloc);
+    for number in 0..setup.stripes() {
+        stripes.push(stripe_of(alloc, setup, number, batches)?)?;
+    }
+    Ok(stripes)
+}
+
+// What gathering these stripes answers, where the batches of the read are given: by so many threads, or, if there are
+// none, by `gather`.
+fn gathered<H: Threads + Sync>(
+    rt: &H,
+    threads: u32,
+    alloc: Global,
+    setup: &Setup,
+    stripes: Vec<Stripe<PlainCounts>>,
+    bases: &[u8],
+    size: u64,
+) -> Result<Result<Tally, GatherFault>, Fail> {
+    let batches = batches_of(alloc, setup, bases, size)?;
+    if stripes.len() != setup.stripes() as usize {
+        return Err(Fail::from("other stripes"));
+    }
+    Ok(if threads == 0 {
+        gather(alloc, stripes, &batches, setup)
+    } else {
+        gather_in_parallel(rt, alloc, threads, stripes, &batches, setup)
+    })
+}
+
+// The tally has these rows and no others.
+fn assert_rows(rt: &impl Abort, tally: &Tally, want: &[(u64, u64)]) {
+    assert_eq!(rt; tally.row_count() as usize, want.len());
+    for (row, (word, count)) in tally.rows().zip(want) {
+        assert_eq!(rt;
+            row,
+            Row {
+                word: *word,
+                count: *count
+            }
+        );
+    }
+}
+
+// The tally that is gathered from the stripes in which the batches were booked.
+fn tally_by<H: Threads + Sync>(
+    rt: &H,
+    threads: u32,
+    alloc: Global,
+    setup: &Setup,
+    batches: &[Arc<Batch>],
+    bases: &[u8],
+    size: u64,
+) -> Result<Tally, Fail> {
+    let stripes = stripes_of(alloc, setup, batches)?;
+    let Ok(tally) = gathered(rt, threads, alloc, setup, stripes, bases, size)? else {
+        return Err(Fail::from("no tally"));
+    };
+    Ok(tally)
+}
+
+// The bases whose batches are given where those of AAAA were booked, how that is refused, and by how many threads.
+const REFUSALS: &[(&[u8], GatherFault, u32)] = &[
+    (b"AAAAC", GatherFault::Missing(0, 1), 0),
+    (b"CCCCC", GatherFault::Foreign(0), 0),
+    (b"AAAAC", GatherFault::Missing(0, 1), 2),
+    (b"CCCCC", GatherFault::Foreign(0), 2),
+];
+
+#[test]
+fn a_stripe_that_lacks_a_batch_or_has_another(rt: HostRuntime) -> Result<(), Fail> {
+    let alloc = rt.alloc();
+    let setup = made_setup(3, 1)?;
+    let booked = batches_of(alloc, &setup, b"AAAA", 2)?;
+    for (bases, fault, threads) in REFUSALS {
+        let stripes = stripes_of(alloc, &setup, &booked)?;
+        let Err(found) = gathered(&rt, *threads, alloc, &setup, stripes, bases, 2)? else {
+            return Err(Fail::from("a tally"));
+        };
+        assert!(rt; found == *fault);
+    }
+    Ok(())
+}
+
+// Numbers of stripes, positions of a batch, and numbers of threads.
+const COUNTS: &[(u32, u64, u32)] = &[(1, 1, 0), (4, 2, 1), (4, 7, 0), (64, 1, 3)];
+
+#[test]
+fn the_tally_of_all_stripes(rt: HostRuntime) -> Result<(), Fail> {
+    let alloc = rt.alloc();
+    let bases = b"ACGTANACG";
+    for (count, size, threads) in COUNTS {
+        let setup = made_setup(3, *count)?;
+        let batches = batches_of(alloc, &setup, bases, *size)?;
+        let tally = tally_by(&rt, *threads, alloc, &setup, &batches, bases, *size)?;
+        assert_rows(&rt, &tally, &[(6, 2), (27, 1), (44, 1)]);
+    }
+    Ok(())
+}
+
+// AAAAA, AAAAC, TAAAA, TTAAA, TTTAA, TTTTA, TTTTT
+const ONCE: &[(u64, u64)] = &[
+    (0, 1),
+    (1, 1),
+    (768, 1),
+    (960, 1),
+    (1008, 1),
+    (1020, 1),
+    (1023, 1),
+];
+
+// Numbers of threads.
+const THREADS: &[u32] = &[0, 1, 2, 64];
+
+#[test]
+fn several_words_in_a_part(rt: HostRuntime) -> Result<(), Fail> {
+    let alloc = rt.alloc();
+    let setup = made_setup(5, 2)?;
+    let bases = b"TTTTTAAAAAC";
+    let batches = batches_of(alloc, &setup, bases, 3)?;
+    for threads in THREADS {
+        let tally = tally_by(&rt, *threads, alloc, &setup, &batches, bases, 3)?;
+        assert_rows(&rt, &tally, ONCE);
+    }
+    Ok(())
+}
+
+// Most words fall in stripe 0 of eight.
+#[test]
+fn the_same_tally_by_one_to_eight_threads(rt: HostRuntime) -> Result<(), Fail> {
+    let alloc = rt.alloc();
+    let setup = made_setup(5, 8)?;
+    let bases = b"AAGGAATCAACGAACTAAGTAACCATTAAGAAATAAACAAGGTTTTTAAAAAC";
+    let batches = batches_of(alloc, &setup, bases, 4)?;
+    let want = tally_by(&rt, 0, alloc, &setup, &batches, bases, 4)?;
+    assert!(rt; want.row_count() > 30);
+    for threads in 1..9 {
+        let tally = tally_by(&rt, threads, alloc, &setup, &batches, bases, 4)?;
+        assert!(rt; tally.rows().eq(want.rows()));
+    }
+    Ok(())
+}
+
+// Gathers the words of AAACAAC by so many threads: no other fault is answered than want of memory, and no other tally.
+fn assert_tally_or_memory<H: Threads + Sync + Abort>(
+    rt: &H,
+    alloc: Global,
+    threads: u32,
+) -> Result<(), Fail> {
+    let setup = made_setup(3, 2)?;
+    let bases = b"AAACAAC";
+    let batches = batches_of(alloc, &setup, bases, 2)?;
+    assert_eq!(rt; batches.len(), 3);
+    let stripes = stripes_of(alloc, &setup, &batches)?;
+    match gathered(rt, threads, alloc, &setup, stripes, bases, 2)? {
+        Ok(tally) => assert_rows(rt, &tally, &[(0, 1), (1, 2), (4, 1), (16, 1)]),
+        Err(fault) => {
+            assert_eq!(rt; fault, GatherFault::Memory);
+            return Err(Fail::from("answered 34"));
+        }
+    }
+    Ok(())
+}
+
+// Run with each growth refused in turn, by `make memory`.
+#[test]
+fn a_refused_growth_gives_no_tally(rt: HostRuntime) -> Result<(), Fail> {
+    assert_tally_or_memory(&rt, rt.alloc(), 0)?;
+    assert_tally_or_memory(&rt, rt.alloc(), 2)
+}

@@ -1,0 +1,24 @@
+//! Tests of a count in stripes: of the shares of a sheet, of stripes alone and among threads, and of what is gathered
+//! from them.
+#![tactic(auto)]
+
+#[cfg(test)]
+mod bookings;
+#[cfg(test)]
+mod cuts;
+#[cfg(test)]
+mod gatherings;
+#[cfg(test)]
+mod many_threads;
+#[cfg(test)]
+mod meetings;
+#[cfg(test)]
+mod refusals;
+#[cfg(test)]
+mod samples;
+#[cfg(test)]
+mod sharings;
+#[cfg(test)]
+mod sheets;
+#[cfg(test)]
+mod tallies;

@@ -1,0 +1,166 @@
+//! Two stripes that are booked at the same time, each under its own lock.
+ghost use Rattle.std.specs.Prelude.{◌≡◌, All, IfOk, vec_len};
+ghost use Rattle.std.specs.FinMap.{empty};
+ghost use Rattle.kc_stripe.specs.Setup.{stripe_count, key_bits};
+
+use crate::samples::{cuts_in, made_setup};
+use kc_share::{Books, Share, Sheet};
+use kc_stripe::{BookFault, Cut, Setup, Stripes};
+use kc_table::{Counts, PlainCounts, TableFault};
+use std::alloc::{AllocError, Global};
+use std::marker::Brand;
+use std::sync::Wait;
+use std::sync::atomic::{AtomicBool, Ordering};
+use std::test::Fail;
+use std::thread::{Threads, join};
+
+// What two tables tell each other: that a key is readied in them, and that they saw the other's flag meanwhile.
+#[derive(Drop)]
+struct Flags {
+    raised: (AtomicBool, AtomicBool),
+    met: (AtomicBool, AtomicBool),
+}
+
+// A table that raises its flag where a key is readied, and looks for the flag of another one.
+#[derive(Drop)]
+struct MeetingCounts<'a> {
+    plain: PlainCounts,
+    own: &'a AtomicBool,
+    other: &'a AtomicBool,
+    met: &'a AtomicBool,
+}
+
+// Whether the flag is raised before it was looked at 10^9 times.
+fn is_raised_in_time(flag: &AtomicBool) -> bool {
+    for _ in 0..1_000_000_000 {
+        if flag.load(Ordering::SeqCst) {
+            return true;
+        }
+    }
+    false
+}
+
+impl Counts for MeetingCounts<'_> {
+    ghost bits = { λ t. t.plain.bits };
+
+    ghost counts = { λ t. t.plain.counts };
+
+    ghost may_be_full = { λ _ _ _. ⊥ };
+
+    fn key_bits(&self) -> u32 {
+        self.plain.key_bits()
+    }
+
+    fn ready(&mut self, key: u64) -> Result<(), TableFault> {
+        self.own.store(true, Ordering::SeqCst);
+        let met = is_raised_in_time(self.other);
+        self.met.store(met, Ordering::SeqCst);
+        self.plain.ready(key)
+    }
+
+    fn add(&mut self, key: u64) {
+        self.plain.add(key);
+    }
+
+    fn increment(&mut self, key: u64) -> u64 {
+        self.plain.increment(key)
+    }
+
+    fn get(&self, key: u64) -> u64 {
+        self.plain.get(key)
+    }
+
+    fn rows(&self, alloc: Global) -> Result<Vec<(u64, u64)>, AllocError> {
+        self.plain.rows(alloc)
+    }
+}
+
+// Books a cut with a share that is given up then.
+fn book_once<C: Counts, N: Books, R: Wait>(
+    rt: &R,
+    stripes: &Stripes<C, N>,
+    mut share: Share<N>,
+    cut: &Cut,
+) -> Result<(), BookFault> {
+    if cut.stripe() >= stripes.setup().stripes() {
+        return Err(BookFault::Stranger);
+    }
+    match stripes.book(rt, &mut share, cut) {
+        Ok(()) => Ok(()),
+        Err(fault) => Err(fault),
+    }
+}
+
+// Two empty tables that look for one another.
+fn meeting_tables<'a>(
+    alloc: Global,
+    setup: &Setup,
+    flags: &'a Flags,
+) -> Result<Vec<MeetingCounts<'a>>, AllocError>
+    ensures count { IfOk result (λ tables. vec_len tables ≡ 2) }
+    ensures tables { IfOk result (λ tables.
+        All (λ table. (table.plain.counts ≡ empty) × (table.plain.bits ≡ key_bits setup.now)) tables.items) }
+{
+    let mut tables = Vec::new(alloc);
+    tables.push(MeetingCounts {
+        plain: PlainCounts::new(alloc, setup.key_bits()),
+        own: &flags.raised.0,
+        other: &flags.raised.1,
+        met: &flags.met.0,
+    })?;
+    tables.push(MeetingCounts {
+        plain: PlainCounts::new(alloc, setup.key_bits()),
+        own: &flags.raised.1,
+        other: &flags.raised.0,
+        met: &flags.met.1,
+    })?;
+    Ok(tables)
+}
+
+// Two cuts are booked over two tables that look for one another, each cut by a thread of its own.
+fn book_at_once<N: Books + Send + Sync, R: Threads + Wait + Sync>(
+    rt: &R,
+    alloc: Global,
+    setup: &Setup,
+    sheet: Sheet,
+    cuts: (&Cut, &Cut),
+    flags: &Flags,
+) -> Result<[Result<(), BookFault>; 2], AllocError>
+    requires name { sheet.table ≡ N.table }
+    requires plan { (sheet.plan.stripes ≡ 2) × (sheet.plan.parts ≡ 2) × (stripe_count setup.now ≡ 2) }
+{
+    let tables = meeting_tables(alloc, setup, flags)?;
+    let (stripes, mut one) = Stripes::<MeetingCounts<'_>, N>::new(alloc, setup, tables, sheet)?;
+    let other = stripes.split(&mut one);
+    let (first, second) = cuts;
+    let shared = &stripes;
+    let (one, other) = join(
+        rt,
+        move || book_once(rt, shared, one, first),
+        move || book_once(rt, shared, other, second),
+    );
+    Ok([one, other])
+}
+
+#[test]
+fn two_stripes_are_booked_at_once(rt: HostRuntime) -> Result<(), Fail> {
+    let alloc = rt.alloc();
+    let setup = made_setup(3, 2)?;
+    let cuts = cuts_in(alloc, &setup, b"AAAC")?;
+    let [first, second] = cuts.as_slice() else {
+        return Err(Fail::from("other cuts"));
+    };
+    if setup.stripes() != 2 {
+        return Err(Fail::from("another setup"));
+    }
+    let flags = Flags {
+        raised: (AtomicBool::new(false), AtomicBool::new(false)),
+        met: (AtomicBool::new(false), AtomicBool::new(false)),
+    };
+    let sheet = Sheet::new(alloc, 2, 2)?;
+    let booked = book_at_once::<Brand, _>(&rt, alloc, &setup, sheet, (first, second), &flags)?;
+    assert!(rt; booked == [Ok(()), Ok(())]);
+    assert!(rt; flags.met.0.load(Ordering::SeqCst));
+    assert!(rt; flags.met.1.load(Ordering::SeqCst));
+    Ok(())
+}

@@ -1,0 +1,185 @@
+//! What is refused memory is as it was before: a stripe while a batch is booked, and a share while it books and looks.
+//! Run with each growth refused in turn.
+ghost use Rattle.std.specs.Prelude.{◌≡◌, ◌<◌};
+ghost use Rattle.kc_stripe.specs.Setup.{stripe_count, word_count};
+
+use crate::bookings::{Held, NOTHING, assert_held, map_stripe, quotient_stripe};
+use crate::samples::{cuts_of, made_setup};
+use crate::sharings::stripes_of;
+use kc_share::{Books, Share, Sheet};
+use kc_stripe::{BookFault, Cut, Setup, Stripe, Stripes};
+use kc_table::{Counts, PlainCounts};
+use kc_word::Word;
+use std::alloc::Global;
+use std::marker::Brand;
+use std::process::Abort;
+use std::sync::Wait;
+use std::test::Fail;
+
+// Books the cut, again where memory is refused: the stripe is then as it was before.
+fn is_booked_again<C: Counts>(
+    rt: &impl Abort,
+    stripe: &mut Stripe<C>,
+    cut: &Cut,
+    before: &Held<'_>,
+) -> Result<(), Fail> {
+    if let Err(fault) = stripe.book(cut) {
+        assert_eq!(rt; fault, BookFault::Memory);
+        assert_held(rt, stripe, before);
+        stripe.book(cut)?;
+    }
+    Ok(())
+}
+
+// AAA, and the words of the text of 40 words.
+const ONCE: &[u64] = &[
+    0, 1, 2, 3, 4, 5, 6, 7, 8, 9, 10, 11, 12, 13, 14, 15, 16, 17, 18, 19, 20, 21, 22, 24, 25, 28,
+    32, 33, 34, 35, 36, 37, 40, 44, 49, 50, 51, 52, 53, 56, 61,
+];
+
+// 40 words, each once, and AAA.
+const TEXTS: &[&[u8]] = &[b"AACAAGAATACCACGACTAGCAGGAGTATCATGATTCCCGCC", b"AAA"];
+
+// AAA alone.
+const AAA: Held<'static> = Held {
+    journal: &[1],
+    total: 1,
+    bins: [1, 0, 0],
+    counts: &[(0, 1)],
+};
+
+// All 41 words were counted once.
+fn assert_once_each<C: Counts>(
+    rt: &impl Abort,
+    alloc: Global,
+    stripe: &Stripe<C>,
+) -> Result<(), Fail> {
+    let mut counts = Vec::new(alloc);
+    for word in ONCE {
+        counts.push((*word, 1))?;
+    }
+    let held = Held {
+        journal: &[1, 0],
+        total: 41,
+        bins: [41, 0, 0],
+        counts: &counts,
+    };
+    assert_held(rt, stripe, &held);
+    Ok(())
+}
+
+// Books AAA, and then a batch of 40 other words, again where memory is refused.
+fn is_booked_at_last<C: Counts + Drop>(
+    rt: &impl Abort,
+    alloc: Global,
+    mut stripe: Stripe<C>,
+) -> Result<(), Fail> {
+    let cuts = cuts_of(alloc, &made_setup(3, 1)?, TEXTS, 40)?;
+    let [forty, one] = cuts.as_slice() else {
+        return Err(Fail::from("other batches"));
+    };
+    is_booked_again(rt, &mut stripe, one, &NOTHING)?;
+    is_booked_again(rt, &mut stripe, forty, &AAA)?;
+    assert_once_each(rt, alloc, &stripe)
+}
+
+#[test]
+fn a_refused_growth_leaves_the_stripe(rt: HostRuntime) -> Result<(), Fail> {
+    let alloc = rt.alloc();
+    is_booked_at_last(&rt, alloc, map_stripe(alloc)?)?;
+    is_booked_at_last(&rt, alloc, quotient_stripe(alloc)?)
+}
+
+// What a share tells of stripe 0: words and entries; and its parts.
+fn told<N: Books>(share: &Share<N>) -> [u64; 3]
+    requires { 0 < share.now.plan.stripes }
+{
+    [share.words(0), share.entries(0), share.parts()]
+}
+
+// Books the cut with the share, again where memory is refused: the share is then as it was before.
+fn is_shared_again<N: Books, R: Wait + Abort>(
+    rt: &R,
+    stripes: &Stripes<PlainCounts, N>,
+    share: &mut Share<N>,
+    cut: &Cut,
+    before: [u64; 3],
+) -> Result<(), Fail>
+    requires cut { cut.now.stripe < stripe_count stripes.now.setup }
+    requires plan { 0 < share.old.plan.stripes }
+    ensures { share.new.plan ≡ share.old.plan }
+{
+    match stripes.book(rt, share, cut) {
+        Ok(()) => Ok(()),
+        Err(fault) => {
+            assert_eq!(rt; fault, BookFault::Memory);
+            assert_eq!(rt; told(share), before);
+            match stripes.book(rt, share, cut) {
+                Ok(()) => Ok(()),
+                Err(fault) => Err(Fail::from(fault)),
+            }
+        }
+    }
+}
+
+// How often the word was counted; looked up again where memory is refused: the share is then as it was before.
+fn is_seen_again<N: Books, R: Wait + Abort>(
+    rt: &R,
+    alloc: Global,
+    stripes: &Stripes<PlainCounts, N>,
+    share: &mut Share<N>,
+    word: Word,
+) -> Result<u64, Fail>
+    requires word { word.0 < word_count stripes.now.setup }
+    requires plan { 0 < share.old.plan.stripes }
+    ensures { share.new.plan ≡ share.old.plan }
+{
+    let before = told(share);
+    match stripes.look(rt, alloc, share, word) {
+        Ok(seen) => Ok(seen.count()),
+        Err(fault) => {
+            assert_eq!(rt; fault, BookFault::Memory);
+            assert_eq!(rt; told(share), before);
+            Ok(stripes.look(rt, alloc, share, word)?.count())
+        }
+    }
+}
+
+// Books AAA, and then a batch of 40 other words, and looks up AAC: how often it was counted, and what the share tells.
+fn share_at_last<N: Books, R: Wait + Abort>(
+    rt: &R,
+    alloc: Global,
+    setup: &Setup,
+    sheet: Sheet,
+    cuts: (&Cut, &Cut),
+) -> Result<(u64, [u64; 3]), Fail>
+    requires name { sheet.table ≡ N.table }
+    requires plan { (sheet.plan.stripes ≡ 1) × (stripe_count setup.now ≡ 1) }
+{
+    let (forty, one) = cuts;
+    if setup.rule().k().get() != 3 || forty.stripe() != 0 || one.stripe() != 0 {
+        return Err(Fail::from("another setup"));
+    }
+    let (stripes, mut share) = stripes_of::<N>(alloc, setup, sheet)?;
+    is_shared_again(rt, &stripes, &mut share, one, [0, 0, 1])?;
+    is_shared_again(rt, &stripes, &mut share, forty, [1, 1, 1])?;
+    let count = is_seen_again(rt, alloc, &stripes, &mut share, Word(1))?;
+    Ok((count, told(&share)))
+}
+
+#[test]
+fn a_refused_growth_leaves_the_share(rt: HostRuntime) -> Result<(), Fail> {
+    let alloc = rt.alloc();
+    let setup = made_setup(3, 1)?;
+    let cuts = cuts_of(alloc, &setup, TEXTS, 40)?;
+    let [forty, one] = cuts.as_slice() else {
+        return Err(Fail::from("other batches"));
+    };
+    if setup.stripes() != 1 {
+        return Err(Fail::from("another setup"));
+    }
+    let sheet = Sheet::new(alloc, 1, 1)?;
+    let (count, share) = share_at_last::<Brand, _>(&rt, alloc, &setup, sheet, (forty, one))?;
+    assert_eq!(rt; (count, share), (1, [41, 2, 1]));
+    Ok(())
+}

@@ -1,0 +1,344 @@
+//! Stripes that threads share, and a caller who counts with them.
+ghost use Rattle.std.specs.Prelude.{◌≡◌, ◌<◌, [], All, IfOk, vec_len};
+ghost use Rattle.std.specs.FinMap.{empty};
+ghost use Rattle.kc_stripe.specs.Setup.{word_count, stripe_count, key_bits};
+ghost use Rattle.kc_stripe.specs.Locked.{IsAllOf};
+ghost use Rattle.kc_share.specs.Share.{share_of};
+
+use crate::bookings::cuts_and_stranger;
+use crate::samples::{batches_in, made_setup};
+use kc_share::{Books, Share, Sheet};
+use kc_stripe::{BookFault, Cut, Setup, Stripe, Stripes, cut_up};
+use kc_table::PlainCounts;
+use kc_word::{Batch, Word};
+use std::alloc::{AllocError, Global};
+use std::marker::Brand;
+use std::process::Abort;
+use std::sync::{Arc, Wait};
+use std::test::Fail;
+use std::thread::{Threads, join};
+
+// An empty table for each stripe.
+pub(crate) fn tables_of(alloc: Global, setup: &Setup) -> Result<Vec<PlainCounts>, AllocError>
+    ensures count { IfOk result (λ tables. vec_len tables ≡ stripe_count setup.now) }
+    ensures tables { IfOk result (λ tables.
+        All (λ table. (table.counts ≡ empty) × (table.bits ≡ key_bits setup.now)) tables.items) }
+{
+    let mut tables = Vec::new(alloc);
+    for _ in 0..setup.stripes() {
+        tables.push(PlainCounts::new(alloc, setup.key_bits()))?;
+    }
+    Ok(tables)
+}
+
+// Stripes over empty tables, and the share of everything.
+pub(crate) fn stripes_of<N: Books>(
+    alloc: Global,
+    setup: &Setup,
+    sheet: Sheet,
+) -> Result<(Stripes<PlainCounts, N>, Share<N>), AllocError>
+    requires name { sheet.table ≡ N.table }
+    requires stripes { sheet.plan.stripes ≡ stripe_count setup.now }
+    ensures setup { IfOk result (λ made. made.0.setup ≡ setup.now) }
+    ensures share { IfOk result (λ made. made.1 ≡ share_of sheet.plan sheet.plan.parts []) }
+{
+    let tables = tables_of(alloc, setup)?;
+    Stripes::new(alloc, setup, tables, sheet)
+}
+
+// Books a batch into the stripe of its cut.
+fn book_cut<N: Books, R: Wait>(
+    rt: &R,
+    stripes: &Stripes<PlainCounts, N>,
+    share: &mut Share<N>,
+    cut: &Cut,
+) -> Result<(), BookFault>
+    requires { cut.now.stripe < stripe_count stripes.now.setup }
+    ensures { (share.new.parts ≡ share.old.parts) × (share.new.plan ≡ share.old.plan) }
+{
+    match stripes.book(rt, share, cut) {
+        Ok(()) => Ok(()),
+        Err(fault) => Err(fault),
+    }
+}
+
+// Books a batch everywhere.
+pub(crate) fn book_batch<N: Books, R: Wait>(
+    rt: &R,
+    alloc: Global,
+    stripes: &Stripes<PlainCounts, N>,
+    share: &mut Share<N>,
+    batch: &Arc<Batch>,
+) -> Result<(), BookFault>
+    ensures { (share.new.parts ≡ share.old.parts) × (share.new.plan ≡ share.old.plan) }
+{
+    for cut in &cut_up(alloc, stripes.setup(), batch)? {
+        if cut.stripe() < stripes.setup().stripes() {
+            book_cut(rt, stripes, share, cut)?;
+        }
+    }
+    Ok(())
+}
+
+// Books batches everywhere, and gives the share back.
+pub(crate) fn book_all<N: Books, R: Wait>(
+    rt: &R,
+    alloc: Global,
+    stripes: &Stripes<PlainCounts, N>,
+    mut share: Share<N>,
+    batches: &[Arc<Batch>],
+) -> (Share<N>, Result<(), BookFault>)
+    ensures { (result.0.parts ≡ share.parts) × (result.0.plan ≡ share.plan) }
+{
+    for batch in batches {
+        if let Err(fault) = book_batch(rt, alloc, stripes, &mut share, batch) {
+            return (share, Err(fault));
+        }
+    }
+    (share, Ok(()))
+}
+
+// Two threads, with a share each, book half of the batches each. Then the shares are joined, and the sharing ends: what
+// was booked with the whole share is all that the stripes have.
+fn count_by_two<N: Books + Send + Sync, R: Threads + Wait + Sync>(
+    rt: &R,
+    alloc: Global,
+    setup: &Setup,
+    sheet: Sheet,
+    batches: &[Arc<Batch>],
+) -> Result<(Vec<Stripe<PlainCounts>>, Share<N>), BookFault>
+    requires name { sheet.table ≡ N.table }
+    requires stripes { sheet.plan.stripes ≡ stripe_count setup.now }
+    requires parts { sheet.plan.parts ≡ 2 }
+    ensures plan { IfOk result (λ counted. counted.1.plan ≡ sheet.plan) }
+    ensures count { IfOk result (λ counted. vec_len counted.0 ≡ stripe_count setup.now) }
+    ensures whole { IfOk result (λ counted. All (λ stripe. IsAllOf counted.1.booked stripe) counted.0.items) }
+{
+    let (stripes, mut one) = stripes_of::<N>(alloc, setup, sheet)?;
+    let other = stripes.split(&mut one);
+    let (first, second) = batches.split_at(batches.len() / 2);
+    let (mut whole, other) = book_halves(rt, alloc, &stripes, (one, other), (first, second))?;
+    stripes.join(&mut whole, other);
+    Ok(stripes.into_stripes(alloc, whole)?)
+}
+
+// Each share books its half of the batches in a thread of its own.
+fn book_halves<N: Books + Send + Sync, R: Threads + Wait + Sync>(
+    rt: &R,
+    alloc: Global,
+    stripes: &Stripes<PlainCounts, N>,
+    shares: (Share<N>, Share<N>),
+    halves: (&[Arc<Batch>], &[Arc<Batch>]),
+) -> Result<(Share<N>, Share<N>), BookFault>
+    ensures first { IfOk result (λ both. (both.0.parts ≡ shares.0.parts) × (both.0.plan ≡ shares.0.plan)) }
+    ensures second { IfOk result (λ both. (both.1.parts ≡ shares.1.parts) × (both.1.plan ≡ shares.1.plan)) }
+{
+    let (one, other) = shares;
+    let (first, second) = halves;
+    let ((one, first), (other, second)) = join(
+        rt,
+        move || -> (Share<N>, Result<(), BookFault>)
+            ensures { (result.0.parts ≡ one.parts) × (result.0.plan ≡ one.plan) }
+        { book_all(rt, alloc, stripes, one, first) },
+        move || -> (Share<N>, Result<(), BookFault>)
+            ensures { (result.0.parts ≡ other.parts) × (result.0.plan ≡ other.plan) }
+        { book_all(rt, alloc, stripes, other, second) },
+    );
+    first?;
+    second?;
+    Ok((one, other))
+}
+
+// What each stripe has, its total and the length of its journal, and what the share says of it.
+pub(crate) type Sums = ((u64, u64), (u64, u64));
+
+pub(crate) fn sums_of<N: Books>(
+    alloc: Global,
+    setup: &Setup,
+    stripes: &[Stripe<PlainCounts>],
+    share: &Share<N>,
+) -> Result<Vec<Sums>, AllocError>
+    requires { share.now.plan.stripes ≡ stripe_count setup.now }
+{
+    let mut sums = Vec::new(alloc);
+    for stripe in stripes {
+        let number = stripe.number();
+        if number < setup.stripes() {
+            let has = (stripe.total(), stripe.journal().len() as u64);
+            sums.push((has, (share.words(number), share.entries(number))))?;
+        }
+    }
+    Ok(sums)
+}
+
+fn sums_by_two<N: Books + Send + Sync, R: Threads + Wait + Sync>(
+    rt: &R,
+    alloc: Global,
+    setup: &Setup,
+    sheet: Sheet,
+    batches: &[Arc<Batch>],
+) -> Result<Vec<Sums>, Fail>
+    requires name { sheet.table ≡ N.table }
+    requires stripes { sheet.plan.stripes ≡ stripe_count setup.now }
+    requires parts { sheet.plan.parts ≡ 2 }
+{
+    let (stripes, whole) = count_by_two::<N, R>(rt, alloc, setup, sheet, batches)?;
+    Ok(sums_of(alloc, setup, &stripes, &whole)?)
+}
+
+#[test]
+fn what_two_threads_booked_is_what_the_stripes_have(rt: HostRuntime) -> Result<(), Fail> {
+    let alloc = rt.alloc();
+    let setup = made_setup(3, 1)?;
+    let batches = batches_in(alloc, &setup, &[b"AAAAAAAAAA"], 4)?;
+    assert_eq!(rt; batches.len(), 2);
+    let sheet = Sheet::new(alloc, setup.stripes(), 2)?;
+    let sums = sums_by_two::<Brand, _>(&rt, alloc, &setup, sheet, batches.as_slice())?;
+    assert_eq!(rt; sums.as_slice(), [((8, 2), (8, 2))].as_slice());
+    Ok(())
+}
+
+// What the booking of a cut answers, where its stripe is one of these.
+fn booked<N: Books, R: Wait>(
+    rt: &R,
+    stripes: &Stripes<PlainCounts, N>,
+    share: &mut Share<N>,
+    cut: &Cut,
+) -> Option<Result<(), BookFault>>
+    ensures { (share.new.parts ≡ share.old.parts) × (share.new.plan ≡ share.old.plan) }
+{
+    if cut.stripe() >= stripes.setup().stripes() {
+        return None;
+    }
+    Some(book_cut(rt, stripes, share, cut))
+}
+
+// How often a word of three bases was counted, and in how many batches. Another word is a stranger.
+fn look_up<N: Books, R: Wait>(
+    rt: &R,
+    alloc: Global,
+    stripes: &Stripes<PlainCounts, N>,
+    share: &mut Share<N>,
+    word: u64,
+) -> Result<(u64, usize), BookFault>
+    ensures { share.new.plan ≡ share.old.plan }
+{
+    if stripes.setup().rule().k().get() != 3 || word >= 64 {
+        return Err(BookFault::Stranger);
+    }
+    let seen = stripes.look(rt, alloc, share, Word(word))?;
+    Ok((seen.count(), seen.batches().len()))
+}
+
+// Books the first cut twice and then the second. Then AAA and CCC are looked up; and what the share has.
+fn book_and_look<N: Books, R: Wait + Abort>(
+    rt: &R,
+    alloc: Global,
+    setup: &Setup,
+    sheet: Sheet,
+    cuts: (&Cut, &Cut),
+) -> Result<(), AllocError>
+    requires name { sheet.table ≡ N.table }
+    requires plan { (sheet.plan.stripes ≡ 1) × (stripe_count setup.now ≡ 1) }
+{
+    let (stripes, mut share) = stripes_of::<N>(alloc, setup, sheet)?;
+    let (cut, stranger) = cuts;
+    let one = booked(rt, &stripes, &mut share, cut);
+    assert_eq!(rt; one, Some(Ok(())));
+    let again = booked(rt, &stripes, &mut share, cut);
+    assert_eq!(rt; again, Some(Err(BookFault::Twice)));
+    let other = booked(rt, &stripes, &mut share, stranger);
+    assert_eq!(rt; other, Some(Err(BookFault::Stranger)));
+    let there = look_up(rt, alloc, &stripes, &mut share, 0);
+    assert_eq!(rt; there, Ok((2, 1)));
+    let missing = look_up(rt, alloc, &stripes, &mut share, 21);
+    assert_eq!(rt; missing, Ok((0, 1)));
+    assert_eq!(rt; (share.words(0), share.entries(0)), (2, 1));
+    Ok(())
+}
+
+#[test]
+fn a_word_is_looked_up_among_the_batches(rt: HostRuntime) -> Result<(), Fail> {
+    let alloc = rt.alloc();
+    let setup = made_setup(3, 1)?;
+    let cuts = cuts_and_stranger(alloc)?;
+    let [cut, _, stranger] = cuts.as_slice() else {
+        return Err(Fail::from("other batches"));
+    };
+    if setup.stripes() != 1 {
+        return Err(Fail::from("another setup"));
+    }
+    let sheet = Sheet::new(alloc, 1, 1)?;
+    book_and_look::<Brand, _>(&rt, alloc, &setup, sheet, (cut, stranger))?;
+    Ok(())
+}
+
+// How often each of the words was counted.
+fn counts_of<N: Books, R: Wait>(
+    rt: &R,
+    alloc: Global,
+    stripes: &Stripes<PlainCounts, N>,
+    share: &mut Share<N>,
+    words: &[u64],
+) -> Result<Vec<u64>, Fail> {
+    let mut counts = Vec::new(alloc);
+    for word in words {
+        let (count, _) = look_up(rt, alloc, stripes, share, *word)?;
+        counts.push(count)?;
+    }
+    Ok(counts)
+}
+
+// Books a batch everywhere, and looks the words up: how often each was counted. Then the sharing ends: the numbers and
+// the totals of the stripes, as they come.
+fn book_look_and_end<N: Books, R: Wait>(
+    rt: &R,
+    alloc: Global,
+    setup: &Setup,
+    sheet: Sheet,
+    batch: &Arc<Batch>,
+    words: &[u64],
+) -> Result<(Vec<u64>, Vec<(u32, u64)>), Fail>
+    requires name { sheet.table ≡ N.table }
+    requires stripes { sheet.plan.stripes ≡ stripe_count setup.now }
+{
+    let (stripes, mut share) = stripes_of::<N>(alloc, setup, sheet)?;
+    book_batch(rt, alloc, &stripes, &mut share, batch)?;
+    let counts = counts_of(rt, alloc, &stripes, &mut share, words)?;
+    let (stripes, _) = stripes.into_stripes(alloc, share)?;
+    let totals = totals_of(alloc, &stripes)?;
+    Ok((counts, totals))
+}
+
+// The numbers and the totals of stripes.
+fn totals_of(
+    alloc: Global,
+    stripes: &[Stripe<PlainCounts>],
+) -> Result<Vec<(u32, u64)>, AllocError> {
+    let mut totals = Vec::new(alloc);
+    for stripe in stripes {
+        totals.push((stripe.number(), stripe.total()))?;
+    }
+    Ok(totals)
+}
+
+// ACG, CGT and AAA, and how often each stands in ACGT.
+const WORDS: &[u64] = &[6, 27, 0];
+
+const COUNTS: &[u64] = &[1, 1, 0];
+
+// The stripes, and how many words of ACGT fall in each.
+const TOTALS: &[(u32, u64)] = &[(0, 0), (1, 0), (2, 1), (3, 1)];
+
+#[test]
+fn each_stripe_is_found_under_its_own_lock(rt: HostRuntime) -> Result<(), Fail> {
+    let alloc = rt.alloc();
+    let setup = made_setup(3, 4)?;
+    let batches = batches_in(alloc, &setup, &[b"ACGT"], 8)?;
+    let batch = batches.first().ok_or("no batch")?;
+    let sheet = Sheet::new(alloc, setup.stripes(), 1)?;
+    let (counts, totals) = book_look_and_end::<Brand, _>(&rt, alloc, &setup, sheet, batch, WORDS)?;
+    assert_eq!(rt; counts.as_slice(), COUNTS);
+    assert_eq!(rt; totals.as_slice(), TOTALS);
+    Ok(())
+}
