@@ -35,8 +35,3 @@ pub use crate::runs::run;
 pub use crate::tickets::{Seat, Tickets};
 pub use kc_gather::{GatherFault, gather, plain_tables, quotient_tables};
 pub use kc_tally::Tally;
-
-#[cfg(test)]
-mod run_tests;
-#[cfg(test)]
-mod tests;

@@ -6,19 +6,19 @@ ghost use Rattle.kc_table.specs.QuotientTable.{counts_in};
 ghost use Rattle.kc_stripe.specs.Setup.{stripe_count, key_bits};
 ghost use Rattle.kc_gather.specs.Gathering.{position_sum};
 
-use crate::round::round_len;
-use crate::{Gate, NoGate, RunFault, Tally, plain_tables, run};
 use kc_fastx::SeqRead;
 use kc_hash::{Hash, Matrix};
+use kc_run::{Gate, NoGate, RunFault, Tally, plain_tables, run};
 use kc_stripe::Setup;
 use kc_table::{Counts, LimitedCounts, QuotientTable, TableFault};
-use kc_tally::slow;
+use kc_tally::{Row, slow};
 use kc_word::slow::base_count;
 use kc_word::{Batch, K, Rule, clean, cut, laws};
 use rand_core::SeedableRng;
 use rand_core::utils::NextWord;
 use rand_xoshiro::SplitMix64;
 use std::alloc::{AllocError, Global};
+use std::process::Abort;
 use std::sync::atomic::{AtomicU64, Ordering};
 use std::sync::{Arc, Wait};
 use std::test::Fail;
@@ -92,44 +92,58 @@ fn run_over<H: Threads + Wait + Sync, C: Counts + Drop + Send, G: Gate + Sync>(
     Ok(run(rt, alloc, &batches, setup, tables, case.workers, gate))
 }
 
-// What a run over tables that are never full answers: its rows as pairs, and the total.
+// The tally of a run over tables that are never full.
 fn counted<H: Threads + Wait + Sync, G: Gate + Sync>(
     rt: &H,
     alloc: Global,
     setup: &Setup,
     case: &Case<'_>,
     gate: &G,
-) -> Result<(Vec<(u64, u64)>, u64), Fail> {
+) -> Result<Tally, Fail> {
     let tables = plain_tables(alloc, setup)?;
-    let Ok(tally) = run_over(rt, alloc, setup, tables, case, gate)? else {
-        return Err(Fail::from("no tally"));
-    };
-    Ok((rows_of(alloc, &tally)?, tally.total()))
+    match run_over(rt, alloc, setup, tables, case, gate)? {
+        Ok(tally) => Ok(tally),
+        Err(_) => Err(Fail::from("no tally")),
+    }
 }
 
-// The rows of a tally as pairs.
-fn rows_of(alloc: Global, tally: &Tally) -> Result<Vec<(u64, u64)>, AllocError> {
-    let mut rows = Vec::new(alloc);
-    for row in tally.rows() {
-        rows.push((row.word, row.count))?;
+// Asserts that a tally has these rows.
+fn assert_rows<H: Abort>(rt: &H, tally: &Tally, rows: &[Row]) {
+    assert_eq!(rt; tally.row_count(), rows.len() as u64);
+    for (row, wanted) in tally.rows().zip(rows) {
+        assert_eq!(rt; row.word, wanted.word);
+        assert_eq!(rt; row.count, wanted.count);
     }
-    Ok(rows)
+}
+
+// The one word of ten bases A.
+const EIGHT: &[Row] = &[Row { word: 0, count: 8 }];
+
+// Ten bases A in batches of so many positions, by so many workers, and in a number of stripes that both decide.
+fn count_ten<H: Threads + Wait + Abort + Sync + AllocGlobal>(
+    rt: &H,
+    size: u32,
+    workers: u32,
+) -> Result<(), Fail>
+    requires { (size ≤ 11) × (workers ≤ 8) }
+{
+    let setup = setup_of(3, 1 << ((size + workers) % 7)).ok_or("no setup")?;
+    let case = Case {
+        bases: b"AAAAAAAAAA",
+        size: u64::from(size),
+        workers,
+    };
+    let tally = counted(rt, rt.alloc(), &setup, &case, &NoGate)?;
+    assert_rows(rt, &tally, EIGHT);
+    assert_eq!(rt; tally.total(), 8);
+    Ok(())
 }
 
 #[test]
 fn the_tally_is_one_for_all_workers_stripes_and_batches(rt: HostRuntime) -> Result<(), Fail> {
-    let alloc = rt.alloc();
     for size in 1..=11u32 {
         for workers in 1..=8u32 {
-            // each number of stripes, in turn
-            let setup = setup_of(3, 1 << ((size + workers) % 7)).ok_or("no setup")?;
-            let case = Case {
-                bases: b"AAAAAAAAAA",
-                size: u64::from(size),
-                workers,
-            };
-            let (rows, total) = counted(&rt, alloc, &setup, &case, &NoGate)?;
-            assert_eq!(rt; (rows.as_slice(), total), ([(0, 8)].as_slice(), 8));
+            count_ten(&rt, size, workers)?;
         }
     }
     Ok(())
@@ -143,42 +157,68 @@ fn no_batches_have_no_rows(rt: HostRuntime) -> Result<(), Fail> {
         size: 1,
         workers: 2,
     };
-    let (rows, total) = counted(&rt, rt.alloc(), &setup, &case, &NoGate)?;
-    assert_eq!(rt; (rows.len(), total), (0, 0));
+    let tally = counted(&rt, rt.alloc(), &setup, &case, &NoGate)?;
+    assert_rows(&rt, &tally, &[]);
+    assert_eq!(rt; tally.total(), 0);
+    Ok(())
+}
+
+// So many bases, each a letter of ACGTACGTN that is drawn.
+fn random_bases(alloc: Global, count: u32) -> Result<Vec<u8>, AllocError> {
+    let mut random = SplitMix64::seed_from_u64(13);
+    let mut bases = Vec::new(alloc);
+    for _ in 0..count {
+        bases.push(b"ACGTACGTN"[random.next_word() as usize % 9])?;
+    }
+    Ok(bases)
+}
+
+// The rows of a read of these bases, straight from the definitions.
+fn rows_by_hand(alloc: Global, bases: &[u8], rule: &Rule) -> Result<Vec<Row>, Fail> {
+    let mut reads = Vec::new(alloc);
+    reads.push(read_of(alloc, bases)?)?;
+    let Some(_) = base_count(&reads) else {
+        return Err(Fail::from("too many bases"));
+    };
+    Ok(slow::tally(alloc, &reads, rule)?)
+}
+
+// Numbers of stripes, positions of a batch, and numbers of workers.
+const STRIPES: &[u32] = &[1, 8, 64];
+
+const SIZES: &[u64] = &[1, 7, 100, 65_536];
+
+const WORKERS: &[u32] = &[1, 2, 8];
+
+// Counts these bases in batches of so many positions, by each number of workers.
+fn count_with_workers<H: Threads + Wait + Abort + Sync + AllocGlobal>(
+    rt: &H,
+    setup: &Setup,
+    bases: &[u8],
+    size: u64,
+    want: &[Row],
+) -> Result<(), Fail> {
+    for workers in WORKERS {
+        let case = Case {
+            bases,
+            size,
+            workers: *workers,
+        };
+        let tally = counted(rt, rt.alloc(), setup, &case, &NoGate)?;
+        assert_rows(rt, &tally, want);
+    }
     Ok(())
 }
 
 #[test]
 fn random_bases_are_counted_as_by_hand(rt: HostRuntime) -> Result<(), Fail> {
-    let alloc = rt.alloc();
-    let mut random = SplitMix64::seed_from_u64(13);
-    let mut bases = Vec::new(alloc);
-    for _ in 0..600 {
-        bases.push(b"ACGTACGTN"[random.next_word() as usize % 9])?;
-    }
-    let k = K::new(3).ok_or("no length of a word")?;
-    let rule = Rule::new(k, true, b'!');
-    let mut reads = Vec::new(alloc);
-    reads.push(read_of(alloc, &bases)?)?;
-    let Some(_) = base_count(&reads) else {
-        return Err(Fail::from("too many bases"));
-    };
-    let mut want = Vec::new(alloc);
-    for row in &slow::tally(alloc, &reads, &rule)? {
-        want.push((row.word, row.count))?;
-    }
-    for stripes in [1, 8, 64] {
-        let setup = Setup::new(rule, Hash::seeded(6, 1), stripes).ok_or("no setup")?;
-        for size in [1, 7, 100, 65_536] {
-            for workers in [1, 2, 8] {
-                let case = Case {
-                    bases: &bases,
-                    size,
-                    workers,
-                };
-                let (rows, _) = counted(&rt, alloc, &setup, &case, &NoGate)?;
-                assert_eq!(rt; rows.as_slice(), want.as_slice());
-            }
+    let bases = random_bases(rt.alloc(), 600)?;
+    let rule = Rule::new(K::new(3).ok_or("no length of a word")?, true, b'!');
+    let want = rows_by_hand(rt.alloc(), &bases, &rule)?;
+    for stripes in STRIPES {
+        let setup = Setup::new(rule, Hash::seeded(6, 1), *stripes).ok_or("no setup")?;
+        for size in SIZES {
+            count_with_workers(&rt, &setup, &bases, *size, &want)?;
         }
     }
     Ok(())
@@ -201,29 +241,40 @@ fn refusing(
     Ok(tables)
 }
 
+// Bases whose first key is refused, why, and what is answered: AAA falls in stripe 0, and AAC in stripe 1.
+const REFUSALS: &[(&[u8], TableFault, RunFault)] = &[
+    (b"AAA", TableFault::Full, RunFault::Full(0)),
+    (b"AAC", TableFault::Full, RunFault::Full(1)),
+    (b"AAA", TableFault::Memory, RunFault::Memory),
+    (b"AAC", TableFault::Memory, RunFault::Memory),
+];
+
+// The fault of a run over two stripes whose tables refuse the first key.
+fn refused<H: Threads + Wait + Sync + AllocGlobal>(
+    rt: &H,
+    bases: &[u8],
+    refusal: TableFault,
+    workers: u32,
+) -> Result<RunFault, Fail> {
+    let setup = setup_of(3, 2).ok_or("no setup")?;
+    let case = Case {
+        bases,
+        size: 1,
+        workers,
+    };
+    let tables = refusing(rt.alloc(), &setup, refusal)?;
+    match run_over(rt, rt.alloc(), &setup, tables, &case, &NoGate)? {
+        Ok(_) => Err(Fail::from("a tally")),
+        Err(fault) => Ok(fault),
+    }
+}
+
 #[test]
 fn a_refused_key_ends_the_run(rt: HostRuntime) -> Result<(), Fail> {
-    let alloc = rt.alloc();
-    let setup = setup_of(3, 2).ok_or("no setup")?;
-    // AAA falls in stripe 0, and AAC in stripe 1
-    let rows: [(&[u8], TableFault, RunFault); 4] = [
-        (b"AAA", TableFault::Full, RunFault::Full(0)),
-        (b"AAC", TableFault::Full, RunFault::Full(1)),
-        (b"AAA", TableFault::Memory, RunFault::Memory),
-        (b"AAC", TableFault::Memory, RunFault::Memory),
-    ];
-    for (bases, refusal, want) in rows {
-        for workers in [1, 2] {
-            let case = Case {
-                bases,
-                size: 1,
-                workers,
-            };
-            let tables = refusing(alloc, &setup, refusal)?;
-            match run_over(&rt, alloc, &setup, tables, &case, &NoGate)? {
-                Ok(_) => return Err(Fail::from("a tally")),
-                Err(fault) => assert_eq!(rt; fault, want),
-            }
+    for (bases, refusal, want) in REFUSALS {
+        for workers in 1..=2 {
+            let fault = refused(&rt, *bases, *refusal, workers)?;
+            assert_eq!(rt; fault, *want);
         }
     }
     Ok(())
@@ -233,12 +284,25 @@ fn a_refused_key_ends_the_run(rt: HostRuntime) -> Result<(), Fail> {
 fn crowded(alloc: Global, words: u64) -> Result<Vec<u8>, AllocError> {
     let mut bases = Vec::new(alloc);
     for word in 0..words {
-        for shift in [6, 4, 2, 0] {
-            bases.push(b"ACGT"[(word >> shift) as usize % 4])?;
-        }
+        bases.push(base_at(word, 6))?;
+        bases.push(base_at(word, 4))?;
+        bases.push(base_at(word, 2))?;
+        bases.push(base_at(word, 0))?;
         bases.extend_from_slice(b"AACCN")?;
     }
     Ok(bases)
+}
+
+// The base that two bits of a word stand for, those from this one on.
+fn base_at(word: u64, shift: u32) -> u8
+    requires { shift < 64 }
+{
+    match (word >> shift) % 4 {
+        0 => b'A',
+        1 => b'C',
+        2 => b'G',
+        _ => b'T',
+    }
 }
 
 // A table of 2^8 slots at most, for each stripe, where the keys have 16 bits.
@@ -258,27 +322,39 @@ fn small_tables(alloc: Global, setup: &Setup) -> Result<Vec<QuotientTable>, Fail
     Ok(tables)
 }
 
+// What a run answers over one small table and so many words of one place.
+fn count_crowded<H: Threads + Wait + Sync + AllocGlobal>(
+    rt: &H,
+    words: u64,
+) -> Result<Result<Tally, RunFault>, Fail> {
+    let setup = setup_of(8, 1).ok_or("no setup")?;
+    let bases = crowded(rt.alloc(), words)?;
+    let case = Case {
+        bases: &bases,
+        size: 9,
+        workers: 2,
+    };
+    let tables = small_tables(rt.alloc(), &setup)?;
+    run_over(rt, rt.alloc(), &setup, tables, &case, &NoGate)
+}
+
 #[test]
 fn a_stripe_is_full_at_the_64th_word_of_one_place(rt: HostRuntime) -> Result<(), Fail> {
-    let alloc = rt.alloc();
-    let setup = setup_of(8, 1).ok_or("no setup")?;
-    for (words, want) in [(63, Ok(63)), (64, Err(RunFault::Full(0)))] {
-        let bases = crowded(alloc, words)?;
-        let case = Case {
-            bases: &bases,
-            size: 9,
-            workers: 2,
-        };
-        let tables = small_tables(alloc, &setup)?;
-        match run_over(&rt, alloc, &setup, tables, &case, &NoGate)? {
-            Ok(tally) => {
-                assert_eq!(rt; Ok(tally.row_count() as usize), want);
-                assert_eq!(rt; (tally.bin(1), tally.total()), (words, words));
-            }
-            Err(fault) => assert_eq!(rt; Err(fault), want),
+    match count_crowded(&rt, 63)? {
+        Ok(tally) => {
+            assert_eq!(rt; tally.row_count(), 63);
+            assert_eq!(rt; tally.bin(1), 63);
+            assert_eq!(rt; tally.total(), 63);
+        }
+        Err(_) => return Err(Fail::from("no tally")),
+    }
+    match count_crowded(&rt, 64)? {
+        Ok(_) => Err(Fail::from("a tally")),
+        Err(fault) => {
+            assert_eq!(rt; fault, RunFault::Full(0));
+            Ok(())
         }
     }
-    Ok(())
 }
 
 // A gate that holds the worker that comes first until another worker has booked a batch.
@@ -316,6 +392,21 @@ impl<'a, R: Clock> Gate for HoldsFirst<'a, R> {
     }
 }
 
+// The words ACG, CGT, GTA and TAC.
+const FOUR: &[Row] = &[
+    Row { word: 6, count: 1 },
+    Row { word: 27, count: 1 },
+    Row { word: 44, count: 1 },
+    Row { word: 49, count: 1 },
+];
+
+// Their bases, a word a batch, for two workers.
+const FOUR_BY_TWO: Case = Case {
+    bases: b"ACGTAC",
+    size: 1,
+    workers: 2,
+};
+
 #[test]
 fn two_workers_book_at_once(rt: HostRuntime) -> Result<(), Fail> {
     let setup = setup_of(3, 4).ok_or("no setup")?;
@@ -325,18 +416,10 @@ fn two_workers_book_at_once(rt: HostRuntime) -> Result<(), Fail> {
         booked: AtomicU64::new(0),
         released: AtomicU64::new(0),
     };
-    let case = Case {
-        bases: b"ACGTAC",
-        size: 1,
-        workers: 2,
-    };
-    let (rows, total) = counted(&rt, rt.alloc(), &setup, &case, &gate)?;
+    let tally = counted(&rt, rt.alloc(), &setup, &FOUR_BY_TWO, &gate)?;
     assert_eq!(rt; gate.released.load(Ordering::SeqCst), 1);
-    // ACG, CGT, GTA and TAC
-    assert_eq!(rt;
-        (rows.as_slice(), total),
-        ([(6, 1), (27, 1), (44, 1), (49, 1)].as_slice(), 4)
-    );
+    assert_rows(&rt, &tally, FOUR);
+    assert_eq!(rt; tally.total(), 4);
     Ok(())
 }
 
@@ -370,63 +453,110 @@ impl Gate for Told {
     }
 }
 
+// Counts eight batches by so many workers. One worker has rounds of two.
+fn tell_of_eight<H: Threads + Wait + Sync + AllocGlobal>(
+    rt: &H,
+    workers: u32,
+    gate: &Told,
+) -> Result<(), Fail> {
+    let setup = setup_of(3, 4).ok_or("no setup")?;
+    let case = Case {
+        bases: b"AAAAAAAAAA",
+        size: 1,
+        workers,
+    };
+    counted(rt, rt.alloc(), &setup, &case, gate)?;
+    Ok(())
+}
+
 #[test]
 fn the_gate_is_told_of_each_batch_before_and_after(rt: HostRuntime) -> Result<(), Fail> {
-    let setup = setup_of(3, 4).ok_or("no setup")?;
-    for workers in [1, 2] {
+    for workers in 1..=2 {
         let gate = Told {
             before: AtomicU64::new(0),
             after: AtomicU64::new(0),
             unbegun: AtomicU64::new(0),
         };
-        // eight batches: one worker has rounds of two
-        let case = Case {
-            bases: b"AAAAAAAAAA",
-            size: 1,
-            workers,
-        };
-        counted(&rt, rt.alloc(), &setup, &case, &gate)?;
-        let order = Ordering::SeqCst;
-        assert_eq!(rt;
-            (gate.before.load(order), gate.after.load(order)),
-            (0x1111_1111, 0x1111_1111)
-        );
-        assert_eq!(rt; gate.unbegun.load(order), 0);
+        tell_of_eight(&rt, workers, &gate)?;
+        assert_eq!(rt; gate.before.load(Ordering::SeqCst), 0x1111_1111);
+        assert_eq!(rt; gate.after.load(Ordering::SeqCst), 0x1111_1111);
+        assert_eq!(rt; gate.unbegun.load(Ordering::SeqCst), 0);
     }
     Ok(())
 }
 
+// A gate that keeps how many batches each worker has begun and not ended, and the most that any had.
+#[derive(Drop)]
+struct Begun {
+    now: Vec<AtomicU64>,
+    most: AtomicU64,
+}
+
+impl Gate for Begun {
+    fn before_book(&self, worker: u32, _batch: u64) {
+        if let Some(now) = self.now.get(worker as usize) {
+            let begun = now.fetch_add(1, Ordering::SeqCst).wrapping_add(1);
+            self.most.fetch_max(begun, Ordering::SeqCst);
+        }
+    }
+
+    fn after_book(&self, worker: u32, _batch: u64) {
+        if let Some(now) = self.now.get(worker as usize) {
+            now.fetch_sub(1, Ordering::SeqCst);
+        }
+    }
+}
+
+// Eighteen bases of sixteen words.
+const SIXTEEN: &[u8] = b"AAAAAAAAAAAAAAAAAA";
+
+// The most batches that one of so many workers books in a round, of sixteen batches.
+fn longest_round<H: Threads + Wait + Sync + AllocGlobal>(
+    rt: &H,
+    setup: &Setup,
+    workers: u32,
+) -> Result<u64, Fail> {
+    let mut now = Vec::new(rt.alloc());
+    for _ in 0..workers {
+        now.push(AtomicU64::new(0))?;
+    }
+    let gate = Begun {
+        now,
+        most: AtomicU64::new(0),
+    };
+    let case = Case {
+        bases: SIXTEEN,
+        size: 1,
+        workers,
+    };
+    counted(rt, rt.alloc(), setup, &case, &gate)?;
+    Ok(gate.most.load(Ordering::SeqCst))
+}
+
+// Numbers of workers, and how many of sixteen batches make a round of theirs.
+const ROUNDS: &[(u32, u64)] = &[(1, 4), (2, 2), (3, 1), (64, 1)];
+
+// A worker tells of all batches of a round before it books them. Of two workers one always has a whole round, since
+// there are more batches than both could have begun one of.
 #[test]
 fn a_round_leaves_each_worker_four(rt: HostRuntime) -> Result<(), Fail> {
     let setup = setup_of(3, 1).ok_or("no setup")?;
-    let k = setup.rule().k();
-    let batches = batches_of(rt.alloc(), &setup, b"AAAAAAAAAAAAAAAAAA", 1)?;
-    assert_eq!(rt; batches.len(), 16);
-    for (workers, want) in [(1, 4), (2, 2), (3, 1), (64, 1)] {
-        assert_eq!(rt; round_len(&batches, k, workers), want);
+    assert_eq!(rt; batches_of(rt.alloc(), &setup, SIXTEEN, 1)?.len(), 16);
+    for (workers, want) in ROUNDS {
+        let longest = longest_round(&rt, &setup, *workers)?;
+        assert_eq!(rt; longest, *want, "{workers}");
     }
-    assert_eq!(rt; round_len(&[], k, 1), 1);
     Ok(())
 }
 
 // Run with each growth refused in turn, by `make memory`: no other fault is answered, and no other tally.
 #[test]
 fn a_refused_growth_gives_no_tally(rt: HostRuntime) -> Result<(), Fail> {
-    let alloc = rt.alloc();
     let setup = setup_of(3, 4).ok_or("no setup")?;
-    let case = Case {
-        bases: b"ACGTAC",
-        size: 1,
-        workers: 2,
-    };
-    let tables = plain_tables(alloc, &setup)?;
-    match run_over(&rt, alloc, &setup, tables, &case, &NoGate)? {
+    let tables = plain_tables(rt.alloc(), &setup)?;
+    match run_over(&rt, rt.alloc(), &setup, tables, &FOUR_BY_TWO, &NoGate)? {
         Ok(tally) => {
-            let rows = rows_of(alloc, &tally)?;
-            assert_eq!(rt;
-                rows.as_slice(),
-                [(6, 1), (27, 1), (44, 1), (49, 1)].as_slice()
-            );
+            assert_rows(&rt, &tally, FOUR);
             Ok(())
         }
         Err(RunFault::Memory) => Err(Fail::from("answered 34")),

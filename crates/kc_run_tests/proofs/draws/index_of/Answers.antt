@@ -1,6 +1,6 @@
 use Rattle.std.proofs.Common.{length, refl, ◌∙◌, arith}
 use Rattle.std.proofs.lemmas.List.{get_or_default}
-use Rattle.kc_run.proofs.tests.index_of.Goals as goal
+use Rattle.kc_run_tests.proofs.draws.index_of.Goals as goal
 
 pub unreachable-requires : goal.unreachable-requires
 unreachable-requires c =

@@ -1,6 +1,6 @@
 use Rattle.std.proofs.Common.{refl}
 use Rattle.std.specs.List.{IsDistinct}
-use Rattle.kc_run.proofs.tests.as_many_distinct_numbers_leave_none_out.Goals as goal
+use Rattle.kc_run_tests.proofs.draws.as_many_distinct_numbers_leave_none_out.Goals as goal
 
 pub index_of-requires-clause-distinct : goal.index_of-requires-clause-distinct
 unfolding IsDistinct

@@ -1,7 +1,7 @@
 use Rattle.std.proofs.Common.{◌≡◌, ◌+◌, ◌≤◌, vec_len}
 use Rattle.std.specs.Prelude.{All}
 use Rattle.kc_run.specs.Tickets.{IsSeatOf}
-use Rattle.kc_run.proofs.tests.as_many_seats_as_numbers_are_answered.Given as goal
+use Rattle.kc_run_tests.proofs.draws.as_many_seats_as_numbers_are_answered.Given as goal
 
 abbrev pub invariant-loop-index : goal.invariant-loop-index
 invariant-loop-index g l =

@@ -1,7 +1,7 @@
 use Rattle.std.proofs.Common.{◌≡◌, length, All}
 use Rattle.std.specs.FinMap.{empty}
 use Rattle.kc_table.specs.QuotientTable.{counts_in}
-use Rattle.kc_run.proofs.run_tests.small_tables.Given as goal
+use Rattle.kc_run_tests.proofs.whole_runs.small_tables.Given as goal
 
 abbrev pub invariant-loop : goal.invariant-loop
 invariant-loop l = record {

@@ -3,8 +3,8 @@ ghost use Rattle.std.specs.Prelude.{◌≡◌, ◌<◌, ◌≤◌, ◌^◌, [], 
 ghost use Rattle.std.specs.List.{flat_map, IsDistinct};
 ghost use Rattle.kc_run.specs.Tickets.{IsSeatOf, IsDone, answers_of, AreNumbersBelow};
 
-use crate::laws::{each_stands_once, none_is_left_out};
-use crate::{Seat, Tickets};
+use kc_run::laws::{each_stands_once, none_is_left_out};
+use kc_run::{Seat, Tickets};
 use std::alloc::{AllocError, Global};
 use std::process::Abort;
 use std::snapshot::Snapshot;
@@ -131,41 +131,57 @@ fn draw_at(tickets: &Tickets, seats: &mut Vec<Seat>, index: usize) -> Option<u64
     tickets.draw(seat)
 }
 
-// Each row of `draws` is a seat's index, what it is to be answered, and whether it is done then.
+// A seat's index, what it is to be answered, and whether it is done then.
+type Turn = (usize, Option<u64>, bool);
+
+// Lets a seat draw, and asserts what it is answered and whether it is done then.
+fn assert_turn<R: Abort>(rt: &R, tickets: &Tickets, seats: &mut Vec<Seat>, turn: &Turn)
+    requires own { All (IsSeatOf tickets.now) seats.old.items }
+    ensures own { All (IsSeatOf tickets.now) seats.new.items }
+    ensures len { vec_len seats.new ≡ vec_len seats.old }
+{
+    let (index, number, is_done) = *turn;
+    assert!(rt; index < seats.len());
+    let drawn = draw_at(tickets, seats, index);
+    assert_eq!(rt; drawn, number, "of seat {index}");
+    let done = seats[index].is_done();
+    assert_eq!(rt; done, is_done, "of seat {index}");
+}
+
+// Lets so many seats draw below a limit, in these turns.
 fn play<R: Abort>(
     rt: &R,
     alloc: Global,
     limit: u64,
     seats: u32,
-    draws: &[(usize, Option<u64>, bool)],
+    turns: &[Turn],
 ) -> Result<(), AllocError>
     requires limit { limit ≤ 2 ^ 40 }
     requires seats { (1 ≤ seats) × (seats ≤ 64) }
 {
     let (tickets, mut row) = Tickets::new(alloc, limit, seats)?;
-    for &(index, number, done) in draws {
-        assert!(rt; index < row.len());
-        assert_eq!(rt;
-            draw_at(&tickets, &mut row, index),
-            number,
-            "of seat {index}"
-        );
-        assert_eq!(rt; row[index].is_done(), done, "of seat {index}");
+    for turn in turns {
+        assert_turn(rt, &tickets, &mut row, turn);
     }
     tickets.close(row);
     Ok(())
 }
 
+// Two seats draw below 2 in turn.
+const TWO: &[Turn] = &[
+    (0, Some(0), false),
+    (1, Some(1), false),
+    (0, None, true),
+    (1, None, true),
+];
+
+// One seat draws below 0.
+const NONE: &[Turn] = &[(0, None, true)];
+
 #[test]
 fn numbers_below_the_limit_are_answered_in_turn(rt: HostRuntime) -> Result<(), Fail> {
-    let two = [
-        (0, Some(0), false),
-        (1, Some(1), false),
-        (0, None, true),
-        (1, None, true),
-    ];
-    play(&rt, rt.alloc(), 2, 2, &two)?;
-    play(&rt, rt.alloc(), 0, 1, &[(0, None, true)])?;
+    play(&rt, rt.alloc(), 2, 2, TWO)?;
+    play(&rt, rt.alloc(), 0, 1, NONE)?;
     Ok(())
 }
 

@@ -1,7 +1,7 @@
 use Rattle.std.proofs.Common.{◌≡◌, [], ◌+◌, vec_len}
 use Rattle.std.specs.Prelude.{All}
 use Rattle.kc_run.specs.Tickets.{Drawer, IsSeatOf}
-use Rattle.kc_run.proofs.tests.start_all.Given as goal
+use Rattle.kc_run_tests.proofs.draws.start_all.Given as goal
 
 abbrev pub invariant-loop-seat : goal.invariant-loop-seat
 invariant-loop-seat g l = record {

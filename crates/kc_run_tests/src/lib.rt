@@ -1,0 +1,7 @@
+//! Tests of the tickets and of whole runs, by their public calls.
+#![tactic(auto)]
+
+#[cfg(test)]
+mod draws;
+#[cfg(test)]
+mod whole_runs;
