@@ -3,8 +3,8 @@ PREFIX ?= /usr/local
 DESTDIR ?=
 CRATE ?=
 ARCHIVE ?=
-# The crates with a test that tests/memory.sh runs with each growth refused.
-TESTS_OF_MEMORY = kc_report kc_run kc_table kc_stripe kc_gather
+# The crates of tests that tests/memory.sh runs with each growth refused.
+TESTS_OF_MEMORY = kc_count_tests kc_stripe_tests kc_run_tests
 
 .PHONY: demo build dist verify check edits bodies memory files options examples test bench figures install clean help
 

@@ -3,8 +3,7 @@
 #   tests/memory.sh
 # Each run of the program, over FASTA and over FASTQ, either does without that growth and writes the whole dump, or writes
 # nothing, says on standard error that there is no memory, and ends with status 1. Tickets, a growing table, a stripe and a
-# gathering are asked the same by a test of their crates. It needs bin/kcount, the tests of these crates as built, and a C
-# compiler.
+# gathering are asked the same by a test. It needs bin/kcount, the crates of tests as built, and a C compiler.
 set -euo pipefail
 here=$(cd "$(dirname "$0")" && pwd)
 kcount=$here/../bin/kcount
@@ -52,9 +51,9 @@ refused_test() {
 }
 
 # A table is read with all its growths or not at all, and so is a histogram written: else nothing was.
-test=stream_tests::memory_or_the_report
+test=streams::memory_or_the_report
 refused=0
-until refused_test kc_report "$test" $((refused + 1)); do
+until refused_test kc_count_tests "$test" $((refused + 1)); do
     refused=$((refused + 1))
     grep -q AllocError "$work/said" && [ "$refused" -lt 100 ] || { echo "kc_report, growth $refused:"; cat "$work/said"; exit 1; }
 done
@@ -62,9 +61,9 @@ done
 echo "memory: $refused growths of a table's reading and a histogram refused in turn, then both are done"
 
 # Tickets are made with all their growths or not at all.
-test=tests::as_many_seats_as_numbers_are_answered
+test=draws::as_many_seats_as_numbers_are_answered
 refused=0
-until refused_test kc_run "$test" $((refused + 1)); do
+until refused_test kc_run_tests "$test" $((refused + 1)); do
     refused=$((refused + 1))
     grep -q AllocError "$work/said" && [ "$refused" -lt 100 ] || { echo "kc_run, growth $refused:"; cat "$work/said"; exit 1; }
 done
@@ -72,18 +71,18 @@ done
 echo "memory: $refused growths of tickets refused in turn, then they are made"
 
 # A table that must double has its numbers after a refusal, and takes the key when there is memory.
-test=tests::a_refused_growth_leaves_the_table
+test=tables::a_refused_growth_leaves_the_table
 for n in $(seq 1 40); do
-    refused_test kc_table "$test" "$n" || { echo "kc_table, growth $n:"; cat "$work/said"; exit 1; }
+    refused_test kc_count_tests "$test" "$n" || { echo "kc_table, growth $n:"; cat "$work/said"; exit 1; }
 done
 echo "memory: 40 growths of a table refused in turn, and its numbers stay"
 
 # A stripe that is refused memory while a batch is booked is as it was, and books the batch when there is memory; so is a share
 # that books or looks a word up. Where a growth outside of that is refused, the test ends.
 booked_again() {
-    local test=refused_tests::$1 held=0 n
+    local test=refusals::$1 held=0 n
     for n in $(seq 1 "$2"); do
-        if refused_test kc_stripe "$test" "$n"; then
+        if refused_test kc_stripe_tests "$test" "$n"; then
             held=$((held + 1))
         else
             grep -qE 'Alloc(Error|Failed)' "$work/said" || { echo "kc_stripe, growth $n:"; cat "$work/said"; exit 1; }
@@ -115,5 +114,5 @@ tally_or_refused() {
     [ "$answered" -gt 0 ] && [ "$passed" -ge 20 ] || { echo "$crate: no growth of $3 was refused, or there is no end of them"; exit 1; }
     echo "memory: $answered growths of $3 refused in turn, each answered 34, or 33 for a thread"
 }
-tally_or_refused kc_gather tests::a_refused_growth_gives_no_tally gatherings
-tally_or_refused kc_run run_tests::a_refused_growth_gives_no_tally runs
+tally_or_refused kc_stripe_tests gatherings::a_refused_growth_gives_no_tally gatherings
+tally_or_refused kc_run_tests whole_runs::a_refused_growth_gives_no_tally runs
