@@ -4,7 +4,7 @@ ghost use Rattle.kc_io.specs.Sinks.{Writes, HasBegun, Drains};
 ghost use Rattle.kc_tally.specs.Histogram.{last_bin};
 ghost use Rattle.kc_report.specs.Histo.{histo_text, words_by_count, count_line, WritesUnlessMemory};
 
-use crate::block::{Block, NUMBER_SIZE};
+use crate::block::{BLOCK_SIZE, Block, NUMBER_SIZE};
 use crate::faults::ReportFault;
 use kc_io::{Failed, Sink, write_out};
 use kc_tally::Tally;
@@ -113,10 +113,19 @@ fn put_line<W: Sink>(
 {
     if words > 0 {
         block.make_room(writer, LINE_SIZE)?;
-        block.push_number(count);
-        block.push(b" ");
-        block.push_number(words);
-        block.push(b"\n");
+        push_line(block, count, words);
     }
     Ok(())
+}
+
+// Puts the line of a count that words have behind the block.
+fn push_line(block: &mut Block, count: u64, words: u64)
+    requires room { length block.old + LINE_SIZE ≤ BLOCK_SIZE }
+    requires some { 0 < words }
+    ensures { block.new ≡ block.old ++ count_line count words }
+{
+    block.push_number(count);
+    block.push(b" ");
+    block.push_number(words);
+    block.push(b"\n");
 }

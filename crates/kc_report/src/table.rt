@@ -1,8 +1,9 @@
 //! The table text of a tally, which keeps all of it.
-ghost use Rattle.std.specs.Prelude.{◌≡◌, ◌+◌, ◌≤◌, ◌++◌, length, IfErr};
+ghost use Rattle.std.specs.Prelude.{◌≡◌, ◌+◌, ◌≤◌, ◌∷◌, [], ◌++◌, length, IfErr};
 ghost use Rattle.kc_io.specs.Sinks.{Writes};
 ghost use Rattle.kc_report.specs.declared.faults.ReportFault.TheVariants.{Write};
-ghost use Rattle.kc_report.specs.Table.{header_line, end_line, ended, table_text};
+ghost use Rattle.kc_report.specs.Bytes.{line_feed, space};
+ghost use Rattle.kc_report.specs.Table.{kind, header_line, end_line, ended, table_text};
 
 use crate::block::{BLOCK_SIZE, Block, NUMBER_SIZE};
 use crate::dumping::{ROW_SIZE, push_columns};
@@ -49,7 +50,15 @@ pub(crate) fn push_header(block: &mut Block, k: K, both: bool)
 {
     block.push(b"KCT 1 ");
     block.push_number(k.get() as u64);
-    block.push(if both { b" c\n" } else { b" s\n" });
+    block.push(kind_bytes(both));
+}
+
+// The end of a header, behind the length of the words.
+fn kind_bytes(both: bool) -> &'static [u8]
+    ensures bytes { result.now ≡ space ∷ kind both ++ line_feed ∷ [] }
+    ensures size { length result.now ≡ 3 }
+{
+    if both { b" c\n" } else { b" s\n" }
 }
 
 // The end line of a table with so many rows and this sum of their counts, at the end of the block.
