@@ -107,13 +107,13 @@ fn counted<H: Threads + Wait + Sync, G: Gate + Sync>(
     }
 }
 
-// Asserts that a tally has these rows.
+// Asserts that a tally has these rows and no others.
 fn assert_rows<H: Abort>(rt: &H, tally: &Tally, rows: &[Row]) {
-    assert_eq!(rt; tally.row_count(), rows.len() as u64);
-    for (row, wanted) in tally.rows().zip(rows) {
-        assert_eq!(rt; row.word, wanted.word);
-        assert_eq!(rt; row.count, wanted.count);
+    let mut left = tally.rows();
+    for row in rows {
+        assert_eq!(rt; left.next(), Some(*row));
     }
+    assert_eq!(rt; left.next(), None);
 }
 
 // The one word of ten bases A.
