@@ -9,9 +9,10 @@ has a line `refused:` with the function that has to be refused by it, as the che
 
 A function is proved against the contracts of those that it calls, so edits of different functions don't hide one another. The edits of a
 crate are put together into few groups, never two of one function in one group; an edit that changes more than bodies of functions is tried
-alone. Each group is made in a copy of the crate and checked once, over what the checks before it kept. Of each function that an edit names a
-goal or an answer of its own has to be open: that it calls what is not proved doesn't count, nor that the edited text can't be read, nor
-that the checker could not tell. What isn't refused so in its group is tried once more alone, and that decides.
+alone. Each group is made in a copy of the crate and checked once, over a copy of what was kept of the crate's proof, so that only edited
+functions are tried again. Of each function that an edit names a goal or an answer of its own has to be open: that it calls what is not proved
+doesn't count, nor that the edited text can't be read, nor that the checker could not tell. What isn't refused so in its group is tried once
+more alone, and that decides.
 
 The last line is `N refused, M failed`.
 """
@@ -19,6 +20,8 @@ The last line is `N refused, M failed`.
 import os
 import re
 import sys
+import tempfile
+from contextlib import contextmanager, suppress
 from dataclasses import dataclass, field
 
 import kit
@@ -203,10 +206,37 @@ def is_there(crate, function, said):
     return re.search(rf"(?m)^fn {re.escape(f'{crate}::{function}')}: ", said)
 
 
+def kept_files(crate, kept):
+    """Returns the paths of what the folder has of the crate, below it."""
+    found = []
+    for at, _, files in os.walk(kept):
+        found += [os.path.relpath(f"{at}/{it}", kept) for it in files if not it.startswith("Rattle-") or re.match(rf"Rattle-{crate.name}\b", it)]
+    return found
+
+
+@contextmanager
+def copied(crate, kept):
+    """Gives a folder with links to what that folder has of the crate. (The checker makes a file anew where it writes it.)"""
+    with tempfile.TemporaryDirectory(prefix="kept-", dir=os.path.dirname(kept)) as room:
+        for it in kept_files(crate, kept):
+            os.makedirs(os.path.dirname(f"{room}/{it}"), exist_ok=True)
+            # (what a check of another crate is about to write may be gone)
+            with suppress(FileNotFoundError):
+                os.link(f"{kept}/{it}", f"{room}/{it}")
+        yield room
+
+
+def prove(rt, crate, kept):
+    """Proves the crate as it is where the folder has nothing of it."""
+    if not any(os.path.basename(it).startswith(f"Rattle-{crate.name}-proofs") for it in kept_files(crate, kept)):
+        rt.checked(crate, {}, ["--jobs", "1"], kept)
+
+
 def judge(rt, crate, group, kept):
     """Checks the crate with these edits, and returns for each why it failed, or None where its function is refused."""
     texts = made(crate.folder, group)
-    ran = rt.checked(crate, texts, ["--jobs", "1"], kept)
+    with copied(crate, kept) as room:
+        ran = rt.checked(crate, texts, ["--jobs", "1"], room)
     unread = next((it for it in ran.stdout.split("\n") if rt.unread(it, texts)), None)
     failed = {}
     for edit in group:
@@ -230,8 +260,8 @@ def names_in(folder):
     return edits, [it for it in files if not it.endswith(".edit")]
 
 
-def try_crate(rt, crate, kept):
-    """Tries the edits of a crate, and returns for each why it failed, or None."""
+def read_all(rt, crate):
+    """Returns the edits of a crate, and for each that can't be tried why."""
     names, others = names_in(crate.folder)
     failed, edits = {it: "it is no .edit file" for it in others}, []
     for name in names:
@@ -239,24 +269,36 @@ def try_crate(rt, crate, kept):
             edits.append(read(rt, crate.folder, name))
         except BadEdit as why:
             failed[name] = str(why)
-    groups = grouped(edits)
-    for group in groups:
-        judged = judge(rt, crate, group, kept)
-        for edit in group:
-            if judged[edit.name] and len(group) > 1:
-                judged |= judge(rt, crate, [edit], kept)
-        failed |= judged
-    return len(groups), failed
+    return edits, failed
+
+
+def try_group(rt, crate, group, kept):
+    """Tries the edits of a group, and once more alone those that weren't refused. Returns for each why it failed, or None."""
+    judged = judge(rt, crate, group, kept)
+    for edit in group:
+        if judged[edit.name] and len(group) > 1:
+            judged |= judge(rt, crate, [edit], kept)
+    return judged
 
 
 def try_crates(rt, crates, kept):
-    """Tries the edits of these crates side by side, over what that folder has of them, or each over its own, and returns what came of each."""
-    tasks = {}
-    for it in crates:
-        if names_in(it.folder)[0]:
-            call = lambda given, jobs, it=it: try_crate(rt, it, kept or f"{it.folder}/out/incremental")
-            tasks[it.name, "edits"] = ([], it.count(rb"\n"), rt.need(it), call)
-    return {name: tried for (name, _), tried in rt.in_lanes(tasks).items()}
+    """Tries the edits of these crates, groups side by side, over what that folder has of them, or each over its own. Returns for each crate
+    how many groups it has, and for each of its edits why it failed, or None."""
+    tasks, tried = {}, {}
+    for crate in (it for it in crates if any(names_in(it.folder))):
+        edits, failed = read_all(rt, crate)
+        groups, folder = grouped(edits), kept or f"{crate.folder}/out/incremental"
+        tried[crate.name] = len(groups), failed
+
+        def task(waits, call, *more, crate=crate, folder=folder):
+            return waits, crate.count(rb"\n"), rt.need(crate), lambda given, jobs: call(rt, crate, *more, folder)
+
+        first = crate.name, "edits", None
+        tasks[first] = task([], prove)
+        tasks |= {(crate.name, "edits", at): task([first], try_group, group) for at, group in enumerate(groups)}
+    for (name, _, at), judged in rt.in_lanes(tasks).items():
+        tried[name][1].update(judged if at is not None else {})
+    return tried
 
 
 def are_proved(crates):
