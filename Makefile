@@ -45,10 +45,10 @@ examples: build ## runs the examples of README.md and docs/USING.md as they are 
 test: ## the gate: all proofs from nothing, the tests, the stored run, the edits that must fail; then memory, files, options, examples
 	tests/gate.sh
 
-bench: build ## runs the benchmarks and prints the table of docs/STATUS.md
+bench: build ## runs the benchmarks and prints the tables of docs/BENCHMARKS.md
 	bench/all.sh
 
-figures: ## prints how large each crate is, as docs/STATUS.md has it
+figures: ## prints how large each crate is, as docs/PROVED.md has it
 	@tools/figures.sh
 
 install: build ## installs bin/kcount, its man page and its completions under PREFIX

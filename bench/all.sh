@@ -1,5 +1,5 @@
 #!/bin/bash
-# Runs every benchmark and prints the table of docs/STATUS.md, where C is the C program beside the benchmark, built for this
+# Runs every benchmark and prints the tables of docs/BENCHMARKS.md, where C is the C program beside the benchmark, built for this
 # processor, or the peer that is named. It takes the settings of lib.sh and of the scripts. What several of them stand on is
 # proved once.
 set -euo pipefail

@@ -1,5 +1,5 @@
 # What the benchmarks share. A script sources it, names its two programs by `rattle_program` and `c_program`, and is then its
-# measuring loop: `in_turn` runs both, and `row` and `ratio` print lines of the table of docs/STATUS.md.
+# measuring loop: `in_turn` runs both, and `row` and `ratio` print lines of the tables of docs/BENCHMARKS.md.
 #
 # A program prints lines `KEY NANOSECONDS CHECK..`. What stands behind the time has to be the same in every run and in both
 # programs; of the times the least is kept.
@@ -65,10 +65,10 @@ rattle_program() {
     (cd "$crate" && rt run) > "$work/$name.log" 2>&1 || [ -x "$rattle" ] || { tail -n 40 "$work/$name.log" >&2; fail "no program"; }
 }
 
-# c_program NAME: builds bench/NAME/main.c for this processor, and names it $plain.
+# c_program NAME: builds bench/c/NAME.c for this processor, and names it $plain.
 c_program() {
     plain=$work/$1_plain
-    "${CC:-cc}" -O3 -march=native -pthread -o "$plain" "$bench/$1/main.c"
+    "${CC:-cc}" -O3 -march=native -pthread -o "$plain" "$bench/c/$1.c"
 }
 
 # in_turn PREFIX ARGUMENT..: runs both programs with these arguments, one after the other, as often as asked. Their keys
@@ -99,7 +99,7 @@ whole_command() {
     kcount=$top/bin/kcount
     [ -x "$kcount" ] || fail "no bin/kcount: run make build first"
     command -v /usr/bin/time > "$work/which" || fail "no /usr/bin/time: apt-get install time"
-    "${CC:-cc}" -O2 -o "$work/reads" "$bench/reads.c"
+    "${CC:-cc}" -O2 -o "$work/reads" "$bench/c/reads.c"
     reads=$work/reads.fq
     "$work/reads" "$1" "${COVERAGE:-20}" 100 10 1 > "$reads"
 }

@@ -6,7 +6,7 @@
 . "$(dirname "$0")/lib.sh"
 command -v /usr/bin/time > "$work/which" || fail "no /usr/bin/time: apt-get install time"
 rattle_program memory kc_fastx kc_word anyhow
-"${CC:-cc}" -O2 -o "$work/reads" "$bench/reads.c"
+"${CC:-cc}" -O2 -o "$work/reads" "$bench/c/reads.c"
 for bases in ${BASES:-50000000 200000000}; do
     "$work/reads" "$((bases / 20))" 20 100 10 1 41 > "$work/reads.fq"
     for passing in all most; do

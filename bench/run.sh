@@ -10,7 +10,7 @@
 batches=${BATCHES:-1190}
 rattle_program run kc_fastx kc_hash kc_table kc_tally kc_word kc_stripe kc_gather kc_run anyhow
 c_program run
-"${CC:-cc}" -O2 -o "$work/measure" "$bench/measure.c"
+"${CC:-cc}" -O2 -o "$work/measure" "$bench/c/measure.c"
 
 # measured KEY SIDE COMMAND..: the command's lines, its processor time and its peak memory, as keys that begin with KEY
 measured() {

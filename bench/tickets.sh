@@ -1,7 +1,7 @@
 #!/bin/bash
 # A million draws against a million fetch_adds in C, by one thread and by four.
 . "$(dirname "$0")/lib.sh"
-rattle_program tickets kc_run
+rattle_program tickets kc_tickets
 c_program tickets
 
 in_turn ""

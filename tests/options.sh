@@ -1,6 +1,6 @@
 #!/bin/bash
 # Compares the options of the man page and of the completions with those of the program's own help, command by command, so
-# that none is left out, and none is there that the program doesn't have:
+# that none is left out, and none is there that the program doesn't have. The man page has the program's version:
 #   tests/options.sh
 # It needs bin/kcount.
 set -euo pipefail
@@ -68,4 +68,9 @@ same 'commands for bash' "$(
 same 'commands for zsh' "$(sed -n "/^    commands=(/,/^    )/s/^ *'\([a-z]*\):.*/\1/p" "$share/_kcount" | LC_ALL=C sort)" "$names"
 same 'commands for fish' "$(sed -n 's/.*__fish_use_subcommand -a \([a-z]*\) .*/\1/p' "$share/kcount.fish" | LC_ALL=C sort)" "$names"
 same 'commands for man' "$({ echo help; sed -n 's/^\.B kcount \([a-z]*\).*/\1/p' "$share/kcount.1"; } | LC_ALL=C sort -u)" "$names"
+
+# the version
+version=$("$kcount" --version)
+[ "$(sed -n 's/^\.TH KCOUNT 1 "" "\([^"]*\)".*/\1/p' "$share/kcount.1")" = "$version" ] || { echo "options: the man page isn't of $version"; exit 1; }
+
 echo "options: the man page and three completions have those of the help of $(echo "$names" | wc -l) commands"

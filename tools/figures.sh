@@ -1,5 +1,5 @@
 #!/bin/bash
-# Prints the table of docs/STATUS.md that says how large each crate is: lines of code with tests, of definitions and of
+# Prints the table of docs/PROVED.md that says how large each crate is: lines of code with tests, of definitions and of
 # proofs, and how many edits the prover has to refuse. The order is that of crates.txt.
 set -euo pipefail
 cd "$(dirname "$0")/.."

@@ -98,28 +98,6 @@ fn histograms(rt: HostRuntime) -> Result<(), AllocError> {
     Ok(())
 }
 
-#[test]
-fn joined_histograms(rt: HostRuntime) -> Result<(), AllocError> {
-    let rows = [
-        Row { word: 0, count: 1 },
-        Row {
-            word: 1,
-            count: 20_000,
-        },
-    ];
-    let more = [
-        Row { word: 2, count: 1 },
-        Row {
-            word: 3,
-            count: 10_001,
-        },
-    ];
-    let mut sum = Histogram::of_rows(rt.alloc(), &rows)?;
-    sum.add(&Histogram::of_rows(rt.alloc(), &more[..])?);
-    assert_bins(&rt, &sum, &[(1, 2), (2, 0), (10_001, 2)]);
-    Ok(())
-}
-
 // Raises one word's count. The histogram has the word, and few in the bin that it comes to.
 fn raise<H: Abort>(rt: &H, histogram: &mut Histogram, count: u64) {
     assert!(rt; count < 70_000);

@@ -1,4 +1,4 @@
-//! FASTA.
+//! FASTA records: a line that begins with `>`, and the sequence lines behind it.
 ghost use Rattle.std.specs.Prelude.{◌≡◌, true, [], IfOk, IfErr, OnOk, IfSome, IfNone};
 ghost use Rattle.kc_fastx.specs.Lines.{line_count, ends_or_begins_with, Passes};
 ghost use Rattle.kc_fastx.specs.Records.{Records, FirstFault};

@@ -1,4 +1,4 @@
-//! Sanger FASTQ.
+//! Sanger FASTQ records: a title, sequence lines, a line that begins with `+`, and quality lines.
 ghost use Rattle.std.specs.Prelude.{◌≡◌, ◌≤◌, [], length, vec_capacity, IfOk, IfErr, OnOk, IfSome, IfNone};
 ghost use Rattle.kc_fastx.specs.Lines.{line_count, skip_blanks, Passes};
 ghost use Rattle.kc_fastx.specs.Records.{FirstFault};

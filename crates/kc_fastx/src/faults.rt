@@ -1,4 +1,4 @@
-//! Why no reads are given.
+//! The faults of readers: what is wrong with an input, or with the source that gives it.
 ghost use Rattle.std.specs.Prelude.{◌≡◌};
 ghost use Rattle.kc_fastx.specs.declared.faults.FastxFault.{FastxFault};
 ghost use Rattle.kc_fastx.specs.declared.faults.FastxFault.TheVariants.{Memory};
@@ -54,7 +54,7 @@ impl FastxFault {
         }
     }
 
-    // Whether it is a fault of the lines.
+    // Whether the input itself is wrong, and not its source, its size or the memory at hand.
     pub(crate) fn is_of_lines(&self) -> bool
         ensures { result ≡ is_of_lines self.now }
     {

@@ -67,7 +67,7 @@ impl<'a> LineCursor<'a> {
         }
     }
 
-    // Another cursor at the same line.
+    // A second cursor at the same line, to look ahead with.
     fn here(&self) -> LineCursor<'a>
         ensures { result ≡ self.now }
     {

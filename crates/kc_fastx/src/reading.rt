@@ -164,7 +164,7 @@ impl Reading {
         }
     }
 
-    // The next read of the lines that are whole.
+    // The next read, as far as the lines that are whole in the block tell it.
     fn next_of_whole(&mut self, alloc: Global) -> Result<Next, FastxFault>
         requires { self.old.failed ≡ None }
         ensures tells { (start now : Seen) (limit : ℕ) (reads : List Read)
@@ -187,7 +187,7 @@ impl Reading {
         Ok(Next::Given(read))
     }
 
-    // The bytes whose lines are whole.
+    // The bytes up to the last line end, or all of them once the source has ended.
     fn whole_lines(&self) -> &[u8]
         ensures { HasWhole self.now.ended self.now.unread.bytes result.now }
     {
@@ -201,7 +201,7 @@ impl Reading {
         }
     }
 
-    // Uses the first bytes, up to this line, of a record of this format.
+    // Drops the bytes of a record that was read from the front, and keeps the number of its last line and its format.
     fn use_up(&mut self, count: usize, lines_used: u64, is_fastq: bool)
         requires failed { self.old.failed ≡ None }
         requires count { count ≤ length self.old.unread.bytes }
@@ -244,7 +244,7 @@ fn next_record(
     Ok(Some((read, true)))
 }
 
-// Whether that is so whatever comes behind the lines.
+// Whether this answer stays right whatever bytes the source still gives: a record may go on in lines to come.
 fn is_sure(next: &Result<Option<(SeqRead, bool)>, FastxFault>, lines: &LineCursor<'_>) -> bool
     ensures { result ≡ true → IsSure next.now lines.now.left }
 {

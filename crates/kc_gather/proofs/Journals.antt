@@ -12,11 +12,11 @@ use Rattle.std.proofs.lemmas.Option.{get_or_from_slice_get, slice_get-get_or, sl
 use Rattle.std.proofs.lemmas.List.{length-map, length-set, length-replicate, get_or-map, get_or-set_same, get_or-set_other, get_or-replicate, get_or_default, get_or_past, take_more, take_all, map_push}
 use Rattle.std.proofs.lemmas.List.Elements.{All-push, All-nil, All-map, Contains-push, Contains-push_cases, Contains-append_left}
 use Rattle.std.proofs.lemmas.List.Sums.{sum_by-cons, sum_by_more}
-use Rattle.kc_base.proofs.Distinct.{head_apart}
-use Rattle.kc_base.proofs.Numbers.{none_left_out}
-use Rattle.kc_base.proofs.Lists.{Contains-cons_cases, All-range}
-use Rattle.kc_base.proofs.Sums.{sum_by-same, sum_by-map, sum_by-zeros, sum_by-swap, sum_by-one_place, sum_by-range_more}
-use Rattle.kc_base.proofs.Permutations.{WeighTheSame}
+use Rattle.kc_lemmas.proofs.Distinct.{head_apart}
+use Rattle.kc_lemmas.proofs.Numbers.{none_left_out}
+use Rattle.kc_lemmas.proofs.Lists.{Contains-cons_cases, All-range}
+use Rattle.kc_lemmas.proofs.Sums.{sum_by-same, sum_by-map, sum_by-zeros, sum_by-swap, sum_by-one_place, sum_by-range_more}
+use Rattle.kc_lemmas.proofs.Permutations.{WeighTheSame}
 use Rattle.std.proofs.lemmas.Map.Keys.{IsDistinct-tail}
 use Rattle.kc_word.specs.Cutting.{NumberedPieces, is_same_batch}
 use Rattle.kc_word.proofs.Sameness.{is_same_batch-Decides}

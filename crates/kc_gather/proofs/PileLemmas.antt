@@ -3,7 +3,7 @@ use Rattle.std.proofs.Common.{◌≡◌, ℕ, suc, ◌+◌, ◌-◌, ◌^◌, �
 use Rattle.std.specs.List.{flat_map}
 use Rattle.std.proofs.lemmas.List.{length-map, length-append, get_or-map, map-id, take-append-drop, drop_more}
 use Rattle.std.proofs.lemmas.List.Concat.{flat_map-append}
-use Rattle.kc_base.proofs.Lists.{flat_map_take_more}
+use Rattle.kc_lemmas.proofs.Lists.{flat_map_take_more}
 
 -- the items of all lists, one list after the other
 abbrev pub all_items : {X : Type 0} → List (Vec X Global) → List X
@@ -22,18 +22,21 @@ count-more {X} lists i list count more (within, is) before counted =
     let same = ap (λ (l : Vec X Global). length l.items) is in
     omega (arith, taken, same, before, counted)
 
--- where what holds of two lists and their answers holds of the lists and the answers joined, and holds of each pile and
--- its answer, it holds of all items and all answers
-pub in_piles : {T X : Type 0} (Answers : List T → List X → Type 0) → Answers [] [] → ((xs ys : List T) (us vs : List X) → Answers xs us → Answers ys vs → Answers (xs ++ ys) (us ++ vs))
-    → (piles : List (Vec T Global)) (lists : List (Vec X Global)) → length piles ≡ length lists
+-- what holds of lists and their answers holds of no items with no answers, and of two lists joined with their answers joined
+pub record Joins {T X : Type 0} (Answers : List T → List X → Type 0) : Type 0 where
+  pub none : Answers [] []
+  pub both : (xs ys : List T) (us vs : List X) → Answers xs us → Answers ys vs → Answers (xs ++ ys) (us ++ vs)
+
+-- where such a thing holds of each pile and its answer, it holds of all items and all answers
+pub in_piles : {T X : Type 0} {Answers : List T → List X → Type 0} → Joins Answers → (piles : List (Vec T Global)) (lists : List (Vec X Global)) → length piles ≡ length lists
     → ((i : ℕ) (pile : Vec T Global) (list : Vec X Global) → i < length piles → Answers (get_or piles i pile).items (get_or lists i list).items)
     → Answers (all_items piles) (all_items lists)
-in_piles Answers none join [] [] as_many each = none
-in_piles Answers none join [] (list ∷ lists) as_many each = absurd (omega (arith, as_many))
-in_piles Answers none join (pile ∷ piles) [] as_many each = absurd (omega (arith, as_many))
-in_piles Answers none join (pile ∷ piles) (list ∷ lists) as_many each =
-    join pile.items (all_items piles) list.items (all_items lists) (each 0 pile list (omega arith))
-    (in_piles Answers none join piles lists (omega (arith, as_many)) (λ i p l within. each (suc i) p l (omega (arith, within))))
+in_piles joins [] [] as_many each = joins.none
+in_piles joins [] (list ∷ lists) as_many each = absurd (omega (arith, as_many))
+in_piles joins (pile ∷ piles) [] as_many each = absurd (omega (arith, as_many))
+in_piles joins (pile ∷ piles) (list ∷ lists) as_many each =
+    joins.both pile.items (all_items piles) list.items (all_items lists) (each 0 pile list (omega arith))
+    (in_piles joins piles lists (omega (arith, as_many)) (λ i p l within. each (suc i) p l (omega (arith, within))))
 
 -- the answers that are not want of memory
 pub answer-at : {X E : Type 0} (lists : List (Vec X Global)) (answers : List (Result (Vec X Global) E)) → map (λ list. Ok list) lists ≡ answers → (i : ℕ) (list : Vec X Global) → i < length lists
@@ -52,18 +55,24 @@ yielded-split {X} all yielded item front (within, is) =
     ∙ ap (λ xs. xs ++ drop (length yielded) all) (sym front ∙ map-id yielded)
     ∙ ap (λ rest. yielded ++ rest) (drop_more all (length yielded) item within ∙ ap (λ x. x ∷ drop (length yielded + 1) all) (sym is))
 
--- where each answer tells that its pile is fine, or a fault that the pile has, the first fault is one of all items
-pub first_fault : {T X E : Type 0} (AreFine : List T → Type 0) (HaveFault : List T → E → Type 0)
-    → ((xs ys : List T) (fault : E) → HaveFault xs fault → HaveFault (xs ++ ys) fault)
-    → ((xs ys : List T) (fault : E) → AreFine xs → HaveFault ys fault → HaveFault (xs ++ ys) fault)
+-- a fault of a list is one of the list with more behind it, and of the list with fine items in front of it
+pub record Faults {T E : Type 0} (AreFine : List T → Type 0) (HaveFault : List T → E → Type 0) : Type 0 where
+  pub with_more : (xs ys : List T) (fault : E) → HaveFault xs fault → HaveFault (xs ++ ys) fault
+  pub behind_fine : (xs ys : List T) (fault : E) → AreFine xs → HaveFault ys fault → HaveFault (xs ++ ys) fault
+
+-- the answer tells that a list is fine, or a fault that it has
+abbrev pub Tells : {T X E : Type 0} → (List T → Type 0) → (List T → E → Type 0) → List T → Result X E → Type 0
+Tells AreFine HaveFault items answer = OnOk answer (AreFine items) × IfErr answer (HaveFault items)
+
+-- where each answer tells of its pile, the first fault is one of all items
+pub first_fault : {T X E : Type 0} {AreFine : List T → Type 0} {HaveFault : List T → E → Type 0} → Faults AreFine HaveFault
     → (piles : List (Vec T Global)) (before : List X) (fault : E) (behind : List (Result X E)) → length piles ≡ length (map (λ x. Ok x) before ++ Err fault ∷ behind)
     → ((i : ℕ) (pile : Vec T Global) (answer : Result X E) → i < length piles
-    → OnOk (get_or (map (λ x. Ok x) before ++ Err fault ∷ behind) i answer) (AreFine (get_or piles i pile).items)
-    × IfErr (get_or (map (λ x. Ok x) before ++ Err fault ∷ behind) i answer) (HaveFault (get_or piles i pile).items))
+    → Tells AreFine HaveFault (get_or piles i pile).items (get_or (map (λ x. Ok x) before ++ Err fault ∷ behind) i answer))
     → HaveFault (all_items piles) fault
-first_fault AreFine HaveFault front later [] before fault behind as_many each =
+first_fault faults [] before fault behind as_many each =
     absurd (let long = length-append (map (λ x. Ok x) before) (Err fault ∷ behind) in omega (arith, as_many, long))
-first_fault AreFine HaveFault front later (pile ∷ piles) [] fault behind as_many each = front pile.items (all_items piles) fault (each 0 pile (Err fault) (omega arith)).1
-first_fault AreFine HaveFault front later (pile ∷ piles) (x ∷ before) fault behind as_many each =
-    later pile.items (all_items piles) fault (each 0 pile (Ok x) (omega arith)).0
-    (first_fault AreFine HaveFault front later piles before fault behind (omega (arith, as_many)) (λ i p answer within. each (suc i) p answer (omega (arith, within))))
+first_fault faults (pile ∷ piles) [] fault behind as_many each = faults.with_more pile.items (all_items piles) fault (each 0 pile (Err fault) (omega arith)).1
+first_fault faults (pile ∷ piles) (x ∷ before) fault behind as_many each =
+    faults.behind_fine pile.items (all_items piles) fault (each 0 pile (Ok x) (omega arith)).0
+    (first_fault faults piles before fault behind (omega (arith, as_many)) (λ i p answer within. each (suc i) p answer (omega (arith, within))))

@@ -12,9 +12,9 @@ use Rattle.std.proofs.lemmas.List.Sums.{sum_by-cons, sum_by-append}
 use Rattle.std.proofs.lemmas.List.Sorted.{All-permutation, sum_by-IsPermutation, IsPermutation-map, IsPermutation-trans, IsPermutation-append_comm, IsPermutation-append_left}
 use Rattle.std.proofs.Math.ListN.{get_or-append}
 use Rattle.std.proofs.lemmas.Map.Keys.{IsDistinct-tail, IsDistinct-head, IsDistinct-cons, IsDistinct-IsPermutation}
-use Rattle.kc_base.proofs.Distinct.{head_apart, equal_flips}
-use Rattle.kc_base.proofs.Lists.{Contains-map}
-use Rattle.kc_base.proofs.Sums.{sum_by-zeros, sum_by-flat_map}
+use Rattle.kc_lemmas.proofs.Distinct.{head_apart, equal_flips}
+use Rattle.kc_lemmas.proofs.Lists.{Contains-map}
+use Rattle.kc_lemmas.proofs.Sums.{sum_by-zeros, sum_by-flat_map}
 use Rattle.kc_word.specs.Word.{text}
 use Rattle.kc_word.specs.Occurrences.{occurrences_in, occurrences}
 use Rattle.kc_word.specs.Cutting.{NumberedPieces, as_reads}

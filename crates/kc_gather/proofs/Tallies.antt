@@ -11,8 +11,8 @@ use Rattle.std.proofs.lemmas.List.Sums.{sum_by-cons}
 use Rattle.std.proofs.lemmas.List.Sorted.{All-permutation, sum_by-IsPermutation, IsPermutation-trans}
 use Rattle.std.proofs.lemmas.Option.{get_or_from_slice_get}
 use Rattle.std.proofs.lemmas.Map.Keys.{IsStrictlyIncreasing-from_distinct}
-use Rattle.kc_base.proofs.Distinct.{Contains-from_times}
-use Rattle.kc_base.proofs.Sums.{term-le-sum_by}
+use Rattle.kc_lemmas.proofs.Distinct.{Contains-from_times}
+use Rattle.kc_lemmas.proofs.Sums.{term-le-sum_by}
 use Rattle.kc_word.specs.Word.{text, form}
 use Rattle.kc_word.specs.Occurrences.{words_in, words_of}
 use Rattle.kc_word.specs.Cutting.{NumberedPieces, as_reads, position_total}

@@ -1,4 +1,4 @@
-//! A law of tallies, as the contract of a function that does nothing.
+//! The law that ties a gathered tally to the reads, as the contract of a function that does nothing.
 ghost use Rattle.kc_gather.specs.Laws.{TallyOfCutting};
 
 /// The tally of the batches of a cutting of cleaned reads is the tally of the reads: with it a caller of

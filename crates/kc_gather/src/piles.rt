@@ -8,7 +8,7 @@ use std::mem::replace;
 
 /// How much work an item is beside others. How long the threads take depends on it, and nothing else.
 pub(crate) trait Weighed {
-    /// The weight.
+    /// How much work the item is, in a unit that all items share.
     fn weight(&self) -> usize;
 }
 

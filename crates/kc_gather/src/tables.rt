@@ -56,7 +56,7 @@ pub fn quotient_tables(
     Ok(tables)
 }
 
-// The least log with which so many stripes have `size` slots together.
+// The least log for which tables of 2^log slots, one a stripe, have `size` slots together.
 fn least_log(size: u64, stripes: u32) -> u32
     requires { 1 ≤ stripes }
     ensures { IsLeastLog stripes size result }

@@ -77,7 +77,7 @@ pub(crate) fn taken_in_parallel<C: Counts + Drop + Send, H: Threads + Sync>(
     Ok(taken)
 }
 
-// The rows of a stripe in parts.
+// The words of a stripe with their counts, in parts by the highest bits of the words. The stripe is freed.
 fn rows_of<C: Counts + Drop>(alloc: Global, stripe: Stripe<C>) -> Result<Vec<Vec<Row>>, AllocError>
     ensures { IfOk result (λ parts. HasRowsOf stripe parts) }
 {

@@ -1,4 +1,4 @@
-//! That a read or a write failed.
+//! The failure of a single read or write.
 use thiserror::Error;
 
 /// A read or a write failed. Why is not kept.

@@ -1,4 +1,4 @@
-//! The taking of a source's bytes block by block, for who uses them as they come.
+//! The intake of a source's bytes block by block, for readers that use them as they come.
 ghost use Rattle.std.specs.Prelude.{◌≡◌, ◌<◌, ◌≤◌, List, ℕ, [], length, drop, IfOk, IfErr};
 ghost use Rattle.kc_io.specs.Taking.{TakesAll, TakingFails};
 ghost use Rattle.kc_io.specs.Intakes.{Fills};

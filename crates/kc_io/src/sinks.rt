@@ -1,4 +1,4 @@
-//! Where bytes go.
+//! Sinks: where the bytes of a text go.
 ghost use Rattle.std.specs.Prelude.{◌≡◌, ◌≤◌, length, IfOk, Some};
 ghost use Rattle.std.specs.Io.KnownBytes.{WriteAppends, Keeps};
 ghost use Rattle.kc_io.specs.History.{no_history, after, after_flush};

@@ -1,4 +1,4 @@
-//! Where bytes come from.
+//! Sources: where the bytes of an input come from.
 ghost use Rattle.std.specs.Prelude.{◌≡◌, ◌≤◌, Some, length, IfOk};
 ghost use Rattle.std.specs.Io.KnownBytes.{ReadConsumes};
 ghost use Rattle.kc_io.specs.History.{no_history, after};

@@ -1,4 +1,4 @@
-//! The taking of all bytes of a source.
+//! All bytes of a source, taken up to a limit.
 ghost use Rattle.std.specs.Prelude.{◌≡◌, ◌<◌, ◌≤◌, length, IfOk, IfErr};
 ghost use Rattle.kc_io.specs.declared.taking.TakeFault.TheVariants.{Memory};
 ghost use Rattle.kc_io.specs.Taking.{TakesAll, TakingFails};
@@ -24,7 +24,7 @@ pub enum TakeFault {
 // How many bytes are asked of a source at a time.
 const BLOCK_SIZE: usize = 65_536;
 
-// Bytes to read into.
+// An empty block for a read to fill.
 pub(crate) fn new_block(alloc: Global) -> Result<Vec<u8>, AllocError>
     ensures { IfOk result (λ block. length block.items ≡ 65536) }
 {

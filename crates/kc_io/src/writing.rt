@@ -1,4 +1,4 @@
-//! The writing of a whole text.
+//! A whole text written to a sink, and flushed.
 ghost use Rattle.std.specs.Prelude.{◌≡◌};
 ghost use Rattle.kc_io.specs.Sinks.{HandsOver, Writes};
 

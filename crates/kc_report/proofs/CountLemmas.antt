@@ -7,7 +7,7 @@ use Rattle.std.proofs.lemmas.Bool.Decides.{nat_tests}
 use Rattle.std.proofs.lemmas.List.{ext_get_or, get_or-set_same, get_or-set_other, get_or-replicate, length-replicate, length-append}
 use Rattle.std.proofs.lemmas.List.FromFn.{length-map-range_with_len, get_or-map-range_with_len, map-range_with_len_more}
 use Rattle.std.proofs.lemmas.List.Sums.{count_by-le-length, sum_by-append}
-use Rattle.kc_base.proofs.Sums.{count_by-same, count_by-all, sum_by-plus, sum_by-same}
+use Rattle.kc_lemmas.proofs.Sums.{count_by-same, count_by-all, sum_by-plus, sum_by-same}
 use Rattle.kc_tally.specs.declared.row.Row.{Row}
 use Rattle.kc_tally.specs.Histogram.{last_bin, bin_of, bin_count}
 use Rattle.kc_report.specs.Histo.{words_with_count, words_above, words_by_count}

@@ -121,7 +121,7 @@ pub(crate) const WORD_SIZE: usize = 31;
 // The most bytes that a row takes. Beside the word and the count, a layout has at most three bytes of its own.
 pub(crate) const ROW_SIZE: usize = WORD_SIZE + NUMBER_SIZE + 3;
 
-// A row, at the end of the block.
+// Puts a row of the dump, in the layout that was asked for, at the end of the block.
 #[inline(always)]
 fn push_row(block: &mut Block, k: K, dump: &Dump, row: Row)
     requires room { length block.old + ROW_SIZE ≤ BLOCK_SIZE }
@@ -135,7 +135,7 @@ fn push_row(block: &mut Block, k: K, dump: &Dump, row: Row)
     }
 }
 
-// A row in columns, at the end of the block.
+// Puts a word and its count, in one line, at the end of the block.
 #[inline(always)]
 pub(crate) fn push_columns(block: &mut Block, k: K, tab: bool, row: Row)
     requires room { length block.old + ROW_SIZE ≤ BLOCK_SIZE }
@@ -152,7 +152,7 @@ pub(crate) fn push_columns(block: &mut Block, k: K, tab: bool, row: Row)
     block.push(b"\n");
 }
 
-// A row in two lines, at the end of the block.
+// Puts `>COUNT` and then the word, in two lines, at the end of the block.
 #[inline(always)]
 fn push_lines(block: &mut Block, k: K, row: Row)
     requires room { length block.old + ROW_SIZE ≤ BLOCK_SIZE }
@@ -166,7 +166,7 @@ fn push_lines(block: &mut Block, k: K, row: Row)
     block.push(b"\n");
 }
 
-// The letters of a word, at the end of the block.
+// Puts the letters of a word at the end of the block.
 #[inline(always)]
 pub(crate) fn push_word(block: &mut Block, k: K, word: Word)
     requires room { length block.old + LETTERS_SIZE ≤ BLOCK_SIZE }

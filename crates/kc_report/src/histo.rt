@@ -48,7 +48,7 @@ fn words_by_count(alloc: Global, tally: &Tally, high: u64) -> Result<Vec<u64>, A
     }
 }
 
-// The same, from the bins of the tally.
+// How many words have each count from 1 to high, from the tally's bins, which know the counts up to 10,000.
 fn words_of_bins(alloc: Global, tally: &Tally, high: u64) -> Result<Vec<u64>, AllocError>
     requires { high < last_bin }
     ensures { IfOk result (λ words. words.items ≡ words_by_count high tally.now.rows) }
@@ -60,7 +60,7 @@ fn words_of_bins(alloc: Global, tally: &Tally, high: u64) -> Result<Vec<u64>, Al
     Ok(words)
 }
 
-// The same, row by row.
+// How many words have each count from 1 to high, where the bins don't know them all: row by row.
 fn words_of_rows(alloc: Global, tally: &Tally, high: u64) -> Result<Vec<u64>, AllocError>
     requires { high ≤ GREATEST_HIGH }
     ensures { IfOk result (λ words. words.items ≡ words_by_count high tally.now.rows) }
@@ -118,7 +118,7 @@ fn put_line<W: Sink>(
     Ok(())
 }
 
-// Puts the line of a count that words have behind the block.
+// Puts a line of the histogram, a count and how many words have it, behind the block. No words, no line.
 fn push_line(block: &mut Block, count: u64, words: u64)
     requires room { length block.old + LINE_SIZE ≤ BLOCK_SIZE }
     requires some { 0 < words }

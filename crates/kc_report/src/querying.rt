@@ -55,7 +55,7 @@ fn counts_by_blocks<W: Sink>(writer: &mut W, tally: &Tally, words: &[String]) ->
     write_out(writer, block.as_slice())
 }
 
-// The line of an asked word, at the end of the block.
+// Puts an asked word, in the form under which it counts, and its count at the end of the block.
 fn push_answer(block: &mut Block, tally: &Tally, asked: &[u8])
     requires room { length block.old + ROW_SIZE ≤ BLOCK_SIZE }
     requires askable { IsAskable tally.now.k asked.now }

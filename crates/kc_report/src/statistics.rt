@@ -22,7 +22,7 @@ pub fn write_stats<W: Sink>(writer: &mut W, tally: &Tally) -> Result<(), ReportF
     Ok(write_out(writer, block.as_slice())?)
 }
 
-// The statistics, in a block.
+// The four lines of the statistics, which fit one block.
 fn statistics_of(tally: &Tally) -> Block
     ensures { result ≡ statistics_text tally.now.rows }
 {
@@ -34,7 +34,7 @@ fn statistics_of(tally: &Tally) -> Block
     block
 }
 
-// A line with its name and a number, at the end of the block.
+// Puts one of the four lines, its name and its number, at the end of the block.
 fn push_line(block: &mut Block, name: &[u8], number: u64)
     requires room { length block.old ≤ 100 }
     requires brief { length name.now ≤ 11 }

@@ -1,4 +1,4 @@
-//! The reading of table texts.
+//! Table texts read again: from bytes to the tally that they say.
 ghost use Rattle.std.specs.Prelude.{◌≡◌, ◌≢◌, ◌↔◌, ℕ, List, Bool, [], ◌++◌, ◌≤◌, ◌^◌, length, drop};
 ghost use Rattle.std.specs.Prelude.{IsTrue, IfSome, IfNone, IfOk, IfErr};
 ghost use Rattle.kc_io.specs.Taking.{TakesAll, TakingFails};

@@ -1,7 +1,3 @@
-pub mod NumbersBelow
-pub mod DrawLemmas
-pub mod TicketLemmas
-pub mod LawLemmas
 pub mod CrewLemmas
 pub mod EntryLemmas
 pub mod RoundLemmas

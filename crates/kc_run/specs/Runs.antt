@@ -9,7 +9,7 @@ use Rattle.kc_stripe.specs.Setup.{StripeSetup, stripe_count}
 use Rattle.kc_stripe.specs.Cut.{cuts_of}
 use Rattle.kc_stripe.specs.declared.fault.BookFault.{BookFault}
 use Rattle.kc_stripe.specs.declared.fault.BookFault.TheVariants as book
-use Rattle.kc_run.specs.Tickets.{Roll, Drawer, IsSeatOf, IsDone, answers_of}
+use Rattle.kc_tickets.specs.Tickets.{Roll, Drawer, IsSeatOf, IsDone, answers_of}
 use Rattle.kc_run.specs.declared.round.CutBatch.{CutBatch}
 use Rattle.kc_run.specs.declared.fault.RunFault.{RunFault}
 use Rattle.kc_run.specs.declared.fault.RunFault.TheVariants as run

@@ -1,4 +1,4 @@
-//! Why a run gives no tally.
+//! The faults of a run: why it gives no tally.
 ghost use Rattle.std.specs.Prelude.{◌≡◌};
 ghost use Rattle.kc_run.specs.declared.fault.RunFault.TheVariants.{Memory};
 ghost use Rattle.kc_run.specs.Runs.{booking_fault};

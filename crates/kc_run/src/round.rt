@@ -108,7 +108,7 @@ fn book_stripe<H: Wait, C: Counts, N: Books>(
     Ok(())
 }
 
-// Books a batch into the stripe of its cut.
+// Books the cut of a batch into its stripe. A refusal ends the run with the stripe's number.
 fn book_cut<H: Wait, C: Counts, N: Books>(
     rt: &H,
     stripes: &Stripes<C, N>,

@@ -12,13 +12,13 @@ use crate::crew::{joined, work_all, workers_of};
 use crate::fault::RunFault;
 use crate::gate::Gate;
 use crate::round::round_len;
-use crate::tickets::Tickets;
 use crate::worker::Job;
 use kc_gather::{GatherFault, gather_in_parallel};
 use kc_share::{Books, Plan, Sheet};
 use kc_stripe::{Setup, Stripe, Stripes};
 use kc_table::Counts;
 use kc_tally::Tally;
+use kc_tickets::Tickets;
 use kc_word::Batch;
 use std::alloc::Global;
 use std::marker::Brand;
@@ -69,7 +69,7 @@ struct Count<'a, G: Gate> {
     gate: &'a G,
 }
 
-// The same, where the sheet of the shares has a name.
+// Counts and gathers the batches. Every sheet of shares has a type of its own, N, so that no share of another gets in.
 fn run_named<
     H: Threads + Wait + Sync,
     C: Counts + Drop + Send,

@@ -3,16 +3,16 @@ ghost use Rattle.std.specs.Prelude.{◌≡◌, ◌+◌, ◌<◌, ◌≤◌, ◌�
 ghost use Rattle.std.specs.Prelude.{length};
 ghost use Rattle.kc_stripe.specs.Setup.{stripe_count};
 ghost use Rattle.kc_stripe.specs.Cut.{cuts_of};
-ghost use Rattle.kc_run.specs.Tickets.{IsSeatOf, IsDone, answers_of};
+ghost use Rattle.kc_tickets.specs.Tickets.{IsSeatOf, IsDone, answers_of};
 ghost use Rattle.kc_run.specs.Runs.{IsJob, IsReady, HasWorked, AreCutUp};
 
 use crate::fault::RunFault;
 use crate::gate::Gate;
 use crate::round::{CutBatch, book_round, first_stripe};
-use crate::tickets::{Seat, Tickets};
 use kc_share::{Books, Plan, Share};
 use kc_stripe::{Stripes, cut_up};
 use kc_table::Counts;
+use kc_tickets::{Seat, Tickets};
 use kc_word::Batch;
 use std::alloc::{AllocError, Global};
 use std::sync::{Arc, Wait};
@@ -64,7 +64,7 @@ impl<N: Books> Worker<N> {
         Ok(self)
     }
 
-    // Draws the next number, where the seat is not done.
+    // The number of the next batch that nobody has drawn, or None once there is none left.
     fn draw(&mut self, tickets: &Tickets) -> Option<u64>
         requires { IsSeatOf tickets.now self.old.seat }
         ensures own { IsSeatOf tickets.now self.new.seat }
@@ -128,14 +128,14 @@ fn cut_batch<'a, C: Counts, N: Books, G: Gate>(
     Ok(CutBatch { batch, cuts })
 }
 
-// Tells the gate of the batches that are to be booked.
+// Tells the gate that the batches of this round are about to be booked.
 fn tell_before<G: Gate>(gate: &G, worker: u32, round: &[CutBatch<'_>]) {
     for it in round {
         gate.before_book(worker, it.batch.number());
     }
 }
 
-// Tells the gate of the batches that were booked.
+// Tells the gate that the batches of this round were booked into every stripe.
 fn tell_after<G: Gate>(gate: &G, worker: u32, round: &[CutBatch<'_>]) {
     for it in round {
         gate.after_book(worker, it.batch.number());

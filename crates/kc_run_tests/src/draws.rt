@@ -1,7 +1,7 @@
 //! Seats that draw, one after the other and in threads.
 ghost use Rattle.std.specs.Prelude.{◌≡◌, ◌<◌, ◌≤◌, ◌^◌, [], All, IfOk, length, nat_eq, slice_get, vec_len};
 ghost use Rattle.std.specs.List.{flat_map, IsDistinct};
-ghost use Rattle.kc_run.specs.Tickets.{IsSeatOf, IsDone, answers_of, AreNumbersBelow};
+ghost use Rattle.kc_tickets.specs.Tickets.{IsSeatOf, IsDone, answers_of, AreNumbersBelow};
 
 use kc_run::laws::{each_stands_once, none_is_left_out};
 use kc_run::{Seat, Tickets};
@@ -19,7 +19,7 @@ struct Drained(Snapshot<Tickets>);
 
 impl Promise<Result<(Seat, Vec<u64>), AllocError>> for Drained {
     ghost use Rattle.std.specs.Prelude.{◌≡◌, IfOk};
-    ghost use Rattle.kc_run.specs.Tickets.{IsSeatOf, IsDone, answers_of};
+    ghost use Rattle.kc_tickets.specs.Tickets.{IsSeatOf, IsDone, answers_of};
 
     ghost kept_by = { λ promise result. IfOk result (λ ended.
         IsSeatOf promise.0.value ended.0 × IsDone ended.0 × (ended.1.items ≡ answers_of ended.0)) };

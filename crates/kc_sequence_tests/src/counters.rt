@@ -1,5 +1,5 @@
 //! What no contract says of a counter.
-use kc_base::Counter;
+use kc_lemmas::Counter;
 
 #[test]
 fn a_counter_takes_no_bytes(rt: HostRuntime) {

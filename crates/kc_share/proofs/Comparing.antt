@@ -1,9 +1,9 @@
 -- Entries that are compared by what they weigh.
 use Rattle.std.proofs.Common.{◌≡◌, ◌≢◌, ℕ, ◌⊎◌, inl, inr, List, Bool, true, false, cond, ◌&&◌, eqb, eqb-true, eq-eqb, refl, sym, ap, ◌∙◌, arith, Contains}
 use Rattle.std.proofs.lemmas.Bool.{and_parts, and_from}
-use Rattle.kc_base.proofs.Sums.{sum_by-ones, term-le-sum_by}
-use Rattle.kc_base.proofs.Permutations.{IsPermutation-from_weights}
-use Rattle.kc_base.proofs.Distinct.{Contains-from_times, equal_same}
+use Rattle.kc_lemmas.proofs.Sums.{sum_by-ones, term-le-sum_by}
+use Rattle.kc_lemmas.proofs.Permutations.{IsPermutation-from_weights}
+use Rattle.kc_lemmas.proofs.Distinct.{Contains-from_times, equal_same}
 use Rattle.kc_word.specs.Cutting.{is_same_batch}
 use Rattle.kc_word.proofs.Sameness.{is_same_batch-Decides}
 use Rattle.kc_share.specs.declared.entry.Entry.{Entry}

@@ -8,7 +8,7 @@ use Rattle.atomic_table.specs.Table.{Me, Act, keeps as no_act, carried_after, Al
 use Rattle.atomic_table.proofs.Lists.{set_again}
 use Rattle.std.proofs.lemmas.Bool.Decides.{eqb_tells}
 use Rattle.std.proofs.lemmas.List.Sums.{sum_by-cons, sum_by-append, sum_by_push}
-use Rattle.kc_base.proofs.Sums.{sum_by-ones, sum_by-set_elem}
+use Rattle.kc_lemmas.proofs.Sums.{sum_by-ones, sum_by-set_elem}
 use Rattle.kc_share.specs.declared.entry.Entry.{Entry}
 use Rattle.kc_share.specs.declared.entry.Booking.{Booking}
 use Rattle.kc_share.specs.declared.entry.Plan.{Plan}

@@ -8,7 +8,7 @@ use Rattle.std.proofs.lemmas.List.Sums.{sum_by-cons, sum_by_push}
 use Rattle.std.proofs.lemmas.List.Elements.{filter-append}
 use Rattle.std.proofs.lemmas.List.Concat.{flat_map-append}
 use Rattle.std.proofs.lemmas.List.{map-append}
-use Rattle.kc_base.proofs.Sums.{sum_by-ones, sum_by-flat_map, sum_by-set_elem}
+use Rattle.kc_lemmas.proofs.Sums.{sum_by-ones, sum_by-flat_map, sum_by-set_elem}
 use Rattle.kc_share.specs.declared.entry.Entry.{Entry}
 use Rattle.kc_share.specs.declared.entry.Booking.{Booking}
 use Rattle.kc_share.specs.declared.entry.Plan.{Plan}

@@ -1,4 +1,4 @@
-//! The steps that shares and keepers take.
+//! The steps by which shares and keepers change: a share is split or joined, a batch is noted, a journal looked at.
 ghost use Rattle.std.specs.Prelude.{◌≡◌, ℕ, ◌+◌, ◌^◌, ◌<◌, ◌≤◌, [], length, slice_index};
 ghost use Rattle.kc_share.specs.Entries.{entry_of, entries_in, word_total, AreSame, AreAmong};
 ghost use Rattle.kc_share.specs.Share.{with_entry, with_booking, with_one_part_less, new_share, joined_shares};
@@ -60,7 +60,7 @@ impl<N: Books> OpenSheet<N> {
         self.note_as::<Brand>(share, keeper, batch, words);
     }
 
-    // The same, where the booking's entry has a name.
+    // Notes a booking. Its entry is a type, since what an atomic step tells can't take a value.
     fn note_as<E: Event>(
         &self,
         share: &mut Share<N>,
@@ -96,7 +96,7 @@ impl<N: Books> OpenSheet<N> {
         keeper.seat = self.give_back(&mut share.seat);
     }
 
-    // Lets a share's seat take in all that a keeper's seat has.
+    // Joins a keeper's view with a share's, so that one atomic step can tell of both.
     fn take_in(&self, share: &mut Seat, keeper: &mut Seat)
         requires share { (share.old.table_id ≡ N.table) × (0 < share.old.me.0.parts) × (share.old.me.1 ≡ []) }
         requires keeper { (keeper.old.table_id ≡ N.table) × (keeper.old.me.1 ≡ []) }
@@ -108,7 +108,7 @@ impl<N: Books> OpenSheet<N> {
         self.table.shared.join_seat::<Together>(share, all);
     }
 
-    // Takes the keeper's part out of a share's seat.
+    // Parts the keeper's view from the share's again.
     fn give_back(&self, share: &mut Seat) -> Seat
         requires { (share.old.table_id ≡ N.table) × (share.old.me.1 ≡ []) }
         ensures share { (share.new.table_id ≡ N.table) × (share.new.me ≡ (view_without_first share.old.me.0, [])) }
@@ -118,7 +118,7 @@ impl<N: Books> OpenSheet<N> {
     }
 }
 
-// Adds to each number the other one in its place.
+// Adds up two lists of numbers, one for each stripe.
 fn add_each(numbers: &mut [u64; 64], others: &[u64; 64])
     requires { (stripe : ℕ) → stripe < 64
         → slice_index numbers.old stripe + slice_index others.now stripe < 2 ^ 64 }

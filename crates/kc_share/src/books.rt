@@ -1,4 +1,4 @@
-//! The name of one sheet.
+//! The name of one sheet: a type, so that shares of different sheets can't be mixed up.
 ghost use Rattle.atomic_table.specs.Seated.{TableId};
 
 use std::marker::Brand;

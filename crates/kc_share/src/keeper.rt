@@ -1,4 +1,4 @@
-//! What stands behind a stripe's lock, beside the stripe.
+//! A keeper: behind a stripe's lock, what the sheet knows of the stripe's journal.
 ghost use Rattle.std.specs.Prelude.{◌≡◌, ◌<◌, []};
 ghost use Rattle.kc_share.specs.Share.{kept_stripe};
 ghost use Rattle.kc_share.specs.Rule.{keeper_view};

@@ -1,4 +1,4 @@
-//! Facts that callers go on with. The functions do nothing when they run.
+//! Laws of shares and their entries. Each is the contract of a function that does nothing.
 ghost use Rattle.kc_share.specs.Laws.{AddsUp, SameInSomeOrder, AmongIsThere};
 
 /// Shows what a sheet's rule says in numbers: the words and the entries that were booked into a stripe are those kept

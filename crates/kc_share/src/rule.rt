@@ -1,4 +1,4 @@
-//! The rule of a sheet, and its steps.
+//! The rule that a sheet keeps between any two atomic steps, and how each step changes a view.
 ghost use Rattle.std.specs.Prelude.{ℕ};
 
 use crate::entry::{Entry, Plan, View};

@@ -1,4 +1,4 @@
-//! What is booked with a share.
+//! A share: what one worker has booked, and how much of the whole it stands for.
 ghost use Rattle.std.specs.Prelude.{◌≡◌, ◌<◌, ◌≤◌, []};
 ghost use Rattle.kc_share.specs.Share.{share_of, word_total_in, entry_total_in};
 

@@ -7,8 +7,8 @@ use Rattle.std.proofs.lemmas.List.FromFn.{length-map-range_with_len, length-rang
 use Rattle.std.proofs.lemmas.List.Sums.{fold_more, count_by_more_yes, count_by_more_no}
 use Rattle.std.proofs.lemmas.List.Elements.{All-nil, All-cons}
 use Rattle.std.proofs.Math.Pow.{pow_mono}
-use Rattle.kc_base.proofs.Lists.{map-same, All-range}
-use Rattle.kc_base.proofs.Sums.{sum_by-map, sum_by-same, sum_by-zeros, sum_by-range_more, term-le-sum_by}
+use Rattle.kc_lemmas.proofs.Lists.{map-same, All-range}
+use Rattle.kc_lemmas.proofs.Sums.{sum_by-map, sum_by-same, sum_by-zeros, sum_by-range_more, term-le-sum_by}
 use Rattle.kc_table.specs.Counts.{KeyCounts, IsStored, count_at, readied, added}
 use Rattle.kc_table.proofs.KeyCounts.{count_at-empty, count_at-readied, IsStored-readied, IsStored-readied_other, IsStored-added, count_at-added_same, count_at-added_other}
 use Rattle.kc_tally.specs.Histogram.{bins_of, bin_of, bin_at, raised}

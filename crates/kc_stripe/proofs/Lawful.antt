@@ -10,10 +10,10 @@ use Rattle.std.proofs.lemmas.List.Folds.{list_any-append}
 use Rattle.std.proofs.lemmas.Map.Views.{Contains-from_any, list_any-from_Contains}
 use Rattle.std.specs.Cmp.{nat_eq_equiv}
 use Rattle.std.specs.FinMap.{empty}
-use Rattle.kc_base.proofs.Distinct.{IsDistinct-push_new}
-use Rattle.kc_base.proofs.Lists.{All-range}
-use Rattle.kc_base.proofs.Sums.{sum_by-map, sum_by-same, sum_by-filter, sum_by-parts, sum_by-one_place}
-use Rattle.kc_base.proofs.Permutations.{WeighTheSame}
+use Rattle.kc_lemmas.proofs.Distinct.{IsDistinct-push_new}
+use Rattle.kc_lemmas.proofs.Lists.{All-range}
+use Rattle.kc_lemmas.proofs.Sums.{sum_by-map, sum_by-same, sum_by-filter, sum_by-parts, sum_by-one_place}
+use Rattle.kc_lemmas.proofs.Permutations.{WeighTheSame}
 use Rattle.kc_word.specs.Word.{text}
 use Rattle.kc_word.specs.Occurrences.{occurrences, words_of}
 use Rattle.kc_word.specs.Cutting.{NumberedPieces, as_reads}

@@ -2,8 +2,8 @@
 use Rattle.std.proofs.Common.{◌≡◌, ℕ, ◌+◌, ◌^◌, ◌<◌, ◌≤◌, List, [], ◌∷◌, ◌++◌, length, map, refl, sym, ap, ◌∙◌, subst, arith, Contains}
 use Rattle.std.proofs.lemmas.List.{map-append}
 use Rattle.std.proofs.lemmas.List.Sums.{sum_by_push}
-use Rattle.kc_base.proofs.Lists.{Contains-map}
-use Rattle.kc_base.proofs.Permutations.{length-from_weights}
+use Rattle.kc_lemmas.proofs.Lists.{Contains-map}
+use Rattle.kc_lemmas.proofs.Permutations.{length-from_weights}
 use Rattle.kc_word.specs.Cutting.{NumberedPieces}
 use Rattle.kc_share.specs.declared.entry.Entry.{Entry}
 use Rattle.kc_share.specs.declared.entry.Booking.{Booking}

@@ -7,7 +7,7 @@ use Rattle.std.proofs.lemmas.List.{get_or-replicate, get_or_past, get_or-set_sam
 use Rattle.std.proofs.lemmas.List.Sums.{count_by_more_yes, count_by_more_no}
 use Rattle.std.proofs.lemmas.List.Elements.{filter_more}
 use Rattle.std.proofs.lemmas.List.FromFn.{length-map-range_with_len, get_or-map-range_with_len}
-use Rattle.kc_base.proofs.Lists.{range_more, map-same, All-range}
+use Rattle.kc_lemmas.proofs.Lists.{range_more, map-same, All-range}
 use Rattle.kc_word.specs.Rule.{CountingRule}
 use Rattle.kc_word.specs.Occurrences.{words_of}
 use Rattle.kc_word.specs.Cutting.{NumberedPieces, as_reads}

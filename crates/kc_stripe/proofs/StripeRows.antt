@@ -6,8 +6,8 @@ use Rattle.std.proofs.lemmas.Bool.{eq-eqb, ne_eqb, cases_eq}
 use Rattle.std.proofs.lemmas.List.{map_push, take_more}
 use Rattle.std.proofs.lemmas.List.Elements.{All-map, All-head, All-tail}
 use Rattle.std.proofs.lemmas.Map.Keys.{IsDistinct-cons, IsDistinct-head, IsDistinct-tail}
-use Rattle.kc_base.proofs.Lists.{Contains-cons_cases}
-use Rattle.kc_base.proofs.Sums.{sum_by-map}
+use Rattle.kc_lemmas.proofs.Lists.{Contains-cons_cases}
+use Rattle.kc_lemmas.proofs.Sums.{sum_by-map}
 use Rattle.kc_hash.specs.Product.{product, AreInverse}
 use Rattle.kc_word.specs.Cutting.{NumberedPieces}
 use Rattle.kc_table.specs.Counts.{KeyCounts, count_at, AreRowsOf}

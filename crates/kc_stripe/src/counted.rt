@@ -108,7 +108,7 @@ impl<C: Counts> CountedTable<C> {
         }
     }
 
-    // Stores the key.
+    // Makes sure that the key has a slot, so that it can be counted without a refusal.
     fn ready(&mut self, key: u64) -> Result<(), TableFault>
         requires { key < 2 ^ C.bits self.old.table }
         ensures stored { OnOk result (C.counts self.new.table ≡ readied (C.counts self.old.table) key) }
@@ -121,7 +121,7 @@ impl<C: Counts> CountedTable<C> {
         self.table.ready(key)
     }
 
-    // Adds one to the key's count.
+    // Counts a stored key once: its count, the histogram and the sum of the counts rise.
     fn add(&mut self, key: u64)
         requires in_range { key < 2 ^ C.bits self.old.table }
         requires stored { IsStored (C.counts self.old.table) key }

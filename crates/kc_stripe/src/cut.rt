@@ -93,7 +93,7 @@ fn stripe_keys(alloc: Global, setup: &Setup, batch: &Batch) -> Result<Vec<Vec<u6
     divided(alloc, &codes, stripe_bits)
 }
 
-// Puts each word's code in its place.
+// Replaces each word by its code, the word's hashed number.
 fn hash_all(tables: &MatrixTables, words: &mut [u64])
     requires { All (λ word. word < 2 ^ length tables.now) words.old }
     ensures { words.new ≡ map (λ word. product tables.now word) words.old }

@@ -1,4 +1,4 @@
-//! Why a batch is not booked.
+//! The faults of booking: why a stripe doesn't take a batch.
 ghost use Rattle.std.specs.Prelude.{◌≡◌};
 ghost use Rattle.kc_stripe.specs.declared.fault.BookFault.{BookFault};
 ghost use Rattle.kc_stripe.specs.declared.fault.BookFault.TheVariants.{Memory};

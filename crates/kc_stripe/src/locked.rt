@@ -1,4 +1,4 @@
-//! What lies behind a stripe's lock.
+//! A stripe together with its keeper, as they lie behind the stripe's lock.
 ghost use Rattle.std.specs.Prelude.{◌≡◌, ◌<◌, ◌++◌, ◌∷◌, [], IfOk, OnOk, OnErr};
 ghost use Rattle.kc_share.specs.Share.{kept_stripe, with_booking};
 ghost use Rattle.kc_stripe.specs.Setup.{word_count};
@@ -35,7 +35,7 @@ impl<C: Counts, N: Books> Model for Locked<C, N> {
 }
 
 impl<C: Counts, N: Books> Locked<C, N> {
-    // A stripe in which nothing was booked.
+    // Joins a stripe in which nothing was booked with its keeper.
     pub(crate) fn new(stripe: Stripe<C>, keeper: Keeper<N>) -> Locked<C, N>
         requires stripe { (stripe.journal ≡ []) × (stripe.total ≡ 0) }
         requires keeper { keeper ≡ kept_stripe stripe.number [] }

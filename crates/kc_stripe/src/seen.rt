@@ -1,4 +1,4 @@
-//! What the stripes tell of a word.
+//! The answer of a look: how often a word was counted so far, and in which batches.
 ghost use Rattle.std.specs.Prelude.{◌≡◌, ◌<◌, IfOk};
 ghost use Rattle.kc_word.specs.Shared.{values};
 ghost use Rattle.kc_stripe.specs.Setup.{word_count};
@@ -39,7 +39,7 @@ impl Model for Seen {
 }
 
 impl Seen {
-    // What a stripe tells of a word, which counts in it.
+    // The answer of a word's stripe: the count of its form, and the batches of the journal.
     pub(crate) fn of<C: Counts>(
         alloc: Global,
         stripe: &Stripe<C>,
@@ -93,7 +93,7 @@ impl Seen {
     }
 }
 
-// The batches, which are shared once more.
+// The batches of a list, in a list of their own. No batch is copied.
 fn shared(alloc: Global, batches: &[Arc<Batch>]) -> Result<Vec<Arc<Batch>>, AllocError>
     ensures { IfOk result (λ more. values more.items ≡ values batches.now) }
 {

@@ -13,7 +13,7 @@ use Rattle.std.proofs.lemmas.List.{take_more, take-append-drop}
 use Rattle.std.proofs.lemmas.List.Elements.{filter_map-append, filter-append}
 use Rattle.std.proofs.lemmas.Grind.{common_steps}
 use Rattle.std.specs.FinMap.{get, insert, from_entries, from_entries_push, nat_cmp-IsAntisymmetric}
-use Rattle.kc_base.proofs.Lists.{slice_get-set_same, slice_get-set_other}
+use Rattle.kc_lemmas.proofs.Lists.{slice_get-set_same, slice_get-set_other}
 use Rattle.kc_table.specs.Counts.{IsStored}
 use Rattle.kc_table.specs.QuotientTable.{SlotList, entries_in, counts_in, Holds}
 use Rattle.kc_table.proofs.KeyCounts.{eq_by_cmp_apart, get-entries, same_counts, get-insert_same, get-insert_other}

@@ -8,7 +8,7 @@ use Rattle.std.proofs.lemmas.List.Folds.{list_all-map, list_any_at}
 use Rattle.std.proofs.lemmas.List.FromFn.{length-range_with_len, length-map-range_with_len, get_or-range_with_len}
 use Rattle.std.proofs.lemmas.List.FromFn.{get_or-map-range_with_len}
 use Rattle.std.proofs.lemmas.List.Sums.{list_all-from_AllPass}
-use Rattle.kc_base.proofs.Lists.{All-range}
+use Rattle.kc_lemmas.proofs.Lists.{All-range}
 use Rattle.kc_table.specs.Counts.{KeyCounts, IsStored}
 use Rattle.kc_table.specs.QuotientTable.{IsCrowded, different_places, is_place_of, are_different}
 use Rattle.kc_table.specs.Reprobing.{place, IsPlaceOf}
@@ -46,13 +46,15 @@ are_different-map keys a (suc n) apart =
     (λ j from below. unequal (keys a) (keys j) (apart a j (omega arith) (omega arith) (omega arith)))))
     (are_different-map keys (a + 1) n (λ i j from up below. apart i j (omega arith) up (omega arith)))
 
--- the crowd as a function
-pub crowded_from : (counts : KeyCounts) (log key : ℕ) (keys : ℕ → ℕ)
-    → ((i : ℕ) → i < different_places log → IsStored counts (keys i))
-    → ((i : ℕ) → i < different_places log → keys i ≢ key)
-    → ((i j : ℕ) → i < different_places log → j < different_places log → keys i ≡ keys j → i ≡ j)
-    → ((i : ℕ) → i < different_places log → IsPlaceOf log (keys i) (place key i log)) → IsCrowded counts log key
-crowded_from counts log key keys stored apart different meeting =
+-- a crowd as a function: stored keys other than this one, each at another of its places
+pub record CrowdAt (counts : KeyCounts) (log key : ℕ) (keys : ℕ → ℕ) : Type 0 where
+  pub stored : (i : ℕ) → i < different_places log → IsStored counts (keys i)
+  pub apart : (i : ℕ) → i < different_places log → keys i ≢ key
+  pub different : (i j : ℕ) → i < different_places log → j < different_places log → keys i ≡ keys j → i ≡ j
+  pub meeting : (i : ℕ) → i < different_places log → IsPlaceOf log (keys i) (place key i log)
+
+pub crowded_from : {counts : KeyCounts} {log key : ℕ} {keys : ℕ → ℕ} → CrowdAt counts log key keys → IsCrowded counts log key
+crowded_from {counts} {log} {key} {keys} crowd =
     let n = different_places log in
     let others : List ℕ = map keys (range_with_len 0 n) in
     let long : length others ≡ n = length-map-range_with_len keys 0 n in
@@ -63,17 +65,17 @@ crowded_from counts log key keys stored apart different meeting =
       record {
         not_the_key =
             list_all-map (λ o. not (o == key)) keys (range_with_len 0 n)
-            ∙ list_all-range (λ i. not (keys i == key)) n (λ i below. unequal (keys i) key (apart i below));
+            ∙ list_all-range (λ i. not (keys i == key)) n (λ i below. unequal (keys i) key (crowd.apart i below));
         different =
             are_different-map keys 0 n
-            (λ i j from up below same. let one : i ≡ j = different i j (omega arith) (omega arith) same in
+            (λ i j from up below same. let one : i ≡ j = crowd.different i j (omega arith) (omega arith) same in
             omega arith);
         as_many = long;
         meeting = list_all-range _ (length others) (λ i below.
             ap (λ o. is_place_of log o (place key i log)) (other i 0 below)
-            ∙ is_place_of-from log (keys i) (place key i log) (meeting i (inside i below)));
+            ∙ is_place_of-from log (keys i) (place key i log) (crowd.meeting i (inside i below)));
       },
-      λ i d below. subst (IsStored counts) (sym (other i d below)) (stored i (inside i below)),
+      λ i d below. subst (IsStored counts) (sym (other i d below)) (crowd.stored i (inside i below)),
     )
 
 -- a key that is crowded in a part of a map is crowded in the map

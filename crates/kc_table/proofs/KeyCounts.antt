@@ -19,7 +19,7 @@ use Rattle.std.proofs.lemmas.Option.{get_or_from_slice_get, slice_get-get_or, sl
 use Rattle.std.proofs.lemmas.Bool.{cases_eq, eqb-true}
 use Rattle.std.specs.FinMap.{get, insert, from_entries, find, contains_key, empty, len, len-insert, get-from_entries}
 use Rattle.std.specs.FinMap.{get-insert, get-empty, same_map, nat_cmp-IsAntisymmetric}
-use Rattle.kc_base.proofs.Lists.{Contains-filter}
+use Rattle.kc_lemmas.proofs.Lists.{Contains-filter}
 use Rattle.kc_table.specs.Counts.{KeyCounts, AreRowsOf, IsWithin, count_at, readied, added, IsStored}
 
 abbrev pub Entries : Type 0

@@ -14,7 +14,7 @@ use Rattle.kc_table.specs.Reprobing.{place, tag_of, reprobe_of, IsFound, IsFree,
 use Rattle.kc_table.specs.Sizes.{place_count}
 use Rattle.kc_table.specs.Slot.{Slot, key_in, IsSound, empty_slot, tag_at, slot_count, content_of, contents_from}
 use Rattle.kc_table.specs.Slot.{contents_of, counts_of}
-use Rattle.kc_table.proofs.Crowding.{crowded_from}
+use Rattle.kc_table.proofs.Crowding.{CrowdAt, crowded_from}
 use Rattle.kc_table.proofs.KeyCounts.{same_counts, stored_found}
 use Rattle.kc_table.proofs.Places.{place-lt, place-home, places_differ, reprobe_of-tag_of}
 use Rattle.kc_table.proofs.Contents.{Apart, IsNowhere, get-counts_in, get-counts_in_nowhere, IsStored-held}
@@ -144,13 +144,15 @@ module _ {bits log : ℕ} (slots : List Slot) (sound : IsSound bits log (tag_at 
       let at : ℕ → ℕ = λ i. place key i log in
       let small : (i : ℕ) → i < different_places log → i < place_count =
       λ i below. let most : different_places log ≤ place_count = min-le_left place_count (2 ^ log) in omega arith in
-      crowded_from _ log key (λ i. key_in log (at i) (tag_at slots (at i)))
-      (λ i below. IsStored-held (contents_of log slots) (at i) _ _ slots_apart
-      (holds_at log slots (at i) (out i (small i below)).some))
-      (λ i below. absent_by_out sound key out (at i) (out i (small i below)).some)
-      (λ i j si sj same. places_differ key i j log si sj
-      (sound.apart (at i) (at j) (out i (small i si)).some (out j (small j sj)).some same))
-      (λ i below. stands sound (at i) (out i (small i below)).some)
+      let crowd : CrowdAt (counts_in (contents_of log slots)) log key (λ i. key_in log (at i) (tag_at slots (at i))) = record {
+        stored = λ i below. IsStored-held (contents_of log slots) (at i) _ _ slots_apart
+            (holds_at log slots (at i) (out i (small i below)).some);
+        apart = λ i below. absent_by_out sound key out (at i) (out i (small i below)).some;
+        different = λ i j si sj same. places_differ key i j log si sj
+            (sound.apart (at i) (at j) (out i (small i si)).some (out j (small j sj)).some same);
+        meeting = λ i below. stands sound (at i) (out i (small i below)).some;
+      } in
+      crowded_from crowd
 
   -- the key's first n places hold other keys
   abbrev pub AreHeldByOthers : ℕ → ℕ → Type 0

@@ -1,4 +1,4 @@
-//! The trait of the tables.
+//! `Counts`, the finite map from keys to counts that every table is.
 ghost use Rattle.std.specs.Prelude.{◌≡◌, ℕ, ◌+◌, ◌<◌, ◌≤◌, ◌^◌, ◌↔◌, OnOk, OnErr, IsOk, IfOk, All};
 ghost use Rattle.kc_table.specs.Sizes.{most_bits, count_bits};
 ghost use Rattle.kc_table.specs.Counts.{KeyCounts, IsStored, IsWithin, count_at, readied, added, AreRowsOf};

@@ -1,4 +1,4 @@
-//! Why a table takes no new key.
+//! The faults of a table: why it takes no new key.
 use thiserror::Error;
 
 /// Why `ready` was refused. Both leave the map as it was.

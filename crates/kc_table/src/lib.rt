@@ -31,7 +31,7 @@ mod tag;
 pub use counts::Counts;
 pub use fault::TableFault;
 /// How many slots were read; contracts alone see it.
-pub use kc_base::Counter as Steps;
+pub use kc_lemmas::Counter as Steps;
 pub use limited::LimitedCounts;
 pub use plain::PlainCounts;
 pub use quotient::QuotientTable;

@@ -1,4 +1,4 @@
-//! Slots of one word each.
+//! The slots of a table packed into one 64-bit word each, with the high bits of great counts beside them.
 ghost use Rattle.std.specs.Prelude.{◌≡◌, ◌≢◌, ℕ, ◌+◌, ◌*◌, ◌/◌, ◌%◌, ◌^◌, ◌<◌, ◌≤◌, max, length, replicate};
 ghost use Rattle.std.specs.Prelude.{IfOk, slice_set, slice_index_or, vec_capacity};
 ghost use Rattle.kc_table.specs.Sizes.{remainder_bits, count_bits};
@@ -109,7 +109,7 @@ impl PackedSlots {
     }
 }
 
-// The low bits of a number.
+// The lowest `low` bits of a count, which stand in the slot's word.
 #[inline(always)]
 fn low_bits(number: u64, low: u32) -> u64
     requires { low ≤ remainder_bits }
@@ -118,7 +118,7 @@ fn low_bits(number: u64, low: u32) -> u64
     number & ((1 << low) - 1)
 }
 
-// The entry at this index, where an entry past the end is 0.
+// The high bits of the count in a slot, 0 where none were written yet.
 #[inline(always)]
 fn entry(entries: &Vec<u64>, index: usize) -> u64
     ensures { result ≡ slice_index_or entries.now.items index 0 }

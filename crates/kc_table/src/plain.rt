@@ -1,4 +1,4 @@
-//! The map as a `BTreeMap`.
+//! The finite map as a `BTreeMap`, to compare the hash table with.
 ghost use Rattle.std.specs.Prelude.{◌≡◌, ◌≤◌, IfOk, filter, nat_lt};
 ghost use Rattle.std.specs.Ordering.{nat_cmp};
 ghost use Rattle.std.specs.BTreeMap.{IsOrdered};

@@ -12,7 +12,7 @@ use crate::counts::Counts;
 use crate::fault::TableFault;
 use crate::reprobing::Reprobing;
 use crate::slots::Slots;
-use kc_base::Counter;
+use kc_lemmas::Counter;
 use std::alloc::{AllocError, Global};
 use std::marker::Model;
 
@@ -151,7 +151,7 @@ impl Counts for QuotientTable {
     #[inline]
     fn increment(&mut self, key: u64) -> u64 {
         match self.find(key, &mut Counter::zero()) {
-            Some(place) => self.slots.count(key, place as usize),
+            Some(place) => self.slots.count_key(key, place as usize),
             None => unreachable!(),
         }
     }

@@ -1,4 +1,5 @@
-//! The numbers of `specs/Sizes` that code reads; which of them changes with which is said there.
+//! The sizes inside a table: how many places a key has, and how the bits of a tag are shared out. `specs/Sizes` says
+//! how they hang together.
 
 /// How many places a key has.
 pub(crate) const PLACES: usize = 63;

@@ -12,7 +12,7 @@ use crate::packed::PackedSlots;
 use crate::reprobing::Reprobing;
 use crate::sizes::{PLACES, REMAINDER_BITS};
 use crate::tag::Tag;
-use kc_base::Counter;
+use kc_lemmas::Counter;
 use std::alloc::{AllocError, Global};
 
 /// A table of 2^log slots for keys of so many bits. The low bits of a count have what the tag leaves of a slot's word.
@@ -92,7 +92,7 @@ impl Slots {
 
     /// Adds one to the count of the key in this slot, and tells the new count.
     #[inline(always)]
-    pub fn count(&mut self, key: u64, place: usize) -> u64
+    pub fn count_key(&mut self, key: u64, place: usize) -> u64
         requires found { IsFound self.old.log (slot_tags self.old) key place }
         requires room { slot_counts self.old place < 2 ^ count_bits }
         ensures bits { self.new.bits ≡ self.old.bits }

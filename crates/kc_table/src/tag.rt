@@ -1,4 +1,4 @@
-//! The tag of a slot.
+//! The tag of a slot: the remainder of its key and which of the key's places it is.
 ghost use Rattle.std.specs.Prelude.{◌≡◌, ℕ, ◌+◌, ◌*◌, ◌/◌, ◌%◌, ◌^◌, ◌<◌, ◌≤◌, ◌==◌};
 ghost use Rattle.kc_table.specs.Reprobing.{reprobe_of};
 ghost use Rattle.kc_table.specs.Sizes.{place_count, tag_step, remainder_bits};

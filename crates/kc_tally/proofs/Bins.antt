@@ -1,12 +1,12 @@
 -- The bins of counts: how they are read, and what moves them.
 use Rattle.std.proofs.Common.{◌≡◌, ℕ, zero, suc, ◌+◌, ◌-◌, ◌^◌, ◌<◌, ◌≤◌, ⊎_elim, cond, eqb, List, [], ◌∷◌, ◌++◌, length, get_or, set, take, All, sum_by, refl, ap, sym, ◌∙◌, subst, arith, eq-eqb, ne_eqb, length-set, replicate}
 use Rattle.std.proofs.lemmas.Bool.{cases_eq, cases_lt, cond-true, cond-false}
-use Rattle.std.proofs.lemmas.List.{ext_get_or, get_or-set_same, get_or-set_other, get_or_default, get_or_past, map_push, take_more, length-map, length-take-le, get_or-replicate, length-replicate, length-append}
+use Rattle.std.proofs.lemmas.List.{ext_get_or, get_or-set_same, get_or-set_other, get_or_default, get_or_past, map_push, take_more, length-map, length-take-le, get_or-replicate, length-replicate}
 use Rattle.std.proofs.lemmas.List.Elements.{All-from_get_or}
 use Rattle.std.proofs.lemmas.List.FromFn.{length-map-range_with_len, get_or-map-range_with_len}
 use Rattle.std.proofs.lemmas.List.Sums.{sum_by-cons, sum_by-append, count_by-le-length}
-use Rattle.kc_base.proofs.Sums.{sum_by-map}
-use Rattle.kc_base.proofs.Permutations.{WeighTheSame}
+use Rattle.kc_lemmas.proofs.Sums.{sum_by-map}
+use Rattle.kc_lemmas.proofs.Permutations.{WeighTheSame}
 use Rattle.kc_tally.specs.declared.row.Row.{Row}
 use Rattle.kc_tally.specs.Histogram.{last_bin, bin_of, bin_size, bins_of, bin_at, gained, lost, raised, counted_in, joined_bins, counts_of, bin_count}
 
@@ -437,10 +437,3 @@ bins_of-fit counts few = All-from_get_or (λ size. size < 2 ^ 64) (bins_of count
     let is = get_or-bins_of counts i (omega (arith, h, long)) in
     let most = bin_size-most counts (i + 1) in
     omega (arith, is, most, few))
-
--- the joined bins fit, as `add` asks
-pub joined_bins-fit : (counts more bins others : List ℕ) → bins ≡ bins_of counts → others ≡ bins_of more → length counts + length more < 2 ^ 64
-    → All (λ size. size < 2 ^ 64) (joined_bins bins others)
-joined_bins-fit counts more bins others is also few =
-    let joined : joined_bins bins others ≡ bins_of (counts ++ more) = ap (λ b. joined_bins b others) is ∙ ap (joined_bins (bins_of counts)) also ∙ bins_of-append counts more in
-    subst (All (λ size. size < 2 ^ 64)) (sym joined) (bins_of-fit (counts ++ more) (let long = length-append counts more in omega (arith, long, few)))

@@ -8,8 +8,8 @@ use Rattle.std.proofs.Math.Seq.{take-add}
 use Rattle.std.proofs.lemmas.List.Concat.{flat_map-append}
 use Rattle.std.proofs.lemmas.List.Elements.{filter_passes, All-weaker}
 use Rattle.std.proofs.lemmas.List.Sums.{sum_by-append}
-use Rattle.kc_base.proofs.Lists.{flat_map_take_more}
-use Rattle.kc_base.proofs.Sums.{sum_by-ones, sum_by-at_most}
+use Rattle.kc_lemmas.proofs.Lists.{flat_map_take_more}
+use Rattle.kc_lemmas.proofs.Sums.{sum_by-ones, sum_by-at_most}
 use Rattle.kc_tally.specs.declared.row.Row.{Row}
 use Rattle.kc_tally.specs.Tally.{total_of, AreRows}
 use Rattle.kc_tally.specs.Histogram.{bins_of, joined_bins, counts_of}

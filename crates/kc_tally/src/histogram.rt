@@ -93,16 +93,6 @@ impl Histogram {
         self.gain(count + 1);
     }
 
-    /// Adds the bins of another histogram. Condition: the sums fit.
-    pub fn add(&mut self, other: &Histogram)
-        requires { All (λ size. size < 2 ^ 64) (joined_bins self.old other.now) }
-        ensures { self.new ≡ joined_bins self.old other.now }
-    {
-        for i in 0..LAST_BIN as usize {
-            self.bins[i] += other.bins[i];
-        }
-    }
-
     // Counts in the words of these rows, and gives the sum of their counts, which wraps where it does not fit.
     fn count_all(&mut self, rows: &[Row]) -> u64
         requires long { length self.old ≡ last_bin }
@@ -118,7 +108,7 @@ impl Histogram {
         total
     }
 
-    // Counts in one more word.
+    // Puts a word with this count into its bin. A word with count 0 has none.
     fn count_in(&mut self, count: u64)
         requires { bin_at self.old (bin_of count) + 1 < 2 ^ 64 }
         ensures { self.new ≡ counted_in self.old count }
@@ -128,7 +118,7 @@ impl Histogram {
         }
     }
 
-    // A word more in the bin.
+    // The bin gets one word more.
     fn gain(&mut self, bin: u64)
         requires some { 1 ≤ bin }
         requires within { bin ≤ last_bin }
@@ -138,7 +128,7 @@ impl Histogram {
         self.bins[bin as usize - 1] += 1;
     }
 
-    // A word less in the bin.
+    // The bin loses one of its words.
     fn lose(&mut self, bin: u64)
         requires some { 1 ≤ bin }
         requires within { bin ≤ last_bin }

@@ -1,4 +1,4 @@
-//! A row of a tally.
+//! A row of a tally: a word and its count.
 
 /// A word's number, and how often the word occurs.
 #[derive(Clone, Copy, PartialEq, Eq, Debug)]

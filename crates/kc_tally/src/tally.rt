@@ -1,4 +1,4 @@
-//! Tallies: how often each word occurs.
+//! A tally: the words that occur, in rising order, each with its count.
 ghost use Rattle.std.specs.Prelude.{◌≡◌, ◌≤◌, ◌^◌, All, IfOk, length};
 ghost use Rattle.std.specs.List.{flat_map};
 ghost use Rattle.kc_tally.specs.Tally.{AreRows, count_of, total_of};

@@ -67,7 +67,7 @@ pub(crate) fn tally_of<H: Threads + Wait + Sync, P: Progress + Sync>(
     Ok(tally)
 }
 
-// How the words are divided among the stripes.
+// The setup that the options ask for: how words are divided among the stripes.
 fn setup_of(options: &Options) -> Setup
     ensures rule { result.rule ≡ rule_of options.now }
     ensures stripes { stripe_count result ≡ options.now.stripes }

@@ -61,7 +61,7 @@ fn name_of(fault: &ToolFault) -> &str
     }
 }
 
-// What the refusal says before the name of a file, at the end of the line.
+// Puts the refusal's number and words at the end of the line, but for the name of a file.
 fn push_front(line: &mut Block, fault: &ToolFault)
     requires room { length line.old ≤ 100 }
     ensures pushed { line.new ≡ line.old ++ fault_front fault.now }
@@ -86,7 +86,7 @@ fn push_front(line: &mut Block, fault: &ToolFault)
     }
 }
 
-// What a refusal of the counting says, at the end of the line.
+// Puts the number and the words of a refused run at the end of the line.
 fn push_run_fault(line: &mut Block, fault: RunFault)
     requires room { length line.old ≤ 100 }
     ensures pushed { line.new ≡ line.old ++ run_text fault }
@@ -103,7 +103,7 @@ fn push_run_fault(line: &mut Block, fault: RunFault)
     }
 }
 
-// A refusal that ends with a number, at the end of the line.
+// Puts the words of a refusal that ends with a number, and the number, at the end of the line.
 fn push_numbered(line: &mut Block, what: &[u8], number: u64)
     requires room { length line.old ≤ 100 }
     requires brief { length what.now ≤ 30 }
@@ -114,7 +114,7 @@ fn push_numbered(line: &mut Block, what: &[u8], number: u64)
     line.push_number(number);
 }
 
-// What a refusal of the readers says, at the end of the line.
+// Puts the number and the words of a reader's refusal at the end of the line.
 fn push_reader_fault(line: &mut Block, source: u64, fault: FastxFault)
     requires room { length line.old ≤ 100 }
     ensures pushed { line.new ≡ line.old ++ reader_text source fault }
@@ -132,7 +132,7 @@ fn push_reader_fault(line: &mut Block, source: u64, fault: FastxFault)
     }
 }
 
-// A refusal that names its source, at the end of the line.
+// Puts the words of a refusal and the number of its source at the end of the line.
 fn push_source(line: &mut Block, what: &[u8], source: u64)
     requires room { length line.old ≤ 100 }
     requires brief { length what.now ≤ 20 }
@@ -144,7 +144,7 @@ fn push_source(line: &mut Block, what: &[u8], source: u64)
     line.push_number(source);
 }
 
-// A refusal that names its source and its line, at the end of the line.
+// Puts the words of a refusal, the number of its source and its line at the end of the line.
 fn push_at_line(line: &mut Block, what: &[u8], source: u64, at: u64)
     requires room { length line.old ≤ 100 }
     requires brief { length what.now ≤ 20 }

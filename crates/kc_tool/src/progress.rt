@@ -110,7 +110,7 @@ impl<'a, C: Clock, T: Print + IsTerminal> ProgressLine<'a, C, T> {
         let _ = self.terminal.write_all(line.as_slice());
     }
 
-    // The time since it began, where it is to be shown.
+    // The time since the count began, where the line is to be shown again: at most ten times a second.
     fn passed(&self) -> Option<Duration> {
         match self.began {
             Some(began) => began.elapsed(self.clock).ok(),

@@ -51,7 +51,7 @@ pub(crate) fn do_task<H: Threads + Wait + Sync, R: Source + Drop, W: Sink, P: Pr
 // The most bytes that a table may have.
 const MOST_TABLE_BYTES: u64 = 1 << 42;
 
-// The tally whose table the one source gives.
+// The tally that the table text of the only source says.
 fn one_table<R: Source + Drop>(alloc: Global, sources: Vec<R>) -> Result<Tally, ToolFault>
     requires { length sources.items ≡ 1 }
     ensures table { IfOk result (λ tally. TellOneTable (map R.seen sources.items) tally) }

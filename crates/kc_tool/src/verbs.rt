@@ -87,7 +87,7 @@ pub(crate) fn carry_out<
     }
 }
 
-// What a command with these options asks for.
+// The task of a command: what it asks for with these options.
 fn task_of(alloc: Global, verb: Verb, matches: &ArgMatches<'_>) -> Result<Task, ToolFault>
     ensures asked { IfOk result (AsksForTask verb (rows_of (found_of matches.now))) }
     ensures writable { IfOk result HasWritableReport }

@@ -15,7 +15,7 @@ use Rattle.kc_word.specs.Rule.{CountingRule}
 use Rattle.kc_word.specs.Occurrences.{position_count, counts_under, occurrences_in, occurrences, words_of}
 use Rattle.kc_word.specs.Cutting.{as_reads, NumberedPieces, stretch, position_total, batch_count, batch_of, cutting}
 use Rattle.kc_word.proofs.Stretches.{stretches_from, stretches-are}
-use Rattle.kc_base.proofs.Lists.{take-append, drop-append, length-filter_map, flat_map-range_more}
+use Rattle.kc_lemmas.proofs.Lists.{take-append, drop-append, length-filter_map, flat_map-range_more}
 use Rattle.kc_word.proofs.Windows.{word_of, windows, words_in-windows, window_form, form_at-window_form}
 
 -- ---- joined lists, cut

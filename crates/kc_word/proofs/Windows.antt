@@ -7,7 +7,7 @@ use Rattle.std.proofs.lemmas.List.Elements.{filter_map-append}
 use Rattle.std.specs.List.{list_all, range_with_len, cons_option}
 use Rattle.std.specs.Char.{to_ascii_uppercase}
 use Rattle.kc_fastx.specs.Reads.{read_of}
-use Rattle.kc_base.proofs.Lists.{filter_map-map, filter_map-one}
+use Rattle.kc_lemmas.proofs.Lists.{filter_map-map, filter_map-one}
 use Rattle.kc_word.specs.Letter.{is_base, are_bases}
 use Rattle.kc_word.specs.Word.{number, form}
 use Rattle.kc_word.specs.Rule.{CountingRule}

@@ -9,7 +9,7 @@ use Rattle.std.specs.List.{list_all, range_with_len, cons_option}
 use Rattle.std.specs.Option.{option_map_or}
 use Rattle.std.specs.Str.{bytes_eq}
 use Rattle.std.specs.Char.{to_ascii_uppercase}
-use Rattle.kc_base.proofs.Lists.{length-filter_map, All-filter_map, All-flat_map}
+use Rattle.kc_lemmas.proofs.Lists.{length-filter_map, All-filter_map, All-flat_map}
 use Rattle.kc_fastx.specs.Reads.{Read}
 use Rattle.kc_word.specs.Letter.{is_base, are_bases}
 use Rattle.kc_word.specs.Word.{number, text, form}

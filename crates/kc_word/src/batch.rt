@@ -1,4 +1,4 @@
-//! Numbered batches of pieces.
+//! Batches: the numbered parts of an input that workers count one by one.
 ghost use Rattle.std.specs.Prelude.{◌≡◌, ◌≤◌, length};
 ghost use Rattle.kc_word.specs.Cutting.{position_total, as_reads};
 ghost use Rattle.kc_word.specs.Occurrences.{words_of};

@@ -1,4 +1,4 @@
-//! The length of a word.
+//! K, the length of the words of a count: 1 to 31 bases.
 ghost use Rattle.std.specs.Prelude.{◌≡◌, ◌≤◌, SomeIff};
 ghost use Rattle.kc_word.specs.Occurrences.{position_count};
 

@@ -141,7 +141,7 @@ impl Packed {
         self.len += count;
     }
 
-    /// The same, without spare room.
+    /// The same codes, with the spare room of the vector given back.
     pub(crate) fn fitted(self) -> Packed
         ensures { result ≡ self }
     {
@@ -193,7 +193,7 @@ impl Eq for Packed {
     ghost laws = { nat_list_eq_equiv };
 }
 
-// no words yet, with room for as many as the codes take
+// an empty vector with room for the words of 64 bits that so many codes take
 fn room_for(alloc: Global, codes: usize) -> Result<Vec<u64>, AllocError>
     ensures empty { IfOk result (λ room. room.items ≡ []) }
     ensures bounded { IfOk result (λ room. vec_capacity room ≤ word_count codes) }

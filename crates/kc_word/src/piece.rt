@@ -107,7 +107,7 @@ impl Piece {
         Ok(Piece { bases, runs })
     }
 
-    /// The same, without spare room.
+    /// The same piece, with the spare room of its vectors given back.
     pub(crate) fn fitted(self) -> Piece
         ensures { result ≡ self }
     {

@@ -1,4 +1,4 @@
-//! Pieces one behind another, kept as one.
+//! Several pieces kept as one, each behind the one before, with the places at which they end.
 ghost use Rattle.std.specs.Prelude.{◌≡◌, ◌^◌, ◌<◌, ◌≤◌, ◌++◌, ◌∷◌, ◌==◌, [], length, slice_index_or, slice_range, IfOk};
 ghost use Rattle.kc_word.specs.Cutting.{position_total};
 ghost use Rattle.kc_word.specs.PackedBatch.{start_of};
@@ -86,7 +86,7 @@ impl Pieces {
         Ok(Pieces { bytes, ends })
     }
 
-    /// The same, without spare room.
+    /// The same pieces, with the spare room of their vectors given back.
     pub(crate) fn fitted(self) -> Pieces
         ensures { result ≡ self }
     {

@@ -113,7 +113,7 @@ impl<'a> Roll<'a> {
         }
     }
 
-    /// How the words count.
+    /// The rule of the count: the length of its words, and whether both strands count.
     pub(crate) fn rule(&self) -> Rule
         ensures { result ≡ self.now.rule }
     {

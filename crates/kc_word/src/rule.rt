@@ -1,4 +1,4 @@
-//! The rule of a count.
+//! The rule of a count: the length of its words, whether both strands count, and the floor of qualities.
 ghost use Rattle.std.specs.Prelude.{◌≡◌, ◌≤◌};
 
 use crate::k::K;

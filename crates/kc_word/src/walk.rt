@@ -28,7 +28,7 @@ impl<'a> Model for Walk<'a> {
 }
 
 impl<'a> Walk<'a> {
-    /// At the front of the pieces. Condition: there is one.
+    /// A walk that begins at the front of the pieces. Condition: there is one.
     pub(crate) fn new(pieces: &'a Pieces, rule: Rule) -> Walk<'a>
         requires { 1 ≤ length pieces.now }
         ensures { result ≡ words_of rule (as_reads pieces.now) }

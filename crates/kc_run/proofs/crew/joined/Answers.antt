@@ -2,7 +2,7 @@ use Rattle.std.proofs.Common.{◌++◌, [], ◌∷◌, Some, sym, ap, ◌∙◌,
 use Rattle.std.proofs.lemmas.List.Elements.{All-pop}
 use Rattle.std.specs.Prelude.{All}
 use Rattle.kc_share.specs.declared.entry.Plan.{Plan}
-use Rattle.kc_run.specs.Tickets.{Roll}
+use Rattle.kc_tickets.specs.Tickets.{Roll}
 use Rattle.kc_run.specs.Runs.{HasWorked, HaveWorked}
 use Rattle.kc_run.specs.declared.worker.Worker.{Worker}
 use Rattle.kc_run.proofs.CrewLemmas.{HaveWorked-one, HaveWorked-more}

@@ -2,7 +2,7 @@ use Rattle.std.proofs.Common.{◌≡◌, ◌-◌, [], Some, ap, ◌∙◌, vec_l
 use Rattle.std.proofs.lemmas.List.Elements.{All-pop, All-push, All-same}
 use Rattle.kc_share.specs.Share.{share_of, with_one_part_less, new_share}
 use Rattle.std.specs.Prelude.{All}
-use Rattle.kc_run.specs.Tickets.{Roll}
+use Rattle.kc_tickets.specs.Tickets.{Roll}
 use Rattle.kc_run.specs.Runs.{IsFreshSeatOf, IsReady}
 use Rattle.kc_run.specs.declared.worker.Worker.{Worker}
 use Rattle.kc_run.proofs.crew.workers_of.Goals as goal

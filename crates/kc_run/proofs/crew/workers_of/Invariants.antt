@@ -1,7 +1,7 @@
 use Rattle.std.proofs.Common.{◌≡◌, ◌+◌, ◌≤◌, [], vec_len}
 use Rattle.std.specs.Prelude.{All}
 use Rattle.kc_share.specs.Share.{share_of}
-use Rattle.kc_run.specs.Tickets.{Roll}
+use Rattle.kc_tickets.specs.Tickets.{Roll}
 use Rattle.kc_run.specs.Runs.{IsFreshSeatOf, IsReady}
 use Rattle.kc_run.proofs.crew.workers_of.Given as goal
 

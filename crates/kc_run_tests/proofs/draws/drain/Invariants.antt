@@ -1,5 +1,5 @@
 use Rattle.std.proofs.Common.{◌≡◌, ◌-◌, length}
-use Rattle.kc_run.specs.Tickets.{IsSeatOf, IsDone, answers_of}
+use Rattle.kc_tickets.specs.Tickets.{IsSeatOf, IsDone, answers_of}
 use Rattle.kc_run_tests.proofs.draws.drain.Given as goal
 
 abbrev pub invariant-loop-number : goal.invariant-loop-number

@@ -1,6 +1,6 @@
 use Rattle.std.proofs.Common.{refl}
 use Rattle.std.proofs.lemmas.List.Elements.{All-set}
-use Rattle.kc_run.specs.Tickets.{IsSeatOf}
+use Rattle.kc_tickets.specs.Tickets.{IsSeatOf}
 use Rattle.kc_run_tests.proofs.draws.draw_at.Goals as goal
 
 pub returns : goal.returns

@@ -2,7 +2,7 @@ use Rattle.std.proofs.Common.{◌≡◌, [], ◌∷◌, ◌++◌, Some, Vec, ℕ
 use Rattle.std.specs.List.{flat_map}
 use Rattle.std.proofs.lemmas.List.Concat.{flat_map-append}
 use Rattle.std.proofs.lemmas.List.Elements.{All-push, All-pop, All-same}
-use Rattle.kc_run.specs.Tickets.{Roll, IsSeatOf, IsDone, answers_of}
+use Rattle.kc_tickets.specs.Tickets.{Roll, IsSeatOf, IsDone, answers_of}
 use Rattle.kc_run_tests.proofs.draws.join_all.Goals as goal
 
 pub loop-thread-preserved : goal.loop-thread-preserved

@@ -1,7 +1,7 @@
 use Rattle.std.proofs.Common.{◌≡◌, ◌+◌, vec_len}
 use Rattle.std.specs.Prelude.{All}
 use Rattle.std.specs.List.{flat_map}
-use Rattle.kc_run.specs.Tickets.{IsSeatOf, IsDone, answers_of}
+use Rattle.kc_tickets.specs.Tickets.{IsSeatOf, IsDone, answers_of}
 use Rattle.kc_run_tests.proofs.draws.join_all.Given as goal
 
 abbrev pub invariant-loop-thread : goal.invariant-loop-thread

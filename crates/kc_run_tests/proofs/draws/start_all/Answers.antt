@@ -1,6 +1,6 @@
 use Rattle.std.proofs.Common.{◌≡◌, [], ◌∷◌, ◌++◌, Some, ap, ◌∙◌, arith}
 use Rattle.std.proofs.lemmas.List.Elements.{All-pop, All-push, All-same}
-use Rattle.kc_run.specs.Tickets.{Drawer, IsSeatOf}
+use Rattle.kc_tickets.specs.Tickets.{Drawer, IsSeatOf}
 use Rattle.kc_run_tests.specs.declared.draws.Drained.{Drained}
 use Rattle.kc_run_tests.proofs.draws.start_all.Goals as goal
 

@@ -1,6 +1,6 @@
 use Rattle.std.proofs.Common.{◌≡◌, [], ◌+◌, vec_len}
 use Rattle.std.specs.Prelude.{All}
-use Rattle.kc_run.specs.Tickets.{Drawer, IsSeatOf}
+use Rattle.kc_tickets.specs.Tickets.{Drawer, IsSeatOf}
 use Rattle.kc_run_tests.proofs.draws.start_all.Given as goal
 
 abbrev pub invariant-loop-seat : goal.invariant-loop-seat

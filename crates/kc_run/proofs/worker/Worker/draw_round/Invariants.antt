@@ -1,5 +1,5 @@
 use Rattle.std.proofs.Common.{◌≡◌, ◌+◌, ◌≤◌, ◌⊎◌, length}
-use Rattle.kc_run.specs.Tickets.{IsSeatOf, answers_of}
+use Rattle.kc_tickets.specs.Tickets.{IsSeatOf, answers_of}
 use Rattle.kc_run.specs.Runs.{AreCutUp}
 use Rattle.kc_run.proofs.worker.Worker.draw_round.Given as goal
 

@@ -1,6 +1,6 @@
 use Rattle.std.proofs.Common.{◌≡◌, ℕ, ◌-◌, ◌<◌, length}
 use Rattle.kc_share.specs.Share.{entry_total_in}
-use Rattle.kc_run.specs.Tickets.{IsSeatOf, answers_of}
+use Rattle.kc_tickets.specs.Tickets.{IsSeatOf, answers_of}
 use Rattle.kc_run.proofs.worker.Worker.work.Given as goal
 
 abbrev pub invariant-loop-drawn : goal.invariant-loop-drawn

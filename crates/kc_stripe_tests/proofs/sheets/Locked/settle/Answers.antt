@@ -1,5 +1,5 @@
 use Rattle.std.proofs.Common.{sym, ◌∙◌}
-use Rattle.kc_base.proofs.Permutations.{length-from_weights}
+use Rattle.kc_lemmas.proofs.Permutations.{length-from_weights}
 use Rattle.kc_share.specs.Entries.{entries_in}
 use Rattle.kc_stripe_tests.proofs.sheets.Locked.settle.Goals as goal
 

@@ -7,13 +7,13 @@ use Rattle.kc_table.proofs.KeyCounts.{count_at-some}
 use Rattle.kc_table.proofs.SlotSteps.{get_found, found_at}
 use Rattle.kc_table.proofs.quotient.QuotientTableCounts.increment.Goals as goal
 
-pub count-requires-clause-found : goal.count-requires-clause-found
-count-requires-clause-found c =
+pub count_key-requires-clause-found : goal.count_key-requires-clause-found
+count_key-requires-clause-found c =
     found_at c.self.inside.slots.slots.items c.self.inside.slots.sound c.args.key c.in-Some.place
     (subst (λ t. HoldsKey t.slots c.in-Some.place c.args.key) (sym c.self.view_is) c.in-Some.ensures.slot)
 
-pub count-requires-clause-room : goal.count-requires-clause-room
-count-requires-clause-room c =
+pub count_key-requires-clause-room : goal.count_key-requires-clause-room
+count_key-requires-clause-room c =
     let found =
     found_at c.self.inside.slots.slots.items c.self.inside.slots.sound c.args.key c.in-Some.place
     (subst (λ t. HoldsKey t.slots c.in-Some.place c.args.key) (sym c.self.view_is) c.in-Some.ensures.slot) in
@@ -29,7 +29,7 @@ returns-clause-counted c =
     found_at c.self.inside.slots.slots.items c.self.inside.slots.sound c.args.key c.in-Some.place
     (subst (λ t. HoldsKey t.slots c.in-Some.place c.args.key) (sym c.self.view_is) c.in-Some.ensures.slot) in
     rw (← c.self.view_is)
-    (c.count.ensures.counted
+    (c.count_key.ensures.counted
     ∙ ap (λ n. insert (counts_of c.self.inside.slots.log c.self.inside.slots.slots.items) c.args.key (n + 1))
     (sym (count_at-some _ c.args.key _
     (get_found c.self.inside.slots.slots.items c.self.inside.slots.sound c.args.key c.in-Some.place found))))
@@ -39,6 +39,6 @@ returns-clause-told c =
     let found =
     found_at c.self.inside.slots.slots.items c.self.inside.slots.sound c.args.key c.in-Some.place
     (subst (λ t. HoldsKey t.slots c.in-Some.place c.args.key) (sym c.self.view_is) c.in-Some.ensures.slot) in
-    rw (← c.self.view_is) (c.count.ensures.told ∙ ap (λ n. n + 1)
+    rw (← c.self.view_is) (c.count_key.ensures.told ∙ ap (λ n. n + 1)
     (sym (count_at-some _ c.args.key _
     (get_found c.self.inside.slots.slots.items c.self.inside.slots.sound c.args.key c.in-Some.place found))))

@@ -1,0 +1,4 @@
+pub mod NumbersBelow
+pub mod DrawLemmas
+pub mod TicketLemmas
+pub mod LawLemmas
