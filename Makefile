@@ -6,7 +6,7 @@ ARCHIVE ?=
 # The crates of tests that tests/memory.sh runs with each growth refused.
 TESTS_OF_MEMORY = kc_count_tests kc_stripe_tests kc_run_tests
 
-.PHONY: demo build dist verify check edits bodies memory files options examples test bench figures install clean help
+.PHONY: demo build dist verify check edits bodies memory files options examples documents test bench figures install clean help
 
 demo: ## shows the program at work within two minutes: its source with checks, not yet proved
 	@tools/demo.sh
@@ -41,6 +41,9 @@ options: build ## compares the options of the man page and the completions with 
 
 examples: build ## runs the examples of README.md and docs/USING.md as they are written
 	tests/examples.sh
+
+documents: ## compares what the documents name with what is there
+	tests/documents.py
 
 test: ## the gate: all proofs from nothing, the tests, the stored run, the edits that must fail; then memory, files, options, examples
 	tests/gate.sh

@@ -1,9 +1,9 @@
 #!/bin/bash
 # The toolchain's gate, and then what it can't do, over the libraries, the program and the tests that it has built:
 #   tests/gate.sh
-# All other edits have to be refused, each by the function that it names; beside that each growth of memory is refused, files are missing or
-# directories, the man page and the completions are compared with the help, and the examples of the documents are run. Where all of it passed,
-# the last line is `N passed, 0 failed`, N counting proofs and edits.
+# What the documents name is there. All other edits have to be refused, each by the function that it names; beside that each growth of memory is
+# refused, files are missing or directories, the man page and the completions are compared with the help, and the examples of the documents are
+# run. Where all of it passed, the last line is `N passed, 0 failed`, N counting proofs and edits.
 set -euo pipefail
 cd "$(dirname "$0")/.."
 work=$(mktemp -d)
@@ -26,6 +26,7 @@ link_what_is_kept() {
         done
     done
 }
+tests/documents.py
 link_what_is_kept &
 linking=$!
 TMPDIR=$work/tmp rt ci | tee "$work/ci"

@@ -226,17 +226,20 @@ def copied(crate, kept):
         yield room
 
 
-def prove(rt, crate, kept):
-    """Proves the crate as it is where the folder has nothing of it."""
-    if not any(os.path.basename(it).startswith(f"Rattle-{crate.name}-proofs") for it in kept_files(crate, kept)):
-        rt.checked(crate, {}, ["--jobs", "1"], kept)
+def has_proofs(crate, kept):
+    return any(os.path.basename(it).startswith(f"Rattle-{crate.name}-proofs") for it in kept_files(crate, kept))
 
 
 def judge(rt, crate, group, kept):
     """Checks the crate with these edits, and returns for each why it failed, or None where its function is refused."""
-    texts = made(crate.folder, group)
     with copied(crate, kept) as room:
-        ran = rt.checked(crate, texts, ["--jobs", "1"], room)
+        return judge_over(rt, crate, group, room)
+
+
+def judge_over(rt, crate, group, kept):
+    """The same over this very folder, which then has what was proved beside the edits."""
+    texts = made(crate.folder, group)
+    ran = rt.checked(crate, texts, ["--jobs", "1"], kept)
     unread = next((it for it in ran.stdout.split("\n") if rt.unread(it, texts)), None)
     failed = {}
     for edit in group:
@@ -272,9 +275,9 @@ def read_all(rt, crate):
     return edits, failed
 
 
-def try_group(rt, crate, group, kept):
+def try_group(rt, crate, group, kept, is_first):
     """Tries the edits of a group, and once more alone those that weren't refused. Returns for each why it failed, or None."""
-    judged = judge(rt, crate, group, kept)
+    judged = (judge_over if is_first else judge)(rt, crate, group, kept)
     for edit in group:
         if judged[edit.name] and len(group) > 1:
             judged |= judge(rt, crate, [edit], kept)
@@ -282,22 +285,25 @@ def try_group(rt, crate, group, kept):
 
 
 def try_crates(rt, crates, kept):
-    """Tries the edits of these crates, groups side by side, over what that folder has of them, or each over its own. Returns for each crate
-    how many groups it has, and for each of its edits why it failed, or None."""
+    """Tries the edits of these crates, groups side by side, over what that folder has of them, or each over its own. Where the folder has
+    nothing of a crate its smallest group comes first, and the others are tried over what that check proved. Returns for each crate how many
+    groups it has, and for each of its edits why it failed, or None."""
     tasks, tried = {}, {}
     for crate in (it for it in crates if any(names_in(it.folder))):
         edits, failed = read_all(rt, crate)
-        groups, folder = grouped(edits), kept or f"{crate.folder}/out/incremental"
+        groups, folder = sorted(grouped(edits), key=len), kept or f"{crate.folder}/out/incremental"
         tried[crate.name] = len(groups), failed
+        comes_first = not has_proofs(crate, folder)
+        for at, group in enumerate(groups):
+            is_first = comes_first and at == 0
+            waits = [(crate.name, "edits", 0)] if comes_first and at > 0 else []
 
-        def task(waits, call, *more, crate=crate, folder=folder):
-            return waits, crate.count(rb"\n"), rt.need(crate), lambda given, jobs: call(rt, crate, *more, folder)
+            def call(given, jobs, crate=crate, group=group, folder=folder, is_first=is_first):
+                return try_group(rt, crate, group, folder, is_first)
 
-        first = crate.name, "edits", None
-        tasks[first] = task([], prove)
-        tasks |= {(crate.name, "edits", at): task([first], try_group, group) for at, group in enumerate(groups)}
-    for (name, _, at), judged in rt.in_lanes(tasks).items():
-        tried[name][1].update(judged if at is not None else {})
+            tasks[crate.name, "edits", at] = waits, crate.count(rb"\n"), rt.need(crate), call
+    for (name, _, _), judged in rt.in_lanes(tasks).items():
+        tried[name][1].update(judged)
     return tried
 
 
