@@ -9,7 +9,7 @@ use Rattle.kc_share.specs.declared.entry.Entry.{Entry}
 use Rattle.kc_share.specs.declared.entry.Booking.{Booking}
 use Rattle.kc_share.specs.Entries.{entries_in}
 use Rattle.kc_stripe.specs.Setup.{StripeSetup, stripe_of}
-use Rattle.kc_stripe.specs.Stripe.{numbers_of, reads_in}
+use Rattle.kc_stripe.specs.Stripe.{StripeState, numbers_of, reads_in}
 
 -- how the words are divided, the word that was asked for, its count, and the batches in which it was counted
 pub record WordSeen : Type 0 where
@@ -27,6 +27,11 @@ form_of setup word = number (form_text setup word)
 
 abbrev pub form_stripe : StripeSetup → ℕ → ℕ
 form_stripe setup word = stripe_of setup (form_of setup word)
+
+-- the stripe is the one in which a word of this setup counts: it divides the words in the same way, and its number is
+-- that of the stripe of the word's form
+abbrev pub IsStripeOf : {C : Type 0} → StripeSetup → ℕ → StripeState C → Type 0
+IsStripeOf setup word stripe = (stripe.setup ≡ setup) × (stripe.number ≡ form_stripe setup word)
 
 -- no number stands twice among the batches, and the count is how often the word's form occurs in them
 pub record IsSeen (setup : StripeSetup) (word count : ℕ) (batches : List NumberedPieces) : Type 0 where

@@ -1,9 +1,12 @@
 //! A stripe together with its keeper, as they lie behind the stripe's lock.
-ghost use Rattle.std.specs.Prelude.{◌≡◌, ◌<◌, ◌++◌, ◌∷◌, [], IfOk, OnOk, OnErr};
+ghost use Rattle.std.specs.Prelude.{◌≡◌, ◌+◌, ◌<◌, ◌≤◌, ◌^◌, ◌↔◌, ◌⊎◌, ◌++◌, ◌∷◌, [], length, IfOk, OnOk, OnErr};
 ghost use Rattle.kc_share.specs.Share.{kept_stripe, with_booking};
 ghost use Rattle.kc_stripe.specs.Setup.{word_count};
+ghost use Rattle.kc_stripe.specs.Cut.{keys_of};
+ghost use Rattle.kc_stripe.specs.Counted.{SomeMayBeFull};
+ghost use Rattle.kc_stripe.specs.Stripe.{IsBooked, IsOwnCut, IsUnchanged};
 ghost use Rattle.kc_stripe.specs.Locked.{cut_entry, IsAllOf};
-ghost use Rattle.kc_stripe.specs.Seen.{form_stripe, AreNamed};
+ghost use Rattle.kc_stripe.specs.Seen.{form_stripe, AreNamed, IsStripeOf};
 
 use crate::cut::Cut;
 use crate::fault::BookFault;
@@ -44,7 +47,7 @@ impl<C: Counts, N: Books> Locked<C, N> {
         Locked { stripe, keeper }
     }
 
-    /// Books a batch into the stripe, and into a share.
+    /// Books a batch into the stripe, and into a share. A refused booking leaves both as they were.
     pub(crate) fn book(
         &mut self,
         sheet: &OpenSheet<N>,
@@ -54,6 +57,13 @@ impl<C: Counts, N: Books> Locked<C, N> {
         ensures share { OnOk result (share.new ≡ with_booking share.old cut.now.stripe (cut_entry cut.now)) }
         ensures journal { OnOk result (self.new.journal ≡ self.old.journal ++ cut.now.batch ∷ []) }
         ensures refused { OnErr result (share.new ≡ share.old) }
+        ensures unchanged { OnErr result (IsUnchanged C.counts self.old self.new) }
+        ensures twice { result ≡ Err BookFault.Twice ↔ IsBooked self.old.journal cut.now.batch.number }
+        ensures stranger { result ≡ Err BookFault.Stranger
+            ↔ (¬ IsBooked self.old.journal cut.now.batch.number × ¬ IsOwnCut self.old cut.now) }
+        ensures full { result ≡ Err BookFault.Full → (2 ^ 62 < self.old.total + length (keys_of cut.now))
+            ⊎ SomeMayBeFull (C.may_be_full self.old.table) (C.counts self.old.table) (keys_of cut.now) }
+        ensures memory { result ≡ Err BookFault.Memory → self.old.total + length (keys_of cut.now) ≤ 2 ^ 62 }
     {
         self.stripe.book(cut)?;
         // What is known of the sums, which stay small.
@@ -71,7 +81,8 @@ impl<C: Counts, N: Books> Locked<C, N> {
     /// What the stripe tells of a word, where it is the one in which the word counts: it has this setup, and the number
     /// of the word's stripe.
     ///
-    /// The word is below 4^k.
+    /// The word is below 4^k. Nothing is booked or counted by a look, so that it's refused only where the stripe is
+    /// another one, or for memory.
     pub(crate) fn look(
         &mut self,
         alloc: Global,
@@ -85,7 +96,12 @@ impl<C: Counts, N: Books> Locked<C, N> {
         ensures word { IfOk result (λ seen. seen.word ≡ word.0) }
         ensures named { IfOk result (λ seen.
             AreNamed (form_stripe setup.now word.0) share.old.booked seen.batches) }
+        ensures batches { IfOk result (λ seen. seen.batches ≡ self.old.journal) }
         ensures share { share.new ≡ share.old }
+        ensures kept { self.new ≡ self.old }
+        ensures stranger { result ≡ Err BookFault.Stranger ↔ ¬ IsStripeOf setup.now word.0 self.old }
+        ensures twice { ¬ (result ≡ Err BookFault.Twice) }
+        ensures full { ¬ (result ≡ Err BookFault.Full) }
     {
         let number = setup.stripe_of(setup.form_of(word));
         if self.stripe.setup() != setup || self.stripe.number() != number {

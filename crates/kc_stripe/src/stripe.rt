@@ -183,6 +183,7 @@ impl<C: Counts> Stripe<C> {
             ↔ (¬ IsBooked self.old.journal cut.now.batch.number × ¬ IsOwnCut self.old cut.now) }
         ensures full { result ≡ Err BookFault.Full → (2 ^ 62 < self.old.total + length (keys_of cut.now))
             ⊎ SomeMayBeFull (C.may_be_full self.old.table) (C.counts self.old.table) (keys_of cut.now) }
+        ensures memory { result ≡ Err BookFault.Memory → self.old.total + length (keys_of cut.now) ≤ 2 ^ 62 }
         ensures limits { KeepsLimits C.bits C.may_be_full self.old.table self.new.table }
     {
         self.check(cut)?;

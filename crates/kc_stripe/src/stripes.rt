@@ -142,7 +142,8 @@ impl<C: Counts, N: Books> Stripes<C, N> {
     /// How often a word occurs in the batches that were booked, and in which: all that stand in the stripe of the form
     /// under which the word counts, under that stripe's lock.
     ///
-    /// The word is below 4^k. Each batch that the share booked into that stripe is among them.
+    /// The word is below 4^k. Each batch that the share booked into that stripe is among them. Nothing is booked, so that
+    /// no look is refused as a booking can be for its batch's number or for room in the stripe.
     pub fn look<R: Wait>(
         &self,
         rt: &R,
@@ -156,6 +157,8 @@ impl<C: Counts, N: Books> Stripes<C, N> {
         ensures named { IfOk result (λ seen.
             AreNamed (form_stripe self.now.setup word.0) share.old.booked seen.batches) }
         ensures share { share.new ≡ share.old }
+        ensures twice { ¬ (result ≡ Err BookFault.Twice) }
+        ensures full { ¬ (result ≡ Err BookFault.Full) }
     {
         let number = self.setup.stripe_of(self.setup.form_of(word));
         self.locks[number as usize]

@@ -11,11 +11,16 @@ use std::alloc::Global;
 use std::sync::Arc;
 use std::test::Fail;
 
-// Words of k bases on one strand, in so many stripes, by a hash that leaves them as they are.
-pub(crate) fn setup_of(k: u32, stripes: u32) -> Option<Setup> {
+// Words of k bases, on both strands together or on one, in so many stripes, by a hash that leaves them as they are.
+pub(crate) fn setup_with(k: u32, both: bool, stripes: u32) -> Option<Setup> {
     let k = K::new(k)?;
     let hash = Hash::of_matrix(Matrix::identity(2 * k.get())).ok()?;
-    Setup::new(Rule::new(k, false, b'!'), hash, stripes)
+    Setup::new(Rule::new(k, both, b'!'), hash, stripes)
+}
+
+// The same on one strand.
+pub(crate) fn setup_of(k: u32, stripes: u32) -> Option<Setup> {
+    setup_with(k, false, stripes)
 }
 
 // The same, where there is such a setup.

@@ -6,7 +6,7 @@ ghost use Rattle.kc_stripe.specs.Locked.{IsAllOf};
 ghost use Rattle.kc_share.specs.Share.{share_of};
 
 use crate::bookings::cuts_and_stranger;
-use crate::samples::{batches_in, made_setup};
+use crate::samples::{batches_in, made_setup, setup_with};
 use kc_share::{Books, Share, Sheet};
 use kc_stripe::{BookFault, Cut, Setup, Stripe, Stripes, cut_up};
 use kc_table::PlainCounts;
@@ -289,6 +289,43 @@ fn counts_of<N: Books, R: Wait>(
     Ok(counts)
 }
 
+// What the looks answer: how often each of the words was counted, and in how many batches, or why not.
+fn looks_of<N: Books, R: Wait>(
+    rt: &R,
+    alloc: Global,
+    stripes: &Stripes<PlainCounts, N>,
+    share: &mut Share<N>,
+    words: &[u64],
+) -> Result<Vec<Look>, AllocError> {
+    let mut looks = Vec::new(alloc);
+    for word in words {
+        looks.push(look_up(rt, alloc, stripes, share, *word))?;
+    }
+    Ok(looks)
+}
+
+type Look = Result<(u64, usize), BookFault>;
+
+// Books batches everywhere, and looks the words up before and after: among no batches, and among all of them.
+fn look_book_and_look<N: Books, R: Wait>(
+    rt: &R,
+    alloc: Global,
+    setup: &Setup,
+    sheet: Sheet,
+    batches: &[Arc<Batch>],
+    words: &[u64],
+) -> Result<(Vec<Look>, Vec<Look>), BookFault>
+    requires name { sheet.table ≡ N.table }
+    requires stripes { sheet.plan.stripes ≡ stripe_count setup.now }
+{
+    let (stripes, mut share) = stripes_of::<N>(alloc, setup, sheet)?;
+    let before = looks_of(rt, alloc, &stripes, &mut share, words)?;
+    let (mut share, booked) = book_all(rt, alloc, &stripes, share, batches);
+    booked?;
+    let after = looks_of(rt, alloc, &stripes, &mut share, words)?;
+    Ok((before, after))
+}
+
 // Books a batch everywhere, and looks the words up: how often each was counted. Then the sharing ends: the numbers and
 // the totals of the stripes, as they come.
 fn book_look_and_end<N: Books, R: Wait>(
@@ -340,5 +377,29 @@ fn each_stripe_is_found_under_its_own_lock(rt: HostRuntime) -> Result<(), Fail> 
     let (counts, totals) = book_look_and_end::<Brand, _>(&rt, alloc, &setup, sheet, batch, WORDS)?;
     assert_eq!(rt; counts.as_slice(), COUNTS);
     assert_eq!(rt; totals.as_slice(), TOTALS);
+    Ok(())
+}
+
+// ACG and its other strand CGT, AAC and its other strand GTT, and TTT, whose other strand is AAA. By their own numbers
+// CGT, GTT and TTT would stand in stripe 3, but the forms under which they count stand in stripes 2, 1 and 0.
+const STRANDS: &[u64] = &[6, 27, 1, 47, 63];
+
+const NOT_YET: &[Look] = &[Ok((0, 0)), Ok((0, 0)), Ok((0, 0)), Ok((0, 0)), Ok((0, 0))];
+
+// How often each form stands in ACGT and CGTT, which are a batch each: ACG and CGT, and CGT and GTT.
+const TOGETHER: &[Look] = &[Ok((3, 2)), Ok((3, 2)), Ok((1, 2)), Ok((1, 2)), Ok((0, 2))];
+
+#[test]
+fn a_word_is_found_under_the_lock_of_its_form(rt: HostRuntime) -> Result<(), Fail> {
+    let alloc = rt.alloc();
+    let setup = setup_with(3, true, 4).ok_or("no setup")?;
+    let batches = batches_in(alloc, &setup, &[b"ACGT", b"CGTT"], 2)?;
+    assert_eq!(rt; batches.len(), 2);
+    let sheet = Sheet::new(alloc, setup.stripes(), 1)?;
+    let (before, after) = look_book_and_look::<Brand, _>(
+        &rt, alloc, &setup, sheet, &batches, STRANDS,
+    )?;
+    assert_eq!(rt; before.as_slice(), NOT_YET);
+    assert_eq!(rt; after.as_slice(), TOGETHER);
     Ok(())
 }
