@@ -2,3 +2,4 @@ pub mod CrewLemmas
 pub mod EntryLemmas
 pub mod RoundLemmas
 pub mod GatheringLemmas
+pub mod FaultLemmas

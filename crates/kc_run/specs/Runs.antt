@@ -1,7 +1,7 @@
 -- Whole runs: what a worker has at its start and at its end, and with which fault a run ends. They are this project's
 -- own.
-use Rattle.std.specs.Prelude.{◌≡◌, ℕ, ◌+◌, ◌<◌, ◌≤◌, List, [], All, Some, Result, Ok, Err, IfOk, length, map, sum_by}
-use Rattle.std.specs.Prelude.{slice_get}
+use Rattle.std.specs.Prelude.{◌≡◌, ℕ, ◌+◌, ◌<◌, ◌≤◌, ◌⊎◌, List, [], All, Some, Result, Ok, Err, IfOk, IfErr}
+use Rattle.std.specs.Prelude.{length, map, sum_by, slice_get}
 use Rattle.kc_share.specs.declared.entry.Plan.{Plan}
 use Rattle.kc_share.specs.declared.entry.Booking.{Booking}
 use Rattle.kc_share.specs.Share.{ShareSeen, share_of, entry_total_in}
@@ -75,6 +75,24 @@ booking_fault stripe book.Twice = run.Foreign stripe
 booking_fault stripe book.Stranger = run.Foreign stripe
 booking_fault stripe book.Full = run.Full stripe
 booking_fault stripe book.Memory = run.Memory
+
+-- a booking into the stripe of this number was refused, and the fault says why
+abbrev pub IsOfBooking : ℕ → RunFault → Type 0
+IsOfBooking stripe fault = (why : BookFault) × (fault ≡ booking_fault stripe why)
+
+-- a fault with which a worker may end, where there are so many stripes: memory was refused, or the fault names one of
+-- the stripes
+abbrev pub IsWorkerFault : ℕ → RunFault → Type 0
+IsWorkerFault stripes run.Memory = Unit
+IsWorkerFault stripes (run.Foreign stripe) = stripe < stripes
+IsWorkerFault stripes (run.Full stripe) = stripe < stripes
+IsWorkerFault stripes (run.NoThread worker) = ⊥
+
+-- a fault with which a run may end, where there are so many workers and stripes: that of a worker, or that no thread
+-- could be started for one of the workers
+abbrev pub IsRunFault : ℕ → ℕ → RunFault → Type 0
+IsRunFault workers stripes fault =
+    IsWorkerFault stripes fault ⊎ ((worker : ℕ) × (worker < workers) × (fault ≡ run.NoThread worker))
 
 module _ {W : Type 0} where
   -- the answers of the threads of n workers: each that ended well is as it was promised, and where all did they are n

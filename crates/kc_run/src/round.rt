@@ -1,10 +1,10 @@
 //! A round of a worker: batches that are cut up, and then booked stripe by stripe, so that the lines of a stripe that
 //! one batch has fetched are still near for the next.
-ghost use Rattle.std.specs.Prelude.{◌≡◌, ◌+◌, ◌*◌, ◌%◌, ◌^◌, ◌≤◌, ◌<◌, ◌⊎◌, OnOk, length};
+ghost use Rattle.std.specs.Prelude.{◌≡◌, ◌+◌, ◌*◌, ◌%◌, ◌^◌, ◌≤◌, ◌<◌, ◌⊎◌, OnOk, IfErr, length};
 ghost use Rattle.kc_share.specs.Share.{with_booking};
 ghost use Rattle.kc_stripe.specs.Setup.{stripe_count};
 ghost use Rattle.kc_stripe.specs.Locked.{cut_entry};
-ghost use Rattle.kc_run.specs.Runs.{AreCutUp, HaveMore, HaveMoreIn};
+ghost use Rattle.kc_run.specs.Runs.{AreCutUp, HaveMore, HaveMoreIn, IsOfBooking, IsWorkerFault};
 
 use crate::fault::RunFault;
 use kc_share::{Books, Share};
@@ -63,6 +63,7 @@ pub(crate) fn book_round<H: Wait, C: Counts, N: Books>(
     ensures kept { (share.new.parts ≡ share.old.parts) × (share.new.plan ≡ share.old.plan) }
     ensures booked { OnOk result (HaveMore (stripe_count stripes.now.setup) (length round.now)
         share.old.booked share.new.booked) }
+    ensures refused { IfErr result (IsWorkerFault (stripe_count stripes.now.setup)) }
 {
     book_range(rt, stripes, round, first, stripes.setup().stripes(), share)?;
     book_range(rt, stripes, round, 0, first, share)
@@ -81,6 +82,7 @@ fn book_range<H: Wait, C: Counts, N: Books>(
     requires range { (from ≤ to) × (to ≤ stripe_count stripes.now.setup) }
     ensures kept { (share.new.parts ≡ share.old.parts) × (share.new.plan ≡ share.old.plan) }
     ensures booked { OnOk result (HaveMoreIn from to (length round.now) share.old.booked share.new.booked) }
+    ensures refused { IfErr result (IsWorkerFault to) }
 {
     for stripe in from..to {
         book_stripe(rt, stripes, round, stripe, share)?;
@@ -101,6 +103,7 @@ fn book_stripe<H: Wait, C: Counts, N: Books>(
     ensures kept { (share.new.parts ≡ share.old.parts) × (share.new.plan ≡ share.old.plan) }
     ensures booked { OnOk result (HaveMoreIn stripe (stripe + 1) (length round.now)
         share.old.booked share.new.booked) }
+    ensures refused { IfErr result (IsOfBooking stripe) }
 {
     for it in round {
         book_cut(rt, stripes, &it.cuts[stripe as usize], share)?;
@@ -118,6 +121,7 @@ fn book_cut<H: Wait, C: Counts, N: Books>(
     requires { cut.now.stripe < stripe_count stripes.now.setup }
     ensures kept { (share.new.parts ≡ share.old.parts) × (share.new.plan ≡ share.old.plan) }
     ensures booked { OnOk result (share.new ≡ with_booking share.old cut.now.stripe (cut_entry cut.now)) }
+    ensures refused { IfErr result (IsOfBooking cut.now.stripe) }
 {
     match stripes.book(rt, share, cut) {
         Ok(()) => Ok(()),
