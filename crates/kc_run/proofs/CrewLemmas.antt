@@ -1,9 +1,10 @@
 -- Workers that are made, that end, and whose seats and shares are taken together.
-use Rattle.std.proofs.Common.{◌≡◌, ◌≢◌, ℕ, zero, suc, ◌+◌, ◌<◌, List, [], ◌∷◌, ◌++◌, length, length-append, get_or, map, take, Option, Some, None, slice_get, sum_by, refl, ap, sym, ◌∙◌, subst, arith}
-use Rattle.std.specs.Prelude.{All, Result, Ok, Err, IfOk}
-use Rattle.std.proofs.lemmas.List.{length-map, get_or-map, map-id}
+use Rattle.std.proofs.Common.{◌≡◌, ◌≢◌, ℕ, zero, suc, ◌+◌, ◌<◌, ◌≤◌, List, [], ◌∷◌, ◌++◌, length, length-append, get_or, map, Option, Some, None, slice_get, sum_by, refl, ap, sym, ◌∙◌, subst, ⊎_elim, arith}
+use Rattle.std.specs.Prelude.{All, Result, Ok, Err, IfOk, IfErr}
+use Rattle.std.proofs.lemmas.Bool.{cases_lt}
+use Rattle.std.proofs.lemmas.List.{length-map, get_or-map}
 use Rattle.std.proofs.lemmas.List.Elements.{All-cons, All-push, All-nil}
-use Rattle.std.proofs.lemmas.Option.{slice_get-get_or}
+use Rattle.std.proofs.lemmas.Option.{slice_get-get_or, get_or_from_slice_get, slice_get_within}
 use Rattle.std.proofs.lemmas.List.Sums.{sum_by_push}
 use Rattle.kc_share.specs.declared.entry.Plan.{Plan}
 use Rattle.kc_share.specs.Share.{ShareSeen, joined_shares}
@@ -38,31 +39,34 @@ HaveWorked-more roll plan seats share seat other them it = record {
       omega (arith, sum, entries-joined stripe share.booked other.booked, them.booked stripe less, it.booked stripe less);
 }
 
--- each of some workers has ended well
-each_well : {W : Type 0} (workers : List W) (j : ℕ) → j < length workers → EndedWell (map (λ worker. Ok worker) workers) j
-each_well [] j within = absurd (omega (arith, within))
-each_well (worker ∷ workers) zero within = (worker, refl)
-each_well (worker ∷ workers) (suc j) within = each_well workers j (omega (arith, within))
+-- the workers before this number ended well
+abbrev pub WellBefore : {W : Type 0} → List (Result W RunFault) → ℕ → Type 0
+WellBefore results n = (i : ℕ) → i < n → EndedWell results i
 
-slice_get-front : {X : Type 0} (xs : List X) (n j : ℕ) → j < n → slice_get (take n xs) j ≡ slice_get xs j
-slice_get-front xs zero j less = absurd (omega (arith, less))
-slice_get-front [] (suc n) j less = refl
-slice_get-front (x ∷ xs) (suc n) zero less = refl
-slice_get-front (x ∷ xs) (suc n) (suc j) less = slice_get-front xs n j (omega (arith, less))
+-- and so did the one of this number
+pub well_more : {W : Type 0} (results : List (Result W RunFault)) (n : ℕ) (ended : Result W RunFault) (worker : W) → WellBefore results n
+    → (n < length results) → ended ≡ get_or results n ended → ended ≡ Ok worker → WellBefore results (n + 1)
+well_more {W} results n ended worker before within here is i less =
+    ⊎_elim
+    (λ (lt : i < n). before i lt)
+    (λ (le : n ≤ i).
+    let same : n ≡ i = omega (arith, le, less) in
+    (worker, subst (λ k. slice_get results k ≡ Some (Ok worker)) same (slice_get-get_or results n ended within ∙ ap Some (sym here ∙ is))))
+    (cases_lt i n)
 
--- the first answer that is a fault, where those before it are workers
-pub first_fault : {W : Type 0} {fault : RunFault} (results : List (Result W RunFault)) (workers : List W) (yielded : List (Result W RunFault)) (ended : Result W RunFault)
-    → map (λ worker. Ok worker) workers ≡ yielded → map (λ x. x) yielded ≡ take (length yielded) results
-    → (length yielded < length results) × (ended ≡ get_or results (length yielded) ended) → ended ≡ Err fault → IsFirstFault results fault
-first_fault {W} results workers yielded ended well front turn is = (
-  length yielded,
-  slice_get-get_or results (length yielded) ended turn.0 ∙ ap Some (sym turn.1 ∙ is),
-  λ j less.
-      let long : length workers ≡ length yielded = sym (length-map workers (λ (worker : W). Ok worker)) ∙ ap length well in
-      let there = each_well workers j (omega (arith, less, long)) in
-      let same : map (λ (worker : W). Ok worker) workers ≡ take (length yielded) results = well ∙ sym (map-id yielded) ∙ front in
-      (there.0, sym (slice_get-front results (length yielded) j less) ∙ ap (λ rs. slice_get rs j) (sym same) ∙ there.1),
-)
+-- the answer at an index at which a worker ended well is no fault
+pub no_fault_there : {W : Type 0} {fault : RunFault} (results : List (Result W RunFault)) (n : ℕ) (ended : Result W RunFault) → EndedWell results n
+    → ended ≡ get_or results n ended → ended ≢ Err fault
+no_fault_there {W} {fault} results n ended (worker, there) here is =
+    let both : Ok worker ≡ Err fault = sym (here ∙ get_or_from_slice_get results n (Ok worker) ended there) ∙ is in
+    absurd (cc)
+
+-- what holds of each fault holds of the first
+pub holds_of_first : {W : Type 0} (Q : RunFault → Type 0) (results : List (Result W RunFault)) (fault : RunFault) → All (λ result. IfErr result Q) results
+    → IsFirstFault results fault → Q fault
+holds_of_first {W} Q results fault all (i, there, before) =
+    let is : get_or results i (Err fault) ≡ Err fault = get_or_from_slice_get results i (Err fault) (Err fault) there in
+    subst (λ (result : Result W RunFault). IfErr result Q) is (all i (Err fault) (slice_get_within results i (Err fault) there))
 
 -- seats of these tickets that have drawn nothing
 pub fresh_seats : (roll : Roll) (seats : List Drawer) → All (IsSeatOf roll) seats → All (λ seat. seat.drawn ≡ []) seats → All (IsFreshSeatOf roll) seats

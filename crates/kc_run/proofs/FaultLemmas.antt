@@ -1,10 +1,10 @@
 -- The faults with which workers and runs end.
-use Rattle.std.proofs.Common.{◌≡◌, ℕ, ◌+◌, ◌<◌, ◌≤◌, sym, subst, inl, inr, arith}
+use Rattle.std.proofs.Common.{◌≡◌, ℕ, ◌<◌, ◌≤◌, sym, subst, inl, arith}
 use Rattle.kc_stripe.specs.declared.fault.BookFault.{BookFault}
 use Rattle.kc_stripe.specs.declared.fault.BookFault.TheVariants as book
 use Rattle.kc_run.specs.declared.fault.RunFault.{RunFault}
 use Rattle.kc_run.specs.declared.fault.RunFault.TheVariants as run
-use Rattle.kc_run.specs.Runs.{booking_fault, IsOfBooking, IsWorkerFault, IsRunFault}
+use Rattle.kc_run.specs.Runs.{booking_fault, IsOfBooking, IsWorkerFault, IsGatheringFault, IsRunFault}
 
 names_it : (stripes stripe : ℕ) (why : BookFault) → stripe < stripes → IsWorkerFault stripes (booking_fault stripe why)
 names_it stripes stripe book.Twice less = less
@@ -22,3 +22,14 @@ fault_of_more few more run.Memory le it = it
 fault_of_more few more (run.Foreign stripe) le it = omega (arith, le, it)
 fault_of_more few more (run.Full stripe) le it = omega (arith, le, it)
 fault_of_more few more (run.NoThread worker) le it = it
+
+-- memory may be refused to any run
+pub fault_of_memory : (workers stripes : ℕ) (fault : RunFault) → fault ≡ run.Memory → IsRunFault workers stripes fault
+fault_of_memory workers stripes fault is = inl (subst (IsWorkerFault stripes) (sym is) tt)
+
+-- what the gathering ends with
+pub fault_of_gathering : (workers stripes : ℕ) (fault : RunFault) → IsGatheringFault stripes fault → IsRunFault workers stripes fault
+fault_of_gathering workers stripes run.Memory it = inl it
+fault_of_gathering workers stripes (run.Foreign stripe) it = inl it
+fault_of_gathering workers stripes (run.Full stripe) it = absurd it
+fault_of_gathering workers stripes (run.NoThread worker) it = absurd it

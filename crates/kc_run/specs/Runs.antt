@@ -88,6 +88,13 @@ IsWorkerFault stripes (run.Foreign stripe) = stripe < stripes
 IsWorkerFault stripes (run.Full stripe) = stripe < stripes
 IsWorkerFault stripes (run.NoThread worker) = ⊥
 
+-- a fault with which the gathering may end: memory was refused, or one of the stripes is foreign
+abbrev pub IsGatheringFault : ℕ → RunFault → Type 0
+IsGatheringFault stripes run.Memory = Unit
+IsGatheringFault stripes (run.Foreign stripe) = stripe < stripes
+IsGatheringFault stripes (run.Full stripe) = ⊥
+IsGatheringFault stripes (run.NoThread worker) = ⊥
+
 -- a fault with which a run may end, where there are so many workers and stripes: that of a worker, or that no thread
 -- could be started for one of the workers
 abbrev pub IsRunFault : ℕ → ℕ → RunFault → Type 0
@@ -95,14 +102,20 @@ IsRunFault workers stripes fault =
     IsWorkerFault stripes fault ⊎ ((worker : ℕ) × (worker < workers) × (fault ≡ run.NoThread worker))
 
 module _ {W : Type 0} where
-  -- the answers of the threads of n workers: each that ended well is as it was promised, and where all did they are n
-  pub record AreEnds (HasEnded : W → Type 0) (n : ℕ) (results : List (Result W RunFault)) : Type 0 where
+  -- the answers of the threads of n workers over so many stripes: each that ended well is as it was promised, each
+  -- fault is one that such a run may have, and where all ended well they are n
+  pub record AreEnds (HasEnded : W → Type 0) (n stripes : ℕ) (results : List (Result W RunFault)) : Type 0 where
     pub kept : All (λ result. IfOk result HasEnded) results
+    pub faults : All (λ result. IfErr result (IsRunFault n stripes)) results
     pub all : (workers : List W) → map (λ worker. Ok worker) workers ≡ results → length workers ≡ n
 
   -- the worker of this index ended well
   abbrev pub EndedWell : List (Result W RunFault) → ℕ → Type 0
   EndedWell results i = (worker : W) × (slice_get results i ≡ Some (Ok worker))
+
+  -- every worker ended well
+  abbrev pub AllEndedWell : List (Result W RunFault) → Type 0
+  AllEndedWell results = (i : ℕ) → i < length results → EndedWell results i
 
   -- the fault is that of the lowest-numbered worker that met one
   abbrev pub IsFirstFault : List (Result W RunFault) → RunFault → Type 0

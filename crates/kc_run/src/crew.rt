@@ -1,13 +1,13 @@
 //! The workers of a run, each in a thread of its own.
-ghost use Rattle.std.specs.Prelude.{◌≡◌, ℕ, ◌+◌, ◌≤◌, ◌⊎◌, [], ◌∷◌, ◌++◌, OnOk};
-ghost use Rattle.std.specs.Prelude.{All, Some, None, Ok, Err, IfOk, IfErr, IfSome};
+ghost use Rattle.std.specs.Prelude.{◌≡◌, ℕ, ◌+◌, ◌<◌, ◌≤◌, ◌⊎◌, [], ◌∷◌, ◌++◌, OnOk};
+ghost use Rattle.std.specs.Prelude.{All, Some, None, Ok, Err, IfOk, IfErr, IfSome, MatchOption};
 ghost use Rattle.std.specs.Prelude.{length, map, slice_get, vec_len};
 ghost use Rattle.kc_share.specs.declared.entry.Plan.{Plan};
 ghost use Rattle.kc_share.specs.Share.{share_of, joined_shares};
 ghost use Rattle.kc_run.specs.declared.fault.RunFault.TheVariants.{Memory, NoThread};
 ghost use Rattle.kc_tickets.specs.Tickets.{Roll};
 ghost use Rattle.kc_run.specs.Runs.{IsJob, IsFreshSeatOf, IsReady, HasWorked, HaveWorked, IsPromised, AreEnds};
-ghost use Rattle.kc_run.specs.Runs.{IsFirstFault};
+ghost use Rattle.kc_run.specs.Runs.{IsWorkerFault, IsRunFault, AllEndedWell, IsFirstFault};
 
 use crate::fault::RunFault;
 use crate::gate::Gate;
@@ -25,7 +25,8 @@ use std::thread::{Promise, PromisedHandle, Scope, Threads};
 /// What a worker's thread answers.
 type Ended<N> = Result<Worker<N>, RunFault>;
 
-/// A worker that ends well has worked with these tickets and a sheet of this plan.
+/// A worker that ends well has worked with these tickets and a sheet of this plan; one that doesn't names one of the
+/// plan's stripes, or was refused memory.
 #[derive(Drop)]
 struct Working {
     tickets: Snapshot<Tickets>,
@@ -33,11 +34,12 @@ struct Working {
 }
 
 impl<N: Books> Promise<Result<Worker<N>, RunFault>> for Working {
-    ghost use Rattle.std.specs.Prelude.{IfOk};
-    ghost use Rattle.kc_run.specs.Runs.{HasWorked};
+    ghost use Rattle.std.specs.Prelude.{IfOk, IfErr};
+    ghost use Rattle.kc_run.specs.Runs.{HasWorked, IsWorkerFault};
 
     ghost kept_by = { λ promise result. IfOk result (λ worker.
-        HasWorked promise.tickets.value promise.plan worker.seat worker.share) };
+        HasWorked promise.tickets.value promise.plan worker.seat worker.share)
+        × IfErr result (IsWorkerFault promise.plan.stripes) };
 }
 
 /// The threads that were started, in the order of their workers, and the number of the first worker for which none
@@ -95,6 +97,7 @@ pub(crate) fn work_all<
     ensures len { IfOk result (λ ended. vec_len ended ≡ vec_len workers) }
     ensures worked { IfOk result (λ ended.
         All (λ worker. HasWorked job.now.tickets.now job.now.plan worker.seat worker.share) ended.items) }
+    ensures refused { IfErr result (IsRunFault (vec_len workers) job.now.plan.stripes) }
 {
     let results = thread::scope(
         thread::scope_env(),
@@ -105,7 +108,7 @@ pub(crate) fn work_all<
                 × All (λ worker. IsReady job.now.tickets.now job.now.plan worker.seat worker.share) workers.items }
             ensures { IfOk result (λ results. AreEnds
                 (λ worker. HasWorked job.entry.now.tickets.now job.entry.now.plan worker.seat worker.share)
-                (vec_len workers) results.items) }
+                (vec_len workers) job.entry.now.plan.stripes results.items) }
         {
             let started = start_all(scope, rt, alloc, job, workers)?;
             let results = join_all(rt, started)?;
@@ -136,6 +139,7 @@ fn start_all<
     requires ready { All (λ worker. IsReady job.now.tickets.now job.now.plan worker.seat worker.share) workers.items }
     ensures all { IfOk result (λ started. started.refused ≡ None → vec_len started.threads ≡ vec_len workers) }
     ensures refused { IfOk result (λ started. IfSome started.refused (λ number. number ≡ vec_len started.threads)) }
+    ensures below { IfOk result (λ started. IfSome started.refused (λ number. number < vec_len workers)) }
     ensures promised { IfOk result (λ started. All (λ thread.
         IsPromised job.now.tickets.now job.now.plan thread.promise.tickets.value thread.promise.plan)
         started.threads.items) }
@@ -151,7 +155,8 @@ fn start_all<
             requires { IsJob job.now.tickets.now job.now.plan (length job.now.batches.now) job.now.stripes.now.setup
                 × IsReady job.now.tickets.now job.now.plan worker.seat worker.share }
             ensures { IfOk result (λ ended.
-                HasWorked job.entry.now.tickets.now job.entry.now.plan ended.seat ended.share) }
+                HasWorked job.entry.now.tickets.now job.entry.now.plan ended.seat ended.share)
+                × IfErr result (IsWorkerFault job.entry.now.plan.stripes) }
         { worker.work(rt, alloc, job, number) };
         match scope.spawn_with(working, work) {
             Ok(thread) => threads.push(thread)?,
@@ -174,6 +179,10 @@ fn join_all<R: Threads, N: Books>(rt: &R, started: Started<N>) -> Result<Vec<End
     ensures kept { IfOk result (λ results. (roll : Roll) (plan : Plan)
         → All (λ thread. IsPromised roll plan thread.promise.tickets.value thread.promise.plan) started.threads.items
         → All (λ ended. IfOk ended (λ worker. HasWorked roll plan worker.seat worker.share)) results.items) }
+    ensures faults { IfOk result (λ results. (roll : Roll) (plan : Plan) (workers : ℕ)
+        → All (λ thread. IsPromised roll plan thread.promise.tickets.value thread.promise.plan) started.threads.items
+        → IfSome started.refused (λ number. number < workers)
+        → All (λ ended. IfErr ended (IsRunFault workers plan.stripes)) results.items) }
     ensures all { IfOk result (λ results. started.refused ≡ None → vec_len results ≡ vec_len started.threads) }
     ensures refused { IfOk result (λ results. (number : ℕ) → started.refused ≡ Some number
         → slice_get results.items (vec_len started.threads) ≡ Some (Err (NoThread number))) }
@@ -186,21 +195,35 @@ fn join_all<R: Threads, N: Books>(rt: &R, started: Started<N>) -> Result<Vec<End
     Ok(results)
 }
 
-// The workers, where all ended well, and else the fault of the lowest-numbered one that met one.
-fn all_well<N: Books>(alloc: Global, results: Vec<Ended<N>>) -> Result<Vec<Worker<N>>, RunFault>
-    ensures well { IfOk result (λ workers. map (λ worker. Ok worker) workers.items ≡ results.items) }
-    ensures first { IfErr result (λ fault. (fault ≡ Memory) ⊎ IsFirstFault results.items fault) }
+// The fault of the lowest-numbered worker that met one, and None where all ended well. Takes no memory.
+fn first_fault<N: Books>(results: &[Ended<N>]) -> Option<RunFault>
+    ensures { MatchOption result (AllEndedWell results.now) (IsFirstFault results.now) }
 {
-    let mut workers = Vec::with_capacity(alloc, results.len())?;
     for ended in results {
         match ended {
-            Ok(worker) => {
-                let Ok(()) = workers.push(worker) else {
-                    return Err(RunFault::Memory);
-                };
-            }
-            Err(fault) => return Err(fault),
+            Ok(_) => {}
+            Err(fault) => return Some(*fault),
         }
+    }
+    None
+}
+
+// The workers, where all ended well, and else the fault of the lowest-numbered one that met one. Memory is refused only
+// where all ended well.
+fn all_well<N: Books>(alloc: Global, results: Vec<Ended<N>>) -> Result<Vec<Worker<N>>, RunFault>
+    ensures well { IfOk result (λ workers. map (λ worker. Ok worker) workers.items ≡ results.items) }
+    ensures first { IfErr result (λ fault.
+        IsFirstFault results.items fault ⊎ ((fault ≡ Memory) × AllEndedWell results.items)) }
+{
+    if let Some(fault) = first_fault(&results) {
+        return Err(fault);
+    }
+    let mut workers = Vec::with_capacity(alloc, results.len())?;
+    for ended in results {
+        let Ok(worker) = ended else { unreachable!() };
+        let Ok(()) = workers.push(worker) else {
+            return Err(RunFault::Memory);
+        };
     }
     Ok(workers)
 }

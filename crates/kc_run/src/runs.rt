@@ -1,5 +1,5 @@
 //! Whole runs: batches counted by several workers over one table in locked stripes.
-ghost use Rattle.std.specs.Prelude.{◌≡◌, ◌<◌, ◌≤◌, ◌^◌, All, IfOk, length};
+ghost use Rattle.std.specs.Prelude.{◌≡◌, ◌<◌, ◌≤◌, ◌^◌, All, IfOk, IfErr, length};
 ghost use Rattle.std.specs.FinMap.{empty};
 ghost use Rattle.kc_word.specs.Shared.{values};
 ghost use Rattle.kc_tally.specs.Tally.{IsTallyOf};
@@ -7,6 +7,7 @@ ghost use Rattle.kc_share.specs.Sheet.{plan_of};
 ghost use Rattle.kc_stripe.specs.Setup.{stripe_count, key_bits};
 ghost use Rattle.kc_stripe.specs.Stripe.{reads_in};
 ghost use Rattle.kc_gather.specs.Gathering.{position_sum};
+ghost use Rattle.kc_run.specs.Runs.{IsGatheringFault, IsRunFault};
 
 use crate::crew::{joined, work_all, workers_of};
 use crate::fault::RunFault;
@@ -26,7 +27,8 @@ use std::sync::{Arc, Wait};
 use std::thread::Threads;
 
 /// Counts batches with so many workers over one table in locked stripes: the tally of all batches, whatever the
-/// workers, the stripes and the order in which threads are served. A refused run gives no tally.
+/// workers, the stripes and the order in which threads are served. A refused run gives no tally; where its fault names a
+/// worker or a stripe, it is one of this run's.
 ///
 /// Each worker, in a thread of its own, draws numbers until there is none left, and books the batch of each number into
 /// every stripe. It does so in rounds of some 4 million positions: it cuts up all batches of a round, and books them
@@ -49,6 +51,7 @@ pub fn run<H: Threads + Wait + Sync, C: Counts + Drop + Send, G: Gate + Sync>(
     requires one_each { length tables.items ≡ stripe_count setup.now }
     requires tables { All (λ table. (C.counts table ≡ empty) × (C.bits table ≡ key_bits setup.now)) tables.items }
     ensures tally { IfOk result (IsTallyOf setup.now.rule (reads_in (values batches.now))) }
+    ensures refused { IfErr result (IsRunFault workers (stripe_count setup.now)) }
 {
     let sheet = Sheet::new(alloc, setup.stripes(), u64::from(workers))?;
     let count = Count {
@@ -86,6 +89,7 @@ fn run_named<
         tables.items }
     ensures tally { IfOk result
         (IsTallyOf count.now.setup.now.rule (reads_in (values count.now.batches.now))) }
+    ensures refused { IfErr result (IsRunFault count.now.workers (stripe_count count.now.setup.now)) }
 {
     let Count {
         batches,
@@ -131,6 +135,7 @@ fn gathered<H: Threads + Sync, C: Counts + Drop + Send, G: Gate>(
         → length stripe.journal ≡ length count.now.batches.now) stripes.items }
     ensures tally { IfOk result
         (IsTallyOf count.now.setup.now.rule (reads_in (values count.now.batches.now))) }
+    ensures refused { IfErr result (IsGatheringFault (stripe_count count.now.setup.now)) }
 {
     let (batches, setup) = (count.batches, count.setup);
     match gather_in_parallel(rt, alloc, count.workers, stripes, batches, setup) {

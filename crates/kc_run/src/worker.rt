@@ -1,10 +1,10 @@
 //! One worker of a run: it draws numbers, and books the batch of each number into every stripe.
-ghost use Rattle.std.specs.Prelude.{◌≡◌, ◌+◌, ◌<◌, ◌≤◌, ◌⊎◌, IfOk, IfSome, IsNone, MatchOption};
+ghost use Rattle.std.specs.Prelude.{◌≡◌, ◌+◌, ◌<◌, ◌≤◌, ◌⊎◌, IfOk, IfErr, IfSome, IsNone, MatchOption};
 ghost use Rattle.std.specs.Prelude.{length};
 ghost use Rattle.kc_stripe.specs.Setup.{stripe_count};
 ghost use Rattle.kc_stripe.specs.Cut.{cuts_of};
 ghost use Rattle.kc_tickets.specs.Tickets.{IsSeatOf, IsDone, answers_of};
-ghost use Rattle.kc_run.specs.Runs.{IsJob, IsReady, HasWorked, AreCutUp};
+ghost use Rattle.kc_run.specs.Runs.{IsJob, IsReady, HasWorked, AreCutUp, IsWorkerFault};
 
 use crate::fault::RunFault;
 use crate::gate::Gate;
@@ -51,8 +51,9 @@ impl<N: Books> Worker<N> {
     ) -> Result<Worker<N>, RunFault>
         requires job { IsJob job.now.tickets.now job.now.plan (length job.now.batches.now) job.now.stripes.now.setup }
         requires ready { IsReady job.now.tickets.now job.now.plan self.seat self.share }
-        ensures { IfOk result (λ worker.
+        ensures worked { IfOk result (λ worker.
             HasWorked job.now.tickets.now job.now.plan worker.seat worker.share) }
+        ensures refused { IfErr result (IsWorkerFault job.now.plan.stripes) }
     {
         let first = first_stripe(job.stripes.setup().stripes(), job.stripes_apart, number);
         while let Some(drawn) = self.draw(job.tickets) {

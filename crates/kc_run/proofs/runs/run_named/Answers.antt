@@ -1,11 +1,13 @@
-use Rattle.std.proofs.Common.{◌≡◌, ◌∙◌, length, ap, sym, subst, rules, arith}
+use Rattle.std.proofs.Common.{◌≡◌, ◌∙◌, length, ap, sym, subst, vec_len, rules, arith}
 use Rattle.std.specs.Prelude.{All}
+use Rattle.std.proofs.lemmas.Result.{err_from_is_err_and, IfErr-weaker}
 use Rattle.kc_share.specs.declared.entry.Plan.{Plan}
 use Rattle.kc_share.specs.Share.{ShareSeen}
-use Rattle.kc_run.specs.Runs.{IsReady}
+use Rattle.kc_run.specs.Runs.{IsReady, IsGatheringFault, IsRunFault}
 use Rattle.kc_run.specs.declared.worker.Worker.{Worker}
 use Rattle.kc_stripe.specs.Setup.{stripe_count}
 use Rattle.kc_run.proofs.CrewLemmas.{fresh_seats}
+use Rattle.kc_run.proofs.FaultLemmas.{fault_of_gathering}
 use Rattle.kc_run.proofs.GatheringLemmas.{journals_counted}
 use Rattle.kc_run.proofs.runs.run_named.Goals as goal
 
@@ -37,3 +39,20 @@ gathered-requires-clause-counted g c κs within =
     let parts : c.in_ok-seats.share.parts ≡ c.in_ok-seats.share.plan.parts = omega (arith, whole.parts, ap (λ (p : Plan). p.parts) whole.same_plan, many, workers) in
     journals_counted c.in_ok-stripes-2.stripes.items c.in_ok-seats.share.booked (length count.batches.now) (stripe_count count.setup.now) (c.in_ok-stripes-2.ensures.whole parts)
     (λ stripe less. whole.booked stripe (omega (arith, less, stripes)) ∙ c.close.ensures.count whole.done ∙ limit)
+
+pub returns-in_err-ended-clause-refused : goal.returns-in_err-ended-clause-refused
+returns-in_err-ended-clause-refused g c =
+    let count = c.args.count.now in
+    let fault = c.in_err-ended.field-0.0 in
+    let stripes : c.from.result ≡ stripe_count count.setup.now = search rules in
+    let many : vec_len c.in_ok-ready.ready ≡ count.workers = c.in_ok-ready.ensures.len ∙ c.in_ok-tickets.ensures.seats.1 in
+    let p = err_from_is_err_and c.from_residual-in_err-ended.result c.from_residual-in_err-ended.ensures.1 in
+    rw (p.1, p.2)
+    (subst (λ n. IsRunFault n (stripe_count count.setup.now) fault) many
+    (subst (λ n. IsRunFault (vec_len c.in_ok-ready.ready) n fault) stripes c.in_err-ended.ensures.refused))
+
+pub returns-clause-refused : goal.returns-clause-refused
+returns-clause-refused g c =
+    let count = c.args.count.now in
+    let stripes = stripe_count count.setup.now in
+    IfErr-weaker c.gathered.result (IsGatheringFault stripes) (IsRunFault count.workers stripes) (fault_of_gathering count.workers stripes) c.gathered.ensures.refused

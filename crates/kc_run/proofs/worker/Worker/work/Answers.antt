@@ -1,6 +1,8 @@
-use Rattle.std.proofs.Common.{◌≡◌, ℕ, List, length, filter, nat_lt, ap, sym, ◌∙◌, arith}
+use Rattle.std.proofs.Common.{◌≡◌, ℕ, List, length, filter, nat_lt, ap, sym, ◌∙◌, subst, arith}
+use Rattle.std.proofs.lemmas.Result.{err_from_is_err_and}
 use Rattle.kc_share.specs.Share.{ShareSeen, entry_total_in}
 use Rattle.kc_run.proofs.EntryLemmas.{no_entries}
+use Rattle.kc_run.specs.Runs.{IsWorkerFault}
 use Rattle.kc_run.proofs.worker.Worker.work.Goals as goal
 
 pub loop-drawn-init : goal.loop-drawn-init
@@ -29,3 +31,14 @@ loop-drawn-preserved g c =
           let long = ap length c.deref-in-Some.ensures.value in
           omega (arith, more, before, long, i.booked stripe less, c.in-Some.ensures.answered.0, c.in_ok-round.ensures.answered);
     }
+
+pub returns-in_err-round-clause-refused : goal.returns-in_err-round-clause-refused
+returns-in_err-round-clause-refused g c =
+    let p = err_from_is_err_and c.from_residual.result c.from_residual.ensures.1 in
+    rw (p.1, p.2) tt
+
+pub returns-in_err-book_round-clause-refused : goal.returns-in_err-book_round-clause-refused
+returns-in_err-book_round-clause-refused g c =
+    let p = err_from_is_err_and c.from_residual-in_err-book_round.result c.from_residual-in_err-book_round.ensures.1 in
+    rw (p.1, p.2)
+    (subst (λ n. IsWorkerFault n c.in_err-book_round.field-0.0) (sym c.requires.job.stripes) c.in_err-book_round.ensures.refused)

@@ -10,6 +10,7 @@ returns g c =
     let long : length c.in_ok-results.results.items ≡ vec_len c.in_ok-results.results = search rules in
     record {
       kept = results.kept job.tickets.now job.plan started.promised;
+      faults = results.faults job.tickets.now job.plan (vec_len c.captures.workers) started.promised started.below;
       all = all_started c.in_ok-started.started.refused (vec_len c.in_ok-started.started.threads) (vec_len c.captures.workers)
           (λ none. long ∙ results.all none) results.refused started.all;
     }
