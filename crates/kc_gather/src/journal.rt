@@ -1,5 +1,5 @@
 //! Whether a stripe's journal holds the batches that were given.
-ghost use Rattle.std.specs.Prelude.{◌≡◌, ◌≢◌, ℕ, ◌<◌, ◌↔◌, length, All, true, false};
+ghost use Rattle.std.specs.Prelude.{◌≡◌, ◌≢◌, ℕ, ◌<◌, ◌↔◌, ◌⊎◌, length, All, true, false};
 ghost use Rattle.std.specs.Prelude.{IsTrue, IsSome, IfOk, OnOk, IfErr, IfSome, IfNone, slice_index_or};
 ghost use Rattle.kc_word.specs.Shared.{values};
 ghost use Rattle.kc_stripe.specs.Stripe.{IsBooked};
@@ -12,7 +12,8 @@ use kc_word::Batch;
 use std::alloc::{AllocError, Global};
 use std::sync::Arc;
 
-/// Whether the stripe is that of this index, and its journal holds exactly the given batches.
+/// Whether the stripe is that of this index, and its journal holds exactly the given batches. A stripe of another index
+/// or setup is foreign, whatever memory there is.
 pub(crate) fn check_stripe<C: Counts>(
     alloc: Global,
     index: u32,
@@ -22,6 +23,8 @@ pub(crate) fn check_stripe<C: Counts>(
 ) -> Result<(), GatherFault>
     ensures whole { OnOk result (IsWhole setup.now (values batches.now) index stripe.now) }
     ensures refused { IfErr result (IsStripeRefusal setup.now (values batches.now) index stripe.now) }
+    ensures foreign { (stripe.now.setup ≢ setup.now) ⊎ (stripe.now.number ≢ index)
+        → result ≡ Err (GatherFault.Foreign index) }
     ensures counted { (at batch : ℕ) → result ≡ Err (GatherFault.Missing at batch)
         → length stripe.now.journal ≢ length (values batches.now) }
 {
