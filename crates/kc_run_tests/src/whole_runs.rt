@@ -224,10 +224,11 @@ fn random_bases_are_counted_as_by_hand(rt: HostRuntime) -> Result<(), Fail> {
     Ok(())
 }
 
-// Tables that refuse the first key, one for each stripe.
+// Tables for this many keys, one for each stripe, which refuse the next one.
 fn refusing(
     alloc: Global,
     setup: &Setup,
+    keys: u64,
     refusal: TableFault,
 ) -> Result<Vec<LimitedCounts>, AllocError>
     ensures one_each { IfOk result (λ tables. length tables.items ≡ stripe_count setup.now) }
@@ -236,7 +237,7 @@ fn refusing(
 {
     let mut tables = Vec::new(alloc);
     for _ in 0..setup.stripes() {
-        tables.push(LimitedCounts::new(alloc, setup.key_bits(), 0, refusal))?;
+        tables.push(LimitedCounts::new(alloc, setup.key_bits(), keys, refusal))?;
     }
     Ok(tables)
 }
@@ -262,7 +263,7 @@ fn refused<H: Threads + Wait + Sync + AllocGlobal>(
         size: 1,
         workers,
     };
-    let tables = refusing(rt.alloc(), &setup, refusal)?;
+    let tables = refusing(rt.alloc(), &setup, 0, refusal)?;
     match run_over(rt, rt.alloc(), &setup, tables, &case, &NoGate)? {
         Ok(_) => Err(Fail::from("a tally")),
         Err(fault) => Ok(fault),
@@ -481,6 +482,44 @@ fn the_gate_is_told_of_each_batch_before_and_after(rt: HostRuntime) -> Result<()
         assert_eq!(rt; gate.before.load(Ordering::SeqCst), 0x1111_1111);
         assert_eq!(rt; gate.after.load(Ordering::SeqCst), 0x1111_1111);
         assert_eq!(rt; gate.unbegun.load(Ordering::SeqCst), 0);
+    }
+    Ok(())
+}
+
+// Bases of one batch of two words, over two stripes whose tables take one key each, and how often the gate is told
+// after it: AAA and AAC fall in the two stripes, AAG and AGA in the first one, AAC and ACC in the second one.
+const ONE_KEY_EACH: &[(&[u8], u64)] = &[(b"AAAC", 1), (b"AAGA", 0), (b"AACC", 0)];
+
+// Counts one batch of these bases over two stripes whose tables take one key each.
+fn tell_of_one<H: Threads + Wait + Sync + AllocGlobal>(
+    rt: &H,
+    bases: &[u8],
+    gate: &Told,
+) -> Result<bool, Fail> {
+    let setup = setup_of(3, 2).ok_or("no setup")?;
+    let case = Case {
+        bases,
+        size: 2,
+        workers: 1,
+    };
+    let tables = refusing(rt.alloc(), &setup, 1, TableFault::Full)?;
+    Ok(run_over(rt, rt.alloc(), &setup, tables, &case, gate)?.is_ok())
+}
+
+// A batch that is refused was told before it, and not after it: so the gate is told before the first booking of a
+// batch, and after the last.
+#[test]
+fn the_gate_is_told_of_a_refused_batch_only_before(rt: HostRuntime) -> Result<(), Fail> {
+    for (bases, after) in ONE_KEY_EACH {
+        let gate = Told {
+            before: AtomicU64::new(0),
+            after: AtomicU64::new(0),
+            unbegun: AtomicU64::new(0),
+        };
+        let is_counted = tell_of_one(&rt, *bases, &gate)?;
+        assert_eq!(rt; is_counted, *after == 1);
+        assert_eq!(rt; gate.before.load(Ordering::SeqCst), 1);
+        assert_eq!(rt; gate.after.load(Ordering::SeqCst), *after);
     }
     Ok(())
 }
