@@ -6,7 +6,7 @@ ARCHIVE ?=
 # The crates of tests that tests/memory.sh runs with each growth refused.
 TESTS_OF_MEMORY = kc_count_tests kc_stripe_tests kc_run_tests
 
-.PHONY: demo build dist verify check edits bodies memory files options examples documents test bench figures install clean help
+.PHONY: demo build dist verify check edits bodies memory files options program examples documents test bench figures install clean help
 
 demo: ## shows the program at work within two minutes: its source with checks, not yet proved
 	@tools/demo.sh
@@ -39,13 +39,16 @@ files: build ## runs the program over files that are missing, are directories or
 options: build ## compares the options of the man page and the completions with the help
 	tests/options.sh
 
+program: build ## compares the program's texts, streams and statuses as a whole, and the help's ranges and defaults with what it does
+	tests/program.sh
+
 examples: build ## runs the examples of README.md and docs/USING.md as they are written
 	tests/examples.sh
 
 documents: ## compares what the documents name with what is there
 	tests/documents.py
 
-test: ## the gate: all proofs from nothing, the tests, the stored run, the edits that must fail; then memory, files, options, examples
+test: ## the gate: all proofs from nothing, the tests, the stored run, the edits that must fail; then memory, files, options, program, examples
 	tests/gate.sh
 
 bench: build ## runs the benchmarks and prints the tables of docs/BENCHMARKS.md

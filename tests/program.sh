@@ -1,0 +1,335 @@
+#!/bin/bash
+# Runs the program as a whole, and compares byte by byte what it writes to each stream, and how it ends:
+#   tests/program.sh
+# The texts of its help stand in tests/texts/. Each range and each default that the help tells has to be the program's, `-t` has
+# to start as many threads, and each fault that can be brought about from outside has its line; `crates/kc_tests` and
+# tests/files.sh have more of these. It needs bin/kcount and a C compiler.
+set -euo pipefail
+here=$(cd "$(dirname "$0")" && pwd)
+program=$here/../bin/kcount
+definitions=$here/../crates/kc_command/specs
+[ -x "$program" ] || { echo "no bin/kcount: run make build first"; exit 1; }
+work=$(mktemp -d)
+trap 'rm -rf "$work"' EXIT
+cc -O2 -shared -fPIC -o "$work/watch.so" "$here/watch_threads.c" -ldl
+mkdir "$work/here" "$work/here/a-directory"
+cd "$work/here"
+
+ran=0
+# Runs a command on this input, and compares its status, its output and its errors.
+wants() {
+    local status=$1 output=$2 errors=$3 input=$4 got=0
+    shift 4
+    printf '%s' "$input" > "$work/input"
+    "$@" < "$work/input" > "$work/output" 2> "$work/errors" || got=$?
+    same "its errors" "$errors" "$work/errors" "$@"
+    same "its output" "$output" "$work/output" "$@"
+    same "its status" "$status" <(printf '%s' "$got") "$@"
+    ran=$((ran + 1))
+}
+same() {
+    local what=$1 wanted=$2 got=$3
+    shift 3
+    cat "$got" > "$work/got"
+    printf '%s' "$wanted" | cmp -s - "$work/got" && return
+    printf 'program: %s of %s\n' "$what" "$*"
+    # (a last line without its line feed is one that differs)
+    diff <(printf '%s.\n' "$wanted") <(cat "$work/got"; echo .) || true
+    exit 1
+}
+fails() {
+    echo "program: $*"
+    exit 1
+}
+
+# The ways in which the program is run here.
+kcount() { "$program" "$@"; }
+# from a pipe, in two parts
+through_a_pipe() { { cat; sleep 0.2; printf 'ACG\n'; } | "$program" "$@"; }
+of_a_directory() { "$program" "$@" < a-directory; }
+into_a_full_device() { "$program" "$@" > /dev/full; }
+with_full_errors() { "$program" "$@" 2> /dev/full; }
+with_closed_errors() { "$program" "$@" 2>&-; }
+with_both_full() { "$program" "$@" > /dev/full 2>&1; }
+in_little_memory() { (ulimit -v 100000 && "$program" "$@"); }
+without_thread() {
+    local number=$1
+    shift
+    REFUSE=$number LD_PRELOAD=$work/watch.so "$program" "$@"
+}
+
+reads=$'>r1\nACGTA\n'
+table=$'KCT 1 3 c\nACG 2\nGTA 1\nEND 2 3\n'
+printf '%s' "$reads" > reads.fa
+printf '%s' "$table" > two.kct
+more=$'\nFor more information, try \'--help\'.\n'
+usage=$'\nUsage: kcount <COMMAND>\n'
+usage_of_count=$'\nUsage: kcount count [OPTIONS] [FILE]...\n'
+
+# The help goes to the output, and the version does.
+helps() {
+    local text
+    text=$(cat "$here/texts/$1.txt"; echo .)
+    shift
+    wants 0 "${text%.}" '' "$reads" kcount "$@"
+}
+helps kcount --help
+helps kcount -h
+helps kcount help
+for command in count dump histo stats query; do
+    helps "$command" "$command" --help
+    helps "$command" "$command" -h
+    helps "$command" help "$command"
+done
+helps count count -m 3 --help missing
+wants 0 $'kcount 0.1.0\n' '' "$reads" kcount --version
+wants 0 $'kcount 0.1.0\n' '' "$reads" kcount -V
+
+# A command line that can't be read is refused with status 2, on the errors alone.
+refuses() {
+    local text=$1
+    shift
+    wants 2 '' "error: $text$more" "$reads" kcount "$@"
+}
+refuses $'\'kcount\' requires a subcommand but one was not provided\n  [subcommands: count, dump, histo, stats, query, help]\n'"$usage"
+refuses $'unrecognized subcommand \'frob\'\n'"$usage" frob
+refuses $'unrecognized subcommand \'frob\'\n'"$usage" frob --help
+refuses $'unrecognized subcommand \'coun\'\n\n  tip: a similar subcommand exists: \'count\'\n'"$usage" coun -m 3
+refuses $'unexpected argument \'-x\' found\n'"$usage" -x
+refuses $'a value is required for \'--mer-len <K>\' but none was supplied\n' count -m
+refuses $'a value is required for \'--output <FILE>\' but none was supplied\n' count -m 3 -o
+refuses $'a value is required for \'--print <WHAT>\' but none was supplied\n' count -m 3 --print
+refuses $'a value is required for \'--high <N>\' but none was supplied\n' histo --high
+refuses $'the argument \'--mer-len <K>\' cannot be used multiple times\n'"$usage_of_count" count -m 3 -m 4
+refuses $'unexpected argument \'--frob\' found\n\n  tip: to pass \'--frob\' as a value, use \'-- --frob\'\n'"$usage_of_count" count --frob
+refuses $'unexpected argument \'b\' found\n\nUsage: kcount stats [OPTIONS] [FILE]\n' stats a b
+refuses $'the following required arguments were not provided:\n  <TABLE>\n  <WORD>...\n\nUsage: kcount query <TABLE> <WORD>...\n' query
+refuses $'the following required arguments were not provided:\n  <WORD>...\n\nUsage: kcount query <TABLE> <WORD>...\n' query two.kct
+
+# The program hands on what it is given: each report goes to the output, and its input, all of it, and its arguments arrive.
+dump=$'>2\nACG\n>1\nGTA\n'
+histo=$'1 1\n2 1\n'
+stats=$'Unique:    1\nDistinct:  2\nTotal:     3\nMax_count: 2\n'
+ten=$'>r\nAAAAAAAAAA\n'
+columns=(--print dump --column)
+wants 0 "$table" '' "$reads" kcount count -m 3 -C
+wants 0 "$dump" '' "$reads" kcount count -m 3 -C --print dump
+wants 0 "$histo" '' "$reads" kcount count -m 3 -C --print histo
+wants 0 "$stats" '' "$reads" kcount count -m 3 -C --print stats
+wants 0 $'GTA\t1\n' '' "$reads" kcount count -m 3 -C "${columns[@]}" --tab --upper-count 1
+wants 0 $'8 1\n' '' "$ten" kcount count -m 3 --print histo
+wants 0 $'6 1\n' '' "$ten" kcount count -m 3 --print histo --high 5
+wants 0 $'Unique:    0\nDistinct:  0\nTotal:     0\nMax_count: 0\n' '' '' kcount count -m 5 --print stats
+wants 0 $'AAC 1\nACG 3\nGTA 1\nTAA 1\n' '' "$reads" through_a_pipe count -m 3 -C "${columns[@]}"
+wants 0 "$dump" '' "$table" kcount dump
+wants 0 $'>2\nACG\n' '' "$table" kcount dump -L 2
+wants 0 $'GTA\t1\n' '' "$table" kcount dump -c -t -U 1
+wants 0 $'ACG 2\nGTA 1\n' '' "$table" kcount dump --column --lower-count 1 --upper-count 2
+wants 0 "$histo" '' "$table" kcount histo
+wants 0 "$stats" '' "$table" kcount stats
+wants 0 $'ACG 2\nAAA 0\n' '' '' kcount query two.kct CGT aaa
+mapfile -t words < <(for _ in $(seq 50); do printf 'TAC\naaa\n'; done)
+wants 0 "$(for _ in $(seq 50); do printf 'GTA 1\nAAA 0\n'; done)"$'\n' '' '' kcount query two.kct "${words[@]}"
+
+# The help tells a range of an option, the ends of which are taken and give these outputs; one less and one more are refused.
+ranges() {
+    local command=$1 option=$2 range=$3 low=$4 high=$5 input=$table least most
+    local run=(kcount "$command")
+    [[ $(told_of "$command" "$option") == *" $range"[,\;\ ]* ]] || fails "the help of $command doesn't tell $range of --$option"
+    if [ "$command" = count ]; then
+        input=$reads
+        [ "$option" = mer-len ] || run+=(-m 3)
+    fi
+    least=${range%%[ ,]*}
+    most=${range##* }
+    most=$((${most/^/**}))
+    wants 0 "$low" '' "$input" "${run[@]}" "--$option=$(value_of "$option" "$least")"
+    wants 0 "$high" '' "$input" "${run[@]}" "--$option=$(value_of "$option" "$most")"
+    fault 2 "51: bad option --$option" "$input" "${run[@]}" "--$option=$(value_of "$option" $((least - 1)))"
+    fault 2 "51: bad option --$option" "$input" "${run[@]}" "--$option=$(value_of "$option" $((most + 1)))"
+}
+# What the help of a command says of an option, in one line.
+told_of() {
+    kcount "$1" --help \
+        | awk -v name="--$2" '/^ +-/ { inside = $1 == name || $2 == name } /^$/ { inside = 0 } inside { $1 = $1; printf "%s ", $0 }'
+}
+# A quality is told by its number, and given as a letter.
+value_of() {
+    if [ "$1" = min-qual-char ]; then
+        # shellcheck disable=SC2059
+        printf "\\$(printf %o "$2")"
+    else
+        printf %s "$2"
+    fi
+}
+# A fault has its line on the errors, and nothing goes to the output.
+fault() {
+    local status=$1 line=$2 input=$3
+    shift 3
+    wants "$status" '' "kcount: $line"$'\n' "$input" "$@"
+}
+one=$'KCT 1 3 s\nACG 1\nCGT 1\nGTA 1\nEND 3 3\n'
+ranges count mer-len '1 to 31' $'KCT 1 1 s\nA 2\nC 1\nG 1\nT 1\nEND 4 5\n' $'KCT 1 31 s\nEND 0 0\n'
+ranges count size '1 to 2^40' "$one" "$one"
+ranges count threads '1 to 64' "$one" "$one"
+ranges count min-qual-char '33 to 126' "$one" "$one"
+ranges count stripes '1, 2, 4, 8, 16, 32 or 64' "$one" "$one"
+ranges count batch '1 to 2^36' "$one" "$one"
+ranges count lower-count '0 to 2^62' "$one" "$one"
+ranges count upper-count '0 to 2^62' "$one" "$one"
+ranges count high '1 to 10000000' "$one" "$one"
+ranges dump lower-count '0 to 2^62' "$dump" ''
+ranges dump upper-count '0 to 2^62' '' "$dump"
+ranges histo high '1 to 10000000' "$histo" "$histo"
+for stripes in 2 4 8 16 32; do wants 0 "$one" '' "$reads" kcount count -m 3 --stripes "$stripes"; done
+for size in 500 20k 2M 2G; do wants 0 "$one" '' "$reads" kcount count -m 3 -s "$size"; done
+
+# The help tells a default, and the definitions of what a count is asked for have it.
+defaults() {
+    local option=$1 told=$2 setting=$3 asked=$4 command help
+    for command in count dump histo; do
+        help=$(told_of "$command" "$option")
+        [ -n "$help" ] || [ "$command" != count ] || fails "the help of count has no --$option"
+        [[ -z $help || $help == *"[default: $told"[],]* ]] || fails "the help of $command has another default of --$option"
+    done
+    grep -qE "(^| )$setting(;| \})" "$definitions/Settings.antt" || fails "Settings.antt doesn't have $setting, as the help tells"
+    grep -qE "or_default $asked .*\(codes \"$option\"\) rows\)" "$definitions/Arguments.antt" \
+        || fails "Arguments.antt doesn't have $asked for --$option, as the help tells"
+}
+defaults size 1M 'size = 1000000' 1000000
+defaults threads 1 'workers = 1' 1
+defaults min-qual-char '!' 'floor = 33' 33
+defaults stripes 16 'stripes = lowered k 16' 16
+defaults batch 65536 'batch = 65536' 65536
+defaults print table 'print = Table' 'report\.Table'
+defaults lower-count 0 'lower = 0' 0
+defaults upper-count 2^62 'upper = 2 \^ 62' '\(2 \^ 62\)'
+defaults high 10000 'high = 10000' 10000
+
+# Without an option the output is as with its default, and another value gives another output.
+usual() {
+    local input=$1 option=$2 default=$3 output=$4 other=$5 another=$6
+    shift 6
+    wants 0 "$output" '' "$input" kcount "$@"
+    wants 0 "$output" '' "$input" kcount "$@" "--$option=$default"
+    wants 0 "$another" '' "$input" kcount "$@" "--$option=$other"
+}
+letters() { printf '%*s' "$2" '' | tr ' ' "$1"; }
+frequent=$'KCT 1 1 s\nA 9999\nC 10000\nG 10001\nT 10002\nEND 4 40002\n'
+often=$'>r\n'$(letters A 9999)$(letters C 10000)$(letters G 10001)$(letters T 10002)$'\n'
+greatest=$'KCT 1 1 s\nA 4611686018427387904\nEND 1 4611686018427387904\n'
+usual $'@q\nACG\n+\n!"!\n' min-qual-char '!' $'A 1\nC 1\nG 1\n' '"' $'C 1\n' count -m 1 "${columns[@]}"
+usual "$reads" print table "$one" stats $'Unique:    3\nDistinct:  3\nTotal:     3\nMax_count: 1\n' count -m 3
+# (no count is 0, so a lower bound of 1 says the same as the default)
+usual "$reads" lower-count 0 $'ACG 2\nGTA 1\n' 2 $'ACG 2\n' count -m 3 -C "${columns[@]}"
+usual "$table" lower-count 0 "$dump" 2 $'>2\nACG\n' dump
+usual "$reads" upper-count 4611686018427387904 $'ACG 2\nGTA 1\n' 1 $'GTA 1\n' count -m 3 -C "${columns[@]}"
+usual "$greatest" upper-count 4611686018427387904 $'A 4611686018427387904\n' 4611686018427387903 '' dump -c
+for high in 9999 10001; do
+    another=$'9999 1\n10000 3\n'
+    [ "$high" = 9999 ] || another=$'9999 1\n10000 1\n10001 1\n10002 1\n'
+    usual "$often" high 10000 $'9999 1\n10000 1\n10001 2\n' "$high" "$another" count -m 1 --print histo
+    usual "$frequent" high 10000 $'9999 1\n10000 1\n10001 2\n' "$high" "$another" histo
+done
+
+# Each worker has a thread. Where the last one is refused, the fault names the last worker; one more would be no worker's.
+for threads in 1 2 4 64; do
+    many=(count -m 3 --stripes 64 -t "$threads")
+    fault 1 "33: no thread for worker $((threads - 1))" "$reads" without_thread "$threads" "${many[@]}"
+    wants 0 "$one" '' "$reads" without_thread $((threads + 1)) "${many[@]}"
+done
+fault 1 '33: no thread for worker 1' "$reads" without_thread 2 count -m 3 --threads=4
+fault 1 '33: no thread for worker 0' "$reads" without_thread 1 count -m 3
+wants 0 "$one" '' "$reads" without_thread 2 count -m 3
+# How many threads a count starts: without -t as many as with -t 1, and with -t 4 at least three more.
+started() {
+    : > "$work/started"
+    THREADS=$work/started LD_PRELOAD=$work/watch.so "$program" count -m 3 --stripes 64 "$@" < reads.fa > "$work/output"
+    wc -l < "$work/started"
+}
+usually=$(started)
+single=$(started -t 1)
+four=$(started -t 4)
+[ "$usually" = "$single" ] || fails "a count starts $usually threads, and with -t 1 $single"
+[ "$single" -ge 1 ] || fails "a count with -t 1 starts no thread"
+[ $((four - single)) -ge 3 ] || fails "a count with -t 1 starts $single threads, and with -t 4 $four"
+
+# A value outside its limits is refused before a file is looked for, the first in the order of the help.
+fault 2 '51: bad option --lower-count' "$table" kcount dump -U x -L x missing
+fault 2 '51: bad option --upper-count' "$table" kcount dump -L 2 -U 2k missing
+fault 2 '51: bad option --high' "$table" kcount histo --high= missing
+
+# What can't be opened is named. No name stands for standard input.
+long=$(letters a 200)
+for name in - "$long" 'a b' 'é'; do
+    fault 1 "54: cannot open $name" "$reads" kcount count -m 3 "$name"
+    fault 1 "54: cannot open $name" "$table" kcount dump "$name"
+    fault 1 "54: cannot open $name" "$table" kcount histo "$name"
+    fault 1 "54: cannot open $name" "$table" kcount stats "$name"
+    fault 1 "54: cannot open $name" "$table" kcount query "$name" ACG
+    fault 1 "54: cannot open no-such/$name" "$table" kcount stats -o "no-such/$name"
+done
+cp two.kct ./-
+wants 0 "$stats" '' "$one" kcount stats -
+
+# What can't be read, or is too large for the memory there is.
+fault 1 '7: read failed, source 1' '' of_a_directory count -m 3
+fault 1 '45: table read failed' '' of_a_directory dump
+truncate -s 1T large
+fault 1 '8: no memory' '' in_little_memory count -m 3 large
+fault 1 '46: no memory' '' in_little_memory stats large
+fault 1 '46: no memory' "$reads" in_little_memory count -m 31 -s 1000G
+
+# A text that is no table is refused by each command that reads one, also in a file, and before a bad word.
+no_table() {
+    local line=$1 text=$2 command
+    printf '%s' "$text" > no.kct
+    for command in dump histo stats; do
+        fault 1 "$line" "$text" kcount "$command"
+        fault 1 "$line" "$table" kcount "$command" no.kct
+    done
+    fault 1 "$line" "$table" kcount query no.kct N
+}
+no_table '41: bad header' ''
+no_table '41: bad header' $'KCT 2 3 s\nEND 0 0\n'
+no_table '41: bad header' $'KCT 1 32 s\nEND 0 0\n'
+no_table '41: bad header' 'KCT 1 3 s'
+no_table '42: bad row, line 2' $'KCT 1 3 c\nCGT 1\nEND 1 1\n'
+no_table '42: bad row, line 3' $'KCT 1 3 s\nACG 1\nACG 1\nEND 2 2\n'
+no_table '42: bad row, line 4' $'KCT 1 3 s\nACG 1\nCGT 1\n\nEND 2 2\n'
+no_table '43: bad end' $'KCT 1 3 s\nACG 1\n'
+no_table '43: bad end' $'KCT 1 3 s\nACG 1\nEND 1 1'
+no_table '43: bad end' $'KCT 1 3 s\nACG 1\nEND 1 2\n'
+no_table '43: bad end' $'KCT 1 3 s\nACG 1\nEND 1 1\n\n'
+
+# The first bad word of a query is told by its place.
+fault 1 '52: bad word 1' '' kcount query two.kct ACGT
+fault 1 '52: bad word 2' '' kcount query two.kct ACG ACN AC
+fault 1 '52: bad word 3' '' kcount query two.kct ACG gta ''
+fault 1 '52: bad word 101' '' kcount query two.kct "${words[@]}" 'A G'
+
+# An output that takes nothing is told, and errors that take nothing change no status.
+if [ -c /dev/full ]; then
+    for report in table dump histo stats; do
+        fault 1 '53: write failed' "$reads" into_a_full_device count -m 3 --print "$report"
+    done
+    for command in dump histo stats 'query two.kct ACG' --help 'help count' --version; do
+        # shellcheck disable=SC2086
+        fault 1 '53: write failed' "$table" into_a_full_device $command
+    done
+    wants 0 "$one" '' "$reads" with_full_errors count -m 3
+    wants 1 '' '' '>' with_full_errors stats
+    wants 2 '' '' '' with_full_errors count -m 32
+    wants 2 '' '' '' with_full_errors frob
+    wants 1 '' '' "$reads" with_both_full count -m 3
+else
+    echo "program: an output that takes nothing was not tried, since there is no /dev/full"
+fi
+wants 0 "$one" '' "$reads" with_closed_errors count -m 3
+wants 1 '' '' '>' with_closed_errors stats
+wants 2 '' '' '' with_closed_errors count -m 32
+wants 2 '' '' '' with_closed_errors frob
+# (a file that is opened while there are no errors doesn't get the line)
+wants 1 '' '' 'ACGT' with_closed_errors count -m 3 -o out
+same "the file out" '' out "a fault without errors"
+echo "program: $ran command lines wrote and ended as they should; the help tells the program's ranges and defaults"
