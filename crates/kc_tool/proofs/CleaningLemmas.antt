@@ -13,12 +13,12 @@ use Rattle.kc_word.specs.Cutting.{cleaned}
 use Rattle.kc_word.specs.OpenCutting.{OpenCutting, HasTaken}
 use Rattle.kc_word.specs.Rule.{CountingRule}
 use Rattle.kc_word.proofs.Cleaning.{length-cleaned}
-use Rattle.kc_tool.specs.Reading.{CutsPieces, CutsSources, FailsAt, RefusesSource, RefusesSources, pieces_of}
+use Rattle.kc_tool.specs.Tallies.{CutsPieces, CutsSources, FailsAt, RefusesSource, RefusesSources, pieces_of}
 use Rattle.kc_tool.specs.declared.faults.ToolFault.{ToolFault}
 use Rattle.kc_tool.specs.declared.faults.ToolFault.TheVariants.{Fastx, BadHeader, BadRow, BadEnd, TableTooLong}
 use Rattle.kc_tool.specs.declared.faults.ToolFault.TheVariants.{TableRead, Memory, BadOption, BadWord, Write, Run}
 use Rattle.kc_tool.specs.declared.faults.ToolFault.TheVariants.{OpenFailed}
-use Rattle.kc_tool.proofs.ReadingLemmas.{ReadSoFar, begun, ended, one_more, refused}
+use Rattle.kc_tool.proofs.InputsLemmas.{ReadSoFar, begun, ended, one_more, refused}
 
 pieces_of-append : (rule : CountingRule) (reads more : List Read)
     → pieces_of rule (reads ++ more) ≡ pieces_of rule reads ++ pieces_of rule more

@@ -1,10 +1,9 @@
 pub mod CleaningLemmas
-pub mod CountingLemmas
+pub mod CommandLineLemmas
+pub mod CommandsLemmas
 pub mod FaultLinesLemmas
 pub mod FilesLemmas
-pub mod ReadingLemmas
-pub mod ReportingLemmas
-pub mod RunningLemmas
+pub mod InputsLemmas
+pub mod ReportsLemmas
 pub mod SourcesLemmas
-pub mod TasksLemmas
-pub mod VerbsLemmas
+pub mod TalliesLemmas

@@ -4,9 +4,9 @@ use Rattle.std.proofs.lemmas.List.{map-append, length-map}
 use Rattle.kc_io.specs.Sources.{Seen}
 use Rattle.kc_fastx.specs.Reads.{Read}
 use Rattle.kc_fastx.specs.declared.faults.FastxFault.{FastxFault}
-use Rattle.kc_tool.specs.Reading.{FailsAt, GaveInputs, GaveReads, ReadsSources, RefusesSources}
-use Rattle.kc_tool.specs.Reporting.{IsReportOf}
+use Rattle.kc_tool.specs.Tallies.{FailsAt, GaveInputs, GaveReads, ReadsSources, RefusesSources, TalliesSources}
 use Rattle.kc_command.specs.Settings.{Settings}
+use Rattle.kc_tally.specs.Tally.{TallySeen}
 use Rattle.kc_tool.specs.declared.faults.ToolFault.{ToolFault}
 use Rattle.kc_tool.specs.declared.faults.ToolFault.TheVariants.{Fastx, BadHeader, BadRow, BadEnd, TableTooLong, TableRead, Memory, BadOption, BadWord, Write, Run, OpenFailed}
 
@@ -24,15 +24,10 @@ module _ {S : Type 0} (seen : S → Seen) where
   pub reads_seen : (sources : List S) (reads : List Read) → ReadsSources seen sources reads → ReadsSources (λ source. source) (map seen sources) reads
   reads_seen sources reads h = (h.0, have_seen sources h.0 reads h.1)
 
-  pub report_seen : (sources : List S) (settings : Settings) (text : List ℕ) → IsReportOf seen sources settings text
-      → IsReportOf (λ source. source) (map seen sources) settings text
-  report_seen sources settings text h = record {
-    reads = h.reads;
-    are_reads = reads_seen sources h.reads h.are_reads;
-    tally = h.tally;
-    is_tally = h.is_tally;
-    is_text = h.is_text;
-  }
+  -- So is their tally.
+  pub tally_seen : (sources : List S) (settings : Settings) (tally : TallySeen) → TalliesSources seen sources settings tally
+      → TalliesSources (λ source. source) (map seen sources) settings tally
+  tally_seen sources settings tally h = (h.0, reads_seen sources h.0 h.1, h.2)
 
   fails_seen : (sources : List S) (number : ℕ) (fault : FastxFault) → FailsAt seen sources number fault → FailsAt (λ source. source) (map seen sources) number fault
   fails_seen sources number fault h = record {

@@ -1,6 +1,6 @@
 -- The files that a command line names: source, the README ("The commands").
 use Rattle.std.specs.Prelude.{◌≡◌, List, [], ◌∷◌, map, All, Contains, Option, Some, None, codes, string_bytes}
-use Rattle.std.specs.Prelude.{Result, Err, unwrap_or, ⊤}
+use Rattle.std.specs.Prelude.{unwrap_or, ⊤}
 use Rattle.clap.specs.Words.{Row, Text, all_of, first_of}
 use Rattle.kc_io.specs.History.{no_history}
 use Rattle.kc_io.specs.Sinks.{Written}
@@ -64,12 +64,3 @@ abbrev pub HappensTo : Option Text → Written → Written → (Written → Writ
 HappensTo None old new Happens = Happens old new
 HappensTo (Some name) old new Happens =
     (new ≡ old) × (file : NamedSink) × IsCreated name file × (after : Written) × Happens file.seen after
-
--- the file that is named for the output could not be created, and nothing was written
-pub record IsUncreated (name : Option Text) (old new : Written) (outcome : Result (Unit {0}) ToolFault) : Type 0 where
-  pub file : Text
-  pub named : name ≡ Some file
-  pub fault : ToolFault
-  pub is : outcome ≡ Err fault
-  pub why : FailsToOpen file fault
-  pub unwritten : new ≡ old

@@ -1,10 +1,8 @@
-pub mod Counting
+pub mod CommandLine
+pub mod Commands
 pub mod FaultLines
 pub mod Faults
 pub mod Files
 pub mod Progress
-pub mod Reading
-pub mod Reporting
-pub mod Running
-pub mod Tasks
-pub mod Verbs
+pub mod Reports
+pub mod Tallies

@@ -18,19 +18,17 @@
 #![tactic(auto)]
 
 mod arguments;
-mod counting;
+mod command_line;
+mod commands;
 mod fault_lines;
 mod faults;
 mod files;
 mod progress;
-mod reading;
-mod reporting;
-mod running;
-mod tasks;
-mod telling;
-mod verbs;
+mod reports;
+mod tallies;
 
 pub use arguments::{dump_options, high_of, options};
+pub use command_line::{program, program_showing, run};
 pub use fault_lines::write_fault;
 pub use faults::ToolFault;
 pub use kc_command::{OptionName, Options, Print, laws};
@@ -43,5 +41,4 @@ pub use kc_run::RunFault;
 pub use kc_tally::{Row, Tally};
 pub use kc_word::K;
 pub use progress::{NoProgress, Progress, ProgressLine};
-pub use reporting::count_reads;
-pub use running::{program, program_showing, run};
+pub use reports::count_reads;

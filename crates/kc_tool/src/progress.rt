@@ -1,8 +1,11 @@
-//! What a count tells while it works, and the line on a terminal that shows it.
+//! How far a count has come: what tells it (the sources as they are read, and the gate of the workers), what is told
+//! it, and the line on a terminal that shows it.
 ghost use Rattle.std.specs.Prelude.{◌≡◌, ◌≤◌, ◌+◌, ◌++◌, length};
 ghost use Rattle.kc_tool.specs.Progress.{batches_text, progress_text};
 
+use kc_io::{Failed, Source};
 use kc_report::Block;
+use kc_run::Gate;
 use std::io::{IsTerminal, Print};
 use std::sync::atomic::{AtomicBool, AtomicU64, Ordering};
 use std::time::{Clock, Duration, Instant};
@@ -39,6 +42,46 @@ impl Progress for NoProgress {
     fn batch_counted(&self) {}
 
     fn ends(&self) {}
+}
+
+/// A source that tells how many bytes each read gave. It gives what the source inside gives.
+#[derive(Drop)]
+pub(crate) struct ToldSource<'a, R: Source, P: Progress> {
+    /// The source inside.
+    pub source: R,
+    /// What is told.
+    pub progress: &'a P,
+}
+
+impl<R: Source, P: Progress> Source for ToldSource<'_, R, P> {
+    ghost seen = { λ told. R.seen told.source };
+
+    fn read(&mut self, buffer: &mut [u8]) -> Result<usize, Failed> {
+        match self.source.read(buffer) {
+            Ok(count) => {
+                self.progress.bytes_read(count as u64);
+                Ok(count)
+            }
+            Err(failed) => Err(failed),
+        }
+    }
+}
+
+/// The gate that tells of each batch, before it is booked and after.
+#[derive(Drop)]
+pub(crate) struct ToldGate<'a, P: Progress> {
+    /// What is told.
+    pub progress: &'a P,
+}
+
+impl<P: Progress> Gate for ToldGate<'_, P> {
+    fn before_book(&self, _worker: u32, _batch: u64) {
+        self.progress.batch_begins();
+    }
+
+    fn after_book(&self, _worker: u32, _batch: u64) {
+        self.progress.batch_counted();
+    }
 }
 
 // The least time from one line to the next, in milliseconds. It leaves room for one line that comes before its time.

@@ -1,0 +1,140 @@
+-- How a command line ends.
+use Rattle.std.proofs.Common.{◌≡◌, ◌∙◌, ℕ, refl, sym, ap, subst, List, [], inl, inr, Option, Some, None, Result, Ok, Err, IfOk, IfErr, true}
+use Rattle.std.specs.Prelude.{option_map, Box}
+use Rattle.std.specs.Box.{box_value}
+use Rattle.clap.specs.declared.parser.matches.ArgMatches.TheViews.{out-ArgMatches, out-SubCommand}
+use Rattle.clap.specs.declared.parser.matches.SubCommand.{SubCommand}
+use Rattle.clap.specs.Faults.{fault_of, is_simple_and_free}
+use Rattle.clap.specs.Kinds.{FailsBy, HasKind, IsAmong, Kinds}
+use Rattle.clap.specs.Words.{App, HasMatchesOf, Row, Text, kind_of, subcommand_name_of, subcommand_of, subcommand_rows, subcommand_rows_of}
+use Rattle.clap.specs.declared.parser.matches.ArgMatches.{ArgMatches}
+use Rattle.clap.specs.declared.error.Error.{Error}
+use Rattle.clap.specs.declared.error.kind.ErrorKind.{ErrorKind}
+use Rattle.clap.specs.declared.error.kind.ErrorKind.TheVariants.{DisplayHelp, DisplayVersion, OutOfMemory}
+use Rattle.kc_io.specs.Sources.{Seen}
+use Rattle.kc_command.specs.Command.{IsCommand, kcount_app}
+use Rattle.kc_tool.specs.CommandLine.{AskForHelp, AreTaken, CarriesOut, DoesCommand, IsHelp, IsTold, ShowsSo}
+use Rattle.kc_tool.specs.Commands.{EndsSo, name_of, verb_named}
+use Rattle.kc_tool.specs.declared.commands.Verb.{Verb}
+use Rattle.kc_tool.specs.declared.commands.Verb.TheVariants as verb
+use Rattle.kc_io.specs.Sinks.{Written, Writes}
+use Rattle.kc_tool.specs.declared.faults.ToolFault.{ToolFault}
+use Rattle.kc_tool.specs.declared.faults.ToolFault.TheVariants.{
+  Fastx,
+  BadHeader,
+  BadRow,
+  BadEnd,
+  TableTooLong,
+  TableRead,
+  Memory,
+  BadOption,
+  BadWord,
+  Write,
+  Run,
+  OpenFailed,
+}
+use Rattle.kc_tool.specs.declared.command_line.Ending.{Ending}
+use Rattle.kc_tool.specs.declared.command_line.Ending.TheVariants.{Fault, Refused}
+use Rattle.kc_command.proofs.CommandLemmas.{names_command}
+
+among : (kinds : Kinds) (error : Error) (kind : ErrorKind) → HasKind kinds error → kind_of error ≡ kind → (kind ≡ OutOfMemory → ⊥) → IsAmong kind kinds
+among kinds error kind (inl none) is other = absurd (other (sym is ∙ none))
+among kinds error kind (inr found) is other = subst (λ k. IsAmong k kinds) is found
+
+asks_for_help : (arguments : List Text) (error : Error) → HasKind (fault_of kcount_app arguments) error → IsHelp error → AskForHelp arguments
+asks_for_help arguments error h (inl is) = inl (among (fault_of kcount_app arguments) error DisplayHelp h is (λ e. cc))
+asks_for_help arguments error h (inr is) = inr (among (fault_of kcount_app arguments) error DisplayVersion h is (λ e. cc))
+
+-- the command that has a name
+has_verb : (name : Text) → IsCommand name → (command : Verb) × (name ≡ name_of command)
+has_verb name (inl is) = (verb.Count, is)
+has_verb name (inr (inl is)) = (verb.Dump, is)
+has_verb name (inr (inr (inl is))) = (verb.Histo, is)
+has_verb name (inr (inr (inr (inl is)))) = (verb.Stats, is)
+has_verb name (inr (inr (inr (inr is)))) = (verb.Query, is)
+
+-- `clap` takes the arguments where nothing fails
+taken : (arguments : List Text) (matches : ArgMatches) → fault_of kcount_app arguments ≡ [] → subcommand_rows_of matches ≡ subcommand_of kcount_app arguments
+    → AreTaken arguments matches
+taken arguments matches none is =
+    let named = names_command arguments none in
+    let found = has_verb named.0 named.2 in
+    let asked : subcommand_of kcount_app arguments ≡ Some (name_of found.0, named.1) = named.3 ∙ ap (λ (name : Text). Some (name, named.1)) found.1 in
+    record { command = found.0; options = named.1; asked = record { accepted = none; named = asked }; entered = is ∙ asked }
+
+ends : (arguments : List Text) (r : Result ArgMatches Error) → FailsBy (fault_of kcount_app arguments) r → IfOk r (HasMatchesOf kcount_app arguments)
+    → IfOk r (AreTaken arguments) × IfErr r (HasKind (fault_of kcount_app arguments))
+ends arguments (Ok matches) none h = (taken arguments matches none (h refl).1, tt)
+ends arguments (Err error) kinds h = (tt, kinds)
+
+-- what a parse of the command line comes to
+pub parse_ends : (command : App) (arguments : List Text) (r : Result ArgMatches Error) → command ≡ kcount_app
+    → (is_simple_and_free command ≡ true → FailsBy (fault_of command arguments) r) → IfOk r (HasMatchesOf command arguments)
+    → IfOk r (AreTaken arguments) × IfErr r (HasKind (fault_of kcount_app arguments))
+parse_ends command arguments r is kinds matches =
+    ends arguments r (subst (λ (a : App). FailsBy (fault_of a arguments) r) is (kinds (ap is_simple_and_free is)))
+    (subst (λ (a : App). IfOk r (HasMatchesOf a arguments)) is matches)
+
+-- a command is found by its name
+pub verb_found : (command : Verb) → verb_named (name_of command) ≡ Some command
+verb_found verb.Count = refl
+verb_found verb.Dump = refl
+verb_found verb.Histo = refl
+verb_found verb.Stats = refl
+verb_found verb.Query = refl
+
+module _ {Z : Type 0} where
+  name_with_rows : (sub : Option (Box SubCommand Z)) → option_map (λ b. (out-SubCommand (box_value b)).name.now) sub ≡ option_map (λ p. p.0) (subcommand_rows sub)
+  name_with_rows None = refl
+  name_with_rows (Some b) = refl
+
+same_name : {name : Text} (met : Text × List Row) → Some name ≡ option_map (λ p. p.0) (Some met) → name ≡ met.0
+same_name met e = cc
+
+same_rows : {rows : List Row} (met : Text × List Row) → Some rows ≡ option_map (λ p. p.1) (Some met) → rows ≡ met.1
+same_rows met e = cc
+
+same_verb : {found command : Verb} → Some found ≡ Some command → found ≡ command
+same_verb e = cc
+
+-- a command was carried out
+pub command_done : {input : Seen} {arguments : List Text} {old new : Written} {outcome : Result (Unit {0}) ToolFault} {matches : ArgMatches}
+    {name : Text} {rows : List Row} {command : Verb} → AreTaken arguments matches → Some name ≡ subcommand_name_of matches
+    → Some rows ≡ option_map (λ p. p.1) (subcommand_rows_of matches) → Some command ≡ verb_named name → EndsSo command rows input old new outcome
+    → DoesCommand input arguments old new outcome
+command_done {input} {arguments} {old} {new} {outcome} {matches} {name} {rows} {command} taken named found is ends =
+    let name_is : name ≡ name_of taken.command = same_name (name_of taken.command, taken.options) (named ∙ name_with_rows (out-ArgMatches matches).subcommand ∙ ap (option_map (λ p. p.0)) taken.entered) in
+    let rows_are : rows ≡ taken.options = same_rows (name_of taken.command, taken.options) (found ∙ ap (option_map (λ p. p.1)) taken.entered) in
+    let command_is : command ≡ taken.command = same_verb (is ∙ ap verb_named name_is ∙ verb_found taken.command) in
+    (taken.command, taken.options, taken.asked, subst (λ v. EndsSo v taken.options input old new outcome) command_is (subst (λ v. EndsSo command v input old new outcome) rows_are ends))
+
+-- an answer of `clap` was shown
+pub shown : (input : Seen) (arguments : List Text) (error : Error) (old new : Written) (r : Result (Unit {0}) Ending)
+    → HasKind (fault_of kcount_app arguments) error → ShowsSo error old new r → CarriesOut input arguments old new r
+shown input arguments error old new (Ok done) h s = inr (s.0, asks_for_help arguments error h s.1, s.2)
+shown input arguments error old new (Err (Fault Write)) h s = inr (inl (s.0, asks_for_help arguments error h s.1, refl, s.2))
+shown input arguments error old new (Err (Fault Memory)) h s = inr (inr (refl, s))
+shown input arguments error old new (Err (Fault (Fastx number fault))) h s = absurd s
+shown input arguments error old new (Err (Fault BadHeader)) h s = absurd s
+shown input arguments error old new (Err (Fault (BadRow line))) h s = absurd s
+shown input arguments error old new (Err (Fault BadEnd)) h s = absurd s
+shown input arguments error old new (Err (Fault TableTooLong)) h s = absurd s
+shown input arguments error old new (Err (Fault TableRead)) h s = absurd s
+shown input arguments error old new (Err (Fault (BadOption name))) h s = absurd s
+shown input arguments error old new (Err (Fault (BadWord number))) h s = absurd s
+shown input arguments error old new (Err (Fault (Run fault))) h s = absurd s
+shown input arguments error old new (Err (Fault (OpenFailed name))) h s = absurd s
+shown input arguments error old new (Err (Refused text)) h s = (
+  record {
+    reason = kind_of error;
+    among = among (fault_of kcount_app arguments) error (kind_of error) h refl s.1;
+    no_help = s.2;
+    no_version = s.3;
+  },
+  s.0,
+)
+
+-- a text went to the errors, whether all of it could be written or not
+pub told : {A E : Type 0} (old new : Written) (r : Result A E) (text : List ℕ) → Writes old new r text → IsTold old new text
+told old new (Ok done) text w = inl w
+told old new (Err fault) text w = inr w

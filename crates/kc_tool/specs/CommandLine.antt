@@ -1,0 +1,116 @@
+-- How the program ends, for each command line: source, the README ("The exit status") and our formats page.
+use Rattle.std.specs.Prelude.{◌≡◌, ◌≢◌, ◌⊎◌, ℕ, List, [], Some, Result, Ok, Err}
+use Rattle.clap.specs.Faults.{fault_of}
+use Rattle.clap.specs.Kinds.{IsAmong}
+use Rattle.clap.specs.Words.{Row, Text, kind_of, subcommand_of, subcommand_rows_of}
+use Rattle.clap.specs.declared.parser.matches.ArgMatches.{ArgMatches}
+use Rattle.clap.specs.declared.error.Error.{Error}
+use Rattle.clap.specs.declared.error.kind.ErrorKind.{ErrorKind}
+use Rattle.clap.specs.declared.error.kind.ErrorKind.TheVariants.{DisplayHelp, DisplayVersion, OutOfMemory}
+use Rattle.kc_io.specs.Sinks.{Written, HasWritten, HasBegun}
+use Rattle.kc_io.specs.Sources.{Seen}
+use Rattle.kc_command.specs.Command.{kcount_app}
+use Rattle.kc_tool.specs.FaultLines.{fault_line}
+use Rattle.kc_tool.specs.Commands.{EndsSo, name_of}
+use Rattle.kc_tool.specs.declared.commands.Verb.{Verb}
+use Rattle.kc_tool.specs.declared.faults.ToolFault.{ToolFault}
+use Rattle.kc_tool.specs.declared.faults.ToolFault.TheVariants.{Memory, BadOption, Write}
+use Rattle.kc_tool.specs.declared.command_line.Ending.{Ending}
+use Rattle.kc_tool.specs.declared.command_line.Ending.TheVariants.{Fault, Refused}
+
+-- the exit status of a fault: a bad option refuses the command line
+abbrev pub status_of : ToolFault → ℕ
+status_of (BadOption name) = 2
+status_of _ = 1
+
+-- the arguments ask for help or for the version
+abbrev pub AskForHelp : List Text → Type 0
+AskForHelp arguments =
+    IsAmong DisplayHelp (fault_of kcount_app arguments) ⊎ IsAmong DisplayVersion (fault_of kcount_app arguments)
+
+-- the arguments are no command line of kcount
+pub record AreRefused (arguments : List Text) : Type 0 where
+  pub reason : ErrorKind
+  pub among : IsAmong reason (fault_of kcount_app arguments)
+  pub no_help : reason ≢ DisplayHelp
+  pub no_version : reason ≢ DisplayVersion
+
+-- the arguments ask for a command, with these options
+pub record AskFor (arguments : List Text) (command : Verb) (options : List Row) : Type 0 where
+  pub accepted : fault_of kcount_app arguments ≡ []
+  pub named : subcommand_of kcount_app arguments ≡ Some (name_of command, options)
+
+-- `clap` takes the arguments, for a command with these options
+pub record AreTaken (arguments : List Text) (matches : ArgMatches) : Type 0 where
+  pub command : Verb
+  pub options : List Row
+  pub asked : AskFor arguments command options
+  pub entered : subcommand_rows_of matches ≡ Some (name_of command, options)
+
+-- the arguments ask for a command, and this is what comes of it
+abbrev pub DoesCommand : Seen → List Text → Written → Written → Result (Unit {0}) ToolFault → Type 0
+DoesCommand input arguments old new outcome = (command : Verb) × (options : List Row)
+    × AskFor arguments command options × EndsSo command options input old new outcome
+
+-- the help or the version was written
+abbrev pub ShowsHelp : List Text → Written → Written → Type 0
+ShowsHelp arguments old new = (text : List ℕ) × AskForHelp arguments × HasWritten old new text
+
+-- the output failed while the help or the version was written
+abbrev pub FailsInHelp : List Text → Written → Written → ToolFault → Type 0
+FailsInHelp arguments old new fault = (text : List ℕ) × AskForHelp arguments × (fault ≡ Write) × HasBegun old new text
+
+-- memory was refused before the arguments were understood, and nothing was written
+abbrev pub LacksMemory : Written → Written → ToolFault → Type 0
+LacksMemory old new fault = (fault ≡ Memory) × (new ≡ old)
+
+-- a fault of the program: of a command, of the help, or of memory
+abbrev pub FailsSo : Seen → List Text → Written → Written → ToolFault → Type 0
+FailsSo input arguments old new fault = DoesCommand input arguments old new (Err fault)
+    ⊎ FailsInHelp arguments old new fault ⊎ LacksMemory old new fault
+
+-- `clap` answers with help or with the version
+abbrev pub IsHelp : Error → Type 0
+IsHelp error = (kind_of error ≡ DisplayHelp) ⊎ (kind_of error ≡ DisplayVersion)
+
+-- what is done with an answer of `clap`: help and the version were written, or a beginning where writing failed; any
+-- other refuses the arguments, and nothing was written
+abbrev pub ShowsSo : Error → Written → Written → Result (Unit {0}) Ending → Type 0
+ShowsSo error old new (Ok done) = (text : List ℕ) × IsHelp error × HasWritten old new text
+ShowsSo error old new (Err (Fault Write)) = (text : List ℕ) × IsHelp error × HasBegun old new text
+ShowsSo error old new (Err (Fault Memory)) = new ≡ old
+ShowsSo error old new (Err (Fault fault)) = ⊥
+ShowsSo error old new (Err (Refused text)) = (new ≡ old) × (kind_of error ≢ OutOfMemory)
+    × (kind_of error ≢ DisplayHelp) × (kind_of error ≢ DisplayVersion)
+
+-- what is done with the arguments: the command or the help; or there was a fault; or they are refused
+abbrev pub CarriesOut : Seen → List Text → Written → Written → Result (Unit {0}) Ending → Type 0
+CarriesOut input arguments old new (Ok done) =
+    DoesCommand input arguments old new (Ok done) ⊎ ShowsHelp arguments old new
+CarriesOut input arguments old new (Err (Fault fault)) = FailsSo input arguments old new fault
+CarriesOut input arguments old new (Err (Refused text)) = AreRefused arguments × (new ≡ old)
+
+-- the text was written, or a beginning of it before the sink failed
+abbrev pub IsTold : Written → Written → List ℕ → Type 0
+IsTold old new text = HasWritten old new text ⊎ HasBegun old new text
+
+-- status 0: the command or the help was carried out, and nothing was written to the errors
+pub record EndsWell (input : Seen) (arguments : List Text) (output output_after errors errors_after : Written)
+    : Type 0 where
+  pub done : DoesCommand input arguments output output_after (Ok tt) ⊎ ShowsHelp arguments output output_after
+  pub silent : errors_after ≡ errors
+
+-- a fault with this status, whose line went to the errors
+pub record EndsInFault (input : Seen) (arguments : List Text) (output output_after errors errors_after : Written)
+    (status : ℕ) : Type 0 where
+  pub fault : ToolFault
+  pub exit : status ≡ status_of fault
+  pub failed : FailsSo input arguments output output_after fault
+  pub told : IsTold errors errors_after (fault_line fault)
+
+-- arguments that are no command line: the output stays, and a text went to the errors
+pub record EndsRefused (arguments : List Text) (output output_after errors errors_after : Written) : Type 0 where
+  pub refused : AreRefused arguments
+  pub unwritten : output_after ≡ output
+  pub text : List ℕ
+  pub told : IsTold errors errors_after text

@@ -1,0 +1,212 @@
+//! The command line: the whole program, over given standard streams.
+ghost use Rattle.std.specs.Prelude.{◌≡◌, ◌≤◌, ◌⊎◌, IfErr, IfOk, map, string_bytes};
+ghost use Rattle.clap.specs.Faults.{fault_of};
+ghost use Rattle.clap.specs.Kinds.{HasKind};
+ghost use Rattle.kc_command.specs.Command.{kcount_app};
+ghost use Rattle.kc_tool.specs.CommandLine.{
+  AreTaken,
+  CarriesOut,
+  EndsInFault,
+  EndsRefused,
+  EndsWell,
+  ShowsSo,
+  status_of,
+};
+ghost use Rattle.kc_tool.specs.declared.faults.ToolFault.TheVariants.{Memory, Write};
+ghost use Rattle.kc_tool.specs.declared.command_line.Ending.TheVariants.{Fault};
+
+use crate::commands::{run_command, verb_named};
+use crate::fault_lines::write_fault;
+use crate::faults::ToolFault;
+use crate::progress::{NoProgress, Progress};
+use clap::ArgMatches;
+use clap::error::ErrorKind;
+use kc_command::command::command;
+use kc_io::{Failed, FromRead, Sink, Source, ToWrite, write_out};
+use std::alloc::{AllocError, AllocFailed, Global};
+use std::io;
+use std::rt::Files;
+use std::sync::Wait;
+use std::thread::Threads;
+
+/// The exit status where all went well.
+const DONE: u8 = 0;
+/// The exit status of a fault.
+const FAULT: u8 = 1;
+/// The exit status of a command line that is refused.
+const REFUSED: u8 = 2;
+
+/// Carries out the command line `arguments`, which begins with the program's name, and answers the exit status: 0; 1
+/// for a fault; 2 for a command line that is refused. The line of a fault goes to `errors`, and so does the text of a
+/// refusal. Failing to write there changes no status. Files are opened and created by `rt`. How far a count has come is
+/// shown nowhere.
+pub fn program<
+    H: Files + Threads + Wait + Sync,
+    I: io::Read + Drop,
+    O: io::Write + Drop,
+    E: io::Write + Drop,
+>(rt: &H, alloc: Global, arguments: Vec<String>, input: I, output: O, errors: E) -> u8
+    ensures { result ≤ 2 }
+{
+    program_showing(rt, alloc, arguments, input, output, errors, &NoProgress)
+}
+
+/// What `program` does, where `progress` is told how far a count has come. It is told the end before the report or the
+/// line of a fault is written.
+pub fn program_showing<
+    H: Files + Threads + Wait + Sync,
+    I: io::Read + Drop,
+    O: io::Write + Drop,
+    E: io::Write + Drop,
+    P: Progress + Sync,
+>(rt: &H, alloc: Global, arguments: Vec<String>, input: I, output: O, errors: E, progress: &P) -> u8
+    ensures { result ≤ 2 }
+{
+    let mut output = ToWrite::new(output);
+    let mut errors = ToWrite::new(errors);
+    let input = FromRead::new(input);
+    run(
+        rt,
+        alloc,
+        &arguments,
+        input,
+        &mut output,
+        &mut errors,
+        progress,
+    )
+}
+
+/// What `program_showing` does, over streams that the caller keeps. Status 0: the output, or the file that the
+/// arguments name for it, has what the arguments ask for: a report, the answer to a query, help or the version.
+/// Status 1: the line of a fault went to the errors, and the output is as it was, or has a beginning of the answer
+/// where writing failed. Status 2: the output is as it was, and why the arguments are refused went to the errors.
+pub fn run<
+    H: Files + Threads + Wait + Sync,
+    R: Source + Drop,
+    W: Sink,
+    E: Sink,
+    P: Progress + Sync,
+>(
+    rt: &H,
+    alloc: Global,
+    arguments: &[String],
+    input: R,
+    output: &mut W,
+    errors: &mut E,
+    progress: &P,
+) -> u8
+    ensures done { result ≡ 0 → EndsWell (R.seen input) (map string_bytes arguments.now)
+        (W.seen output.old) (W.seen output.new) (E.seen errors.old) (E.seen errors.new) }
+    ensures fault { result ≡ 1 → EndsInFault (R.seen input) (map string_bytes arguments.now)
+        (W.seen output.old) (W.seen output.new) (E.seen errors.old) (E.seen errors.new) 1 }
+    ensures refused { result ≡ 2 →
+        EndsInFault (R.seen input) (map string_bytes arguments.now)
+        (W.seen output.old) (W.seen output.new) (E.seen errors.old) (E.seen errors.new) 2
+        ⊎ EndsRefused (map string_bytes arguments.now)
+        (W.seen output.old) (W.seen output.new) (E.seen errors.old) (E.seen errors.new) }
+    ensures status { result ≤ 2 }
+{
+    match run_arguments(rt, alloc, arguments, input, output, progress) {
+        Ok(()) => DONE,
+        Err(Ending::Fault(fault)) => {
+            let _ = write_fault(errors, &fault);
+            status_of(&fault)
+        }
+        Err(Ending::Refused(text)) => {
+            let _ = write_out(errors, text.as_bytes());
+            REFUSED
+        }
+    }
+}
+
+// Why a command was not carried out.
+#[derive(Drop)]
+enum Ending {
+    // The command met a fault.
+    Fault(ToolFault),
+    // The command line was refused, and this text says why.
+    Refused(String),
+}
+
+impl From<ToolFault> for Ending {
+    ghost from_gives = { λ fault ending. ending ≡ Fault fault };
+
+    fn from(fault: ToolFault) -> Ending {
+        Ending::Fault(fault)
+    }
+}
+
+impl From<Failed> for Ending {
+    ghost from_gives = { λ _ ending. ending ≡ Fault Write };
+
+    fn from(_error: Failed) -> Ending {
+        Ending::Fault(ToolFault::Write)
+    }
+}
+
+impl From<AllocError> for Ending {
+    ghost from_gives = { λ _ ending. ending ≡ Fault Memory };
+
+    fn from(_error: AllocError) -> Ending {
+        Ending::Fault(ToolFault::Memory)
+    }
+}
+
+// The exit status of a fault: a bad option refuses the command line.
+fn status_of(fault: &ToolFault) -> u8
+    ensures { result ≡ status_of fault.now }
+{
+    match fault {
+        ToolFault::BadOption(_) => REFUSED,
+        _ => FAULT,
+    }
+}
+
+// Reads the command line and runs the command that it names, or shows the help or the version that it asks for.
+fn run_arguments<H: Files + Threads + Wait + Sync, R: Source + Drop, W: Sink, P: Progress + Sync>(
+    rt: &H,
+    alloc: Global,
+    arguments: &[String],
+    input: R,
+    output: &mut W,
+    progress: &P,
+) -> Result<(), Ending>
+    ensures { CarriesOut (R.seen input) (map string_bytes arguments.now)
+        (W.seen output.old) (W.seen output.new) result }
+{
+    let matches = match parsed(alloc, arguments) {
+        Ok(matches) => matches,
+        Err(error) => return show(alloc, &error, output),
+    };
+    // `clap` passes no command line without one of the commands
+    let Some((name, matches)) = matches.subcommand() else {
+        unreachable!()
+    };
+    let Some(verb) = verb_named(name) else {
+        unreachable!()
+    };
+    Ok(run_command(rt, alloc, verb, matches, input, output, progress)?)
+}
+
+// What `clap` makes of the command line.
+fn parsed<'a>(alloc: Global, arguments: &'a [String]) -> Result<ArgMatches<'a>, clap::Error>
+    ensures taken { IfOk result (AreTaken (map string_bytes arguments.now)) }
+    ensures refused { IfErr result (HasKind (fault_of kcount_app (map string_bytes arguments.now))) }
+{
+    command(alloc)?.try_get_matches_from(arguments)
+}
+
+// Help and the version go to the output. Any other text refuses the command line.
+fn show<W: Sink>(alloc: Global, error: &clap::Error, output: &mut W) -> Result<(), Ending>
+    ensures { ShowsSo error.now (W.seen output.old) (W.seen output.new) result }
+{
+    if error.kind() == ErrorKind::OutOfMemory {
+        return Err(Ending::Fault(ToolFault::Memory));
+    }
+    let text = error.to_string(alloc)?;
+    if error.use_stderr() {
+        return Err(Ending::Refused(text));
+    }
+    write_out(output, text.as_bytes())?;
+    Ok(())
+}
