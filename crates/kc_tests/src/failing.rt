@@ -270,63 +270,114 @@ fn bounds_and_tabs(rt: HostRuntime) -> Result<(), Fail> {
     Ok(())
 }
 
-// Asserts that a fault writes this line.
-fn assert_line<H: Abort + AllocGlobal>(rt: &H, fault: &ToolFault, line: &str) {
+// Asserts that a fault writes this line, and is displayed as this text.
+fn assert_line<H: Abort + AllocGlobal>(
+    rt: &H,
+    fault: &ToolFault,
+    line: &str,
+    text: &str,
+) -> Result<(), Fail> {
     let mut writer = ToVec::new(Vec::new(rt.alloc()));
     assert!(rt; write_fault(&mut writer, fault).is_ok(), "{line}");
     assert_eq!(rt; writer.as_slice(), line.as_bytes(), "{line}");
+    let displayed = fault.to_string(rt.alloc())?;
+    assert_eq!(rt; displayed.as_str(), text, "{line}");
+    Ok(())
 }
 
-// Faults of the seventh source, and their lines.
-const SOURCE_FAULTS: &[(FastxFault, &str)] = &[
+// Faults of the seventh source, their lines, and how they are displayed.
+const SOURCE_FAULTS: &[(FastxFault, &str, &str)] = &[
     (
         FastxFault::BadStart(1),
         "kcount: 1: bad start, source 7, line 1\n",
+        "bad start, line 1, source 7",
     ),
     (
         FastxFault::BadBase(22),
         "kcount: 2: bad base, source 7, line 22\n",
+        "bad base, line 22, source 7",
     ),
     (
         FastxFault::BadQuality(333),
         "kcount: 3: bad quality, source 7, line 333\n",
+        "bad quality, line 333, source 7",
     ),
     (
         FastxFault::LongQuality(4),
         "kcount: 4: long quality, source 7, line 4\n",
+        "long quality, line 4, source 7",
     ),
     (
         FastxFault::Truncated(5),
         "kcount: 5: truncated, source 7, line 5\n",
+        "truncated, line 5, source 7",
     ),
-    (FastxFault::TooLong, "kcount: 6: too long, source 7\n"),
-    (FastxFault::Read, "kcount: 7: read failed, source 7\n"),
-    (FastxFault::Memory, "kcount: 8: no memory\n"),
+    (
+        FastxFault::TooLong,
+        "kcount: 6: too long, source 7\n",
+        "too long, source 7",
+    ),
+    (
+        FastxFault::Read,
+        "kcount: 7: read failed, source 7\n",
+        "read failed, source 7",
+    ),
+    (
+        FastxFault::Memory,
+        "kcount: 8: no memory\n",
+        "no memory, source 7",
+    ),
 ];
 
 // Each fault of a source has its line.
 #[test]
-fn lines_of_source_faults(rt: HostRuntime) {
-    for (fault, line) in SOURCE_FAULTS {
-        assert_line(&rt, &fault_of(7, *fault), *line);
+fn lines_of_source_faults(rt: HostRuntime) -> Result<(), Fail> {
+    for (fault, line, text) in SOURCE_FAULTS {
+        assert_line(&rt, &fault_of(7, *fault), *line, *text)?;
     }
+    Ok(())
 }
 
 // So has each fault of a table, of a query, of the writer and of memory.
 #[test]
-fn lines_of_table_and_query_faults(rt: HostRuntime) {
-    for (fault, line) in [
-        (ToolFault::BadHeader, "kcount: 41: bad header\n"),
-        (ToolFault::BadRow(1), "kcount: 42: bad row, line 1\n"),
-        (ToolFault::BadEnd, "kcount: 43: bad end\n"),
-        (ToolFault::TableTooLong, "kcount: 44: table too long\n"),
-        (ToolFault::TableRead, "kcount: 45: table read failed\n"),
-        (ToolFault::BadWord(20), "kcount: 52: bad word 20\n"),
-        (ToolFault::Memory, "kcount: 46: no memory\n"),
-        (ToolFault::Write, "kcount: 53: write failed\n"),
+fn lines_of_table_and_query_faults(rt: HostRuntime) -> Result<(), Fail> {
+    for (fault, line, text) in [
+        (
+            ToolFault::BadHeader,
+            "kcount: 41: bad header\n",
+            "bad header",
+        ),
+        (
+            ToolFault::BadRow(1),
+            "kcount: 42: bad row, line 1\n",
+            "bad row, line 1",
+        ),
+        (ToolFault::BadEnd, "kcount: 43: bad end\n", "bad end"),
+        (
+            ToolFault::TableTooLong,
+            "kcount: 44: table too long\n",
+            "table too long",
+        ),
+        (
+            ToolFault::TableRead,
+            "kcount: 45: table read failed\n",
+            "table read failed",
+        ),
+        (
+            ToolFault::BadWord(20),
+            "kcount: 52: bad word 20\n",
+            "bad word 20",
+        ),
+        (ToolFault::Memory, "kcount: 46: no memory\n", "no memory"),
+        (
+            ToolFault::Write,
+            "kcount: 53: write failed\n",
+            "write failed",
+        ),
     ] {
-        assert_line(&rt, &fault, line);
+        assert_line(&rt, &fault, line, text)?;
     }
+    Ok(())
 }
 
 // Options whose value can be refused, and their lines.
@@ -352,28 +403,41 @@ const OPTION_FAULTS: &[(OptionName, &str)] = &[
     (OptionName::High, "kcount: 51: bad option --high\n"),
 ];
 
-// Runs that were refused, and their lines.
-const RUN_FAULTS: &[(RunFault, &str)] = &[
-    (RunFault::Foreign(3), "kcount: 31: foreign stripe 3\n"),
+// Runs that were refused, their lines, and how they are displayed.
+const RUN_FAULTS: &[(RunFault, &str, &str)] = &[
+    (
+        RunFault::Foreign(3),
+        "kcount: 31: foreign stripe 3\n",
+        "stripe 3 is foreign",
+    ),
     (
         RunFault::NoThread(63),
         "kcount: 33: no thread for worker 63\n",
+        "no thread for worker 63",
     ),
-    (RunFault::Memory, "kcount: 34: no memory\n"),
-    (RunFault::Full(0), "kcount: 35: stripe 0 is full\n"),
+    (RunFault::Memory, "kcount: 34: no memory\n", "no memory"),
+    (
+        RunFault::Full(0),
+        "kcount: 35: stripe 0 is full\n",
+        "stripe 0 is full",
+    ),
 ];
 
 // So has each other fault.
 #[test]
 fn lines_of_other_faults(rt: HostRuntime) -> Result<(), Fail> {
     for (name, line) in OPTION_FAULTS {
-        assert_line(&rt, &ToolFault::BadOption(*name), *line);
+        assert_line(&rt, &ToolFault::BadOption(*name), *line, "bad option")?;
     }
-    for (fault, line) in RUN_FAULTS {
-        assert_line(&rt, &ToolFault::Run(*fault), *line);
+    for (fault, line, text) in RUN_FAULTS {
+        assert_line(&rt, &ToolFault::Run(*fault), *line, *text)?;
     }
     let name = String::from_str(rt.alloc(), "no such file")?;
     let line = "kcount: 54: cannot open no such file\n";
-    assert_line(&rt, &ToolFault::OpenFailed(name), line);
-    Ok(())
+    assert_line(
+        &rt,
+        &ToolFault::OpenFailed(name),
+        line,
+        "cannot open no such file",
+    )
 }
