@@ -1,9 +1,9 @@
 //! Whether a stripe's journal holds the batches that were given.
-ghost use Rattle.std.specs.Prelude.{◌≡◌, ◌≢◌, ℕ, ◌<◌, ◌↔◌, ◌⊎◌, length, All, true, false};
-ghost use Rattle.std.specs.Prelude.{IsTrue, IsSome, IfOk, OnOk, IfErr, IfSome, IfNone, slice_index_or};
+ghost use Rattle.std.specs.Prelude.{◌≡◌, ◌≢◌, ℕ, ◌<◌, ◌↔◌, length, All, true, false};
+ghost use Rattle.std.specs.Prelude.{IsTrue, IfOk, OnOk, IfErr, IfSome, IfNone, slice_index_or};
 ghost use Rattle.kc_word.specs.Shared.{values};
 ghost use Rattle.kc_stripe.specs.Stripe.{IsBooked};
-ghost use Rattle.kc_gather.specs.Gathering.{IsGiven, IsWhole, IsStripeRefusal};
+ghost use Rattle.kc_gather.specs.Gathering.{IsGiven, IsOwn, IsWhole, IsStripeRefusal};
 
 use crate::fault::GatherFault;
 use kc_stripe::{Setup, Stripe};
@@ -12,8 +12,8 @@ use kc_word::Batch;
 use std::alloc::{AllocError, Global};
 use std::sync::Arc;
 
-/// Whether the stripe is that of this index, and its journal holds exactly the given batches. A stripe of another index
-/// or setup is foreign, whatever memory there is.
+/// Whether the stripe is that of this index, and its journal holds exactly the given batches. A stripe that is not its
+/// own is foreign, whatever memory there is.
 pub(crate) fn check_stripe<C: Counts>(
     alloc: Global,
     index: u32,
@@ -23,19 +23,20 @@ pub(crate) fn check_stripe<C: Counts>(
 ) -> Result<(), GatherFault>
     ensures whole { OnOk result (IsWhole setup.now (values batches.now) index stripe.now) }
     ensures refused { IfErr result (IsStripeRefusal setup.now (values batches.now) index stripe.now) }
-    ensures foreign { (stripe.now.setup ≢ setup.now) ⊎ (stripe.now.number ≢ index)
-        → result ≡ Err (GatherFault.Foreign index) }
+    ensures foreign { result ≡ Err (GatherFault.Foreign index)
+        ↔ ¬ IsOwn setup.now (values batches.now) index stripe.now }
     ensures counted { (at batch : ℕ) → result ≡ Err (GatherFault.Missing at batch)
         → length stripe.now.journal ≢ length (values batches.now) }
 {
     if stripe.setup() != setup || stripe.number() != index {
         return Err(GatherFault::Foreign(index));
     }
+    if !are_given(stripe.journal(), batches) {
+        return Err(GatherFault::Foreign(index));
+    }
     // what is known of the journal
     stripe.is_lawful();
-    let Some(marks) = booked_marks(alloc, stripe.journal(), batches)? else {
-        return Err(GatherFault::Foreign(index));
-    };
+    let marks = booked_marks(alloc, stripe.journal(), batches)?;
     match first_unset(&marks) {
         Some(number) => Err(GatherFault::Missing(index, number)),
         None => Ok(()),
@@ -50,26 +51,34 @@ fn is_given(batch: &Batch, batches: &[Arc<Batch>]) -> bool
     number < batches.len() as u64 && *batches[number as usize] == *batch
 }
 
-// For each given batch, in order, whether the journal holds one of its number; and None where a batch in the journal is
-// not the one that is given under its number.
+// Whether each batch in the journal is the one that is given under its number.
+fn are_given(journal: &[Arc<Batch>], batches: &[Arc<Batch>]) -> bool
+    ensures { IsTrue result ↔ All (IsGiven (values batches.now)) (values journal.now) }
+{
+    for batch in journal {
+        if !is_given(batch, batches) {
+            return false;
+        }
+    }
+    true
+}
+
+// For each given batch, in order, whether the journal holds one of its number.
 fn booked_marks(
     alloc: Global,
     journal: &[Arc<Batch>],
     batches: &[Arc<Batch>],
-) -> Result<Option<Vec<bool>>, AllocError>
-    ensures given { IfOk result (λ marks. IsSome marks ↔ All (IsGiven (values batches.now)) (values journal.now)) }
-    ensures one_each { IfOk result (λ found. IfSome found (λ marks. length marks.items ≡ length batches.now)) }
-    ensures marks { IfOk result (λ found. IfSome found (λ marks. (n : ℕ) → n < length batches.now
-        → (slice_index_or marks.items n false ≡ true) ↔ IsBooked (values journal.now) n)) }
+) -> Result<Vec<bool>, AllocError>
+    requires { All (IsGiven (values batches.now)) (values journal.now) }
+    ensures one_each { IfOk result (λ marks. length marks.items ≡ length batches.now) }
+    ensures marks { IfOk result (λ marks. (n : ℕ) → n < length batches.now
+        → (slice_index_or marks.items n false ≡ true) ↔ IsBooked (values journal.now) n) }
 {
     let mut marks = vec![in alloc; false; batches.len()]?;
     for batch in journal {
-        if !is_given(batch, batches) {
-            return Ok(None);
-        }
         marks[batch.number() as usize] = true;
     }
-    Ok(Some(marks))
+    Ok(marks)
 }
 
 // The index of the first mark that isn't set.

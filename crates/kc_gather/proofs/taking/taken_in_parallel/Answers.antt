@@ -1,4 +1,4 @@
-use Rattle.std.proofs.Common.{◌≡◌, ◌≢◌, List, length, map, vec_len, get_or, All, IfOk, OnOk, IfErr, Ok, sym, subst, ap, arith, rules}
+use Rattle.std.proofs.Common.{◌≡◌, ◌≢◌, List, length, map, vec_len, get_or, All, IfOk, OnOk, Ok, sym, subst, ap, arith, rules}
 use Rattle.std.proofs.lemmas.Result.{err_from_is_err_and}
 use Rattle.kc_word.specs.Cutting.{NumberedPieces}
 use Rattle.kc_word.specs.Shared.{values}
