@@ -27,8 +27,8 @@ use std::sync::{Arc, Wait};
 use std::thread::Threads;
 
 /// Counts batches with so many workers over one table in locked stripes: the tally of all batches, whatever the
-/// workers, the stripes and the order in which threads are served. A refused run gives no tally; where its fault names a
-/// worker or a stripe, it is one of this run's.
+/// workers, the stripes and the order in which threads are served. A refused run gives no tally; where its fault names
+/// a worker or a stripe, it is one of this run's.
 ///
 /// Each worker, in a thread of its own, draws numbers until there is none left, and books the batch of each number into
 /// every stripe. It does so in rounds of some 4 million positions: it cuts up all batches of a round, and books them

@@ -81,8 +81,8 @@ impl<C: Counts, N: Books> Locked<C, N> {
     /// What the stripe tells of a word, where it is the one in which the word counts: it has this setup, and the number
     /// of the word's stripe.
     ///
-    /// The word is below 4^k. Nothing is booked or counted by a look, so that it's refused only where the stripe is
-    /// another one, or for memory.
+    /// The word is below 4^k. A look books nothing, so it is refused only where the stripe is another one, or for
+    /// memory.
     pub(crate) fn look(
         &mut self,
         alloc: Global,

@@ -142,8 +142,8 @@ impl<C: Counts, N: Books> Stripes<C, N> {
     /// How often a word occurs in the batches that were booked, and in which: all that stand in the stripe of the form
     /// under which the word counts, under that stripe's lock.
     ///
-    /// The word is below 4^k. Each batch that the share booked into that stripe is among them. Nothing is booked, so that
-    /// no look is refused as a booking can be for its batch's number or for room in the stripe.
+    /// The word is below 4^k. Each batch that the share booked into that stripe is among them. A look books nothing, so
+    /// it is never refused as twice or full.
     pub fn look<R: Wait>(
         &self,
         rt: &R,

@@ -193,8 +193,8 @@ fn owned_texts(alloc: Global, texts: &[&str]) -> Result<Vec<String>, AllocError>
     Ok(strings)
 }
 
-// The tally that a task is about, from the files or, where none is named, from the given input: that of the reads, whose
-// counting is told, or that of a table. Condition: a task over a table has one source.
+// The tally that a task is about, from the files or, where none is named, from the given input: that of the reads,
+// whose counting is told, or that of a table. Condition: a task over a table has one source.
 fn tally_for<H: Threads + Wait + Sync, R: Source + Drop, F: Source + Drop, P: Progress + Sync>(
     rt: &H,
     alloc: Global,
