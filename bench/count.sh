@@ -76,9 +76,10 @@ steps() {
         {
             step = $2 == "[k]" ? "kernel: pages and files" \
                 : /kc_fastx|kc_io|memchr|first_by/ ? "read" \
-                : /piece::clean|gathering::(gather|mark)|kc_tool::reading/ ? "clean" \
-                : /kc_word::(cutting|pieces|packed|runs)/ ? "cut" \
-                : /cut_batch|kc_stripe::cut|cut_up/ ? "cut up" \
+                : /piece::clean|usable_codes::(gather|mark)|kc_tool::counted_sources/ ? "clean" \
+                : /kc_word::(cutting|pieces|packed_codes|runs)/ ? "cut" \
+                : /cut_batch|kc_booking::cut|cut_up/ ? "cut up" \
+                : /[Ss]tripe::rows|rows_of/ ? "rows" \
                 : /book/ ? "book" \
                 : /sort/ ? "sort" \
                 : /kc_gather|gathered|fork::run_jobs|kc_tally/ ? "rows" \

@@ -8,7 +8,7 @@
 # (bench/count.sh).
 . "$(dirname "$0")/lib.sh"
 batches=${BATCHES:-1190}
-rattle_program run kc_fastx kc_hash kc_table kc_tally kc_word kc_stripe kc_gather kc_run anyhow
+rattle_program run kc_fastx kc_hash kc_table kc_tally kc_word kc_booking kc_stripe kc_gather kc_run anyhow
 c_program run
 "${CC:-cc}" -O2 -o "$work/measure" "$bench/c/measure.c"
 

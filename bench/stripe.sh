@@ -4,7 +4,7 @@
 # bases; 20 of them lie over each base, and one base in a hundred is an error.
 . "$(dirname "$0")/lib.sh"
 batches=${BATCHES:-1200}
-rattle_program stripe kc_fastx kc_hash kc_table kc_word kc_stripe anyhow
+rattle_program stripe kc_fastx kc_hash kc_table kc_word kc_booking kc_stripe anyhow
 c_program stripe
 
 "$plain" make "$batches" "$work/reads"

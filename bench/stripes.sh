@@ -4,7 +4,7 @@
 # up before: BATCHES (300) batches of 65,536 positions, k 21, both strands, of the reads of the stripe benchmark.
 . "$(dirname "$0")/lib.sh"
 batches=${BATCHES:-300}
-rattle_program stripes kc_fastx kc_hash kc_table kc_word kc_share kc_stripe anyhow
+rattle_program stripes kc_fastx kc_hash kc_table kc_word kc_share kc_booking kc_stripe anyhow
 c_program stripes
 
 "$plain" make "$batches" "$work/reads"

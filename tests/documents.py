@@ -2,8 +2,9 @@
 """Compares what the documents name with what is there:
     tests/documents.py
 Each name of docs/DEFINITIONS.md is declared in that file of the crate's specs/; the tables of docs/ARCHITECTURE.md and docs/PROVED.md have the
-crates of crates.txt in its order, and those that are gone stand nowhere; each file that a document names is there. Where something isn't, it
-is printed and the status is 1.
+crates of crates.txt in its order, and those that are gone stand nowhere; each file that a document names is there. The example at the front
+of each library is a part of a test, and no two source files but the libraries' fronts have one name. Where something isn't so, it is printed
+and the status is 1.
 """
 
 import glob
@@ -87,10 +88,44 @@ def lost_files():
     return lost
 
 
+def sources(crates):
+    """Returns the paths of the source files of these crates, from the top."""
+    return [os.path.relpath(it, TOP) for crate in crates for it in sorted(glob.glob(f"{TOP}/crates/{crate}/src/*.rt"))]
+
+
+def code_alone(text):
+    """Returns code without its comments, its blanks and the commas that only its layout asks for."""
+    text = re.sub(r"(?m)^ *//!? ?", "", text)
+    text = re.sub(r"(?m) +// .*$", "", text)
+    return re.sub(r",([)\]}])", r"\1", re.sub(r"\s+", "", text))
+
+
+def untested_examples(listed):
+    """Returns the libraries whose front has no example, or one that is no part of a test. A library of lemmas needs none."""
+    tested = "".join(code_alone(text_of(it)) for it in sources(it for it in listed if it.endswith("_tests")))
+    untested = []
+    for crate in listed:
+        if crate.endswith("_tests") or crate in ("kc_lemmas", "kcount"):
+            continue
+        examples = re.findall(r"(?m)^//! ```\w*\n((?:^//!.*\n)*?)^//! ```$", text_of(f"crates/{crate}/src/lib.rt"))
+        if not examples:
+            untested.append(f"crates/{crate}/src/lib.rt: it has no example")
+        untested += [f"crates/{crate}/src/lib.rt: its example is in no test" for it in examples if code_alone(it) not in tested]
+    return untested
+
+
+def files_of_one_name(listed):
+    """Returns the source files that have the name of another one."""
+    paths = [it for it in sources(listed) if not it.endswith(("/lib.rt", "/main.rt"))]
+    names = [os.path.basename(it) for it in paths]
+    return [f"{path}: another file has this name" for path, name in zip(paths, names) if names.count(name) > 1]
+
+
 def main():
     listed = listed_crates()
     wrong = [*lost_definitions(), *wrong_tables(listed), *lost_crates(listed), *lost_files()]
-    print("\n".join(wrong) if wrong else "documents: each name that they have is there")
+    wrong += [*untested_examples(listed), *files_of_one_name(listed)]
+    print("\n".join(wrong) if wrong else "documents: each name that they have is there, and each example is a part of a test")
     return 1 if wrong else 0
 
 

@@ -3,7 +3,7 @@ use Rattle.std.proofs.Common.{◌≡◌, ℕ, ◌*◌, ◌%◌, ◌^◌, ◌<◌
 use Rattle.std.proofs.Math.Nat.{min-eq_left, min-eq_right, min-le_right}
 use Rattle.std.proofs.lemmas.Bool.{cases_lt}
 use Rattle.std.proofs.lemmas.Nat.{one_shl}
-use Rattle.kc_word.proofs.Letters.{pow-four}
+use Rattle.kc_kmer.proofs.Letters.{pow-four}
 use Rattle.kc_command.specs.Settings.{AreStripes, lowered}
 
 -- they are still a power of two

@@ -6,7 +6,7 @@ use Rattle.std.specs.List.{list_any}
 use Rattle.std.specs.Option.{option_and_then}
 use Rattle.std.specs.Str.{bytes_eq}
 use Rattle.clap.specs.Words.{Row, Text, first_of, one_of}
-use Rattle.kc_report.specs.declared.dumping.Dump.{Dump}
+use Rattle.kc_report.specs.declared.dump.Dump.{Dump}
 use Rattle.kc_command.specs.Numbers.{number_between, scaled_between}
 use Rattle.kc_command.specs.Settings.{Settings, lowered}
 use Rattle.kc_command.specs.declared.option_name.OptionName.{OptionName}

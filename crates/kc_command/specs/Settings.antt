@@ -1,7 +1,7 @@
 -- How to count, and what to write: source, the table of options in the README.
 use Rattle.std.specs.Prelude.{◌≡◌, ℕ, ◌^◌, ◌≤◌, Bool, false, min}
-use Rattle.kc_word.specs.Rule.{CountingRule}
-use Rattle.kc_report.specs.declared.dumping.Dump.{Dump}
+use Rattle.kc_kmer.specs.Rule.{CountingRule}
+use Rattle.kc_report.specs.declared.dump.Dump.{Dump}
 use Rattle.kc_command.specs.declared.settings.Print.{Print}
 use Rattle.kc_command.specs.declared.settings.Print.TheVariants.{Table}
 

@@ -2,8 +2,8 @@
 ghost use Rattle.std.specs.Prelude.{◌≡◌, ◌≤◌, ◌^◌};
 ghost use Rattle.kc_command.specs.Settings.{AreStripes, defaults, lowered, rule_of};
 
+use kc_kmer::{K, Rule};
 use kc_report::Dump;
-use kc_word::{K, Rule};
 use std::marker::Model;
 
 /// The greatest number of slots that the tables can begin with.

@@ -2,12 +2,12 @@
 #![tactic(auto)]
 
 #[cfg(test)]
+mod counting_tables;
+#[cfg(test)]
 mod hashes;
 #[cfg(test)]
-mod reports;
+mod refusing_streams;
 #[cfg(test)]
-mod streams;
+mod report_rows;
 #[cfg(test)]
-mod tables;
-#[cfg(test)]
-mod tallies;
+mod tally_rows;

@@ -1,7 +1,7 @@
 -- The whole FASTA records that were taken so far, and how the next one fails.
 use Rattle.std.proofs.Common.{◌≡◌, ℕ, ◌<◌, true, List, [], ◌∷◌, ◌++◌, length, refl, ap, subst, ◌∙◌, None, arith}
 use Rattle.std.proofs.Common.{length-append}
-use Rattle.kc_fastx.specs.declared.faults.FastxFault.{FastxFault}
+use Rattle.kc_fastx.specs.declared.read_faults.FastxFault.{FastxFault}
 use Rattle.kc_fastx.specs.Lines.{Line, Cursor, ends_or_begins_with, line_count}
 use Rattle.kc_fastx.specs.Reads.{Read, read_of}
 use Rattle.kc_fastx.specs.Records.{BeginsWithSequence, SequenceFails, FirstFault}

@@ -3,8 +3,8 @@ use Rattle.std.proofs.Common.{◌≡◌, ℕ, zero, suc, ◌+◌, ◌-◌, ◌<�
 use Rattle.std.specs.List.{list_all}
 use Rattle.std.proofs.lemmas.Bool.{cases_lt, cases_Bool}
 use Rattle.std.proofs.lemmas.List.{length-append}
-use Rattle.kc_fastx.specs.declared.faults.FastxFault.{FastxFault}
-use Rattle.kc_fastx.specs.declared.faults.FastxFault.TheVariants.{BadStart, BadBase, BadQuality, LongQuality, Truncated}
+use Rattle.kc_fastx.specs.declared.read_faults.FastxFault.{FastxFault}
+use Rattle.kc_fastx.specs.declared.read_faults.FastxFault.TheVariants.{BadStart, BadBase, BadQuality, LongQuality, Truncated}
 use Rattle.kc_fastx.specs.Reads.{Read, read_of, is_sequence_byte, is_quality_byte}
 use Rattle.kc_fastx.specs.Lines.{Line, Cursor, lines, begins_with, next_begins_with, skip_blanks, line_count, ends_or_begins_with}
 use Rattle.kc_fastx.specs.Records.{Records, BeginsWithSequence, SequenceFails, FirstFault}

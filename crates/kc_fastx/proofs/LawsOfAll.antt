@@ -1,7 +1,7 @@
 -- The reads of a list of sources: every list has one answer, and a source more adds its reads or its fault.
 use Rattle.std.proofs.Common.{◌≡◌, ℕ, ◌+◌, List, [], ◌∷◌, ◌++◌, length, refl, sym, ap, ◌∙◌, arith, Ok, Err, Result}
 use Rattle.std.proofs.lemmas.List.{append_assoc, append-nil}
-use Rattle.kc_fastx.specs.declared.faults.FastxFault.{FastxFault}
+use Rattle.kc_fastx.specs.declared.read_faults.FastxFault.{FastxFault}
 use Rattle.kc_fastx.specs.Reads.{Read}
 use Rattle.kc_fastx.specs.Parsing.{HasReads, HasFault, IsReadsOf, HaveReads, HaveFault, AreReadsOf}
 use Rattle.kc_fastx.proofs.LawsAnswers.{answer}

@@ -1,13 +1,13 @@
 -- What a reader of one format says is what the definition says of the bytes.
 use Rattle.std.proofs.Common.{◌≡◌, ℕ, Bool, true, false, List, length, MatchBool, subst, inl}
-use Rattle.kc_fastx.specs.declared.faults.FastxFault.{FastxFault}
+use Rattle.kc_fastx.specs.declared.read_faults.FastxFault.{FastxFault}
 use Rattle.kc_fastx.specs.Lines.{Cursor, lines, line_count, next_begins_with}
 use Rattle.kc_fastx.specs.Records.{FirstFault}
 use Rattle.kc_fastx.specs.Fastq.{IsFastqRecord, FastqFails}
 use Rattle.kc_io.specs.Sources.{Seen}
-use Rattle.kc_io.specs.Taking.{TakingFails}
-use Rattle.kc_io.specs.declared.taking.TakeFault.{TakeFault}
-use Rattle.kc_io.specs.declared.taking.TakeFault.TheVariants as taking
+use Rattle.kc_io.specs.Intakes.{TakingFails}
+use Rattle.kc_io.specs.declared.intakes.TakeFault.{TakeFault}
+use Rattle.kc_io.specs.declared.intakes.TakeFault.TheVariants as taking
 use Rattle.kc_fastx.specs.Parsing.{text_lines, HasFault, RefusesFor}
 use Rattle.kc_fastx.specs.Faults.{taking_fault}
 use Rattle.kc_fastx.specs.Fasta.{greater_than}

@@ -4,10 +4,10 @@ use Rattle.std.proofs.Common.{drop, refl, sym, ap, ◌∙◌, subst, arith, appe
 use Rattle.std.proofs.Common.{inr, ◌⊎◌, ⊎_elim, Some, None, Err, MatchBool, Option}
 use Rattle.std.proofs.lemmas.List.{take-append-drop, length-take-le}
 use Rattle.kc_io.specs.Sources.{Seen}
-use Rattle.kc_io.specs.Taking.{TakenSoFar, TakesAll, TakingFails}
-use Rattle.kc_fastx.specs.declared.faults.FastxFault.{FastxFault}
-use Rattle.kc_fastx.specs.declared.faults.FastxFault.TheVariants.{BadStart, BadBase, BadQuality, LongQuality}
-use Rattle.kc_fastx.specs.declared.faults.FastxFault.TheVariants.{Truncated, TooLong, Read as ReadFailed, Memory}
+use Rattle.kc_io.specs.Intakes.{TakenSoFar, TakesAll, TakingFails}
+use Rattle.kc_fastx.specs.declared.read_faults.FastxFault.{FastxFault}
+use Rattle.kc_fastx.specs.declared.read_faults.FastxFault.TheVariants.{BadStart, BadBase, BadQuality, LongQuality}
+use Rattle.kc_fastx.specs.declared.read_faults.FastxFault.TheVariants.{Truncated, TooLong, Read as ReadFailed, Memory}
 use Rattle.kc_fastx.specs.Reads.{Read, base_count}
 use Rattle.kc_fastx.specs.Lines.{Line, Cursor, IsBehind, Passes, HasWhole, lines, line_count, begins_with}
 use Rattle.kc_fastx.specs.Lines.{next_begins_with, ends_or_begins_with, skip_blanks}
@@ -17,9 +17,9 @@ use Rattle.kc_fastx.specs.Fastq.{IsFastqRecord, FastqFails}
 use Rattle.kc_fastx.specs.Parsing.{text_lines, IsFastq, HasReads, HasFault, GivesReads, RefusesFor}
 use Rattle.kc_fastx.specs.Faults.{UnlessMemory, is_of_lines, taking_fault}
 use Rattle.kc_io.specs.Intakes.{Unread, Filled}
-use Rattle.kc_io.specs.declared.taking.TakeFault.{TakeFault}
-use Rattle.kc_io.specs.declared.taking.TakeFault.TheVariants as taking
-use Rattle.kc_io.proofs.TakingLemmas.{taken_none, taken_in_vain, taken_then_taken, taken_then_all, taken_then_fails}
+use Rattle.kc_io.specs.declared.intakes.TakeFault.{TakeFault}
+use Rattle.kc_io.specs.declared.intakes.TakeFault.TheVariants as taking
+use Rattle.kc_io.proofs.IntakesLemmas.{taken_none, taken_in_vain, taken_then_taken, taken_then_all, taken_then_fails}
 use Rattle.kc_io.proofs.IntakesLemmas.{filled_none, filled_both, filled_end}
 use Rattle.kc_fastx.specs.Reading.{HasGrown, first_stand, Stand, SaysFasta, SaysFastq, Says, MayCome, AreSaid}
 use Rattle.kc_fastx.specs.Reading.{HasGiven, HasMet, MeetsFault, is_fasta_next, IsNext, NextFails, IsSure}
@@ -689,6 +689,11 @@ filling_none s stand ended failed =
       lines_used = refl;
       is_fastq = refl;
     }
+
+-- where bytes came behind others that had come, some came in all
+pub some_came : {old mid new : Seen} {u v w : Unread} (whole : Filled old new u w) (front : Filled old mid u v) → length v.bytes < length w.bytes → 0 < length whole.more
+some_came {u = u} whole front more =
+    omega (arith, more, ap (λ bytes. length bytes) whole.behind, ap (λ bytes. length bytes) front.behind, length-append u.bytes whole.more, length-append u.bytes front.more)
 
 -- a stand with other unused bytes
 abbrev pub with_unread : Stand → Unread → Bool → Option TakeFault → Stand

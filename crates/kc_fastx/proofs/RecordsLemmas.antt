@@ -8,7 +8,7 @@ use Rattle.std.proofs.lemmas.List.Folds.{concat-append, list_all-append, list_an
 use Rattle.kc_fastx.specs.Lines.{Line, Cursor, IsBehind, Passes, begins_with, line_count}
 use Rattle.kc_fastx.specs.Reads.{Read, is_sequence_byte}
 use Rattle.kc_fastx.specs.Records.{RecordForm, Records, BeginsWithSequence, SequenceFails}
-use Rattle.kc_fastx.specs.declared.faults.FastxFault.TheVariants.{BadBase}
+use Rattle.kc_fastx.specs.declared.read_faults.FastxFault.TheVariants.{BadBase}
 
 -- from `start` on, the lines up to `now` are sequence lines that join to the bases
 pub record SequenceSoFar (stop : ℕ) (start now : Cursor) (bases : List ℕ) : Type 0 where

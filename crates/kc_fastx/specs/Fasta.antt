@@ -1,6 +1,6 @@
 -- FASTA (our formats page): a record is a line that begins with `>`, and the lines up to the next such line or the end.
 use Rattle.std.specs.Prelude.{◌≡◌, ℕ, true, List, ◌∷◌, None}
-use Rattle.kc_fastx.specs.declared.faults.FastxFault.{FastxFault}
+use Rattle.kc_fastx.specs.declared.read_faults.FastxFault.{FastxFault}
 use Rattle.kc_fastx.specs.Reads.{Read}
 use Rattle.kc_fastx.specs.Lines.{Line, begins_with, ends_or_begins_with}
 use Rattle.kc_fastx.specs.Records.{BeginsWithSequence, SequenceFails}

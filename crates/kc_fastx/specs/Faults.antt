@@ -1,10 +1,10 @@
 -- The numbers of the faults (our formats page), what a contract says of them, and the faults of a source.
 use Rattle.std.specs.Prelude.{ℕ, Bool, true, false, ⊤}
-use Rattle.kc_io.specs.declared.taking.TakeFault.{TakeFault}
-use Rattle.kc_io.specs.declared.taking.TakeFault.TheVariants as taking
-use Rattle.kc_fastx.specs.declared.faults.FastxFault.{FastxFault}
-use Rattle.kc_fastx.specs.declared.faults.FastxFault.TheVariants.{BadStart, BadBase, BadQuality, LongQuality, Truncated}
-use Rattle.kc_fastx.specs.declared.faults.FastxFault.TheVariants.{TooLong, Read, Memory}
+use Rattle.kc_io.specs.declared.intakes.TakeFault.{TakeFault}
+use Rattle.kc_io.specs.declared.intakes.TakeFault.TheVariants as taking
+use Rattle.kc_fastx.specs.declared.read_faults.FastxFault.{FastxFault}
+use Rattle.kc_fastx.specs.declared.read_faults.FastxFault.TheVariants.{BadStart, BadBase, BadQuality, LongQuality, Truncated}
+use Rattle.kc_fastx.specs.declared.read_faults.FastxFault.TheVariants.{TooLong, Read, Memory}
 
 abbrev pub fault_number : FastxFault → ℕ
 fault_number (BadStart line) = 1

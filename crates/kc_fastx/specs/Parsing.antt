@@ -1,10 +1,10 @@
 -- The reads of a byte string, or its first fault; the same of a source, and of a list of byte strings.
 use Rattle.std.specs.Prelude.{◌≡◌, ℕ, ◌+◌, ◌^◌, List, [], ◌∷◌, ◌++◌, length, MatchBool, Result, MatchResult, ◌⊎◌}
-use Rattle.kc_io.specs.declared.taking.TakeFault.TheVariants as taking
+use Rattle.kc_io.specs.declared.intakes.TakeFault.TheVariants as taking
 use Rattle.kc_io.specs.Sources.{Seen}
-use Rattle.kc_io.specs.Taking.{TakesAll, TakingFails}
-use Rattle.kc_fastx.specs.declared.faults.FastxFault.{FastxFault}
-use Rattle.kc_fastx.specs.declared.faults.FastxFault.TheVariants.{TooLong, Read as ReadFailed, Memory}
+use Rattle.kc_io.specs.Intakes.{TakesAll, TakingFails}
+use Rattle.kc_fastx.specs.declared.read_faults.FastxFault.{FastxFault}
+use Rattle.kc_fastx.specs.declared.read_faults.FastxFault.TheVariants.{TooLong, Read as ReadFailed, Memory}
 use Rattle.kc_fastx.specs.Reads.{Read}
 use Rattle.kc_fastx.specs.Lines.{Line, lines, next_begins_with, skip_blanks}
 use Rattle.kc_fastx.specs.Records.{Records, FirstFault}

@@ -2,17 +2,17 @@
 use Rattle.std.specs.Prelude.{◌≡◌, ◌≢◌, ⊤, ℕ, ◌+◌, ◌<◌, ◌&&◌, Bool, true, false, not, List, [], ◌∷◌, ◌++◌, length}
 use Rattle.std.specs.Prelude.{MatchBool, ◌⊎◌}
 use Rattle.std.specs.Prelude.{Option, Some, None, Result, Ok, Err}
-use Rattle.kc_io.specs.declared.taking.TakeFault.{TakeFault}
+use Rattle.kc_io.specs.declared.intakes.TakeFault.{TakeFault}
 use Rattle.kc_io.specs.Sources.{Seen}
-use Rattle.kc_io.specs.Taking.{TakenSoFar, TakesAll, TakingFails}
+use Rattle.kc_io.specs.Intakes.{TakenSoFar, TakesAll, TakingFails}
 use Rattle.kc_io.specs.Intakes.{Unread}
-use Rattle.kc_fastx.specs.declared.faults.FastxFault.{FastxFault}
-use Rattle.kc_fastx.specs.declared.faults.FastxFault.TheVariants.{Truncated, TooLong, Read as ReadFailed, Memory}
+use Rattle.kc_fastx.specs.declared.read_faults.FastxFault.{FastxFault}
+use Rattle.kc_fastx.specs.declared.read_faults.FastxFault.TheVariants.{Truncated, TooLong, Read as ReadFailed, Memory}
 use Rattle.kc_fastx.specs.Reads.{Read}
 use Rattle.kc_fastx.specs.Lines.{Line, lines, next_begins_with, ends_or_begins_with, skip_blanks}
 use Rattle.kc_fastx.specs.Records.{Records}
-use Rattle.kc_fastx.specs.declared.reading.Next.{Next}
-use Rattle.kc_fastx.specs.declared.reading.Next.TheVariants.{Given, End, Short}
+use Rattle.kc_fastx.specs.declared.record_reader.Next.{Next}
+use Rattle.kc_fastx.specs.declared.record_reader.Next.TheVariants.{Given, End, Short}
 use Rattle.kc_fastx.specs.Fasta.{IsFastaRecord, FastaFails, greater_than}
 use Rattle.kc_fastx.specs.Fastq.{IsFastqRecord, FastqFails}
 use Rattle.kc_fastx.specs.Parsing.{HasFault, GivesReads, RefusesFor}

@@ -1,8 +1,8 @@
 -- What FASTA and FASTQ share: records that follow one another, and the sequence lines of one.
 use Rattle.std.specs.Prelude.{◌≡◌, ℕ, ◌+◌, true, false, List, [], ◌∷◌, ◌++◌, length}
 use Rattle.std.specs.List.{concat, list_all, list_any}
-use Rattle.kc_fastx.specs.declared.faults.FastxFault.{FastxFault}
-use Rattle.kc_fastx.specs.declared.faults.FastxFault.TheVariants.{BadBase}
+use Rattle.kc_fastx.specs.declared.read_faults.FastxFault.{FastxFault}
+use Rattle.kc_fastx.specs.declared.read_faults.FastxFault.TheVariants.{BadBase}
 use Rattle.kc_fastx.specs.Reads.{Read, is_sequence_byte}
 use Rattle.kc_fastx.specs.Lines.{Line, begins_with}
 

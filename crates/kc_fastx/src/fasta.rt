@@ -5,10 +5,10 @@ ghost use Rattle.kc_fastx.specs.Records.{Records, FirstFault};
 ghost use Rattle.kc_fastx.specs.Fasta.{IsFastaRecord, FastaFails, greater_than};
 ghost use Rattle.kc_fastx.specs.Faults.{UnlessMemory};
 
-use crate::faults::FastxFault;
-use crate::lines::LineCursor;
+use crate::read_faults::FastxFault;
 use crate::reads::SeqRead;
 use crate::records::take_sequence;
+use crate::text_lines::LineCursor;
 use std::alloc::Global;
 
 // The reads of the lines that are left, of which the first begins with `>`.

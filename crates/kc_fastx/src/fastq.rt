@@ -7,10 +7,10 @@ ghost use Rattle.kc_fastx.specs.Fastq.{BeginsWithQuality, QualityFails};
 ghost use Rattle.kc_fastx.specs.Parsing.{IsFastq};
 ghost use Rattle.kc_fastx.specs.Faults.{UnlessMemory};
 
-use crate::faults::FastxFault;
-use crate::lines::{LineCursor, does_begin_with};
+use crate::read_faults::FastxFault;
 use crate::reads::{SeqRead, are_quality_bytes};
 use crate::records::take_sequence;
+use crate::text_lines::{LineCursor, does_begin_with};
 use std::alloc::Global;
 
 // The reads of the lines that are left.

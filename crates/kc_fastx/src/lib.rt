@@ -4,36 +4,36 @@
 //! gives the reads of a source that it owns one after another; so does `Reading`, which is handed the source at each
 //! call. A `SeqRead` has its bases as they stand in the file and, from FASTQ, a quality for each base. A `FastxFault`
 //! says why there are no reads, with its line. What the reads of some bytes are is defined in `specs/` (`Lines`,
-//! `Fasta`, `Fastq`, `Parsing`; `Reading` for those that were given so far), and `laws` says that any bytes have one
-//! answer.
+//! `Fasta`, `Fastq`, `Parsing`; `Reading` for those that were given so far), and `read_laws` says that any bytes have
+//! one answer.
 //!
-//! ```text
+//! ```ignore
 //! let mut source = FromBytes::new(b"@q\nACGT\n+\nII!I\n");
 //! let (reads, byte_count) = read_all(alloc, &mut source, 1 << 36)?;
 //! for read in &reads {
-//!     count(read.bases(), read.quals());    // b"ACGT" and Some(b"II!I")
+//!     assert_eq!(rt; read.bases(), b"ACGT".as_slice());
 //! }
-//! let mut reads = Reads::new(alloc, FromRead::new(file), 1 << 36)?;
-//! while let Some(read) = reads.next_read()? {
-//!     count(read.bases(), read.quals());
-//! }
+//! assert_eq!(rt; byte_count, 15);
+//! let mut reads = Reads::new(alloc, FromBytes::new(b">r\nGT\nA\n"), 1 << 36)?;
+//! let first = reads.next_read()?.ok_or("a read")?;
+//! assert_eq!(rt; first.bases(), b"GTA".as_slice());
 //! ```
 #![tactic(auto)]
 
 mod fasta;
 mod fastq;
-mod faults;
-pub mod laws;
-mod lines;
-mod parsing;
+mod parser;
+mod read_faults;
+pub mod read_laws;
 mod reader;
-mod reading;
 mod reads;
+mod record_reader;
 mod records;
+mod text_lines;
 
-pub use faults::FastxFault;
 pub use kc_io::{Failed, FromBytes, FromRead, Source};
-pub use parsing::{parse, read_all};
+pub use parser::{parse, read_all};
+pub use read_faults::FastxFault;
 pub use reader::Reads;
-pub use reading::Reading;
 pub use reads::SeqRead;
+pub use record_reader::Reading;

@@ -5,9 +5,9 @@ ghost use Rattle.kc_fastx.specs.Reads.{Read};
 ghost use Rattle.kc_fastx.specs.Parsing.{most_bytes};
 ghost use Rattle.kc_fastx.specs.Reading.{Reader, first_stand, HasGiven, GivesNext};
 
-use crate::faults::FastxFault;
-use crate::reading::Reading;
+use crate::read_faults::FastxFault;
 use crate::reads::SeqRead;
+use crate::record_reader::Reading;
 use kc_io::Source;
 use std::alloc::{AllocError, Global};
 use std::marker::Model;

@@ -4,9 +4,9 @@ ghost use Rattle.kc_fastx.specs.Lines.{line_count, ends_or_begins_with, Passes};
 ghost use Rattle.kc_fastx.specs.Records.{BeginsWithSequence, SequenceFails};
 ghost use Rattle.kc_fastx.specs.Faults.{UnlessMemory};
 
-use crate::faults::FastxFault;
-use crate::lines::LineCursor;
+use crate::read_faults::FastxFault;
 use crate::reads::are_sequence_bytes;
+use crate::text_lines::LineCursor;
 
 // Takes the sequence lines up to the end or the next line that begins with `stop`, and joins them in `bases`, which is
 // empty and has no more room than bytes are left. No sequence byte is `stop`, so that room for the bytes in front of

@@ -20,7 +20,7 @@ use Rattle.kc_lemmas.proofs.Permutations.{WeighTheSame}
 use Rattle.std.proofs.lemmas.Map.Keys.{IsDistinct-tail}
 use Rattle.kc_word.specs.Cutting.{NumberedPieces, is_same_batch}
 use Rattle.kc_word.proofs.Sameness.{is_same_batch-Decides}
-use Rattle.kc_stripe.specs.Stripe.{numbers_of, IsBooked}
+use Rattle.kc_booking.specs.Stripe.{numbers_of, IsBooked}
 use Rattle.kc_gather.specs.Gathering.{IsGiven, IsLeastMissing, HasAllNumbers}
 
 -- ---- given batches

@@ -4,12 +4,12 @@ use Rattle.std.specs.Prelude.{sum_by}
 use Rattle.std.proofs.lemmas.List.Sums.{sum_by-append, sum_by-cons}
 use Rattle.kc_fastx.specs.Reads.{Read}
 use Rattle.kc_word.specs.Cutting.{NumberedPieces, as_reads, cleaned, cutting}
-use Rattle.kc_word.specs.Occurrences.{occurrences, occurrences_in}
-use Rattle.kc_word.specs.Rule.{CountingRule}
-use Rattle.kc_word.specs.Word.{text}
+use Rattle.kc_kmer.specs.Occurrences.{occurrences, occurrences_in}
+use Rattle.kc_kmer.specs.Rule.{CountingRule}
+use Rattle.kc_kmer.specs.Word.{text}
 use Rattle.kc_word.proofs.Cleaning.{occurrences-cleaned}
 use Rattle.kc_word.proofs.Cuttings.{cutting-occurrences}
-use Rattle.kc_stripe.specs.Stripe.{reads_in}
+use Rattle.kc_booking.specs.Stripe.{reads_in}
 use Rattle.kc_gather.specs.Laws.{TallyOfCutting}
 
 -- A word occurs in the batches together as often as in their reads.

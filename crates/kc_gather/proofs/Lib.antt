@@ -1,4 +1,3 @@
-pub mod Logs
 pub mod Journals
 pub mod Rows
 pub mod PartLemmas

@@ -15,13 +15,13 @@ use Rattle.std.proofs.lemmas.Map.Keys.{IsDistinct-tail, IsDistinct-head, IsDisti
 use Rattle.kc_lemmas.proofs.Distinct.{head_apart, equal_flips}
 use Rattle.kc_lemmas.proofs.Lists.{Contains-map}
 use Rattle.kc_lemmas.proofs.Sums.{sum_by-zeros, sum_by-flat_map}
-use Rattle.kc_word.specs.Word.{text}
-use Rattle.kc_word.specs.Occurrences.{occurrences_in, occurrences}
+use Rattle.kc_kmer.specs.Word.{text}
+use Rattle.kc_kmer.specs.Occurrences.{occurrences_in, occurrences}
 use Rattle.kc_word.specs.Cutting.{NumberedPieces, as_reads}
 use Rattle.kc_tally.specs.declared.row.Row.{Row}
 use Rattle.kc_tally.specs.Tally.{count_of}
-use Rattle.kc_stripe.specs.Setup.{StripeSetup, word_count, stripe_count, stripe_of}
-use Rattle.kc_stripe.specs.Stripe.{StripeState, numbers_of, word_occurrences, AreStripeRows}
+use Rattle.kc_booking.specs.Setup.{StripeSetup, word_count, stripe_count, stripe_of}
+use Rattle.kc_booking.specs.Stripe.{StripeState, numbers_of, word_occurrences, AreStripeRows}
 use Rattle.kc_gather.specs.Parts.{ArePartsOf, column_rows}
 use Rattle.kc_gather.specs.declared.placed.Placed.{Placed}
 use Rattle.kc_gather.specs.Gathering.{IsWhole, IsWholeThere, AreRowsFrom, HasRowsOf, HaveRowsOf}

@@ -6,10 +6,10 @@ use Rattle.std.proofs.lemmas.List.Elements.{All-append}
 use Rattle.std.proofs.Math.ListN.{get_or-append}
 use Rattle.std.proofs.lemmas.Option.{slice_get-get_or, get_or_from_slice_get}
 use Rattle.kc_word.specs.Cutting.{NumberedPieces}
-use Rattle.kc_stripe.specs.Setup.{StripeSetup}
-use Rattle.kc_stripe.specs.Stripe.{StripeState}
-use Rattle.kc_gather.specs.declared.fault.GatherFault.{GatherFault}
-use Rattle.kc_gather.specs.declared.fault.GatherFault.TheVariants.{Foreign, Missing, Memory}
+use Rattle.kc_booking.specs.Setup.{StripeSetup}
+use Rattle.kc_booking.specs.Stripe.{StripeState}
+use Rattle.kc_gather.specs.declared.gather_fault.GatherFault.{GatherFault}
+use Rattle.kc_gather.specs.declared.gather_fault.GatherFault.TheVariants.{Foreign, Missing, Memory}
 use Rattle.kc_gather.specs.declared.placed.Placed.{Placed}
 use Rattle.kc_gather.specs.Gathering.{IsOwn, IsWhole, IsWholeThere, AreWholeBefore, IsStripeRefusal, IsRefusal, IsFirstRefusal, AreAtPlaces, StandsThere}
 

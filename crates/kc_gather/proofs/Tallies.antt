@@ -13,16 +13,16 @@ use Rattle.std.proofs.lemmas.Option.{get_or_from_slice_get}
 use Rattle.std.proofs.lemmas.Map.Keys.{IsStrictlyIncreasing-from_distinct}
 use Rattle.kc_lemmas.proofs.Distinct.{Contains-from_times}
 use Rattle.kc_lemmas.proofs.Sums.{term-le-sum_by}
-use Rattle.kc_word.specs.Word.{text, form}
-use Rattle.kc_word.specs.Occurrences.{words_in, words_of}
+use Rattle.kc_kmer.specs.Word.{text, form}
+use Rattle.kc_kmer.specs.Occurrences.{words_in, words_of}
 use Rattle.kc_word.specs.Cutting.{NumberedPieces, as_reads, position_total}
 use Rattle.kc_word.proofs.Cuttings.{length-words_of-pieces}
-use Rattle.kc_word.proofs.WordCounts.{times-words_of, All-forms}
+use Rattle.kc_kmer.proofs.WordCounts.{times-words_of, All-forms}
 use Rattle.kc_tally.specs.declared.row.Row.{Row}
 use Rattle.kc_tally.specs.Tally.{TallySeen, row_of, AreRows, IsTally, IsTallyOf}
 use Rattle.kc_tally.proofs.Tallies.{tally_total}
-use Rattle.kc_stripe.specs.Setup.{StripeSetup, word_count, stripe_count, stripe_of}
-use Rattle.kc_stripe.specs.Stripe.{StripeState, reads_in}
+use Rattle.kc_booking.specs.Setup.{StripeSetup, word_count, stripe_count, stripe_of}
+use Rattle.kc_booking.specs.Stripe.{StripeState, reads_in}
 use Rattle.kc_gather.specs.Parts.{ArePartsOf, AreSorted, column_rows, part_shift}
 use Rattle.kc_gather.specs.declared.placed.Placed.{Placed}
 use Rattle.kc_gather.specs.Gathering.{AreRowsFrom, AreAtPlaces, HaveRowsOf, IsWhole, IsWholeThere, position_sum}

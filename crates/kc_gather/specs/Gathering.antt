@@ -7,11 +7,11 @@ use Rattle.std.specs.List.Sorted.{IsPermutation}
 use Rattle.kc_word.specs.Cutting.{NumberedPieces, position_total}
 use Rattle.kc_tally.specs.declared.row.Row.{Row}
 use Rattle.kc_tally.specs.Tally.{count_of}
-use Rattle.kc_stripe.specs.Setup.{StripeSetup, word_count, stripe_of}
-use Rattle.kc_stripe.specs.Stripe.{StripeState, IsBooked, AreStripeRows, numbers_of, word_occurrences}
+use Rattle.kc_booking.specs.Setup.{StripeSetup, word_count, stripe_of}
+use Rattle.kc_booking.specs.Stripe.{StripeState, IsBooked, AreStripeRows, numbers_of, word_occurrences}
 use Rattle.kc_gather.specs.Parts.{ArePartsOf, column_rows}
-use Rattle.kc_gather.specs.declared.fault.GatherFault.{GatherFault}
-use Rattle.kc_gather.specs.declared.fault.GatherFault.TheVariants.{Foreign, Missing, Memory}
+use Rattle.kc_gather.specs.declared.gather_fault.GatherFault.{GatherFault}
+use Rattle.kc_gather.specs.declared.gather_fault.GatherFault.TheVariants.{Foreign, Missing, Memory}
 use Rattle.kc_gather.specs.declared.placed.Placed.{Placed}
 
 -- how many positions the batches have together

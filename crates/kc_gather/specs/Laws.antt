@@ -3,9 +3,9 @@
 use Rattle.std.specs.Prelude.{◌≤◌, ℕ, List, map}
 use Rattle.kc_fastx.specs.Reads.{Read}
 use Rattle.kc_word.specs.Cutting.{cleaned, cutting}
-use Rattle.kc_word.specs.Rule.{CountingRule}
+use Rattle.kc_kmer.specs.Rule.{CountingRule}
 use Rattle.kc_tally.specs.Tally.{IsTallyOf, TallySeen}
-use Rattle.kc_stripe.specs.Stripe.{reads_in}
+use Rattle.kc_booking.specs.Stripe.{reads_in}
 
 -- the tally of the batches of a cutting of cleaned reads is the tally of the reads
 abbrev pub TallyOfCutting : Type 0

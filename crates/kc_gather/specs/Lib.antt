@@ -1,4 +1,3 @@
-pub mod Tables
 pub mod Gathering
 pub mod Parts
 pub mod Laws

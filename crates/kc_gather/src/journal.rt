@@ -2,11 +2,11 @@
 ghost use Rattle.std.specs.Prelude.{◌≡◌, ◌≢◌, ℕ, ◌<◌, ◌↔◌, length, All, true, false};
 ghost use Rattle.std.specs.Prelude.{IsTrue, IfOk, OnOk, IfErr, IfSome, IfNone, slice_index_or};
 ghost use Rattle.kc_word.specs.Shared.{values};
-ghost use Rattle.kc_stripe.specs.Stripe.{IsBooked};
+ghost use Rattle.kc_booking.specs.Stripe.{IsBooked};
 ghost use Rattle.kc_gather.specs.Gathering.{IsGiven, IsOwn, IsWhole, IsStripeRefusal};
 
-use crate::fault::GatherFault;
-use kc_stripe::{Setup, Stripe};
+use crate::gather_fault::GatherFault;
+use kc_booking::{Setup, Stripe};
 use kc_table::Counts;
 use kc_word::Batch;
 use std::alloc::{AllocError, Global};

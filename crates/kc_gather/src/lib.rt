@@ -1,18 +1,23 @@
-//! The two ends of a count: the tables with which it begins, an empty one for each stripe, and the tally that is
-//! gathered from its stripes when all batches were booked.
+//! The end of a count: the tally that is gathered from its stripes when all batches were booked. It is refused unless
+//! each journal holds exactly the given batches.
+//!
+//! ```ignore
+//! let tally = gather(alloc, stripes, &batches, &setup)?;    // by value: tables are freed on the way
+//! assert_eq!(rt; tally.total(), 3);
+//! ```
 #![tactic(auto)]
 
 mod columns;
-mod fault;
-mod gathering;
+mod gather_fault;
+pub mod gather_laws;
+mod gatherer;
 mod journal;
-pub mod laws;
 mod parts;
 mod piles;
 mod placed;
-mod tables;
-mod taking;
+mod taken_rows;
 
-pub use fault::GatherFault;
-pub use gathering::{gather, gather_in_parallel};
-pub use tables::{plain_tables, quotient_tables};
+pub use gather_fault::GatherFault;
+pub use gatherer::{gather, gather_in_parallel};
+/// The tables with which a count begins.
+pub use kc_booking::{plain_tables, quotient_tables};

@@ -1,10 +1,10 @@
 //! Stripes at the places at which they were given.
 ghost use Rattle.std.specs.Prelude.{◌≡◌, length, IfOk};
-ghost use Rattle.kc_stripe.specs.Setup.{stripe_count};
+ghost use Rattle.kc_booking.specs.Setup.{stripe_count};
 ghost use Rattle.kc_gather.specs.Gathering.{AreAtPlaces};
 
 use crate::piles::Weighed;
-use kc_stripe::{Setup, Stripe};
+use kc_booking::{Setup, Stripe};
 use kc_table::Counts;
 use std::alloc::{AllocError, Global};
 

@@ -8,9 +8,9 @@ ghost use Rattle.kc_hash.specs.Seeds.{turn_columns, NoneIsNonsingular};
 ghost use Rattle.kc_hash.specs.Hash.{IsHash, inverse_of};
 ghost use Rattle.kc_hash.specs.Inversion.{inverse_is};
 
+use crate::byte_tables::MatrixTables;
 use crate::elimination::Inverse;
 use crate::matrix::Matrix;
-use crate::tables::MatrixTables;
 use std::marker::Model;
 use thiserror::Error;
 

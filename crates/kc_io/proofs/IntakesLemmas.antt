@@ -1,12 +1,212 @@
--- The bytes that were taken of a source since a start: those that were used, and those that were not.
-use Rattle.std.proofs.Common.{◌≡◌, ℕ, ◌+◌, List, [], ◌++◌, length, take, drop, sym, ap, subst, ◌∙◌, arith, append_assoc, append-nil, length-append}
-use Rattle.std.proofs.lemmas.List.{take-append-drop}
-use Rattle.kc_io.specs.declared.taking.TakeFault.{TakeFault}
-use Rattle.kc_io.specs.declared.taking.TakeFault.TheVariants.{Memory}
+-- The bytes that were taken of a source since a start: what one read more makes of them, and which of them were used.
+use Rattle.std.proofs.Common.{◌≡◌, ℕ, ◌+◌, ◌<◌, ◌≤◌, false, true, List, [], ◌∷◌, ◌++◌, length, take, refl, sym, ap, subst, ◌∙◌, arith, append_assoc, append-nil, length-append, rules, drop}
+use Rattle.std.specs.Prelude.{Ok, Err, if◌then◌else◌}
+use Rattle.std.specs.Io.KnownBytes.{Consumes, Keeps, IsAtEnd}
+use Rattle.std.proofs.lemmas.Bool.Decides.{nat_tests}
+use Rattle.std.proofs.lemmas.List.Elements.{All-nil, All-append}
+use Rattle.kc_io.specs.declared.failures.Failed.{Failed}
+use Rattle.kc_io.specs.declared.intakes.TakeFault.{TakeFault}
+use Rattle.kc_io.specs.declared.intakes.TakeFault.TheVariants.{TooLong, Read, Memory}
+use Rattle.kc_io.specs.History.{is_end, after}
 use Rattle.kc_io.specs.Sources.{Seen}
-use Rattle.kc_io.specs.Taking.{TakenSoFar, TakesAll, TakingFails}
-use Rattle.kc_io.specs.Intakes.{Unread, Filled}
-use Rattle.kc_io.proofs.TakingLemmas.{taken_none, taken_then_taken, taken_then_all, taken_then_fails, taken_in_vain}
+use Rattle.kc_io.specs.Intakes.{Takes, TakenSoFar, TakesAll, TakingFails, AsksFor, Unread, Filled}
+use Rattle.kc_io.proofs.KnownBytesLemmas.{consumes_nothing, consumes_both, consumes_kept}
+use Rattle.std.proofs.lemmas.List.{take-append-drop}
+
+-- what one read did
+pub record ReadOnce (now next : Seen) (bytes ended : List ℕ) (failed : ℕ) : Type 0 where
+  pub consumed : Consumes now.left next.left bytes
+  pub given : next.history.bytes ≡ now.history.bytes ++ bytes
+  pub ends : next.history.ends ≡ now.history.ends ++ ended
+  pub failures : next.history.failures ≡ now.history.failures + failed
+  pub room : ℕ
+  pub asked : next.history.asked ≡ now.history.asked ++ room ∷ []
+  pub with_room : 0 < room
+
+-- a read that gave a byte
+pub read_some : (now next : Seen) (n : ℕ) (block : List ℕ) → (n ≡ 0 → ⊥) → 0 < length block → Consumes now.left next.left (take n block)
+    → next.history ≡ after now.history (Ok n) block → ReadOnce now next (take n block) [] 0
+read_some now next n block some roomy consumed e =
+    let moved : is_end n block ≡ false = grind (arith, nat_tests) in
+    record {
+      consumed = consumed;
+      given = ap (λ h. h.bytes) e;
+      ends = ap (λ h. h.ends) e ∙ ap (λ b. if b then now.history.ends ++ length now.history.bytes ∷ [] else now.history.ends) moved ∙ sym (append-nil now.history.ends);
+      failures = omega (arith, ap (λ h. h.failures) e);
+      room = length block;
+      asked = ap (λ h. h.asked) e;
+      with_room = roomy;
+    }
+
+-- a read that told the end
+pub read_end : (now next : Seen) (n : ℕ) (block : List ℕ) → n ≡ 0 → 0 < length block → Consumes now.left next.left (take n block)
+    → next.history ≡ after now.history (Ok n) block → ReadOnce now next [] (length now.history.bytes ∷ []) 0
+read_end now next n block none roomy consumed e =
+    let ended : is_end n block ≡ true = grind (arith, nat_tests) in
+    let nothing : take n block ≡ [] = ap (λ k. take k block) none in
+    record {
+      consumed = subst (λ v. Consumes now.left next.left v) nothing consumed;
+      given = ap (λ h. h.bytes) e ∙ ap (λ v. now.history.bytes ++ v) nothing;
+      ends = ap (λ h. h.ends) e ∙ ap (λ b. if b then now.history.ends ++ length now.history.bytes ∷ [] else now.history.ends) ended;
+      failures = omega (arith, ap (λ h. h.failures) e);
+      room = length block;
+      asked = ap (λ h. h.asked) e;
+      with_room = roomy;
+    }
+
+-- a read that failed
+pub read_failed : (now next : Seen) (fault : Failed) (block : List ℕ) → 0 < length block → Keeps now.left next.left
+    → next.history ≡ after now.history (Err fault) block → ReadOnce now next [] [] 1
+read_failed now next fault block roomy kept e = record {
+  consumed = consumes_kept now.left now.left next.left [] (consumes_nothing now.left) kept;
+  given = ap (λ h. h.bytes) e ∙ sym (append-nil now.history.bytes);
+  ends = ap (λ h. h.ends) e ∙ sym (append-nil now.history.ends);
+  failures = ap (λ h. h.failures) e;
+  room = length block;
+  asked = ap (λ h. h.asked) e;
+  with_room = roomy;
+}
+
+pub taken_none : (s : Seen) (limit : ℕ) → TakenSoFar s s limit []
+taken_none s limit = record {
+  consumed = consumes_nothing s.left;
+  given = sym (append-nil s.history.bytes);
+  ends = refl;
+  failures = refl;
+  rooms = [];
+  asked = sym (append-nil s.history.asked);
+  with_room = All-nil (λ room. 0 < room);
+  few = omega arith;
+  within = omega arith;
+}
+
+-- the reads so far, and one more
+pub taken_and_read : {old now next : Seen} {limit failed : ℕ} {xs ys ended : List ℕ} → TakenSoFar old now limit xs → ReadOnce now next ys ended failed
+    → Takes old next limit (xs ++ ys) ended failed
+taken_and_read {old} {now} {next} {limit} {failed} {xs} {ys} {ended} before read = record {
+  consumed = consumes_both old.left now.left next.left xs ys before.consumed read.consumed;
+  given = read.given ∙ ap (λ v. v ++ ys) before.given ∙ append_assoc old.history.bytes xs ys;
+  ends = read.ends ∙ ap (λ v. v ++ ended) before.ends;
+  failures = omega (arith, read.failures, before.failures);
+  rooms = before.rooms ++ read.room ∷ [];
+  asked = read.asked ∙ ap (λ v. v ++ read.room ∷ []) before.asked ∙ append_assoc old.history.asked before.rooms (read.room ∷ []);
+  with_room = All-append (λ room. 0 < room) before.rooms (read.room ∷ []) before.with_room (search (rules, read.with_room));
+  few = omega (arith, before.few, before.within, length-append before.rooms (read.room ∷ []));
+}
+
+pub taken_more : {old now next : Seen} {limit : ℕ} {xs ys : List ℕ} → TakenSoFar old now limit xs → ReadOnce now next ys [] 0
+    → 0 < length ys → length xs + length ys ≤ limit → TakenSoFar old next limit (xs ++ ys)
+unfolding taken_and_read
+taken_more {old} {now} {next} {limit} {xs} {ys} before read some fits =
+    let all = taken_and_read before read in
+    record {
+      consumed = all.consumed;
+      given = all.given;
+      ends = all.ends ∙ append-nil old.history.ends;
+      failures = omega (arith, all.failures);
+      rooms = before.rooms ++ read.room ∷ [];
+      asked = all.asked;
+      with_room = all.with_room;
+      few = omega (arith, before.few, length-append before.rooms (read.room ∷ []), length-append xs ys);
+      within = omega (arith, length-append xs ys);
+    }
+
+pub taken_all : {old now next : Seen} {limit : ℕ} {xs : List ℕ} → TakenSoFar old now limit xs → ReadOnce now next [] (length now.history.bytes ∷ []) 0
+    → IsAtEnd next.left → TakesAll old next limit xs
+taken_all {old} {now} {next} {limit} {xs} before read end =
+    let same : next.history.bytes ≡ now.history.bytes = read.given ∙ append-nil now.history.bytes in
+    let taken = taken_and_read before read in
+    record {
+      taken = subst (λ v. Takes old next limit v (length next.history.bytes ∷ []) 0) (append-nil xs)
+          (subst (λ v. Takes old next limit (xs ++ []) (length v ∷ []) 0) (sym same) taken);
+      at_end = end;
+      within = before.within;
+    }
+
+pub taken_too_long : {old now next : Seen} {limit : ℕ} {xs ys : List ℕ} → TakenSoFar old now limit xs → ReadOnce now next ys [] 0
+    → limit < length xs + length ys → TakingFails old next limit TooLong
+taken_too_long {old} {now} {next} {limit} {xs} {ys} before read over =
+    (xs ++ ys, taken_and_read before read, omega (arith, length-append xs ys))
+
+pub taken_failed : {old now next : Seen} {limit : ℕ} {xs : List ℕ} → TakenSoFar old now limit xs → ReadOnce now next [] [] 1
+    → TakingFails old next limit Read
+taken_failed {old} {now} {next} {limit} {xs} before read =
+    (xs ++ [], taken_and_read before read, omega (arith, before.within, length-append xs []))
+
+-- what was taken before a growth was refused
+pub taken_in_vain : {old now : Seen} {limit : ℕ} {xs : List ℕ} → TakenSoFar old now limit xs → TakingFails old now limit Memory
+taken_in_vain {old} {now} {limit} {xs} so_far = (
+  xs,
+  record {
+    consumed = so_far.consumed;
+    given = so_far.given;
+    ends = so_far.ends ∙ sym (append-nil old.history.ends);
+    failures = omega (arith, so_far.failures);
+    rooms = so_far.rooms;
+    asked = so_far.asked;
+    with_room = so_far.with_room;
+    few = omega (arith, so_far.few, so_far.within);
+  },
+  so_far.within,
+)
+
+-- ---- for how many bytes each read was
+
+pub asks_again : {size room : ℕ} (old now next : Seen) → AsksFor size old now → next.history.asked ≡ now.history.asked ++ room ∷ [] → room ≡ size
+    → AsksFor size old next
+asks_again {size} {room} old now next before asked same = (
+  before.0 ++ room ∷ [],
+  asked ∙ ap (λ v. v ++ room ∷ []) before.1 ∙ append_assoc old.history.asked before.0 (room ∷ []),
+  All-append (λ room. room ≡ size) before.0 (room ∷ []) before.2 (search (rules, same)),
+)
+
+-- ---- a taking, and then another with the room that the first left
+
+pub taken_then_takes : {old mid new : Seen} {limit room failed : ℕ} {xs ys ended : List ℕ} → TakenSoFar old mid limit xs → Takes mid new room ys ended failed
+    → length xs + room ≡ limit → Takes old new limit (xs ++ ys) ended failed
+taken_then_takes {old} {mid} {new} {limit} {room} {failed} {xs} {ys} {ended} before takes fits = record {
+  consumed = consumes_both old.left mid.left new.left xs ys before.consumed takes.consumed;
+  given = takes.given ∙ ap (λ v. v ++ ys) before.given ∙ append_assoc old.history.bytes xs ys;
+  ends = takes.ends ∙ ap (λ v. v ++ ended) before.ends;
+  failures = omega (arith, takes.failures, before.failures);
+  rooms = before.rooms ++ takes.rooms;
+  asked = takes.asked ∙ ap (λ v. v ++ takes.rooms) before.asked ∙ append_assoc old.history.asked before.rooms takes.rooms;
+  with_room = All-append (λ room. 0 < room) before.rooms takes.rooms before.with_room takes.with_room;
+  few = omega (arith, before.few, takes.few, length-append before.rooms takes.rooms);
+}
+
+pub taken_then_taken : {old mid new : Seen} {limit room : ℕ} {xs ys : List ℕ} → TakenSoFar old mid limit xs → TakenSoFar mid new room ys
+    → length xs + room ≡ limit → TakenSoFar old new limit (xs ++ ys)
+taken_then_taken {old} {mid} {new} {limit} {room} {xs} {ys} before more fits = record {
+  consumed = consumes_both old.left mid.left new.left xs ys before.consumed more.consumed;
+  given = more.given ∙ ap (λ v. v ++ ys) before.given ∙ append_assoc old.history.bytes xs ys;
+  ends = more.ends ∙ before.ends;
+  failures = more.failures ∙ before.failures;
+  rooms = before.rooms ++ more.rooms;
+  asked = more.asked ∙ ap (λ v. v ++ more.rooms) before.asked ∙ append_assoc old.history.asked before.rooms more.rooms;
+  with_room = All-append (λ room. 0 < room) before.rooms more.rooms before.with_room more.with_room;
+  few = omega (arith, before.few, more.few, length-append before.rooms more.rooms, length-append xs ys);
+  within = omega (arith, more.within, length-append xs ys);
+}
+
+pub taken_then_all : {old mid new : Seen} {limit room : ℕ} {xs ys : List ℕ} → TakenSoFar old mid limit xs → TakesAll mid new room ys
+    → length xs + room ≡ limit → TakesAll old new limit (xs ++ ys)
+taken_then_all {old} {mid} {new} {limit} {room} {xs} {ys} before all fits = record {
+  taken = taken_then_takes before all.taken fits;
+  at_end = all.at_end;
+  within = let within = all.within in omega (arith, within, length-append xs ys);
+}
+
+pub taken_then_fails : {old mid : Seen} {limit : ℕ} {xs : List ℕ} (new : Seen) (room : ℕ) (why : TakeFault) → TakenSoFar old mid limit xs
+    → TakingFails mid new room why → length xs + room ≡ limit → TakingFails old new limit why
+taken_then_fails {old} {mid} {limit} {xs} new room TooLong before fails fits =
+    let over = fails.2 in (xs ++ fails.0, taken_then_takes before fails.1 fits, omega (arith, over, fits, length-append xs fails.0))
+taken_then_fails {old} {mid} {limit} {xs} new room Read before fails fits =
+    let within = fails.2 in (xs ++ fails.0, taken_then_takes before fails.1 fits, omega (arith, within, fits, length-append xs fails.0))
+taken_then_fails {old} {mid} {limit} {xs} new room Memory before fails fits =
+    let within = fails.2 in (xs ++ fails.0, taken_then_takes before fails.1 fits, omega (arith, within, fits, length-append xs fails.0))
+
+-- ---- the bytes that were used, and those that were not
 
 -- since the start these bytes were taken and used, and behind them those that are unread; together with what may still
 -- be taken they are the limit

@@ -1,5 +1,5 @@
+pub mod BlockLemmas
 pub mod IntakesLemmas
 pub mod KnownBytesLemmas
 pub mod SinksLemmas
-pub mod TakingLemmas
 pub mod Walks

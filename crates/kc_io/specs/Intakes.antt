@@ -1,8 +1,50 @@
 -- What the taking of a source block by block leaves of it, and of the bytes that are not used yet.
-use Rattle.std.specs.Prelude.{◌≡◌, ℕ, ◌+◌, ◌<◌, Bool, true, false, List, [], ◌++◌, length, Result, Ok, Err}
-use Rattle.kc_io.specs.declared.taking.TakeFault.{TakeFault}
+use Rattle.std.specs.Prelude.{◌≡◌, ℕ, ◌+◌, ◌<◌, ◌≤◌, Bool, true, false, List, [], ◌∷◌, ◌++◌, length, All, Result, Ok, Err}
+use Rattle.std.specs.Io.KnownBytes.{Consumes, IsAtEnd}
+use Rattle.kc_io.specs.declared.intakes.TakeFault.{TakeFault}
+use Rattle.kc_io.specs.declared.intakes.TakeFault.TheVariants.{TooLong, Read, Memory}
 use Rattle.kc_io.specs.Sources.{Seen}
-use Rattle.kc_io.specs.Taking.{TakenSoFar, TakesAll, TakingFails}
+
+-- These bytes were taken from the front of the source, by at most `limit + 1` reads, each with room for a byte.
+-- Meanwhile the ends behind so many bytes were told, and `failed` reads failed.
+pub record Takes (old new : Seen) (limit : ℕ) (bytes ended : List ℕ) (failed : ℕ) : Type 0 where
+  pub consumed : Consumes old.left new.left bytes
+  pub given : new.history.bytes ≡ old.history.bytes ++ bytes
+  pub ends : new.history.ends ≡ old.history.ends ++ ended
+  pub failures : new.history.failures ≡ old.history.failures + failed
+  pub rooms : List ℕ
+  pub asked : new.history.asked ≡ old.history.asked ++ rooms
+  pub with_room : All (λ room. 0 < room) rooms
+  pub few : length rooms ≤ limit + 1
+
+-- these bytes were taken so far, at most `limit`, by reads that gave at least one each
+pub record TakenSoFar (old now : Seen) (limit : ℕ) (bytes : List ℕ) : Type 0 where
+  pub consumed : Consumes old.left now.left bytes
+  pub given : now.history.bytes ≡ old.history.bytes ++ bytes
+  pub ends : now.history.ends ≡ old.history.ends
+  pub failures : now.history.failures ≡ old.history.failures
+  pub rooms : List ℕ
+  pub asked : now.history.asked ≡ old.history.asked ++ rooms
+  pub with_room : All (λ room. 0 < room) rooms
+  pub few : length rooms ≤ length bytes
+  pub within : length bytes ≤ limit
+
+-- all bytes were taken, at most `limit`, up to an end that was told behind them, and no read failed
+pub record TakesAll (old new : Seen) (limit : ℕ) (bytes : List ℕ) : Type 0 where
+  pub taken : Takes old new limit bytes (length new.history.bytes ∷ []) 0
+  pub at_end : IsAtEnd new.left
+  pub within : length bytes ≤ limit
+
+-- why not all bytes were taken: more than `limit` came, or a read failed before that, or there was no memory for them
+abbrev pub TakingFails : Seen → Seen → ℕ → TakeFault → Type 0
+TakingFails old new limit TooLong = (bytes : List ℕ) × Takes old new limit bytes [] 0 × (limit < length bytes)
+TakingFails old new limit Read = (bytes : List ℕ) × Takes old new limit bytes [] 1 × (length bytes ≤ limit)
+TakingFails old new limit Memory = (bytes : List ℕ) × Takes old new limit bytes [] 0 × (length bytes ≤ limit)
+
+-- each read meanwhile was for so many bytes
+abbrev pub AsksFor : ℕ → Seen → Seen → Type 0
+AsksFor size old new =
+    (rooms : List ℕ) × (new.history.asked ≡ old.history.asked ++ rooms) × All (λ room. room ≡ size) rooms
 
 pub record Unread : Type 0 where
   -- the bytes that were taken and not used yet

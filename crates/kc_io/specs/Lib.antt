@@ -3,4 +3,3 @@ pub mod History
 pub mod Intakes
 pub mod Sinks
 pub mod Sources
-pub mod Taking

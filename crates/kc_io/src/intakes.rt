@@ -1,12 +1,43 @@
 //! The intake of a source's bytes block by block, for readers that use them as they come.
-ghost use Rattle.std.specs.Prelude.{◌≡◌, ◌<◌, ◌≤◌, List, ℕ, [], length, drop, IfOk, IfErr};
-ghost use Rattle.kc_io.specs.Taking.{TakesAll, TakingFails};
-ghost use Rattle.kc_io.specs.Intakes.{Fills};
+ghost use Rattle.std.specs.Prelude.{◌≡◌, ◌≢◌, ◌+◌, ◌<◌, ◌≤◌, ◌++◌, List, ℕ, [], ◌∷◌, length, drop, IfOk, IfErr, OnErr};
+ghost use Rattle.kc_io.specs.declared.intakes.TakeFault.TheVariants.{Memory};
+ghost use Rattle.kc_io.specs.Intakes.{TakesAll, TakingFails, Fills, AsksFor};
 
+use crate::block::BLOCK_SIZE;
 use crate::sources::Source;
-use crate::taking::{TakeFault, new_block};
-use std::alloc::{AllocError, Global};
+use std::alloc::{AllocError, AllocFailed, Global};
 use std::marker::Model;
+use thiserror::Error;
+
+/// Why the bytes of a source could not be taken.
+#[derive(Clone, Copy, Debug, PartialEq, Eq, Error)]
+pub enum TakeFault {
+    /// The source gave more bytes than the limit.
+    #[error("too long")]
+    TooLong,
+    /// A read failed.
+    #[error("read failed")]
+    Read,
+    /// A growth was refused.
+    #[error("no memory")]
+    Memory,
+}
+
+impl From<AllocError> for TakeFault {
+    ghost from_gives = { λ _ fault. fault ≡ Memory };
+
+    fn from(_error: AllocError) -> TakeFault {
+        TakeFault::Memory
+    }
+}
+
+impl<T: Drop> From<AllocFailed<T>> for TakeFault {
+    ghost from_gives = { λ _ fault. fault ≡ Memory };
+
+    fn from(_error: AllocFailed<T>) -> TakeFault {
+        TakeFault::Memory
+    }
+}
 
 /// The bytes that were taken of a source and not used yet, and how many more may be taken. It keeps these bytes and one
 /// block, whatever was taken before.
@@ -19,14 +50,14 @@ pub struct Intake {
 }
 
 impl Model for Intake {
-    ghost use Rattle.std.specs.Prelude.{◌≤◌, ◌<◌, length, drop};
+    ghost use Rattle.std.specs.Prelude.{◌≡◌, ◌≤◌, length, drop};
     ghost use Rattle.kc_io.specs.Intakes.{Unread};
 
     ghost Value = { Unread };
 
     ghost view = { λ i. record { bytes = drop i.used i.bytes.items; room = i.room } };
 
-    ghost invariant = { λ i. (i.used ≤ length i.bytes.items) × (0 < length i.block.items) };
+    ghost invariant = { λ i. (i.used ≤ length i.bytes.items) × (length i.block.items ≡ 65536) };
 }
 
 impl Intake {
@@ -66,9 +97,12 @@ impl Intake {
     ///
     /// # Errors
     /// `TooLong` where more came than might be taken, `Read` where the read failed, `Memory` where a growth was
-    /// refused.
+    /// refused. Each leaves the bytes that are there, and how many more may be taken.
     pub fn fill<S: Source>(&mut self, source: &mut S) -> Result<bool, TakeFault>
-        ensures { Fills (S.seen source.old) (S.seen source.new) self.old self.new result }
+        ensures filled { Fills (S.seen source.old) (S.seen source.new) self.old self.new result }
+        ensures one_read { (S.seen source.new).history.asked ≡ (S.seen source.old).history.asked ++ BLOCK_SIZE ∷ [] }
+        ensures one_block { length self.new.bytes ≤ length self.old.bytes + BLOCK_SIZE }
+        ensures refused { OnErr result (self.new ≡ self.old) }
     {
         let Ok(count) = source.read(self.block.as_mut_slice()) else {
             return Err(TakeFault::Read);
@@ -86,7 +120,8 @@ impl Intake {
         Ok(true)
     }
 
-    /// Takes all that comes of the source, forgets it, and answers how many bytes it was.
+    /// Takes all that comes of the source by way of the block, forgets it, and answers how many bytes it was. It takes
+    /// no memory.
     ///
     /// # Errors
     /// `TooLong` where more came than might be taken, and `Read` where a read failed, whichever came first.
@@ -94,9 +129,18 @@ impl Intake {
         ensures skipped { IfOk result (λ count. (bytes : List ℕ)
             × TakesAll (S.seen source.old) (S.seen source.new) self.room bytes × (length bytes ≡ count)) }
         ensures fault { IfErr result (TakingFails (S.seen source.old) (S.seen source.new) self.room) }
+        ensures no_memory { IfErr result (λ fault. fault ≢ Memory) }
+        ensures by_blocks { AsksFor BLOCK_SIZE (S.seen source.old) (S.seen source.new) }
     {
         skip_by_blocks(source, self.room, self.block.as_mut_slice())
     }
+}
+
+// An empty block for a read to fill.
+fn new_block(alloc: Global) -> Result<Vec<u8>, AllocError>
+    ensures { IfOk result (λ block. length block.items ≡ BLOCK_SIZE) }
+{
+    vec![in alloc; 0u8; BLOCK_SIZE]
 }
 
 // Forgets the first bytes. The others move to the front.
@@ -118,6 +162,8 @@ fn skip_by_blocks<S: Source>(source: &mut S, limit: u64, block: &mut [u8]) -> Re
     ensures skipped { IfOk result (λ count. (bytes : List ℕ)
         × TakesAll (S.seen source.old) (S.seen source.new) limit bytes × (length bytes ≡ count)) }
     ensures fault { IfErr result (TakingFails (S.seen source.old) (S.seen source.new) limit) }
+    ensures no_memory { IfErr result (λ fault. fault ≢ Memory) }
+    ensures by_blocks { AsksFor (length block.old) (S.seen source.old) (S.seen source.new) }
 {
     let mut skipped = 0u64;
     'reading: loop {

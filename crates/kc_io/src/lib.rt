@@ -5,28 +5,33 @@
 //! a slice and of a reader of std; `ToVec` and `ToWrite` make a sink of a vector and of a writer of std. A call of
 //! std's that was interrupted is tried again and is no failure.
 //!
-//! `take_all` takes all bytes of a source, up to a limit; `write_out` hands a text to a sink and flushes it, and
-//! `write_all` hands over a part of one:
+//! An `Intake` takes the bytes of a source block by block, up to a limit, for a caller that uses them as they come;
+//! `write_out` hands a text to a sink and flushes it, and `write_all` hands over a part of one. `Block` gathers small
+//! texts, so that the sink gets blocks of 64 KB:
 //!
-//! ```text
-//! let bytes = take_all(alloc, &mut FromRead::new(input), 1 << 36)?;
-//! write_out(&mut ToWrite::new(output), &bytes)?;
+//! ```ignore
+//! let mut intake = Intake::new(alloc, 1 << 36)?;
+//! if intake.fill(&mut FromBytes::new(b"ACGT"))? {
+//!     let mut sink = ToVec::new(Vec::new(alloc));
+//!     write_out(&mut sink, intake.as_slice())?;
+//!     assert_eq!(rt; sink.as_slice(), b"ACGT".as_slice());
+//! }
 //! ```
 #![tactic(auto)]
 
+mod block;
 mod failures;
 mod histories;
 mod intakes;
-mod recorded;
+mod recorded_calls;
 mod sinks;
 mod sources;
-mod taking;
-mod writing;
+mod whole_texts;
 
+pub use block::{BLOCK_SIZE, Block, NUMBER_SIZE};
 pub use failures::Failed;
 pub use histories::Heard;
-pub use intakes::Intake;
+pub use intakes::{Intake, TakeFault};
 pub use sinks::{Sink, ToVec, ToWrite};
 pub use sources::{FromBytes, FromRead, Source};
-pub use taking::{TakeFault, take_all};
-pub use writing::{write_all, write_out};
+pub use whole_texts::{write_all, write_out};

@@ -6,7 +6,7 @@ ghost use Rattle.kc_io.specs.Sinks.{Written, write_answer};
 
 use crate::failures::Failed;
 use crate::histories::Heard;
-use crate::recorded::Recorded;
+use crate::recorded_calls::Recorded;
 use std::io::Write;
 use std::marker::Model;
 

@@ -6,7 +6,7 @@ use Rattle.kc_report.specs.Dumping.{dump_text, row_text, is_shown, shown_text}
 use Rattle.kc_tally.specs.declared.row.Row.{Row}
 use Rattle.kc_io.specs.Sinks.{Written, Drains}
 use Rattle.kc_io.proofs.SinksLemmas.{Pending, SinkCall, drained}
-use Rattle.kc_report.specs.declared.dumping.Dump.{Dump}
+use Rattle.kc_report.specs.declared.dump.Dump.{Dump}
 
 -- The row at the front has its part.
 pub dump_text-cons : (k : ℕ) (dump : Dump) (row : Row) (rows : List Row)

@@ -17,11 +17,11 @@ use Rattle.std.proofs.lemmas.Str.{digit_value_digit}
 use Rattle.std.proofs.lemmas.Str.Parse.{IsNumeralModel, numerals_by_value, tells_digits, digits_value_short}
 use Rattle.std.proofs.lemmas.Str.Parse.{digit_from_value}
 use Rattle.std.proofs.lemmas.List.Sums.{AllPass-from_list_all}
-use Rattle.kc_word.specs.Letter.{is_base, are_bases, code, base}
-use Rattle.kc_word.specs.Word.{number, text, canonical, form}
-use Rattle.kc_word.proofs.WordLemmas.{code-lt, number-nil, number-lt, number_push-base, list_all-append, text-number}
-use Rattle.kc_word.proofs.WordLemmas.{base-code, code-base, is_base-base}
-use Rattle.kc_word.proofs.WordLemmas.{length-text, are_bases-text, same_from_text}
+use Rattle.kc_kmer.specs.Letter.{is_base, are_bases, code, base}
+use Rattle.kc_kmer.specs.Word.{number, text, canonical, form}
+use Rattle.kc_kmer.proofs.WordLemmas.{code-lt, number-nil, number-lt, number_push-base, list_all-append, text-number}
+use Rattle.kc_kmer.proofs.WordLemmas.{base-code, code-base, is_base-base}
+use Rattle.kc_kmer.proofs.WordLemmas.{length-text, are_bases-text, same_from_text}
 use Rattle.kc_tally.specs.declared.row.Row.{Row}
 use Rattle.kc_report.specs.Bytes.{line_feed, space}
 use Rattle.kc_report.specs.Dumping.{row_in_columns}

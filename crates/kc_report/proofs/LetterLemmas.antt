@@ -7,10 +7,10 @@ use Rattle.std.proofs.lemmas.List.{take_all, take-append-le, length-append, leng
 use Rattle.std.proofs.lemmas.Slice.{take-put_mid}
 use borrow.Rule.Slice.PartMut.{put_mid}
 use Rattle.std.proofs.lemmas.Nat.{pow-add, pow_pos, and_mask}
-use Rattle.kc_word.specs.Letter.{base}
-use Rattle.kc_word.specs.Word.{text}
-use Rattle.kc_word.proofs.Letters.{pow-four}
-use Rattle.kc_word.proofs.WordLemmas.{below_four, length-text}
+use Rattle.kc_kmer.specs.Letter.{base}
+use Rattle.kc_kmer.specs.Word.{text}
+use Rattle.kc_kmer.proofs.Letters.{pow-four}
+use Rattle.kc_kmer.proofs.WordLemmas.{below_four, length-text}
 use Rattle.kc_report.specs.TableRows.{four_letters}
 
 pub letter-small : (n : ℕ) → n < 4 → base n < 256

@@ -1,4 +1,3 @@
-pub mod BlockLemmas
 pub mod LetterLemmas
 pub mod CountLemmas
 pub mod DumpLemmas

@@ -6,7 +6,7 @@ use Rattle.std.proofs.Math.Seq.{take-add}
 use Rattle.std.proofs.lemmas.Bool.{eqb-true}
 use Rattle.std.proofs.lemmas.List.{take_more, take-append-drop, take-append-le, length-append, length-drop, take_all}
 use Rattle.kc_io.specs.Sources.{Seen}
-use Rattle.kc_io.specs.Taking.{TakesAll}
+use Rattle.kc_io.specs.Intakes.{TakesAll}
 use Rattle.kc_io.specs.Intakes.{Unread, Filled, Fills}
 use Rattle.kc_io.proofs.IntakesLemmas.{filled_both, filled_end}
 use Rattle.kc_report.specs.Bytes.{line_feed}

@@ -7,8 +7,8 @@ use Rattle.std.proofs.lemmas.List.{length-map, get_or-map, drop_all, take_all, t
 use Rattle.std.proofs.lemmas.List.{length-take-le}
 use Rattle.std.proofs.lemmas.List.Elements.{All-push}
 use Rattle.std.specs.List.{All}
-use Rattle.kc_word.specs.Word.{text, canonical, form, number}
-use Rattle.kc_word.proofs.WordLemmas.{number-text}
+use Rattle.kc_kmer.specs.Word.{text, canonical, form, number}
+use Rattle.kc_kmer.proofs.WordLemmas.{number-text}
 use Rattle.kc_tally.specs.Tally.{TallySeen, count_of}
 use Rattle.kc_report.specs.Bytes.{line_feed, space}
 use Rattle.kc_report.specs.Dumping.{row_in_columns}

@@ -4,9 +4,9 @@ use Rattle.std.proofs.Common.{◌∙◌, ap, subst, append_assoc, append-nil, ar
 use Rattle.std.specs.Prelude.{codes, Result, Ok, Err}
 use Rattle.kc_tally.specs.declared.row.Row.{Row}
 use Rattle.kc_tally.specs.Tally.{AreRows, TallySeen, total_of}
-use Rattle.kc_report.specs.declared.faults.ReportFault.{ReportFault}
-use Rattle.kc_report.specs.declared.faults.ReportFault.TheVariants.{BadHeader, BadRow, BadEnd, Write, TableTooLong}
-use Rattle.kc_report.specs.declared.faults.ReportFault.TheVariants.{TableRead, BadWord, Memory}
+use Rattle.kc_report.specs.declared.report_faults.ReportFault.{ReportFault}
+use Rattle.kc_report.specs.declared.report_faults.ReportFault.TheVariants.{BadHeader, BadRow, BadEnd, Write, TableTooLong}
+use Rattle.kc_report.specs.declared.report_faults.ReportFault.TheVariants.{TableRead, BadWord, Memory}
 use Rattle.kc_report.specs.Dumping.{row_in_columns}
 use Rattle.kc_report.specs.Table.{header_line, end_line, ended, rows_text, end_text, table_text}
 use Rattle.kc_report.specs.TableReading.{BeginsWith, HasLine, IsTable, ReadsTo, HasBadHeader, IsTableOf}

@@ -6,7 +6,7 @@ use Rattle.std.specs.List.Sorted.{IsStrictlyIncreasing}
 use Rattle.std.proofs.lemmas.List.{length-append, length-map, get_or_append_left, map_push, length_push, get_or_push, get_or-map}
 use Rattle.std.proofs.lemmas.List.Sums.{sum_by-append, sum_by-cons}
 use Rattle.std.proofs.lemmas.List.Elements.{All-push}
-use Rattle.kc_word.specs.Word.{text, form}
+use Rattle.kc_kmer.specs.Word.{text, form}
 use Rattle.kc_tally.specs.declared.row.Row.{Row}
 use Rattle.kc_tally.specs.Tally.{AreRows, total_of}
 

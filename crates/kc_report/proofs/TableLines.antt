@@ -4,9 +4,9 @@ use Rattle.std.specs.Prelude.{codes, decimal}
 use Rattle.std.specs.Str.Parse.{AllDigits}
 use Rattle.std.proofs.lemmas.Fmt.{decimal_is_IsNumeral, decimal_injective}
 use Rattle.std.proofs.lemmas.Str.Parse.{digit_from_value}
-use Rattle.kc_word.specs.Letter.{base}
-use Rattle.kc_word.specs.Word.{text}
-use Rattle.kc_word.proofs.WordLemmas.{below_four, length-text, same_from_text}
+use Rattle.kc_kmer.specs.Letter.{base}
+use Rattle.kc_kmer.specs.Word.{text}
+use Rattle.kc_kmer.proofs.WordLemmas.{below_four, length-text, same_from_text}
 use Rattle.kc_tally.specs.declared.row.Row.{Row}
 use Rattle.kc_report.specs.Bytes.{line_feed, space}
 use Rattle.kc_report.specs.Dumping.{row_in_columns}

@@ -1,8 +1,8 @@
 -- The dump, a function of the rows of a tally: source, our formats page ("Reports").
 use Rattle.std.specs.Prelude.{ℕ, Bool, List, [], ◌∷◌, ◌++◌, ◌&&◌, nat_le, decimal, filter, flat_map, if◌then◌else◌}
-use Rattle.kc_word.specs.Word.{text}
+use Rattle.kc_kmer.specs.Word.{text}
 use Rattle.kc_tally.specs.declared.row.Row.{Row}
-use Rattle.kc_report.specs.declared.dumping.Dump.{Dump}
+use Rattle.kc_report.specs.declared.dump.Dump.{Dump}
 use Rattle.kc_report.specs.Bytes.{tab, line_feed, space, greater_than}
 
 -- the row's count stands within the bounds, both of which count

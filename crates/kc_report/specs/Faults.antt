@@ -1,9 +1,9 @@
 -- The faults of a source, and what a contract says of a fault: source, our formats page ("Refusals and their lines").
 use Rattle.std.specs.Prelude.{⊤}
-use Rattle.kc_io.specs.declared.taking.TakeFault.{TakeFault}
-use Rattle.kc_io.specs.declared.taking.TakeFault.TheVariants as taking
-use Rattle.kc_report.specs.declared.faults.ReportFault.{ReportFault}
-use Rattle.kc_report.specs.declared.faults.ReportFault.TheVariants.{TableTooLong, TableRead, Memory}
+use Rattle.kc_io.specs.declared.intakes.TakeFault.{TakeFault}
+use Rattle.kc_io.specs.declared.intakes.TakeFault.TheVariants as taking
+use Rattle.kc_report.specs.declared.report_faults.ReportFault.{ReportFault}
+use Rattle.kc_report.specs.declared.report_faults.ReportFault.TheVariants.{TableTooLong, TableRead, Memory}
 
 -- the fault that says why the bytes of a source could not be taken
 abbrev pub taking_fault : TakeFault → ReportFault

@@ -4,8 +4,8 @@ use Rattle.std.specs.Prelude.{Result, Ok, Err, map, flat_map, count_by, nat_lt}
 use Rattle.std.specs.List.{range_with_len}
 use Rattle.kc_io.specs.Sinks.{Written, HasWritten, HasBegun}
 use Rattle.kc_tally.specs.declared.row.Row.{Row}
-use Rattle.kc_report.specs.declared.faults.ReportFault.{ReportFault}
-use Rattle.kc_report.specs.declared.faults.ReportFault.TheVariants.{Write, Memory}
+use Rattle.kc_report.specs.declared.report_faults.ReportFault.{ReportFault}
+use Rattle.kc_report.specs.declared.report_faults.ReportFault.TheVariants.{Write, Memory}
 use Rattle.kc_report.specs.Bytes.{line_feed, space}
 
 -- how many words occur this often

@@ -1,8 +1,8 @@
 -- Lines that line feeds end, and the finding of one in what a source gives.
 use Rattle.std.specs.Prelude.{◌≡◌, ◌≢◌, ℕ, ◌≤◌, List, [], ◌∷◌, ◌++◌, length, take, Result, Ok, Err, Option, Some, None}
-use Rattle.kc_io.specs.declared.taking.TakeFault.{TakeFault}
+use Rattle.kc_io.specs.declared.intakes.TakeFault.{TakeFault}
 use Rattle.kc_io.specs.Sources.{Seen}
-use Rattle.kc_io.specs.Taking.{TakesAll, TakingFails}
+use Rattle.kc_io.specs.Intakes.{TakesAll, TakingFails}
 use Rattle.kc_io.specs.Intakes.{Unread, Filled}
 use Rattle.kc_report.specs.Bytes.{line_feed}
 use Rattle.kc_report.specs.Table.{ended}

@@ -2,12 +2,12 @@
 use Rattle.std.specs.Prelude.{◌≡◌, ℕ, ◌+◌, List, [], ◌∷◌, ◌++◌, map}
 use Rattle.std.specs.Prelude.{length, All, decimal, flat_map, Result, Ok, Err, IsTrue}
 use Rattle.std.specs.Char.{to_ascii_uppercase}
-use Rattle.kc_word.specs.Letter.{are_bases}
-use Rattle.kc_word.specs.Word.{number, form}
+use Rattle.kc_kmer.specs.Letter.{are_bases}
+use Rattle.kc_kmer.specs.Word.{number, form}
 use Rattle.kc_tally.specs.Tally.{TallySeen, count_of}
 use Rattle.kc_io.specs.Sinks.{Written, HasWritten, HasBegun}
-use Rattle.kc_report.specs.declared.faults.ReportFault.{ReportFault}
-use Rattle.kc_report.specs.declared.faults.ReportFault.TheVariants.{BadWord, Write}
+use Rattle.kc_report.specs.declared.report_faults.ReportFault.{ReportFault}
+use Rattle.kc_report.specs.declared.report_faults.ReportFault.TheVariants.{BadWord, Write}
 use Rattle.kc_report.specs.Bytes.{line_feed, space}
 
 -- a text in upper case

@@ -3,14 +3,14 @@
 -- page ("Table text").
 use Rattle.std.specs.Prelude.{◌≡◌, ℕ, ◌+◌, ◌≤◌, Bool, false, List}
 use Rattle.std.specs.Prelude.{[], ◌∷◌, ◌++◌, length, codes, Result, MatchResult, ◌⊎◌}
-use Rattle.kc_io.specs.declared.taking.TakeFault.TheVariants as taking
+use Rattle.kc_io.specs.declared.intakes.TakeFault.TheVariants as taking
 use Rattle.kc_io.specs.Sources.{Seen}
-use Rattle.kc_io.specs.Taking.{TakesAll, TakingFails}
+use Rattle.kc_io.specs.Intakes.{TakesAll, TakingFails}
 use Rattle.kc_tally.specs.declared.row.Row.{Row}
 use Rattle.kc_tally.specs.Tally.{TallySeen, AreRows}
-use Rattle.kc_report.specs.declared.faults.ReportFault.{ReportFault}
-use Rattle.kc_report.specs.declared.faults.ReportFault.TheVariants.{BadHeader, BadRow, BadEnd}
-use Rattle.kc_report.specs.declared.faults.ReportFault.TheVariants.{TableTooLong, TableRead, Memory}
+use Rattle.kc_report.specs.declared.report_faults.ReportFault.{ReportFault}
+use Rattle.kc_report.specs.declared.report_faults.ReportFault.TheVariants.{BadHeader, BadRow, BadEnd}
+use Rattle.kc_report.specs.declared.report_faults.ReportFault.TheVariants.{TableTooLong, TableRead, Memory}
 use Rattle.kc_report.specs.Dumping.{row_in_columns}
 use Rattle.kc_report.specs.Table.{header_line, ended, front_text, end_text, table_text}
 

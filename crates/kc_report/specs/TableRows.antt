@@ -3,8 +3,8 @@ use Rattle.std.specs.Prelude.{◌≡◌, ℕ, ◌+◌, ◌*◌, ◌/◌, ◌%◌
 use Rattle.std.specs.Prelude.{slice_index, slice_index_or, if◌then◌else◌, true}
 use Rattle.std.specs.Str.Parse.{AllDigits, digits_value}
 use Rattle.std.specs.Char.{digit_value}
-use Rattle.kc_word.specs.Letter.{is_base, are_bases, code, base}
-use Rattle.kc_word.specs.Word.{number}
+use Rattle.kc_kmer.specs.Letter.{is_base, are_bases, code, base}
+use Rattle.kc_kmer.specs.Word.{number}
 use Rattle.kc_tally.specs.declared.row.Row.{Row}
 use Rattle.kc_tally.specs.Tally.{AreRows, TallySeen}
 use Rattle.kc_report.specs.Bytes.{line_feed, space}

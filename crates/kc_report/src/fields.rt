@@ -1,12 +1,12 @@
 //! The fields of a table's row.
 ghost use Rattle.std.specs.Prelude.{◌≡◌, ◌≢◌, ℕ, ◌*◌, ◌/◌, ◌≤◌, ◌<◌, ◌^◌, length, take, false, IfSome, IfNone};
-ghost use Rattle.kc_word.specs.Letter.{are_bases};
-ghost use Rattle.kc_word.specs.Word.{text};
+ghost use Rattle.kc_kmer.specs.Letter.{are_bases};
+ghost use Rattle.kc_kmer.specs.Word.{text};
 ghost use Rattle.kc_report.specs.TableReading.{BeginsWith};
 ghost use Rattle.kc_report.specs.TableRows.{capital_code, IsSpelled, count_text, HasDigits};
 
 use crate::letters::{codes_of_four, four_of};
-use kc_word::K;
+use kc_kmer::K;
 
 // What `code_of` gives of a byte that is no capital letter of a base.
 const NO_BASE: u8 = 4;

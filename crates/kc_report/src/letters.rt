@@ -1,6 +1,6 @@
 //! The letters of words, four at a time: what the writing of a word and the reading of one share.
 ghost use Rattle.std.specs.Prelude.{◌≡◌, ℕ, ◌<◌};
-ghost use Rattle.kc_word.specs.Word.{text};
+ghost use Rattle.kc_kmer.specs.Word.{text};
 ghost use Rattle.kc_report.specs.TableRows.{four_letters};
 
 // The letters of four bases with these codes as a number of 32 bits, the first letter lowest; the codes are two bits

@@ -1,12 +1,11 @@
 //! The statistics of a tally.
 ghost use Rattle.std.specs.Prelude.{◌≡◌, ◌≤◌, ◌+◌, ◌++◌, length, IfErr};
 ghost use Rattle.kc_io.specs.Sinks.{Writes};
-ghost use Rattle.kc_report.specs.declared.faults.ReportFault.TheVariants.{Write};
+ghost use Rattle.kc_report.specs.declared.report_faults.ReportFault.TheVariants.{Write};
 ghost use Rattle.kc_report.specs.Statistics.{statistics_text, named_line, greatest_count};
 
-use crate::block::Block;
-use crate::faults::ReportFault;
-use kc_io::{Sink, write_out};
+use crate::report_faults::ReportFault;
+use kc_io::{Block, Sink, write_out};
 use kc_tally::Tally;
 
 /// Writes the statistics of a tally: how many words occur once, how many occur, how often all of them together, and how

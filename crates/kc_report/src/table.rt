@@ -1,16 +1,15 @@
 //! The table text of a tally, which keeps all of it.
 ghost use Rattle.std.specs.Prelude.{◌≡◌, ◌+◌, ◌≤◌, ◌∷◌, [], ◌++◌, length, IfErr};
 ghost use Rattle.kc_io.specs.Sinks.{Writes};
-ghost use Rattle.kc_report.specs.declared.faults.ReportFault.TheVariants.{Write};
+ghost use Rattle.kc_report.specs.declared.report_faults.ReportFault.TheVariants.{Write};
 ghost use Rattle.kc_report.specs.Bytes.{line_feed, space};
 ghost use Rattle.kc_report.specs.Table.{kind, header_line, end_line, ended, table_text};
 
-use crate::block::{BLOCK_SIZE, Block, NUMBER_SIZE};
-use crate::dumping::{ROW_SIZE, push_columns};
-use crate::faults::ReportFault;
-use kc_io::{Failed, Sink, write_out};
+use crate::dump::{ROW_SIZE, push_columns};
+use crate::report_faults::ReportFault;
+use kc_io::{BLOCK_SIZE, Block, Failed, NUMBER_SIZE, Sink, write_out};
+use kc_kmer::K;
 use kc_tally::Tally;
-use kc_word::K;
 
 // The most bytes of a header and of an end line, each with its line end.
 pub(crate) const HEADER_SIZE: usize = 6 + NUMBER_SIZE + 3;

@@ -1,7 +1,7 @@
 //! What holds of table texts. Each law is the contract of a function that does nothing.
 ghost use Rattle.std.specs.Prelude.{◌≡◌, ℕ, List, Ok, Result};
 ghost use Rattle.kc_tally.specs.Tally.{TallySeen};
-ghost use Rattle.kc_report.specs.declared.faults.ReportFault.{ReportFault};
+ghost use Rattle.kc_report.specs.declared.report_faults.ReportFault.{ReportFault};
 ghost use Rattle.kc_report.specs.Table.{table_text};
 ghost use Rattle.kc_report.specs.TableReading.{IsTable, IsTableOf};
 

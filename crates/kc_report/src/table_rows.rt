@@ -2,18 +2,18 @@
 ghost use Rattle.std.specs.Prelude.{◌≡◌, ◌↔◌, ◌+◌, ◌<◌, ◌≤◌, ◌^◌, ◌++◌, [], ◌∷◌, false, length, take};
 ghost use Rattle.std.specs.Prelude.{IsTrue, IfSome, IfNone, IfOk, OnOk};
 ghost use Rattle.kc_tally.specs.declared.row.Row.{Row};
-ghost use Rattle.kc_word.specs.Word.{text, form};
+ghost use Rattle.kc_kmer.specs.Word.{text, form};
 ghost use Rattle.kc_report.specs.Dumping.{row_in_columns};
 ghost use Rattle.kc_report.specs.Table.{end_text};
 ghost use Rattle.kc_report.specs.TableReading.{BeginsWith, MayFollow};
 ghost use Rattle.kc_report.specs.TableRows.{RisesTo};
 
-use crate::block::Block;
-use crate::dumping::GREATEST_COUNT;
+use crate::dump::GREATEST_COUNT;
 use crate::fields::{count_of, word_of};
 use crate::table::push_end;
+use kc_io::Block;
+use kc_kmer::{K, Word, canonical};
 use kc_tally::{Row, Tally};
-use kc_word::{K, Word, canonical};
 use std::alloc::{AllocError, Global};
 use std::marker::Model;
 

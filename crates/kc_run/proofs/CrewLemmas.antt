@@ -8,8 +8,8 @@ use Rattle.std.proofs.lemmas.Option.{slice_get-get_or, get_or_from_slice_get, sl
 use Rattle.std.proofs.lemmas.List.Sums.{sum_by_push}
 use Rattle.kc_share.specs.declared.entry.Plan.{Plan}
 use Rattle.kc_share.specs.Share.{ShareSeen, joined_shares}
-use Rattle.kc_run.specs.declared.fault.RunFault.{RunFault}
-use Rattle.kc_run.specs.declared.fault.RunFault.TheVariants.{NoThread}
+use Rattle.kc_run.specs.declared.run_fault.RunFault.{RunFault}
+use Rattle.kc_run.specs.declared.run_fault.RunFault.TheVariants.{NoThread}
 use Rattle.kc_tickets.specs.Tickets.{Roll, Drawer, IsSeatOf, IsDone, answers_of}
 use Rattle.kc_run.proofs.EntryLemmas.{entries-joined}
 use Rattle.kc_run.specs.Runs.{IsFreshSeatOf, HasWorked, HaveWorked, IsFirstFault, EndedWell}

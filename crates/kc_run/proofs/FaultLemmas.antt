@@ -1,9 +1,9 @@
 -- The faults with which workers and runs end.
 use Rattle.std.proofs.Common.{◌≡◌, ℕ, ◌<◌, ◌≤◌, sym, subst, inl, arith}
-use Rattle.kc_stripe.specs.declared.fault.BookFault.{BookFault}
-use Rattle.kc_stripe.specs.declared.fault.BookFault.TheVariants as book
-use Rattle.kc_run.specs.declared.fault.RunFault.{RunFault}
-use Rattle.kc_run.specs.declared.fault.RunFault.TheVariants as run
+use Rattle.kc_booking.specs.declared.booking_fault.BookFault.{BookFault}
+use Rattle.kc_booking.specs.declared.booking_fault.BookFault.TheVariants as book
+use Rattle.kc_run.specs.declared.run_fault.RunFault.{RunFault}
+use Rattle.kc_run.specs.declared.run_fault.RunFault.TheVariants as run
 use Rattle.kc_run.specs.Runs.{booking_fault, IsOfBooking, IsWorkerFault, IsGatheringFault, IsRunFault}
 
 names_it : (stripes stripe : ℕ) (why : BookFault) → stripe < stripes → IsWorkerFault stripes (booking_fault stripe why)

@@ -5,8 +5,8 @@ use Rattle.std.proofs.lemmas.Option.{slice_get_within, get_or_from_slice_get}
 use Rattle.kc_word.specs.Cutting.{NumberedPieces}
 use Rattle.kc_share.specs.declared.entry.Booking.{Booking}
 use Rattle.kc_share.specs.Share.{entry_total_in}
-use Rattle.kc_stripe.specs.Setup.{StripeSetup, stripe_count}
-use Rattle.kc_stripe.specs.Stripe.{StripeState}
+use Rattle.kc_booking.specs.Setup.{StripeSetup, stripe_count}
+use Rattle.kc_booking.specs.Stripe.{StripeState}
 use Rattle.kc_stripe.specs.Locked.{IsAllOf}
 use Rattle.kc_gather.specs.Gathering.{StandsThere, IsLacking}
 

@@ -2,8 +2,8 @@
 use Rattle.std.proofs.Common.{◌≡◌, ℕ, ◌<◌, List, length, get_or, ap, sym, ◌∙◌, subst, arith}
 use Rattle.std.proofs.lemmas.List.FromFn.{length-map-range_with_len, get_or-map-range_with_len}
 use Rattle.kc_word.specs.Cutting.{NumberedPieces}
-use Rattle.kc_stripe.specs.Setup.{StripeSetup, stripe_count}
-use Rattle.kc_stripe.specs.Cut.{StripeCut, cut_at, cuts_of}
+use Rattle.kc_booking.specs.Setup.{StripeSetup, stripe_count}
+use Rattle.kc_booking.specs.Cut.{StripeCut, cut_at, cuts_of}
 use Rattle.kc_run.specs.declared.round.CutBatch.{CutBatch}
 use Rattle.kc_run.specs.Runs.{AreCutUp}
 

@@ -5,14 +5,14 @@ use Rattle.std.specs.Prelude.{length, map, sum_by, slice_get}
 use Rattle.kc_share.specs.declared.entry.Plan.{Plan}
 use Rattle.kc_share.specs.declared.entry.Booking.{Booking}
 use Rattle.kc_share.specs.Share.{ShareSeen, share_of, entry_total_in}
-use Rattle.kc_stripe.specs.Setup.{StripeSetup, stripe_count}
-use Rattle.kc_stripe.specs.Cut.{cuts_of}
-use Rattle.kc_stripe.specs.declared.fault.BookFault.{BookFault}
-use Rattle.kc_stripe.specs.declared.fault.BookFault.TheVariants as book
+use Rattle.kc_booking.specs.Setup.{StripeSetup, stripe_count}
+use Rattle.kc_booking.specs.Cut.{cuts_of}
+use Rattle.kc_booking.specs.declared.booking_fault.BookFault.{BookFault}
+use Rattle.kc_booking.specs.declared.booking_fault.BookFault.TheVariants as book
 use Rattle.kc_tickets.specs.Tickets.{Roll, Drawer, IsSeatOf, IsDone, answers_of}
 use Rattle.kc_run.specs.declared.round.CutBatch.{CutBatch}
-use Rattle.kc_run.specs.declared.fault.RunFault.{RunFault}
-use Rattle.kc_run.specs.declared.fault.RunFault.TheVariants as run
+use Rattle.kc_run.specs.declared.run_fault.RunFault.{RunFault}
+use Rattle.kc_run.specs.declared.run_fault.RunFault.TheVariants as run
 
 -- what the workers share belongs together: as many numbers are drawn from the tickets as there are batches, and the
 -- sheet of this plan is for the stripes of this setup

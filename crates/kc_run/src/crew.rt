@@ -4,13 +4,13 @@ ghost use Rattle.std.specs.Prelude.{All, Some, None, Ok, Err, IfOk, IfErr, IfSom
 ghost use Rattle.std.specs.Prelude.{length, map, slice_get, vec_len};
 ghost use Rattle.kc_share.specs.declared.entry.Plan.{Plan};
 ghost use Rattle.kc_share.specs.Share.{share_of, joined_shares};
-ghost use Rattle.kc_run.specs.declared.fault.RunFault.TheVariants.{Memory, NoThread};
+ghost use Rattle.kc_run.specs.declared.run_fault.RunFault.TheVariants.{Memory, NoThread};
 ghost use Rattle.kc_tickets.specs.Tickets.{Roll};
 ghost use Rattle.kc_run.specs.Runs.{IsJob, IsFreshSeatOf, IsReady, HasWorked, HaveWorked, IsPromised, AreEnds};
 ghost use Rattle.kc_run.specs.Runs.{IsWorkerFault, IsRunFault, AllEndedWell, IsFirstFault};
 
-use crate::fault::RunFault;
 use crate::gate::Gate;
+use crate::run_fault::RunFault;
 use crate::worker::{Job, Worker};
 use kc_share::{Books, Plan, Share};
 use kc_stripe::Stripes;

@@ -2,18 +2,24 @@
 //!
 //! `run` counts numbered batches with several workers, each in a thread of its own, over one table in locked stripes,
 //! and answers the tally of all batches. The workers draw the numbers of the batches from the tickets of `kc_tickets`.
+//!
+//! ```ignore
+//! let tables = plain_tables(alloc, &setup)?;
+//! let tally = run(&rt, alloc, &batches, &setup, tables, 2, &NoGate)?;    // by two workers
+//! assert_eq!(rt; tally.total(), 3);
+//! ```
 #![tactic(auto)]
 
 mod crew;
-mod fault;
 mod gate;
 mod round;
-mod runs;
+mod run_fault;
+mod whole_run;
 mod worker;
 
-pub use crate::fault::RunFault;
 pub use crate::gate::{Gate, NoGate};
-pub use crate::runs::run;
+pub use crate::run_fault::RunFault;
+pub use crate::whole_run::run;
 pub use kc_gather::{GatherFault, gather, plain_tables, quotient_tables};
 pub use kc_tally::Tally;
-pub use kc_tickets::{Seat, Tickets, laws, tickets};
+pub use kc_tickets::{Seat, Tickets, ticket_laws, tickets};

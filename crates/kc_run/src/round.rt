@@ -2,11 +2,11 @@
 //! one batch has fetched are still near for the next.
 ghost use Rattle.std.specs.Prelude.{◌≡◌, ◌+◌, ◌*◌, ◌%◌, ◌^◌, ◌≤◌, ◌<◌, ◌⊎◌, OnOk, IfErr, length};
 ghost use Rattle.kc_share.specs.Share.{with_booking};
-ghost use Rattle.kc_stripe.specs.Setup.{stripe_count};
+ghost use Rattle.kc_booking.specs.Setup.{stripe_count};
 ghost use Rattle.kc_stripe.specs.Locked.{cut_entry};
 ghost use Rattle.kc_run.specs.Runs.{AreCutUp, HaveMore, HaveMoreIn, IsOfBooking, IsWorkerFault};
 
-use crate::fault::RunFault;
+use crate::run_fault::RunFault;
 use kc_share::{Books, Share};
 use kc_stripe::{Cut, Stripes};
 use kc_table::Counts;

@@ -1,14 +1,14 @@
 //! One worker of a run: it draws numbers, and books the batch of each number into every stripe.
 ghost use Rattle.std.specs.Prelude.{◌≡◌, ◌+◌, ◌<◌, ◌≤◌, ◌⊎◌, IfOk, IfErr, IfSome, IsNone, MatchOption};
 ghost use Rattle.std.specs.Prelude.{length};
-ghost use Rattle.kc_stripe.specs.Setup.{stripe_count};
-ghost use Rattle.kc_stripe.specs.Cut.{cuts_of};
+ghost use Rattle.kc_booking.specs.Setup.{stripe_count};
+ghost use Rattle.kc_booking.specs.Cut.{cuts_of};
 ghost use Rattle.kc_tickets.specs.Tickets.{IsSeatOf, IsDone, answers_of};
 ghost use Rattle.kc_run.specs.Runs.{IsJob, IsReady, HasWorked, AreCutUp, IsWorkerFault};
 
-use crate::fault::RunFault;
 use crate::gate::Gate;
 use crate::round::{CutBatch, book_round, first_stripe};
+use crate::run_fault::RunFault;
 use kc_share::{Books, Plan, Share};
 use kc_stripe::{Stripes, cut_up};
 use kc_table::Counts;

@@ -3,7 +3,7 @@ ghost use Rattle.std.specs.Prelude.{◌≡◌, ◌<◌, ◌≤◌, ◌^◌, [], 
 ghost use Rattle.std.specs.List.{flat_map, IsDistinct};
 ghost use Rattle.kc_tickets.specs.Tickets.{IsSeatOf, IsDone, answers_of, AreNumbersBelow};
 
-use kc_run::laws::{each_stands_once, none_is_left_out};
+use kc_run::ticket_laws::{each_stands_once, none_is_left_out};
 use kc_run::{Seat, Tickets};
 use std::alloc::{AllocError, Global};
 use std::process::Abort;

@@ -4,4 +4,6 @@
 #[cfg(test)]
 mod draws;
 #[cfg(test)]
+mod run_examples;
+#[cfg(test)]
 mod whole_runs;

@@ -3,7 +3,7 @@ ghost use Rattle.std.specs.Prelude.{◌≡◌, ◌<◌, ◌≤◌, ◌^◌, All,
 ghost use Rattle.std.specs.FinMap.{empty};
 ghost use Rattle.kc_word.specs.Shared.{values};
 ghost use Rattle.kc_table.specs.QuotientTable.{counts_in};
-ghost use Rattle.kc_stripe.specs.Setup.{stripe_count, key_bits};
+ghost use Rattle.kc_booking.specs.Setup.{stripe_count, key_bits};
 ghost use Rattle.kc_gather.specs.Gathering.{position_sum};
 
 use kc_fastx::SeqRead;
@@ -11,9 +11,9 @@ use kc_hash::{Hash, Matrix};
 use kc_run::{Gate, NoGate, RunFault, Tally, plain_tables, run};
 use kc_stripe::Setup;
 use kc_table::{Counts, LimitedCounts, QuotientTable, TableFault};
-use kc_tally::{Row, slow};
-use kc_word::slow::base_count;
-use kc_word::{Batch, K, Rule, clean, cut, laws};
+use kc_tally::{Row, slow_tally};
+use kc_word::slow_count::base_count;
+use kc_word::{Batch, K, Rule, clean, cut, cutting_laws};
 use rand_core::SeedableRng;
 use rand_core::utils::NextWord;
 use rand_xoshiro::SplitMix64;
@@ -27,7 +27,7 @@ use std::thread::Threads;
 use std::time::{Clock, Duration};
 
 // Words of k bases on one strand, in so many stripes, by a hash that leaves them as they are.
-fn setup_of(k: u32, stripes: u32) -> Option<Setup> {
+pub(crate) fn setup_of(k: u32, stripes: u32) -> Option<Setup> {
     let k = K::new(k)?;
     let hash = Hash::of_matrix(Matrix::identity(2 * k.get())).ok()?;
     Setup::new(Rule::new(k, false, b'!'), hash, stripes)
@@ -39,7 +39,7 @@ fn read_of(alloc: Global, bases: &[u8]) -> Result<SeqRead, Fail> {
 }
 
 // The batches of one read, of so many positions each.
-fn batches_of(
+pub(crate) fn batches_of(
     alloc: Global,
     setup: &Setup,
     bases: &[u8],
@@ -49,9 +49,9 @@ fn batches_of(
     ensures small { IfOk result (λ batches. position_sum setup.now.rule.k (values batches.items) ≤ 2 ^ 62) }
 {
     // what is known of the positions
-    laws::cutting_positions();
-    laws::positions_within_bytes();
-    laws::cleaned_length();
+    cutting_laws::cutting_positions();
+    cutting_laws::positions_within_bytes();
+    cutting_laws::cleaned_length();
     if bases.len() > 10_000 {
         return Err(Fail::from("too many bases"));
     }
@@ -180,7 +180,7 @@ fn rows_by_hand(alloc: Global, bases: &[u8], rule: &Rule) -> Result<Vec<Row>, Fa
     let Some(_) = base_count(&reads) else {
         return Err(Fail::from("too many bases"));
     };
-    Ok(slow::tally(alloc, &reads, rule)?)
+    Ok(slow_tally::tally(alloc, &reads, rule)?)
 }
 
 // Numbers of stripes, positions of a batch, and numbers of workers.

@@ -1,6 +1,6 @@
 //! The cutting of pieces into batches, and the words of these.
 use crate::assertions::{assert_numbers, assert_same};
-use crate::samples::{cleaned, k_of, pieces_of, rule_of, words_of_all};
+use crate::sample_reads::{cleaned, k_of, pieces_of, rule_of, words_of_all};
 use kc_fastx::SeqRead;
 use kc_word::{Batch, Cutting, K, Rule, clean, cut, read_words, words};
 use std::alloc::{AllocError, Global};

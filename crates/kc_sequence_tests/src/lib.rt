@@ -9,10 +9,12 @@ mod batches;
 #[cfg(test)]
 mod counters;
 #[cfg(test)]
-mod samples;
+mod read_streams;
+#[cfg(test)]
+mod sample_reads;
+#[cfg(test)]
+mod sequence_examples;
 #[cfg(test)]
 mod sequence_files;
-#[cfg(test)]
-mod streams;
 #[cfg(test)]
 mod words;

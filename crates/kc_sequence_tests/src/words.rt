@@ -1,9 +1,9 @@
 //! Worked rows of words, of rules and of pieces.
 use crate::assertions::{assert_bytes, assert_numbers, assert_same};
-use crate::samples::{k_of, pieces_of, read_of, reads_of, rule_of};
+use crate::sample_reads::{k_of, pieces_of, read_of, reads_of, rule_of};
 use kc_fastx::SeqRead;
 use kc_word::{
-    K, Piece, Rule, Word, canonical, clean, pack, read_words, reverse_complement, slow, text,
+    K, Piece, Rule, Word, canonical, clean, pack, read_words, reverse_complement, slow_count, text,
 };
 use std::alloc::Global;
 use std::process::Abort;
@@ -199,8 +199,8 @@ fn words_of_reads(rt: HostRuntime) -> Result<(), Fail> {
 // How often a word is counted in these reads.
 fn count_slowly(reads: &[SeqRead], both: bool, word: &[u8]) -> Result<u64, Fail> {
     let rule = rule_of(word.len().min(31) as u32, both)?;
-    match (slow::base_count(reads), pack(word, rule.k())) {
-        (Some(_), Some(word)) => Ok(slow::occurrences(reads, &rule, word)),
+    match (slow_count::base_count(reads), pack(word, rule.k())) {
+        (Some(_), Some(word)) => Ok(slow_count::occurrences(reads, &rule, word)),
         _ => Err(Fail::from("too many bases or no word")),
     }
 }

@@ -4,7 +4,7 @@ ghost use Rattle.kc_share.specs.Share.{kept_stripe};
 ghost use Rattle.kc_share.specs.Rule.{keeper_view};
 
 use crate::books::Books;
-use crate::rule::Seat;
+use crate::sheet_rule::Seat;
 use std::marker::{Model, PhantomData};
 
 /// The right to keep a stripe's journal, which belongs behind the stripe's lock. What a contract sees of it is the

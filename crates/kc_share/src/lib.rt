@@ -3,16 +3,25 @@
 //!
 //! A sheet knows nothing of locks and tables. It gives a keeper for each stripe, to be put behind that stripe's lock,
 //! and a share, which is split among the threads that book. `OpenSheet::note` books, with a share and a keeper in hand.
+//!
+//! ```ignore
+//! let (sheet, mut opening) = sheet.open::<N>();
+//! let mut locks = Vec::new(alloc);
+//! while opening.is_open() {
+//!     locks.push(Mutex::new(Locked::new(sheet.next_keeper(&mut opening))))?;
+//! }
+//! let share = sheet.first_share(opening);
+//! ```
 #![tactic(auto)]
 
-mod booking;
 mod books;
 mod entry;
 mod keeper;
-pub mod laws;
-mod rule;
 mod share;
+pub mod share_laws;
 mod sheet;
+mod sheet_rule;
+mod sheet_steps;
 
 pub use crate::books::Books;
 pub use crate::entry::{Booking, Entry, KeptStripe, Plan};

@@ -3,7 +3,7 @@ ghost use Rattle.std.specs.Prelude.{◌≡◌, ◌<◌, ◌≤◌, []};
 ghost use Rattle.kc_share.specs.Share.{share_of, word_total_in, entry_total_in};
 
 use crate::books::Books;
-use crate::rule::Seat;
+use crate::sheet_rule::Seat;
 use std::marker::{Model, PhantomData};
 
 /// How many stripes there are at most.

@@ -6,8 +6,8 @@ ghost use Rattle.kc_share.specs.Sheet.{plan_of, opening_of};
 use crate::books::Books;
 use crate::entry::Plan;
 use crate::keeper::Keeper;
-use crate::rule::{FirstKept, Seat, SheetTable};
 use crate::share::Share;
+use crate::sheet_rule::{FirstKept, Seat, SheetTable};
 use std::alloc::{AllocError, Global};
 use std::marker::{Model, PhantomData};
 

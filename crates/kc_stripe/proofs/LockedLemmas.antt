@@ -11,9 +11,9 @@ use Rattle.kc_share.specs.declared.entry.KeptStripe.{KeptStripe}
 use Rattle.kc_share.specs.Entries.{entries_in, word_total, AreSame, AreAmong}
 use Rattle.kc_share.specs.Laws.{AmongIsThere}
 use Rattle.kc_share.specs.Share.{with_entry}
-use Rattle.kc_stripe.specs.Setup.{StripeSetup}
-use Rattle.kc_stripe.specs.Cut.{StripeCut, keys_of, cut_at}
-use Rattle.kc_stripe.specs.Stripe.{StripeState, IsOwnCut}
+use Rattle.kc_booking.specs.Setup.{StripeSetup}
+use Rattle.kc_booking.specs.Cut.{StripeCut, keys_of, cut_at}
+use Rattle.kc_booking.specs.Stripe.{StripeState, IsOwnCut}
 use Rattle.kc_stripe.specs.Locked.{cut_entry, journal_entries, IsOnSheet, IsAllOf}
 use Rattle.kc_stripe.specs.Seen.{AreNamed}
 

@@ -1,8 +1,3 @@
-pub mod Setup
-pub mod Cut
-pub mod Counted
-pub mod Stripe
-pub mod Faults
 pub mod Locked
 pub mod Stripes
 pub mod Seen

@@ -6,9 +6,9 @@ use Rattle.kc_share.specs.declared.entry.Booking.{Booking}
 use Rattle.kc_share.specs.declared.entry.KeptStripe.{KeptStripe}
 use Rattle.kc_share.specs.Entries.{entry_of, entries_in, word_total, AreSame}
 use Rattle.kc_share.specs.Share.{word_total_in, entry_total_in}
-use Rattle.kc_stripe.specs.Setup.{StripeSetup}
-use Rattle.kc_stripe.specs.Cut.{StripeCut, keys_of, cut_at}
-use Rattle.kc_stripe.specs.Stripe.{StripeState}
+use Rattle.kc_booking.specs.Setup.{StripeSetup}
+use Rattle.kc_booking.specs.Cut.{StripeCut, keys_of, cut_at}
+use Rattle.kc_booking.specs.Stripe.{StripeState}
 
 -- the entry of a cut: its batch, and how many of the batch's words fall in its stripe
 abbrev pub cut_entry : StripeCut → Entry

@@ -2,14 +2,13 @@
 -- Source: the canonical form is that of Jellyfish's option -C; that the batches are named is this project's own.
 use Rattle.std.specs.Prelude.{◌≡◌, ℕ, List, Contains, nat_eq}
 use Rattle.std.specs.List.{IsDistinct}
-use Rattle.kc_word.specs.Word.{text, number, form}
-use Rattle.kc_word.specs.Occurrences.{occurrences}
+use Rattle.kc_kmer.specs.Occurrences.{occurrences}
 use Rattle.kc_word.specs.Cutting.{NumberedPieces}
 use Rattle.kc_share.specs.declared.entry.Entry.{Entry}
 use Rattle.kc_share.specs.declared.entry.Booking.{Booking}
 use Rattle.kc_share.specs.Entries.{entries_in}
-use Rattle.kc_stripe.specs.Setup.{StripeSetup, stripe_of}
-use Rattle.kc_stripe.specs.Stripe.{StripeState, numbers_of, reads_in}
+use Rattle.kc_booking.specs.Setup.{StripeSetup, stripe_of, form_text, form_of}
+use Rattle.kc_booking.specs.Stripe.{StripeState, numbers_of, reads_in}
 
 -- how the words are divided, the word that was asked for, its count, and the batches in which it was counted
 pub record WordSeen : Type 0 where
@@ -18,13 +17,7 @@ pub record WordSeen : Type 0 where
   pub count : ℕ
   pub batches : List NumberedPieces
 
--- the form under which a word counts, as letters and as a number, and the stripe in which it counts
-abbrev pub form_text : StripeSetup → ℕ → List ℕ
-form_text setup word = form setup.rule.both (text setup.rule.k word)
-
-abbrev pub form_of : StripeSetup → ℕ → ℕ
-form_of setup word = number (form_text setup word)
-
+-- the stripe in which a word counts: that of the form under which it counts
 abbrev pub form_stripe : StripeSetup → ℕ → ℕ
 form_stripe setup word = stripe_of setup (form_of setup word)
 

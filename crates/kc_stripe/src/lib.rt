@@ -1,19 +1,25 @@
-//! The words of a count divided among stripes: how they are divided, the keys of a batch's words in each
-//! stripe, and a stripe that always holds the counts of the batches that it names.
+//! The stripes of a count, each behind a lock of its own, which threads share: what was booked with the shares is,
+//! taken together, what the stripes' journals have.
+//!
+//! [`Stripes`] books the cuts of `kc_booking`, tells what was counted so far of a word ([`Seen`]), and gives the plain
+//! stripes back at the end.
+//!
+//! ```ignore
+//! let other = stripes.split(&mut one);
+//! let (first, second) = batches.split_at(batches.len() / 2);
+//! let (mut whole, other) = book_halves(rt, alloc, &stripes, (one, other), (first, second))?;
+//! stripes.join(&mut whole, other);
+//! Ok(stripes.into_stripes(alloc, whole)?)
+//! ```
 #![tactic(auto)]
 
-mod counted;
-mod cut;
-mod fault;
 mod locked;
 mod seen;
-mod setup;
-mod stripe;
 mod stripes;
 
-pub use cut::{Cut, cut_up};
-pub use fault::BookFault;
+/// One stripe of a count, and what is booked into it.
+pub use kc_booking::{BookFault, Cut, Setup, Stripe, cut_up};
+/// What the shares of a count are made of.
+pub use kc_share::{Books, Share, Sheet};
 pub use seen::Seen;
-pub use setup::Setup;
-pub use stripe::Stripe;
 pub use stripes::Stripes;

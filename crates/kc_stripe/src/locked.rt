@@ -1,19 +1,16 @@
 //! A stripe together with its keeper, as they lie behind the stripe's lock.
 ghost use Rattle.std.specs.Prelude.{◌≡◌, ◌+◌, ◌<◌, ◌≤◌, ◌^◌, ◌↔◌, ◌⊎◌, ◌++◌, ◌∷◌, [], length, IfOk, OnOk, OnErr};
 ghost use Rattle.kc_share.specs.Share.{kept_stripe, with_booking};
-ghost use Rattle.kc_stripe.specs.Setup.{word_count};
-ghost use Rattle.kc_stripe.specs.Cut.{keys_of};
-ghost use Rattle.kc_stripe.specs.Counted.{SomeMayBeFull};
-ghost use Rattle.kc_stripe.specs.Stripe.{IsBooked, IsOwnCut, IsUnchanged};
+ghost use Rattle.kc_booking.specs.Setup.{word_count};
+ghost use Rattle.kc_booking.specs.Cut.{keys_of};
+ghost use Rattle.kc_booking.specs.Counted.{SomeMayBeFull};
+ghost use Rattle.kc_booking.specs.Stripe.{IsBooked, IsOwnCut, IsUnchanged};
 ghost use Rattle.kc_stripe.specs.Locked.{cut_entry, IsAllOf};
 ghost use Rattle.kc_stripe.specs.Seen.{form_stripe, AreNamed, IsStripeOf};
 
-use crate::cut::Cut;
-use crate::fault::BookFault;
 use crate::seen::Seen;
-use crate::setup::Setup;
-use crate::stripe::Stripe;
-use kc_share::{Books, Keeper, OpenSheet, Share, laws};
+use kc_booking::{BookFault, Cut, Setup, Stripe};
+use kc_share::{Books, Keeper, OpenSheet, Share, share_laws};
 use kc_table::Counts;
 use kc_word::Word;
 use std::alloc::Global;
@@ -27,7 +24,7 @@ pub(crate) struct Locked<C: Counts, N: Books> {
 }
 
 impl<C: Counts, N: Books> Model for Locked<C, N> {
-    ghost use Rattle.kc_stripe.specs.Stripe.{StripeState};
+    ghost use Rattle.kc_booking.specs.Stripe.{StripeState};
     ghost use Rattle.kc_stripe.specs.Locked.{IsOnSheet};
 
     ghost Value = { StripeState C };
@@ -109,7 +106,7 @@ impl<C: Counts, N: Books> Locked<C, N> {
         }
         // What was booked with the share stands in the journal.
         sheet.look(share, &mut self.keeper);
-        laws::among_is_there();
+        share_laws::among_is_there();
         let seen = Seen::of(alloc, &self.stripe, word)?;
         Ok(seen)
     }

@@ -1,11 +1,10 @@
 //! The answer of a look: how often a word was counted so far, and in which batches.
 ghost use Rattle.std.specs.Prelude.{◌≡◌, ◌<◌, IfOk};
 ghost use Rattle.kc_word.specs.Shared.{values};
-ghost use Rattle.kc_stripe.specs.Setup.{word_count};
+ghost use Rattle.kc_booking.specs.Setup.{word_count};
 ghost use Rattle.kc_stripe.specs.Seen.{IsSeen, form_stripe};
 
-use crate::setup::Setup;
-use crate::stripe::Stripe;
+use kc_booking::{Setup, Stripe};
 use kc_table::Counts;
 use kc_word::{Batch, Word};
 use std::alloc::{AllocError, Global};

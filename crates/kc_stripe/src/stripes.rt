@@ -2,17 +2,14 @@
 ghost use Rattle.std.specs.Prelude.{◌≡◌, ◌<◌, ◌≤◌, [], All, IfOk, OnOk, OnErr, vec_len};
 ghost use Rattle.std.specs.FinMap.{empty};
 ghost use Rattle.kc_share.specs.Share.{share_of, with_booking, with_one_part_less, new_share, joined_shares};
-ghost use Rattle.kc_stripe.specs.Setup.{word_count, stripe_count, key_bits};
-ghost use Rattle.kc_stripe.specs.Stripe.{IsLawful};
+ghost use Rattle.kc_booking.specs.Setup.{word_count, stripe_count, key_bits};
+ghost use Rattle.kc_booking.specs.Stripe.{IsLawful};
 ghost use Rattle.kc_stripe.specs.Locked.{cut_entry, IsAllOf};
 ghost use Rattle.kc_stripe.specs.Seen.{form_stripe, AreNamed};
 
-use crate::cut::Cut;
-use crate::fault::BookFault;
 use crate::locked::Locked;
 use crate::seen::Seen;
-use crate::setup::Setup;
-use crate::stripe::Stripe;
+use kc_booking::{BookFault, Cut, Setup, Stripe};
 use kc_share::{Books, OpenSheet, Share, Sheet};
 use kc_table::Counts;
 use kc_word::Word;
@@ -32,7 +29,7 @@ pub struct Stripes<C: Counts, N: Books> {
 
 impl<C: Counts, N: Books> Model for Stripes<C, N> {
     ghost use Rattle.std.specs.Prelude.{◌≡◌, vec_len};
-    ghost use Rattle.kc_stripe.specs.Setup.{stripe_count};
+    ghost use Rattle.kc_booking.specs.Setup.{stripe_count};
     ghost use Rattle.kc_stripe.specs.Stripes.{StripesSeen};
 
     ghost Value = { StripesSeen };

@@ -1,5 +1,5 @@
 //! Batches that are booked in a stripe, over a `BTreeMap` and over a table.
-use crate::samples::{count_in, cuts_of, made_setup, plain_stripe};
+use crate::sample_batches::{count_in, cuts_of, made_setup, plain_stripe};
 use kc_stripe::{BookFault, Cut, Stripe};
 use kc_table::{Counts, LimitedCounts, PlainCounts, QuotientTable, TableFault};
 use kc_tally::Row;

@@ -1,5 +1,5 @@
 //! Worked rows of setups and cuts.
-use crate::samples::{count_in, cuts_in, made_setup, plain_stripe, setup_of};
+use crate::sample_batches::{count_in, cuts_in, made_setup, plain_stripe, setup_of};
 use kc_hash::{Hash, Matrix};
 use kc_stripe::{Cut, Setup, Stripe};
 use kc_table::PlainCounts;

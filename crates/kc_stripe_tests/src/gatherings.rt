@@ -3,13 +3,13 @@ ghost use Rattle.std.specs.Prelude.{◌≡◌, ◌≤◌, ◌^◌, IfOk};
 ghost use Rattle.kc_word.specs.Shared.{values};
 ghost use Rattle.kc_gather.specs.Gathering.{position_sum};
 
-use crate::samples::{cut_of, made_setup, plain_stripe};
+use crate::sample_batches::{cut_of, made_setup, plain_stripe};
 use kc_fastx::SeqRead;
 use kc_gather::{GatherFault, gather, gather_in_parallel, plain_tables, quotient_tables};
 use kc_stripe::{Setup, Stripe};
 use kc_table::{Counts, PlainCounts, QuotientTable};
 use kc_tally::{Row, Tally};
-use kc_word::{Batch, clean, cut, laws};
+use kc_word::{Batch, clean, cut, cutting_laws};
 use std::alloc::{AllocError, Global};
 use std::process::Abort;
 use std::sync::Arc;
@@ -78,7 +78,7 @@ fn quotient_tables_begin_with_the_size(rt: HostRuntime) -> Result<(), Fail> {
 }
 
 // The batches of one read, of so many positions each.
-fn batches_of(
+pub(crate) fn batches_of(
     alloc: Global,
     setup: &Setup,
     bases: &[u8],
@@ -87,9 +87,9 @@ fn batches_of(
     ensures { IfOk result (λ batches. position_sum setup.now.rule.k (values batches.items) ≤ 2 ^ 62) }
 {
     // what is known of the positions
-    laws::cutting_positions();
-    laws::positions_within_bytes();
-    laws::cleaned_length();
+    cutting_laws::cutting_positions();
+    cutting_laws::positions_within_bytes();
+    cutting_laws::cleaned_length();
     if bases.len() > 1_000 {
         return Err(Fail::from("too many bases"));
     }

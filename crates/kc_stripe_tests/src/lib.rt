@@ -7,6 +7,8 @@ mod bookings;
 #[cfg(test)]
 mod cuts;
 #[cfg(test)]
+mod gathered_tallies;
+#[cfg(test)]
 mod gatherings;
 #[cfg(test)]
 mod many_threads;
@@ -15,10 +17,10 @@ mod meetings;
 #[cfg(test)]
 mod refusals;
 #[cfg(test)]
-mod samples;
+mod sample_batches;
 #[cfg(test)]
 mod sharings;
 #[cfg(test)]
 mod sheets;
 #[cfg(test)]
-mod tallies;
+mod stripe_examples;

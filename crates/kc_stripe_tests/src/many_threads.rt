@@ -1,10 +1,10 @@
 //! Threads that book: many at once, and one that ends without giving its share back.
 ghost use Rattle.std.specs.Prelude.{◌≡◌, IfOk};
-ghost use Rattle.kc_stripe.specs.Setup.{stripe_count};
+ghost use Rattle.kc_booking.specs.Setup.{stripe_count};
 
-use crate::samples::{batches_in, batches_of, made_setup};
+use crate::gathered_tallies::{random_read, seeded_setup, slow_rows, sorted_rows};
+use crate::sample_batches::{batches_in, batches_of, made_setup};
 use crate::sharings::{Sums, book_all, book_batch, stripes_of, sums_of};
-use crate::tallies::{random_read, seeded_setup, slow_rows, sorted_rows};
 use kc_fastx::SeqRead;
 use kc_share::{Books, Share, Sheet};
 use kc_stripe::{BookFault, Setup, Stripes};

@@ -1,9 +1,9 @@
 //! Two stripes that are booked at the same time, each under its own lock.
 ghost use Rattle.std.specs.Prelude.{◌≡◌, All, IfOk, vec_len};
 ghost use Rattle.std.specs.FinMap.{empty};
-ghost use Rattle.kc_stripe.specs.Setup.{stripe_count, key_bits};
+ghost use Rattle.kc_booking.specs.Setup.{stripe_count, key_bits};
 
-use crate::samples::{cuts_in, made_setup};
+use crate::sample_batches::{cuts_in, made_setup};
 use kc_share::{Books, Share, Sheet};
 use kc_stripe::{BookFault, Cut, Setup, Stripes};
 use kc_table::{Counts, PlainCounts, TableFault};

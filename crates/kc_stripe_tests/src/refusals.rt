@@ -1,10 +1,10 @@
 //! What is refused memory is as it was before: a stripe while a batch is booked, and a share while it books and looks.
 //! Run with each growth refused in turn.
 ghost use Rattle.std.specs.Prelude.{◌≡◌, ◌<◌};
-ghost use Rattle.kc_stripe.specs.Setup.{stripe_count, word_count};
+ghost use Rattle.kc_booking.specs.Setup.{stripe_count, word_count};
 
 use crate::bookings::{Held, NOTHING, assert_held, map_stripe, quotient_stripe};
-use crate::samples::{cuts_of, made_setup};
+use crate::sample_batches::{cuts_of, made_setup};
 use crate::sharings::stripes_of;
 use kc_share::{Books, Share, Sheet};
 use kc_stripe::{BookFault, Cut, Setup, Stripe, Stripes};

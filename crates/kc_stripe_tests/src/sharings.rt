@@ -1,12 +1,12 @@
 //! Stripes that threads share, and a caller who counts with them.
 ghost use Rattle.std.specs.Prelude.{◌≡◌, ◌<◌, [], All, IfOk, vec_len};
 ghost use Rattle.std.specs.FinMap.{empty};
-ghost use Rattle.kc_stripe.specs.Setup.{word_count, stripe_count, key_bits};
+ghost use Rattle.kc_booking.specs.Setup.{word_count, stripe_count, key_bits};
 ghost use Rattle.kc_stripe.specs.Locked.{IsAllOf};
 ghost use Rattle.kc_share.specs.Share.{share_of};
 
 use crate::bookings::cuts_and_stranger;
-use crate::samples::{batches_in, made_setup, setup_with};
+use crate::sample_batches::{batches_in, made_setup, setup_with};
 use kc_share::{Books, Share, Sheet};
 use kc_stripe::{BookFault, Cut, Setup, Stripe, Stripes, cut_up};
 use kc_table::PlainCounts;

@@ -3,7 +3,7 @@ ghost use Rattle.std.specs.Prelude.{◌≡◌, ◌<◌, ◌≤◌, ◌^◌, [], 
 ghost use Rattle.kc_share.specs.Entries.{entry_of, word_total};
 ghost use Rattle.kc_share.specs.Share.{share_of, word_total_in, entry_total_in, with_booking};
 
-use crate::samples::{batches_in, made_setup};
+use crate::sample_batches::{batches_in, made_setup};
 use kc_share::{Books, Keeper, OpenSheet, Share, Sheet};
 use kc_word::Batch;
 use std::alloc::{AllocError, Global};

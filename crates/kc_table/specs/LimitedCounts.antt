@@ -2,9 +2,9 @@
 use Rattle.std.specs.Prelude.{◌≡◌, ℕ, ◌≤◌, refl, None}
 use Rattle.std.specs.Coded.{Coded, code_by, coded×, coded_ℕ}
 use Rattle.std.specs.FinMap.{get, len, code}
-use Rattle.kc_table.specs.declared.fault.TableFault.{TableFault}
-use Rattle.kc_table.specs.declared.fault.TableFault.TheVariants.{Full}
-use Rattle.kc_table.specs.contracts.fault.TableFault.{the_row}
+use Rattle.kc_table.specs.declared.table_fault.TableFault.{TableFault}
+use Rattle.kc_table.specs.declared.table_fault.TableFault.TheVariants.{Full}
+use Rattle.kc_table.specs.contracts.table_fault.TableFault.{the_row}
 use Rattle.kc_table.specs.Counts.{KeyCounts}
 
 -- its keys' bits, the map, how many keys it takes, and what it answers to a new key beyond

@@ -3,7 +3,7 @@ ghost use Rattle.std.specs.Prelude.{◌≡◌, ℕ, ◌+◌, ◌<◌, ◌≤◌,
 ghost use Rattle.kc_table.specs.Sizes.{most_bits, count_bits};
 ghost use Rattle.kc_table.specs.Counts.{KeyCounts, IsStored, IsWithin, count_at, readied, added, AreRowsOf};
 
-use crate::fault::TableFault;
+use crate::table_fault::TableFault;
 use std::alloc::{AllocError, Global};
 
 /// A finite map from keys of a fixed number of bits (at most 62) to counts.

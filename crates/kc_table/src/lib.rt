@@ -7,31 +7,28 @@
 //! A key is first stored by `ready`, the one call that takes memory, which may be refused and then leaves the map as it
 //! was. After that it is counted by `add` or `increment`, which cannot fail. `rows` tells the keys that were counted:
 //!
-//! ```text
-//! let mut table = QuotientTable::new(alloc, 42, 16, 34)?;    // keys of 42 bits; from 2^16 slots up to 2^34
-//! for key in keys {
-//!     table.ready(*key)?;
-//!     table.add(*key);
-//! }
-//! let rows = table.rows(alloc)?;
+//! ```ignore
+//! table.ready(key)?;    // stored, or refused and all as before
+//! assert!(rt; table.get(key) < 1 << 62);
+//! table.add(key);
 //! ```
 #![tactic(auto)]
 
 mod counts;
-mod fault;
-mod limited;
-mod packed;
-mod plain;
-mod quotient;
-mod reprobing;
+mod limited_counts;
+mod packed_slots;
+mod plain_counts;
+mod quotient_table;
+mod reprobes;
 mod sizes;
 mod slots;
+mod table_fault;
 mod tag;
 
 pub use counts::Counts;
-pub use fault::TableFault;
-/// How many slots were read; contracts alone see it.
+/// Counts the slots that `QuotientTable::find` reads. Contracts alone see how many.
 pub use kc_lemmas::Counter as Steps;
-pub use limited::LimitedCounts;
-pub use plain::PlainCounts;
-pub use quotient::QuotientTable;
+pub use limited_counts::LimitedCounts;
+pub use plain_counts::PlainCounts;
+pub use quotient_table::QuotientTable;
+pub use table_fault::TableFault;

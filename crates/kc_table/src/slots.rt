@@ -7,10 +7,10 @@ ghost use Rattle.kc_table.specs.Reprobing.{IsFound, IsFree, IsOut, IsReprobing};
 ghost use Rattle.kc_table.specs.Sizes.{most_bits, most_log, remainder_bits, count_bits};
 ghost use Rattle.kc_table.specs.Slot.{key_in, IsSound, tag_at};
 
-use crate::fault::TableFault;
-use crate::packed::PackedSlots;
-use crate::reprobing::Reprobing;
+use crate::packed_slots::PackedSlots;
+use crate::reprobes::Reprobing;
 use crate::sizes::{PLACES, REMAINDER_BITS};
+use crate::table_fault::TableFault;
 use crate::tag::Tag;
 use kc_lemmas::Counter;
 use std::alloc::{AllocError, Global};
@@ -43,7 +43,7 @@ impl Slots {
         Ok(Slots { bits, log, slots })
     }
 
-    /// The tag in a slot; the one way in which reprobing reads slots.
+    /// The tag in a slot. Reprobing reads slots by this alone, so that `steps` counts each reading.
     #[inline(always)]
     fn read(&self, index: usize, steps: &mut Counter) -> Tag
         requires { index < 2 ^ self.now.log }
@@ -114,12 +114,13 @@ impl Slots {
         let mask = self.slots.len() - 1;
         let reprobes = tag.reprobes();
         let turn = reprobes * (reprobes + 1) / 2;
-        // To step back by `turn` round the table is to go forward by `mask` times as much.
+        // The home is `turn` slots before this one, round the start of the table. `mask` is one less than the number of
+        // slots, so that going forward by it goes back by one.
         let home = (index + mask * turn) & mask;
         (tag.remainder() << self.log) + home as u64
     }
 
-    /// Stores a key that is not stored yet, unless its places are taken.
+    /// Stores a key that is not stored yet, and tells whether it could: not where all its places are taken.
     #[inline(always)]
     pub fn take(&mut self, key: u64, count: u64) -> bool
         requires in_range { key < 2 ^ self.old.bits }

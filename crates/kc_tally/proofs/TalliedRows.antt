@@ -6,12 +6,12 @@ use Rattle.std.proofs.lemmas.List.{map_push, length_push, length-map, get_or_app
 use Rattle.std.proofs.lemmas.List.Elements.{All-push, All-nil}
 use Rattle.std.specs.List.Sorted.{IsStrictlyIncreasing}
 use Rattle.kc_fastx.specs.Reads.{Read}
-use Rattle.kc_word.specs.Word.{text}
-use Rattle.kc_word.specs.Rule.{CountingRule}
-use Rattle.kc_word.specs.Occurrences.{occurrences}
+use Rattle.kc_kmer.specs.Word.{text}
+use Rattle.kc_kmer.specs.Rule.{CountingRule}
+use Rattle.kc_kmer.specs.Occurrences.{occurrences}
 use Rattle.kc_tally.specs.declared.row.Row.{Row}
 use Rattle.kc_tally.specs.Tally.{row_of, count_of, AreOrderedRows, IsTally}
-use Rattle.kc_word.proofs.Letters.{pow-four}
+use Rattle.kc_kmer.proofs.Letters.{pow-four}
 
 -- the rows of the numbers below n
 pub record IsTalliedTo (rule : CountingRule) (reads : List Read) (n : ℕ) (rows : List Row) : Type 0 where

@@ -6,10 +6,10 @@ use Rattle.std.proofs.lemmas.List.Sums.{sum_by-cons, length-filter}
 use Rattle.std.proofs.lemmas.List.Filters.{length-filter_both}
 use Rattle.std.specs.List.Sorted.{IsStrictlyIncreasing}
 use Rattle.kc_fastx.specs.Reads.{Read}
-use Rattle.kc_word.specs.Word.{text, form}
-use Rattle.kc_word.specs.Rule.{CountingRule}
-use Rattle.kc_word.specs.Occurrences.{words_of}
-use Rattle.kc_word.proofs.WordCounts.{times, times-words_of, All-words_of, All-forms, occurrences-append, length-words_of}
+use Rattle.kc_kmer.specs.Word.{text, form}
+use Rattle.kc_kmer.specs.Rule.{CountingRule}
+use Rattle.kc_kmer.specs.Occurrences.{words_of}
+use Rattle.kc_kmer.proofs.WordCounts.{times, times-words_of, All-words_of, All-forms, occurrences-append, length-words_of}
 use Rattle.kc_tally.specs.declared.row.Row.{Row}
 use Rattle.kc_tally.specs.Tally.{count_of, total_of, AreRows, IsTally, TallySeen, IsTallyOf}
 use Rattle.kc_tally.specs.Laws.{JoinedTally}

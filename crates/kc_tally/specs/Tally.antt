@@ -3,9 +3,9 @@
 use Rattle.std.specs.Prelude.{◌≡◌, ℕ, Bool, ◌^◌, ◌<◌, ◌≤◌, ◌==◌, List, [], ◌∷◌, map, All, sum_by, if◌then◌else◌}
 use Rattle.std.specs.List.Sorted.{IsStrictlyIncreasing}
 use Rattle.kc_fastx.specs.Reads.{Read}
-use Rattle.kc_word.specs.Word.{text, form}
-use Rattle.kc_word.specs.Rule.{CountingRule}
-use Rattle.kc_word.specs.Occurrences.{occurrences}
+use Rattle.kc_kmer.specs.Word.{text, form}
+use Rattle.kc_kmer.specs.Rule.{CountingRule}
+use Rattle.kc_kmer.specs.Occurrences.{occurrences}
 use Rattle.kc_tally.specs.declared.row.Row.{Row}
 
 -- a row of a word and its count

@@ -4,24 +4,29 @@
 //! A `Tally` is made of its rows, a `Row` for each word that occurs, in rising order of the words. They may come in
 //! parts, which it keeps. `bin`, `total` and `count_of` are then functions of the rows. A `Histogram` stands alone
 //! where words are still counted: it moves with each count that is raised, and histograms of parts add up.
-//! `slow::tally` counts small examples straight from the definitions, and `laws` says what holds of every tally.
+//! `slow_tally::tally` counts small examples straight from the definitions, and `tally_laws` says what holds of every
+//! tally.
 //!
 //! ```ignore
-//! let tally = Tally::of_rows(alloc, k, both, rows)?;
-//! let unique = tally.bin(1);
-//! for row in tally.rows() {
-//!     println!(rt; "{} {}", row.word, row.count)?;
-//! }
+//! let rows = vec![in alloc;
+//!     Row { word: 1, count: 2 },
+//!     Row { word: 6, count: 1 },
+//!     Row {
+//!         word: 11,
+//!         count: 70_000
+//!     },
+//! ]?;
+//! Tally::of_rows(alloc, k, false, rows)    // words of two bases, on one strand
 //! ```
 #![tactic(auto)]
 
 mod histogram;
-pub mod laws;
 mod row;
 mod rows;
-mod searching;
-pub mod slow;
+mod search;
+pub mod slow_tally;
 mod tally;
+pub mod tally_laws;
 
 pub use histogram::Histogram;
 pub use row::Row;

@@ -7,8 +7,8 @@ ghost use Rattle.kc_tally.specs.Histogram.{last_bin, bin_count};
 use crate::histogram::Histogram;
 use crate::row::Row;
 use crate::rows::Rows;
-use crate::searching::{count_in, last_word};
-use kc_word::K;
+use crate::search::{count_in, last_word};
+use kc_kmer::K;
 use std::alloc::{AllocError, Global};
 use std::marker::Model;
 

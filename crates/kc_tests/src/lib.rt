@@ -6,4 +6,6 @@ mod command_lines;
 #[cfg(test)]
 mod failing;
 #[cfg(test)]
-mod progress;
+mod progress_line;
+#[cfg(test)]
+mod tool_examples;

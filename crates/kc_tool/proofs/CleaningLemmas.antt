@@ -11,13 +11,13 @@ use Rattle.kc_fastx.specs.Reads.{Read, base_count}
 use Rattle.kc_fastx.proofs.ReadingLemmas.{base_count-gives, given_none}
 use Rattle.kc_word.specs.Cutting.{cleaned}
 use Rattle.kc_word.specs.OpenCutting.{OpenCutting, HasTaken}
-use Rattle.kc_word.specs.Rule.{CountingRule}
+use Rattle.kc_kmer.specs.Rule.{CountingRule}
 use Rattle.kc_word.proofs.Cleaning.{length-cleaned}
 use Rattle.kc_tool.specs.Tallies.{CutsPieces, CutsSources, FailsAt, RefusesSource, RefusesSources, pieces_of}
-use Rattle.kc_tool.specs.declared.faults.ToolFault.{ToolFault}
-use Rattle.kc_tool.specs.declared.faults.ToolFault.TheVariants.{Fastx, BadHeader, BadRow, BadEnd, TableTooLong}
-use Rattle.kc_tool.specs.declared.faults.ToolFault.TheVariants.{TableRead, Memory, BadOption, BadWord, Write, Run}
-use Rattle.kc_tool.specs.declared.faults.ToolFault.TheVariants.{OpenFailed}
+use Rattle.kc_tool.specs.declared.tool_faults.ToolFault.{ToolFault}
+use Rattle.kc_tool.specs.declared.tool_faults.ToolFault.TheVariants.{Fastx, BadHeader, BadRow, BadEnd, TableTooLong}
+use Rattle.kc_tool.specs.declared.tool_faults.ToolFault.TheVariants.{TableRead, Memory, BadOption, BadWord, Write, Run}
+use Rattle.kc_tool.specs.declared.tool_faults.ToolFault.TheVariants.{OpenFailed}
 use Rattle.kc_tool.proofs.InputsLemmas.{ReadSoFar, begun, ended, one_more, refused}
 
 pieces_of-append : (rule : CountingRule) (reads more : List Read)

@@ -18,8 +18,8 @@ use Rattle.kc_tool.specs.Commands.{EndsSo, name_of, verb_named}
 use Rattle.kc_tool.specs.declared.commands.Verb.{Verb}
 use Rattle.kc_tool.specs.declared.commands.Verb.TheVariants as verb
 use Rattle.kc_io.specs.Sinks.{Written, Writes}
-use Rattle.kc_tool.specs.declared.faults.ToolFault.{ToolFault}
-use Rattle.kc_tool.specs.declared.faults.ToolFault.TheVariants.{
+use Rattle.kc_tool.specs.declared.tool_faults.ToolFault.{ToolFault}
+use Rattle.kc_tool.specs.declared.tool_faults.ToolFault.TheVariants.{
   Fastx,
   BadHeader,
   BadRow,

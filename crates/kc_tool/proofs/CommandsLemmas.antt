@@ -8,8 +8,8 @@ use Rattle.kc_io.specs.Sinks.{Written}
 use Rattle.kc_io.specs.Sources.{Seen}
 use Rattle.kc_tally.specs.Tally.{TallySeen}
 use Rattle.kc_report.specs.TableReading.{RefusesTable}
-use Rattle.kc_report.specs.declared.faults.ReportFault.{ReportFault}
-use Rattle.kc_report.specs.declared.faults.ReportFault.TheVariants as report
+use Rattle.kc_report.specs.declared.report_faults.ReportFault.{ReportFault}
+use Rattle.kc_report.specs.declared.report_faults.ReportFault.TheVariants as report
 use Rattle.kc_command.specs.Settings.{Settings}
 use Rattle.kc_tool.specs.Faults.{report_fault}
 use Rattle.kc_tool.specs.Tallies.{RefusesSources, TalliesSources}
@@ -17,8 +17,8 @@ use Rattle.kc_tool.proofs.SourcesLemmas.{refuses_seen, tally_seen}
 use Rattle.kc_tool.specs.Files.{AreOpened, AreSources, FailsToOpen, HappensTo, IsCreated, NamedSink, NamedSource, files_named, output_of}
 use Rattle.kc_tool.specs.Commands.{Answers, Does, HasNoTallyFor, HasSourcesFor, IsTallyFor, TellNoTable, most_table_bytes, sources_from}
 use Rattle.kc_tool.specs.Commands.{AsksForTask, EndsSo, IsLeft, IsRefused, files_of}
-use Rattle.kc_tool.specs.declared.faults.ToolFault.{ToolFault}
-use Rattle.kc_tool.specs.declared.faults.ToolFault.TheVariants.{Fastx, BadHeader, BadRow, BadEnd, TableTooLong, TableRead, Memory, BadOption, BadWord, Write, Run, OpenFailed}
+use Rattle.kc_tool.specs.declared.tool_faults.ToolFault.{ToolFault}
+use Rattle.kc_tool.specs.declared.tool_faults.ToolFault.TheVariants.{Fastx, BadHeader, BadRow, BadEnd, TableTooLong, TableRead, Memory, BadOption, BadWord, Write, Run, OpenFailed}
 use Rattle.kc_tool.specs.declared.commands.Task.{Task}
 use Rattle.kc_tool.specs.declared.commands.Task.TheVariants.{Count, Report, Query}
 use Rattle.kc_tool.specs.declared.commands.Verb.{Verb}

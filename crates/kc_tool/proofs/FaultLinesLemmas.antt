@@ -1,7 +1,7 @@
 -- A line in which a text of any length stands.
 use Rattle.std.proofs.Common.{◌≡◌, List, [], ◌∷◌, ◌++◌, ℕ, refl, sym, ◌∙◌, ap, subst, append_assoc, append-nil, codes, Result, Ok, Err, OnErr}
 use Rattle.kc_tool.specs.FaultLines.{fault_front, fault_line, fault_name}
-use Rattle.kc_tool.specs.declared.faults.ToolFault.{ToolFault}
+use Rattle.kc_tool.specs.declared.tool_faults.ToolFault.{ToolFault}
 use Rattle.kc_io.specs.Sinks.{Written, HasTaken, HasBegun, Drains, HandsOver, Writes}
 use Rattle.kc_io.proofs.SinksLemmas.{Pending, begin, took_front, began_front, taken_both, drained, last}
 

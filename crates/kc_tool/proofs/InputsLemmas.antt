@@ -3,10 +3,10 @@ use Rattle.std.proofs.Common.{◌≡◌, ◌≤◌, ◌+◌, ◌-◌, ◌++◌, 
 use Rattle.std.specs.List.{concat}
 use Rattle.std.proofs.lemmas.List.Sums.{sum_by-append}
 use Rattle.kc_io.specs.Sources.{Seen}
-use Rattle.kc_io.specs.Taking.{TakesAll}
+use Rattle.kc_io.specs.Intakes.{TakesAll}
 use Rattle.kc_fastx.specs.Parsing.{GivesReads, HaveReads, HasReads, RefusesFor, most_bytes}
 use Rattle.kc_fastx.specs.Reads.{Read, base_count}
-use Rattle.kc_fastx.specs.declared.faults.FastxFault.{FastxFault}
+use Rattle.kc_fastx.specs.declared.read_faults.FastxFault.{FastxFault}
 use Rattle.kc_tool.specs.Tallies.{FailsAt, GaveInputs, GaveReads, ReadsSources}
 
 -- Some of the sources were read, and the rest is left.

@@ -9,10 +9,10 @@ use Rattle.kc_tool.specs.Tallies.{ReadsSources}
 use Rattle.kc_tool.specs.Reports.{BeginsReport, IsReportOf, LeavesUnwritten, WritesReport, WritesText}
 use Rattle.kc_tool.specs.Reports.{report_of, report_text}
 use Rattle.kc_command.specs.Settings.{Settings, rule_of}
-use Rattle.kc_tool.specs.declared.faults.ToolFault.{ToolFault}
-use Rattle.kc_tool.specs.declared.faults.ToolFault.TheVariants.{Fastx, BadHeader, BadRow, BadEnd, TableTooLong}
-use Rattle.kc_tool.specs.declared.faults.ToolFault.TheVariants.{TableRead, Memory, BadOption, BadWord, Write, Run}
-use Rattle.kc_tool.specs.declared.faults.ToolFault.TheVariants.{OpenFailed}
+use Rattle.kc_tool.specs.declared.tool_faults.ToolFault.{ToolFault}
+use Rattle.kc_tool.specs.declared.tool_faults.ToolFault.TheVariants.{Fastx, BadHeader, BadRow, BadEnd, TableTooLong}
+use Rattle.kc_tool.specs.declared.tool_faults.ToolFault.TheVariants.{TableRead, Memory, BadOption, BadWord, Write, Run}
+use Rattle.kc_tool.specs.declared.tool_faults.ToolFault.TheVariants.{OpenFailed}
 use Rattle.kc_tool.specs.declared.reports.Report.{Report}
 
 module _ {S : Type 0} (seen : S → Seen) (sources : List S) where

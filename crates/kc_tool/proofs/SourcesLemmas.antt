@@ -3,12 +3,12 @@ use Rattle.std.proofs.Common.{◌-◌, ◌+◌, ℕ, List, [], ◌∷◌, length
 use Rattle.std.proofs.lemmas.List.{map-append, length-map}
 use Rattle.kc_io.specs.Sources.{Seen}
 use Rattle.kc_fastx.specs.Reads.{Read}
-use Rattle.kc_fastx.specs.declared.faults.FastxFault.{FastxFault}
+use Rattle.kc_fastx.specs.declared.read_faults.FastxFault.{FastxFault}
 use Rattle.kc_tool.specs.Tallies.{FailsAt, GaveInputs, GaveReads, ReadsSources, RefusesSources, TalliesSources}
 use Rattle.kc_command.specs.Settings.{Settings}
 use Rattle.kc_tally.specs.Tally.{TallySeen}
-use Rattle.kc_tool.specs.declared.faults.ToolFault.{ToolFault}
-use Rattle.kc_tool.specs.declared.faults.ToolFault.TheVariants.{Fastx, BadHeader, BadRow, BadEnd, TableTooLong, TableRead, Memory, BadOption, BadWord, Write, Run, OpenFailed}
+use Rattle.kc_tool.specs.declared.tool_faults.ToolFault.{ToolFault}
+use Rattle.kc_tool.specs.declared.tool_faults.ToolFault.TheVariants.{Fastx, BadHeader, BadRow, BadEnd, TableTooLong, TableRead, Memory, BadOption, BadWord, Write, Run, OpenFailed}
 
 module _ {S : Type 0} (seen : S → Seen) where
   gave_seen : (limit : ℕ) (sources : List S) (inputs : List (List ℕ)) → GaveInputs seen limit sources inputs → GaveInputs (λ source. source) limit (map seen sources) inputs

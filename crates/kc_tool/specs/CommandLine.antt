@@ -13,8 +13,8 @@ use Rattle.kc_command.specs.Command.{kcount_app}
 use Rattle.kc_tool.specs.FaultLines.{fault_line}
 use Rattle.kc_tool.specs.Commands.{EndsSo, name_of}
 use Rattle.kc_tool.specs.declared.commands.Verb.{Verb}
-use Rattle.kc_tool.specs.declared.faults.ToolFault.{ToolFault}
-use Rattle.kc_tool.specs.declared.faults.ToolFault.TheVariants.{Memory, BadOption, Write}
+use Rattle.kc_tool.specs.declared.tool_faults.ToolFault.{ToolFault}
+use Rattle.kc_tool.specs.declared.tool_faults.ToolFault.TheVariants.{Memory, BadOption, Write}
 use Rattle.kc_tool.specs.declared.command_line.Ending.{Ending}
 use Rattle.kc_tool.specs.declared.command_line.Ending.TheVariants.{Fault, Refused}
 

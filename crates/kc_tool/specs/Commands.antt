@@ -7,7 +7,7 @@ use Rattle.clap.specs.Words.{Row, Text}
 use Rattle.kc_io.specs.Sinks.{Written, HasWritten, HasBegun}
 use Rattle.kc_io.specs.Sources.{Seen}
 use Rattle.kc_tally.specs.Tally.{TallySeen}
-use Rattle.kc_report.specs.declared.faults.ReportFault.{ReportFault}
+use Rattle.kc_report.specs.declared.report_faults.ReportFault.{ReportFault}
 use Rattle.kc_report.specs.Querying.{IsAskable, IsFirstBadWord, query_text}
 use Rattle.kc_report.specs.TableReading.{GivesTable, RefusesTable}
 use Rattle.kc_command.specs.Arguments.{AsksFor, AsksForDump, first_bad, first_bad_of_dump, first_bad_of_histo, high_of}
@@ -17,8 +17,8 @@ use Rattle.kc_tool.specs.Faults.{report_fault}
 use Rattle.kc_tool.specs.Files.{AreSources, HappensTo, files_named, output_of, words_asked}
 use Rattle.kc_tool.specs.Reports.{IsWritable, report_of, report_text}
 use Rattle.kc_tool.specs.Tallies.{RefusesSources, TalliesSources}
-use Rattle.kc_tool.specs.declared.faults.ToolFault.{ToolFault}
-use Rattle.kc_tool.specs.declared.faults.ToolFault.TheVariants.{Memory, BadOption, BadWord, OpenFailed, Write}
+use Rattle.kc_tool.specs.declared.tool_faults.ToolFault.{ToolFault}
+use Rattle.kc_tool.specs.declared.tool_faults.ToolFault.TheVariants.{Memory, BadOption, BadWord, OpenFailed, Write}
 use Rattle.kc_tool.specs.declared.commands.Task.{Task}
 use Rattle.kc_tool.specs.declared.commands.Task.TheVariants.{Count, Report, Query}
 use Rattle.kc_tool.specs.declared.commands.Verb.{Verb}

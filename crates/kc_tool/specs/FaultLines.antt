@@ -3,8 +3,8 @@ use Rattle.std.specs.Prelude.{ℕ, List, [], ◌∷◌, ◌++◌, codes, decimal
 use Rattle.kc_fastx.specs.declared.FastxFault.{FastxFault}
 use Rattle.kc_fastx.specs.declared.FastxFault.TheVariants as fastx
 use Rattle.kc_command.specs.OptionName.{option_text}
-use Rattle.kc_tool.specs.declared.faults.ToolFault.{ToolFault}
-use Rattle.kc_tool.specs.declared.faults.ToolFault.TheVariants.{
+use Rattle.kc_tool.specs.declared.tool_faults.ToolFault.{ToolFault}
+use Rattle.kc_tool.specs.declared.tool_faults.ToolFault.TheVariants.{
   Fastx,
   BadHeader,
   BadRow,
@@ -18,8 +18,8 @@ use Rattle.kc_tool.specs.declared.faults.ToolFault.TheVariants.{
   Run,
   OpenFailed,
 }
-use Rattle.kc_run.specs.declared.fault.RunFault.{RunFault}
-use Rattle.kc_run.specs.declared.fault.RunFault.TheVariants as run
+use Rattle.kc_run.specs.declared.run_fault.RunFault.{RunFault}
+use Rattle.kc_run.specs.declared.run_fault.RunFault.TheVariants as run
 
 -- a refusal of a source
 abbrev pub in_source : List ℕ → ℕ → List ℕ

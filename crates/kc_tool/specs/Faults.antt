@@ -1,8 +1,8 @@
 -- The faults of the crates below, as faults of the program.
-use Rattle.kc_report.specs.declared.faults.ReportFault.{ReportFault}
-use Rattle.kc_report.specs.declared.faults.ReportFault.TheVariants as report
-use Rattle.kc_tool.specs.declared.faults.ToolFault.{ToolFault}
-use Rattle.kc_tool.specs.declared.faults.ToolFault.TheVariants.{
+use Rattle.kc_report.specs.declared.report_faults.ReportFault.{ReportFault}
+use Rattle.kc_report.specs.declared.report_faults.ReportFault.TheVariants as report
+use Rattle.kc_tool.specs.declared.tool_faults.ToolFault.{ToolFault}
+use Rattle.kc_tool.specs.declared.tool_faults.ToolFault.TheVariants.{
   BadHeader,
   BadRow,
   BadEnd,

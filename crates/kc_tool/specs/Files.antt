@@ -5,8 +5,8 @@ use Rattle.clap.specs.Words.{Row, Text, all_of, first_of}
 use Rattle.kc_io.specs.History.{no_history}
 use Rattle.kc_io.specs.Sinks.{Written}
 use Rattle.kc_io.specs.Sources.{Seen}
-use Rattle.kc_tool.specs.declared.faults.ToolFault.{ToolFault}
-use Rattle.kc_tool.specs.declared.faults.ToolFault.TheVariants.{Memory, OpenFailed}
+use Rattle.kc_tool.specs.declared.tool_faults.ToolFault.{ToolFault}
+use Rattle.kc_tool.specs.declared.tool_faults.ToolFault.TheVariants.{Memory, OpenFailed}
 
 -- the files that are named behind a command, in order
 abbrev pub files_named : List Row → List Text

@@ -3,6 +3,7 @@ pub mod Commands
 pub mod FaultLines
 pub mod Faults
 pub mod Files
+pub mod Process
 pub mod Progress
 pub mod Reports
 pub mod Tallies

@@ -1,6 +1,6 @@
 -- The line that a count shows on a terminal while it works: source, our formats page.
 use Rattle.std.specs.Prelude.{ℕ, ◌/◌, ◌==◌, List, [], ◌∷◌, ◌++◌, codes, decimal, if◌then◌else◌}
-use Rattle.kc_tool.specs.declared.progress.Reached.{Reached}
+use Rattle.kc_tool.specs.declared.count_progress.Reached.{Reached}
 
 -- how many batches were counted, of how many; nothing before that is known
 abbrev pub batches_text : Reached → List ℕ

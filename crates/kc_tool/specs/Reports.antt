@@ -5,13 +5,13 @@ use Rattle.kc_io.specs.Sinks.{Written, HasWritten, HasBegun}
 use Rattle.kc_io.specs.Sources.{Seen}
 use Rattle.kc_tally.specs.Tally.{TallySeen, IsTallyOf}
 use Rattle.kc_tool.specs.Tallies.{ReadsSources, RefusesSources}
-use Rattle.kc_report.specs.declared.dumping.Dump.{Dump}
+use Rattle.kc_report.specs.declared.dump.Dump.{Dump}
 use Rattle.kc_report.specs.Dumping.{dump_text}
 use Rattle.kc_report.specs.Histo.{histo_text}
 use Rattle.kc_report.specs.Statistics.{statistics_text}
 use Rattle.kc_report.specs.Table.{table_text}
-use Rattle.kc_tool.specs.declared.faults.ToolFault.{ToolFault}
-use Rattle.kc_tool.specs.declared.faults.ToolFault.TheVariants.{Memory, Write}
+use Rattle.kc_tool.specs.declared.tool_faults.ToolFault.{ToolFault}
+use Rattle.kc_tool.specs.declared.tool_faults.ToolFault.TheVariants.{Memory, Write}
 use Rattle.kc_tool.specs.declared.reports.Report.{Report}
 use Rattle.kc_command.specs.declared.settings.Print.{Print}
 use Rattle.kc_command.specs.declared.settings.Print.TheVariants as print

@@ -2,17 +2,17 @@
 use Rattle.std.specs.Prelude.{◌≡◌, ◌≤◌, ◌-◌, ℕ, List, [], ◌∷◌, ◌++◌, length, map, sum_by, ⊤}
 use Rattle.std.specs.List.{concat}
 use Rattle.kc_io.specs.Sources.{Seen}
-use Rattle.kc_io.specs.Taking.{TakesAll}
+use Rattle.kc_io.specs.Intakes.{TakesAll}
 use Rattle.kc_fastx.specs.Parsing.{GivesReads, HaveReads, IsFirstFaulty, RefusesFor, most_bytes}
 use Rattle.kc_fastx.specs.Reads.{Read}
-use Rattle.kc_fastx.specs.declared.faults.FastxFault.{FastxFault}
+use Rattle.kc_fastx.specs.declared.read_faults.FastxFault.{FastxFault}
 use Rattle.kc_word.specs.Cutting.{cleaned}
 use Rattle.kc_word.specs.OpenCutting.{OpenCutting, HasTaken}
-use Rattle.kc_word.specs.Rule.{CountingRule}
+use Rattle.kc_kmer.specs.Rule.{CountingRule}
 use Rattle.kc_tally.specs.Tally.{TallySeen, IsTallyOf}
 use Rattle.kc_command.specs.Settings.{Settings, rule_of}
-use Rattle.kc_tool.specs.declared.faults.ToolFault.{ToolFault}
-use Rattle.kc_tool.specs.declared.faults.ToolFault.TheVariants.{Fastx, Memory, Run}
+use Rattle.kc_tool.specs.declared.tool_faults.ToolFault.{ToolFault}
+use Rattle.kc_tool.specs.declared.tool_faults.ToolFault.TheVariants.{Fastx, Memory, Run}
 
 -- each source gave its input, up to the end that it told, and all together no more bytes than the limit. What the
 -- sources are afterwards is not kept

@@ -1,4 +1,4 @@
-//! The command line: the whole program, over given standard streams.
+//! The command line: what its arguments ask for is carried out, over streams that the caller keeps.
 ghost use Rattle.std.specs.Prelude.{◌≡◌, ◌≤◌, ◌⊎◌, IfErr, IfOk, map, string_bytes};
 ghost use Rattle.clap.specs.Faults.{fault_of};
 ghost use Rattle.clap.specs.Kinds.{HasKind};
@@ -12,19 +12,18 @@ ghost use Rattle.kc_tool.specs.CommandLine.{
   ShowsSo,
   status_of,
 };
-ghost use Rattle.kc_tool.specs.declared.faults.ToolFault.TheVariants.{Memory, Write};
+ghost use Rattle.kc_tool.specs.declared.tool_faults.ToolFault.TheVariants.{Memory, Write};
 ghost use Rattle.kc_tool.specs.declared.command_line.Ending.TheVariants.{Fault};
 
 use crate::commands::{run_command, verb_named};
+use crate::count_progress::Progress;
 use crate::fault_lines::write_fault;
-use crate::faults::ToolFault;
-use crate::progress::{NoProgress, Progress};
+use crate::tool_faults::ToolFault;
 use clap::ArgMatches;
 use clap::error::ErrorKind;
 use kc_command::command::command;
-use kc_io::{Failed, FromRead, Sink, Source, ToWrite, write_out};
+use kc_io::{Failed, Sink, Source, write_out};
 use std::alloc::{AllocError, AllocFailed, Global};
-use std::io;
 use std::rt::Files;
 use std::sync::Wait;
 use std::thread::Threads;
@@ -32,54 +31,18 @@ use std::thread::Threads;
 /// The exit status where all went well.
 const DONE: u8 = 0;
 /// The exit status of a fault.
-const FAULT: u8 = 1;
+pub(crate) const FAULT: u8 = 1;
 /// The exit status of a command line that is refused.
-const REFUSED: u8 = 2;
+pub(crate) const REFUSED: u8 = 2;
 
-/// Carries out the command line `arguments`, which begins with the program's name, and answers the exit status: 0; 1
-/// for a fault; 2 for a command line that is refused. The line of a fault goes to `errors`, and so does the text of a
-/// refusal. Failing to write there changes no status. Files are opened and created by `rt`. How far a count has come is
-/// shown nowhere.
-pub fn program<
-    H: Files + Threads + Wait + Sync,
-    I: io::Read + Drop,
-    O: io::Write + Drop,
-    E: io::Write + Drop,
->(rt: &H, alloc: Global, arguments: Vec<String>, input: I, output: O, errors: E) -> u8
-    ensures { result ≤ 2 }
-{
-    program_showing(rt, alloc, arguments, input, output, errors, &NoProgress)
-}
-
-/// What `program` does, where `progress` is told how far a count has come. It is told the end before the report or the
+/// Carries out the command line `arguments`, which begins with the program's name, and answers the exit status. Files
+/// are opened and created by `rt`, and how far a count has come is told to `progress`: the end before the report or the
 /// line of a fault is written.
-pub fn program_showing<
-    H: Files + Threads + Wait + Sync,
-    I: io::Read + Drop,
-    O: io::Write + Drop,
-    E: io::Write + Drop,
-    P: Progress + Sync,
->(rt: &H, alloc: Global, arguments: Vec<String>, input: I, output: O, errors: E, progress: &P) -> u8
-    ensures { result ≤ 2 }
-{
-    let mut output = ToWrite::new(output);
-    let mut errors = ToWrite::new(errors);
-    let input = FromRead::new(input);
-    run(
-        rt,
-        alloc,
-        &arguments,
-        input,
-        &mut output,
-        &mut errors,
-        progress,
-    )
-}
-
-/// What `program_showing` does, over streams that the caller keeps. Status 0: the output, or the file that the
-/// arguments name for it, has what the arguments ask for: a report, the answer to a query, help or the version.
-/// Status 1: the line of a fault went to the errors, and the output is as it was, or has a beginning of the answer
-/// where writing failed. Status 2: the output is as it was, and why the arguments are refused went to the errors.
+///
+/// Status 0: the output, or the file that the arguments name for it, has what the arguments ask for: a report, the
+/// answer to a query, help or the version. Status 1: the line of a fault went to the errors, and the output is as it
+/// was, or has a beginning of the answer where writing failed. Status 2: the output is as it was, and why the arguments
+/// are refused went to the errors.
 pub fn run<
     H: Files + Threads + Wait + Sync,
     R: Source + Drop,

@@ -17,12 +17,12 @@ ghost use Rattle.kc_tool.specs.Commands.{
   verb_named,
 };
 
-use crate::arguments::{dump_options, high_of, options};
-use crate::faults::ToolFault;
+use crate::count_progress::Progress;
+use crate::counted_sources::count_sources;
 use crate::files::{create_file, open_files};
-use crate::progress::Progress;
+use crate::given_options::{dump_options, high_of, options};
 use crate::reports::{Report, report_of, write_report};
-use crate::tallies::count_sources;
+use crate::tool_faults::ToolFault;
 use clap::ArgMatches;
 use kc_command::command::{COUNT, DUMP, HISTO, QUERY, STATS};
 use kc_command::{Options, Print, text_of};

@@ -1,11 +1,11 @@
 //! The line that a refusal prints.
 ghost use Rattle.std.specs.Prelude.{◌≡◌, ◌≤◌, ◌<◌, ◌+◌, ◌++◌, decimal, length, IfErr, OnOk, OnErr};
 ghost use Rattle.kc_io.specs.Sinks.{Writes, Drains, HasBegun};
-ghost use Rattle.kc_tool.specs.declared.faults.ToolFault.TheVariants.{Write};
+ghost use Rattle.kc_tool.specs.declared.tool_faults.ToolFault.TheVariants.{Write};
 ghost use Rattle.kc_tool.specs.FaultLines.{fault_line, fault_front, fault_name, reader_text, run_text};
 ghost use Rattle.kc_tool.specs.FaultLines.{in_source, at_line};
 
-use crate::faults::ToolFault;
+use crate::tool_faults::ToolFault;
 use kc_fastx::FastxFault;
 use kc_io::{Failed, Sink, write_all, write_out};
 use kc_report::{BLOCK_SIZE, Block};

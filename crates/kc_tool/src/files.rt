@@ -6,7 +6,7 @@ ghost use Rattle.std.specs.Prelude.{◌≡◌, IfOk, IfErr, map};
 ghost use Rattle.kc_io.specs.History.{no_history};
 ghost use Rattle.kc_tool.specs.Files.{AreOpened, IsCreated, FailsToOpen, FailsToOpenOne};
 
-use crate::faults::ToolFault;
+use crate::tool_faults::ToolFault;
 use kc_io::{Failed, FromRead, Sink, Source, ToWrite};
 use std::alloc::Global;
 use std::fs;

@@ -17,21 +17,22 @@
 //! ```
 #![tactic(auto)]
 
-mod arguments;
 mod command_line;
 mod commands;
+mod count_progress;
+mod counted_sources;
 mod fault_lines;
-mod faults;
 mod files;
-mod progress;
+mod given_options;
+mod process;
 mod reports;
-mod tallies;
+mod tool_faults;
 
-pub use arguments::{dump_options, high_of, options};
-pub use command_line::{program, program_showing, run};
+pub use command_line::run;
+pub use count_progress::{NoProgress, Progress, ProgressLine};
 pub use fault_lines::write_fault;
-pub use faults::ToolFault;
-pub use kc_command::{OptionName, Options, Print, laws};
+pub use given_options::{dump_options, high_of, options};
+pub use kc_command::{OptionName, Options, Print, command_laws};
 pub use kc_io::{Sink, ToVec, ToWrite};
 pub use kc_report::{
     Dump, GREATEST_HIGH, ReportFault, query, read_table, write_dump, write_histo, write_stats,
@@ -40,5 +41,6 @@ pub use kc_report::{
 pub use kc_run::RunFault;
 pub use kc_tally::{Row, Tally};
 pub use kc_word::K;
-pub use progress::{NoProgress, Progress, ProgressLine};
+pub use process::{program, program_showing, run_given};
 pub use reports::count_reads;
+pub use tool_faults::ToolFault;

@@ -3,9 +3,9 @@ ghost use Rattle.std.specs.Prelude.{◌≡◌, ◌≢◌, OnOk, IfErr, IsErrOf};
 ghost use Rattle.kc_tool.specs.Reports.{BeginsReport, IsWritable, LeavesUnwritten, WritesReport, WritesText};
 ghost use Rattle.kc_tool.specs.Reports.{report_of, report_text};
 
-use crate::faults::ToolFault;
-use crate::progress::NoProgress;
-use crate::tallies::count_sources;
+use crate::count_progress::NoProgress;
+use crate::counted_sources::count_sources;
+use crate::tool_faults::ToolFault;
 use kc_command::{Options, Print};
 use kc_io::{Sink, Source};
 use kc_report::{Dump, write_dump, write_histo, write_stats, write_table};

@@ -5,7 +5,7 @@ use Rattle.std.proofs.Math.Nat.{mul-le-mul_right}
 use Rattle.std.proofs.lemmas.List.{length_push, take_all, drop_all, nil_from_length, append-nil}
 use Rattle.std.proofs.lemmas.List.FromFn.{map-range_with_len_more}
 use Rattle.std.specs.List.{range_with_len, flat_map}
-use Rattle.kc_word.specs.Occurrences.{position_count, occurrences, words_of}
+use Rattle.kc_kmer.specs.Occurrences.{position_count, occurrences, words_of}
 use Rattle.kc_word.specs.Cutting.{as_reads, NumberedPieces, stretch, stretches, position_total, batch_of, cutting, KeepsOccurrences, KeepsWords}
 use Rattle.kc_word.specs.OpenCutting.{OpenCutting, HasCut, HasTaken, with_part}
 use Rattle.kc_word.proofs.Windows.{windows, map-range}

@@ -9,12 +9,12 @@ use Rattle.std.proofs.lemmas.List.FromFn.{length-map-range_with_len, get_or-map-
 use Rattle.std.specs.List.{list_all, range_with_len, flat_map}
 use Rattle.std.specs.Char.{to_ascii_uppercase}
 use Rattle.kc_fastx.specs.Reads.{Read, read_of}
-use Rattle.kc_word.specs.Letter.{is_base}
-use Rattle.kc_word.specs.Word.{number, form}
-use Rattle.kc_word.specs.Rule.{CountingRule}
-use Rattle.kc_word.specs.Occurrences.{is_usable, passes_floor, word_at, form_at, positions, position_count, counts_under, occurrences_in, occurrences, words_in, words_of}
+use Rattle.kc_kmer.specs.Letter.{is_base}
+use Rattle.kc_kmer.specs.Word.{number, form}
+use Rattle.kc_kmer.specs.Rule.{CountingRule}
+use Rattle.kc_kmer.specs.Occurrences.{is_usable, passes_floor, word_at, form_at, positions, position_count, counts_under, occurrences_in, occurrences, words_in, words_of}
 use Rattle.kc_word.specs.Cutting.{unusable, are_piece_bytes, cleaned_base, cleaned, as_reads}
-use Rattle.kc_word.proofs.WordLemmas.{at_base}
+use Rattle.kc_kmer.proofs.WordLemmas.{at_base}
 
 upper-base : (byte : ℕ) → is_base byte ≡ true → to_ascii_uppercase byte ≡ byte
 upper-base = at_base (λ b. to_ascii_uppercase b ≡ b) refl refl refl refl

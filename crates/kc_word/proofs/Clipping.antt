@@ -10,7 +10,7 @@ use Rattle.kc_word.specs.declared.runs.Run.{Run}
 use Rattle.kc_word.specs.Runs.{run_end, is_in_run, is_in_runs, AreRuns, ArePassed, AreClipped}
 use Rattle.kc_word.proofs.RunLemmas.{inside-run, before-run, behind-run, is_in_runs-cons, is_in_runs-none}
 use Rattle.kc_word.proofs.RunLemmas.{AreRuns-lower, AreRuns-tail, IsRunAt}
-use Rattle.kc_word.specs.Letter.{base}
+use Rattle.kc_kmer.specs.Letter.{base}
 use Rattle.kc_word.specs.Cutting.{unusable}
 use Rattle.kc_word.specs.PackedPiece.{bytes_of, IsPiece}
 use Rattle.kc_word.proofs.PieceLemmas.{length-bytes_of, get_or-bytes_of}

@@ -4,12 +4,12 @@ use Rattle.std.proofs.lemmas.List.{map_push, take_more, append-nil}
 use Rattle.std.proofs.lemmas.Bool.{cond-true, cond-false}
 use Rattle.std.proofs.lemmas.Nat.{one_shl, and_mask, shl_whole, pow_pos}
 use Rattle.std.proofs.Math.Nat.{pow-le-pow_right}
-use Rattle.kc_word.proofs.Letters.{pow-four}
+use Rattle.kc_kmer.proofs.Letters.{pow-four}
 use Rattle.kc_fastx.specs.Reads.{read_of}
-use Rattle.kc_word.specs.Rule.{CountingRule}
+use Rattle.kc_kmer.specs.Rule.{CountingRule}
 use Rattle.std.specs.List.{range_with_len, flat_map}
-use Rattle.kc_word.specs.Word.{number}
-use Rattle.kc_word.specs.Occurrences.{words_in, words_of, form_at}
+use Rattle.kc_kmer.specs.Word.{number}
+use Rattle.kc_kmer.specs.Occurrences.{words_in, words_of, form_at}
 use Rattle.kc_word.specs.Cutting.{as_reads}
 use Rattle.std.proofs.lemmas.List.Concat.{flat_map-append}
 use Rattle.kc_word.specs.Walking.{last_window, IsRolled}

@@ -11,8 +11,8 @@ use Rattle.std.specs.List.{range_with_len, flat_map}
 use Rattle.std.specs.Option.{option_map_or}
 use Rattle.std.specs.Str.{bytes_eq}
 use Rattle.kc_fastx.specs.Reads.{read_of}
-use Rattle.kc_word.specs.Rule.{CountingRule}
-use Rattle.kc_word.specs.Occurrences.{position_count, counts_under, occurrences_in, occurrences, words_of}
+use Rattle.kc_kmer.specs.Rule.{CountingRule}
+use Rattle.kc_kmer.specs.Occurrences.{position_count, counts_under, occurrences_in, occurrences, words_of}
 use Rattle.kc_word.specs.Cutting.{as_reads, NumberedPieces, stretch, position_total, batch_count, batch_of, cutting}
 use Rattle.kc_word.proofs.Stretches.{stretches_from, stretches-are}
 use Rattle.kc_lemmas.proofs.Lists.{take-append, drop-append, length-filter_map, flat_map-range_more}

@@ -8,16 +8,16 @@ use Rattle.std.proofs.lemmas.List.{ext_get_or, get_or_past}
 use Rattle.std.proofs.lemmas.List.FromFn.{length-map-range_with_len, get_or-map-range_with_len}
 use Rattle.std.specs.Char.{to_ascii_uppercase}
 use Rattle.kc_fastx.specs.Reads.{Read}
-use Rattle.kc_word.specs.Letter.{is_base, code, base}
-use Rattle.kc_word.specs.Rule.{CountingRule}
-use Rattle.kc_word.specs.Occurrences.{is_usable, passes_floor}
+use Rattle.kc_kmer.specs.Letter.{is_base, code, base}
+use Rattle.kc_kmer.specs.Rule.{CountingRule}
+use Rattle.kc_kmer.specs.Occurrences.{is_usable, passes_floor}
 use Rattle.kc_word.specs.Cutting.{unusable, cleaned, cleaned_base}
 use Rattle.kc_word.specs.Packed.{code_in, codes_in}
 use Rattle.kc_word.specs.declared.runs.Run.{Run}
 use Rattle.kc_word.specs.Runs.{is_in_runs, AreRuns, AreExtended}
 use Rattle.kc_word.specs.PackedPiece.{bytes_of, IsPiece}
 use Rattle.kc_word.specs.Gathering.{usable_code, packed_codes, IsBlock, AreGaps}
-use Rattle.kc_word.proofs.WordLemmas.{code-lt}
+use Rattle.kc_kmer.proofs.WordLemmas.{code-lt}
 use Rattle.kc_word.proofs.RunLemmas.{AreRuns-wider, behind-runs}
 use Rattle.kc_word.proofs.PieceLemmas.{length-bytes_of, get_or-bytes_of, base-code}
 use Rattle.kc_word.proofs.Cleaning.{length-cleaned, get_or-cleaned}

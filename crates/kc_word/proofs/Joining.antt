@@ -5,7 +5,7 @@ use Rattle.std.proofs.lemmas.Bool.{cases_lt}
 use Rattle.std.proofs.lemmas.List.{length-append, get_or_append_left, get_or-append-add, ext_get_or}
 use Rattle.kc_word.specs.declared.runs.Run.{Run}
 use Rattle.kc_word.specs.Runs.{is_in_runs, AreRuns, AreJoined, AreClipped}
-use Rattle.kc_word.specs.Letter.{base}
+use Rattle.kc_kmer.specs.Letter.{base}
 use Rattle.kc_word.specs.Cutting.{unusable}
 use Rattle.kc_word.specs.PackedPiece.{bytes_of, IsPiece}
 use Rattle.kc_word.proofs.PieceLemmas.{length-bytes_of, get_or-bytes_of}

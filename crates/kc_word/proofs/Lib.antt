@@ -1,14 +1,7 @@
-pub mod WordLemmas
-pub mod TableLemmas
-pub mod Packing
-pub mod Letters
-pub mod Turning
 pub mod Windows
 pub mod Rolling
 pub mod Cleaning
 pub mod Counting
-pub mod WordCounts
-pub mod Looking
 pub mod Stretches
 pub mod Cuttings
 pub mod Taking

@@ -7,13 +7,13 @@ use Rattle.std.specs.Str.{bytes_eq}
 use Rattle.std.specs.Bool.{Decides}
 use Rattle.std.proofs.lemmas.List.{ext_get_or}
 use Rattle.std.proofs.lemmas.List.FromFn.{length-map-range_with_len, get_or-map-range_with_len}
-use Rattle.kc_word.specs.Letter.{is_base, code, base}
+use Rattle.kc_kmer.specs.Letter.{is_base, code, base}
 use Rattle.kc_word.specs.Cutting.{unusable, is_piece_byte}
 use Rattle.std.specs.Char.{to_ascii_uppercase}
 use Rattle.kc_word.specs.declared.runs.Run.{Run}
 use Rattle.kc_word.specs.Runs.{is_in_runs}
 use Rattle.kc_word.specs.PackedPiece.{byte_at, bytes_of, IsPiece}
-use Rattle.kc_word.proofs.WordLemmas.{below_four, at_base}
+use Rattle.kc_kmer.proofs.WordLemmas.{below_four, at_base}
 use Rattle.kc_word.proofs.RunLemmas.{behind-runs, same-runs}
 
 pub length-bytes_of : (codes : List ℕ) (runs : List Run) → length (bytes_of codes runs) ≡ length codes

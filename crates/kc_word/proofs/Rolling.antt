@@ -9,10 +9,10 @@ use Rattle.std.proofs.lemmas.Int.Digits.{number_push, number_lt}
 use Rattle.std.specs.Int.Digits.{number_from_digits, number_from_digits_after, AllBelowBase}
 use Rattle.std.specs.List.{list_all, prefix_len}
 use Rattle.std.specs.Char.{to_ascii_uppercase}
-use Rattle.kc_word.specs.Letter.{is_base, are_bases, code, complement}
+use Rattle.kc_kmer.specs.Letter.{is_base, are_bases, code, complement}
 use Rattle.kc_word.specs.Cutting.{unusable}
-use Rattle.kc_word.specs.Word.{number, reverse_complement, form}
-use Rattle.kc_word.proofs.WordLemmas.{code-lt, code-complement, number-canonical, map-reverse}
+use Rattle.kc_kmer.specs.Word.{number, reverse_complement, form}
+use Rattle.kc_kmer.proofs.WordLemmas.{code-lt, code-complement, number-canonical, map-reverse}
 use Rattle.kc_word.specs.Walking.{last_window, is_letter, digit_of, other_digit, run_of, IsRolled}
 use Rattle.kc_word.proofs.Windows.{word_of, length-last_window}
 

@@ -12,7 +12,7 @@ use Rattle.std.specs.Str.{bytes_eq}
 use Rattle.std.specs.Bool.{Decides}
 use Rattle.std.specs.List.{range_with_len}
 use Rattle.std.specs.Cmp.Lexicographic.{pointwise}
-use Rattle.kc_word.specs.Occurrences.{position_count}
+use Rattle.kc_kmer.specs.Occurrences.{position_count}
 use Rattle.kc_word.specs.Cutting.{position_total}
 use Rattle.kc_word.specs.PackedBatch.{start_of, piece_at, pieces_in, AreEnds}
 use Rattle.kc_word.proofs.Windows.{map-range}

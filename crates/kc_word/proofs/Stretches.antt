@@ -3,7 +3,7 @@ use Rattle.std.proofs.Common.{◌≡◌, ℕ, zero, suc, ◌+◌, ◌-◌, min, 
 use Rattle.std.specs.List.{range_with_len, flat_map}
 use Rattle.std.proofs.lemmas.List.Sums.{sum_by-cons}
 use Rattle.kc_lemmas.proofs.Lists.{flat_map-same}
-use Rattle.kc_word.specs.Occurrences.{position_count}
+use Rattle.kc_kmer.specs.Occurrences.{position_count}
 use Rattle.kc_word.specs.Cutting.{stretch, stretch_of, stretches, position_total, first_position}
 
 unfoldable pub stretches_from : ℕ → ℕ → ℕ → ℕ → List (List ℕ) → List (List ℕ)

@@ -4,15 +4,15 @@ use Rattle.std.proofs.lemmas.Bool.{cases_lt}
 use Rattle.std.proofs.lemmas.Nat.{and_mask}
 use Rattle.std.proofs.lemmas.List.{take_more, take_all, drop_at, drop_all, drop_more, append-nil, append_assoc, append_cancel_left}
 use Rattle.kc_fastx.specs.Reads.{read_of}
-use Rattle.kc_word.specs.Rule.{CountingRule}
-use Rattle.kc_word.specs.Occurrences.{words_in, words_of}
+use Rattle.kc_kmer.specs.Rule.{CountingRule}
+use Rattle.kc_kmer.specs.Occurrences.{words_in, words_of}
 use Rattle.kc_word.specs.Cutting.{as_reads}
 use Rattle.kc_word.specs.Walking.{last_window, IsRolled, Walking, words_left, IsWalking}
 use Rattle.kc_word.proofs.Windows.{word_of}
 use Rattle.kc_word.proofs.Rolling.{RollStep, IsRolled-none, IsRolled-more, word_of-rolled, word_of-broken}
 use Rattle.kc_word.proofs.Counting.{words_in-none, words_in_push, words_of-none, forward-masked, top-shifted}
 use Rattle.std.specs.Char.{to_ascii_uppercase}
-use Rattle.kc_word.specs.Letter.{is_base, code}
+use Rattle.kc_kmer.specs.Letter.{is_base, code}
 
 -- ---- the words that are left
 

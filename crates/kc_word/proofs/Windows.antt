@@ -8,12 +8,12 @@ use Rattle.std.specs.List.{list_all, range_with_len, cons_option}
 use Rattle.std.specs.Char.{to_ascii_uppercase}
 use Rattle.kc_fastx.specs.Reads.{read_of}
 use Rattle.kc_lemmas.proofs.Lists.{filter_map-map, filter_map-one}
-use Rattle.kc_word.specs.Letter.{is_base, are_bases}
-use Rattle.kc_word.specs.Word.{number, form}
-use Rattle.kc_word.specs.Rule.{CountingRule}
+use Rattle.kc_kmer.specs.Letter.{is_base, are_bases}
+use Rattle.kc_kmer.specs.Word.{number, form}
+use Rattle.kc_kmer.specs.Rule.{CountingRule}
 use Rattle.kc_word.specs.Cutting.{unusable}
 use Rattle.kc_word.specs.Walking.{last_window}
-use Rattle.kc_word.specs.Occurrences.{is_usable, word_at, form_at, position_count, words_in}
+use Rattle.kc_kmer.specs.Occurrences.{is_usable, word_at, form_at, position_count, words_in}
 
 -- the number of the word that a window holds, in the form under which it counts, where all its bytes are bases
 unfoldable pub word_of : Bool → List ℕ → Option ℕ

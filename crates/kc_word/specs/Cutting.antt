@@ -8,9 +8,9 @@ use Rattle.std.specs.Cmp.Lexicographic.{pointwise}
 use Rattle.std.specs.Str.{bytes_eq}
 use Rattle.std.specs.Char.{to_ascii_uppercase}
 use Rattle.kc_fastx.specs.Reads.{Read, read_of}
-use Rattle.kc_word.specs.Letter.{is_base}
-use Rattle.kc_word.specs.Rule.{CountingRule}
-use Rattle.kc_word.specs.Occurrences.{is_usable, position_count, occurrences, words_of}
+use Rattle.kc_kmer.specs.Letter.{is_base}
+use Rattle.kc_kmer.specs.Rule.{CountingRule}
+use Rattle.kc_kmer.specs.Occurrences.{is_usable, position_count, occurrences, words_of}
 
 -- the letter N, which stands for a base that is not usable
 abbrev pub unusable : ℕ

@@ -4,9 +4,9 @@ use Rattle.std.specs.Prelude.{◌≡◌, ℕ, Bool, false, ◌+◌, ◌%◌, ◌
 use Rattle.std.specs.List.{range_with_len}
 use Rattle.std.specs.Char.{to_ascii_uppercase}
 use Rattle.kc_fastx.specs.Reads.{Read}
-use Rattle.kc_word.specs.Letter.{code}
-use Rattle.kc_word.specs.Rule.{CountingRule}
-use Rattle.kc_word.specs.Occurrences.{is_usable}
+use Rattle.kc_kmer.specs.Letter.{code}
+use Rattle.kc_kmer.specs.Rule.{CountingRule}
+use Rattle.kc_kmer.specs.Occurrences.{is_usable}
 use Rattle.kc_word.specs.Packed.{code_in}
 use Rattle.kc_word.specs.declared.runs.Run.{Run}
 use Rattle.kc_word.specs.Runs.{is_in_runs, AreRuns}

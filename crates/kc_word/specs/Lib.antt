@@ -1,7 +1,3 @@
-pub mod Letter
-pub mod Word
-pub mod Rule
-pub mod Occurrences
 pub mod Cutting
 pub mod Laws
 pub mod Sameness

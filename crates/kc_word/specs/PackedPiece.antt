@@ -2,7 +2,7 @@
 -- Source: this project's own.
 use Rattle.std.specs.Prelude.{◌≡◌, ℕ, true, ◌^◌, ◌<◌, ◌≤◌, List, length, map, slice_index, if◌then◌else◌}
 use Rattle.std.specs.List.{range_with_len}
-use Rattle.kc_word.specs.Letter.{base}
+use Rattle.kc_kmer.specs.Letter.{base}
 use Rattle.kc_word.specs.Cutting.{unusable}
 use Rattle.kc_word.specs.declared.runs.Run.{Run}
 use Rattle.kc_word.specs.Runs.{is_in_runs, AreRuns, ArePassed}

@@ -6,9 +6,9 @@ use Rattle.std.specs.List.{suffix_len}
 use Rattle.std.specs.Int.Digits.{number_from_digits}
 use Rattle.std.specs.Char.{to_ascii_uppercase}
 use Rattle.kc_fastx.specs.Reads.{read_of}
-use Rattle.kc_word.specs.Letter.{is_base, code}
-use Rattle.kc_word.specs.Rule.{CountingRule}
-use Rattle.kc_word.specs.Occurrences.{words_in}
+use Rattle.kc_kmer.specs.Letter.{is_base, code}
+use Rattle.kc_kmer.specs.Rule.{CountingRule}
+use Rattle.kc_kmer.specs.Occurrences.{words_in}
 use Rattle.kc_word.specs.Cutting.{unusable}
 
 -- the last k bytes, where k bytes N stand before the first one

@@ -1,12 +1,11 @@
 //! Batches: the numbered parts of an input that workers count one by one.
 ghost use Rattle.std.specs.Prelude.{◌≡◌, ◌≤◌, length};
 ghost use Rattle.kc_word.specs.Cutting.{position_total, as_reads};
-ghost use Rattle.kc_word.specs.Occurrences.{words_of};
+ghost use Rattle.kc_kmer.specs.Occurrences.{words_of};
 
-use crate::k::K;
 use crate::pieces::Pieces;
-use crate::rule::Rule;
 use crate::walk::Walk;
+use kc_kmer::{K, Rule};
 use std::marker::Model;
 
 /// A batch: its number, and its pieces.

@@ -3,12 +3,12 @@ ghost use Rattle.std.specs.Prelude.{◌≡◌, ℕ, ◌+◌, ◌^◌, ◌<◌, �
 ghost use Rattle.std.specs.Prelude.{if◌then◌else◌};
 ghost use Rattle.kc_word.specs.Packed.{code_in};
 ghost use Rattle.std.specs.Char.{to_ascii_uppercase};
-ghost use Rattle.kc_word.specs.Letter.{is_base, code};
+ghost use Rattle.kc_kmer.specs.Letter.{is_base, code};
 ghost use Rattle.kc_word.specs.PackedPiece.{bytes_of, IsPiece};
 
-use crate::letter::NO_BASE;
-use crate::packed::{BASES, Packed};
+use crate::packed_codes::{BASES, Packed};
 use crate::runs::{Run, free_of_runs, is_next_in_runs, runs_before};
+use kc_kmer::letter::NO_BASE;
 use std::marker::Model;
 
 /// Bases of a piece without an N among them.

@@ -2,14 +2,14 @@
 ghost use Rattle.std.specs.Prelude.{◌≡◌, ◌+◌, ◌-◌, ◌^◌, ◌<◌, ◌≤◌, ◌++◌, ◌∷◌, [], List, ℕ, length, min};
 ghost use Rattle.std.specs.Prelude.{slice_range, IfOk, OnOk};
 ghost use Rattle.kc_word.specs.Cutting.{cutting, KeepsOccurrences, KeepsWords};
-ghost use Rattle.kc_word.specs.Occurrences.{position_count};
+ghost use Rattle.kc_kmer.specs.Occurrences.{position_count};
 ghost use Rattle.kc_word.specs.OpenCutting.{HasTaken, with_part};
 ghost use Rattle.kc_word.specs.Shared.{values};
 
 use crate::batch::Batch;
-use crate::k::K;
 use crate::piece::Piece;
 use crate::pieces::Pieces;
+use kc_kmer::K;
 use std::alloc::{AllocError, Global};
 use std::marker::Model;
 use std::mem;

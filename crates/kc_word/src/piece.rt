@@ -1,18 +1,20 @@
 //! Reads cleaned into pieces.
 ghost use Rattle.std.specs.Prelude.{◌≡◌, ◌^◌, ◌<◌, ◌↔◌, ◌++◌, [], length, slice_index, slice_range, ◌≤◌, IfOk, IsTrue};
-ghost use Rattle.kc_word.specs.Occurrences.{position_count};
+ghost use Rattle.kc_kmer.specs.Occurrences.{position_count};
 ghost use Rattle.kc_word.specs.Cutting.{cleaned, is_piece_byte};
 
 use crate::codes::Codes;
-use crate::gathering::{gather, mark_gaps};
-use crate::k::K;
-use crate::letter::{UNUSABLE, base_of};
-use crate::packed::{BASES, Packed};
-use crate::rule::Rule;
+use crate::packed_codes::{BASES, Packed};
 use crate::runs::{Run, append_runs, clip_runs, is_in_runs};
+use crate::usable_codes::{gather, mark_gaps};
 use kc_fastx::SeqRead;
+use kc_kmer::letter::base_of;
+use kc_kmer::{K, Rule};
 use std::alloc::{AllocError, Global};
 use std::marker::Model;
+
+/// What stands in a piece for a base that is not usable.
+const UNUSABLE: u8 = b'N';
 
 /// A read, or a part of one, made ready to be counted: upper-case bases, and `N` in place of each base
 /// that is not usable. It is kept as packed codes and a list of the runs of N. Under a run stand codes 0, so that

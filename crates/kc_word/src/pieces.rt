@@ -4,8 +4,8 @@ ghost use Rattle.kc_word.specs.Cutting.{position_total};
 ghost use Rattle.kc_word.specs.PackedBatch.{start_of};
 
 use crate::codes::Codes;
-use crate::k::K;
 use crate::piece::Piece;
+use kc_kmer::K;
 use std::alloc::{AllocError, Global};
 use std::marker::Model;
 

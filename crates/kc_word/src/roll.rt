@@ -3,18 +3,17 @@ ghost use Rattle.std.specs.Prelude.{◌≡◌, ◌^◌, ◌<◌, ◌≤◌, ◌+
 ghost use Rattle.std.specs.Prelude.{IfSome, IfNone, IfOk, OnOk, All};
 ghost use Rattle.std.specs.Vec.{vec_capacity};
 ghost use Rattle.kc_fastx.specs.Reads.{read_of};
-ghost use Rattle.kc_word.specs.Occurrences.{words_in, words_of};
+ghost use Rattle.kc_kmer.specs.Occurrences.{words_in, words_of};
 ghost use Rattle.kc_word.specs.Cutting.{as_reads, position_total};
 ghost use Rattle.kc_word.specs.Walking.{words_left};
 
 use crate::batch::Batch;
 use crate::codes::Codes;
-use crate::k::K;
-use crate::letter::NO_BASE;
 use crate::piece::clean;
 use crate::pieces::Pieces;
-use crate::rule::Rule;
 use kc_fastx::SeqRead;
+use kc_kmer::letter::NO_BASE;
+use kc_kmer::{K, Rule};
 use std::alloc::{AllocError, Global};
 use std::marker::Model;
 

@@ -1,11 +1,11 @@
 //! The words of a batch, one after another, without memory.
 ghost use Rattle.std.specs.Prelude.{◌≡◌, ◌≤◌, length};
-ghost use Rattle.kc_word.specs.Occurrences.{words_of};
+ghost use Rattle.kc_kmer.specs.Occurrences.{words_of};
 ghost use Rattle.kc_word.specs.Cutting.{as_reads};
 
 use crate::pieces::Pieces;
 use crate::roll::Roll;
-use crate::rule::Rule;
+use kc_kmer::Rule;
 use std::marker::Model;
 
 /// An iterator over the words of a batch, seen as the list of those still to come.
@@ -18,7 +18,7 @@ pub struct Walk<'a> {
 
 impl<'a> Model for Walk<'a> {
     ghost use Rattle.std.specs.Prelude.{ℕ, List, drop, ◌++◌};
-    ghost use Rattle.kc_word.specs.Occurrences.{words_of};
+    ghost use Rattle.kc_kmer.specs.Occurrences.{words_of};
     ghost use Rattle.kc_word.specs.Cutting.{as_reads};
     ghost use Rattle.kc_word.specs.Walking.{words_left};
 

@@ -1,6 +1,6 @@
 use Rattle.std.proofs.Common.{refl}
-use Rattle.kc_word.specs.Letter.{is_base, code}
-use Rattle.kc_word.proofs.TableLemmas.{table_at}
+use Rattle.kc_kmer.specs.Letter.{is_base, code}
+use Rattle.kc_kmer.proofs.TableLemmas.{table_at}
 use Rattle.kc_report.specs.TableRows.{capital_code}
 use Rattle.kc_report.proofs.fields.code_of.Goals as goal
 

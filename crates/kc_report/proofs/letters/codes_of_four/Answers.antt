@@ -1,8 +1,8 @@
 use Rattle.std.proofs.Common.{◌≡◌, ℕ, ◌*◌, ◌/◌, ◌%◌, ◌<◌, bit_and, refl, ap, sym, ◌∙◌}
 use Rattle.std.specs.List.{range_with_len}
 use lib.Bits.{bit_xor}
-use Rattle.kc_word.specs.Letter.{base}
-use Rattle.kc_word.proofs.TableLemmas.{table_at}
+use Rattle.kc_kmer.specs.Letter.{base}
+use Rattle.kc_kmer.proofs.TableLemmas.{table_at}
 use Rattle.kc_report.specs.TableRows.{four_letters}
 use Rattle.kc_report.proofs.letters.codes_of_four.Goals as goal
 

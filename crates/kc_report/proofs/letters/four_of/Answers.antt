@@ -1,6 +1,6 @@
 use Rattle.std.proofs.Common.{refl}
-use Rattle.kc_word.specs.Letter.{base}
-use Rattle.kc_word.proofs.TableLemmas.{table_at}
+use Rattle.kc_kmer.specs.Letter.{base}
+use Rattle.kc_kmer.proofs.TableLemmas.{table_at}
 use Rattle.kc_report.specs.TableRows.{four_letters}
 use Rattle.kc_report.proofs.letters.four_of.Goals as goal
 

@@ -3,7 +3,7 @@ use Rattle.std.specs.Prelude.{Result}
 use Rattle.std.proofs.lemmas.Iterator.Adapters.{YieldsList-from_vec}
 use Rattle.std.proofs.lemmas.Iterator.Consumers.{YieldsList-turn}
 use Rattle.std.proofs.lemmas.Result.{err_from_is_err_and}
-use Rattle.kc_run.specs.declared.fault.RunFault.{RunFault}
+use Rattle.kc_run.specs.declared.run_fault.RunFault.{RunFault}
 use Rattle.kc_run.specs.declared.worker.Worker.{Worker}
 use Rattle.kc_run.specs.Runs.{AllEndedWell, IsFirstFault}
 use Rattle.kc_run.proofs.CrewLemmas.{no_fault_there}

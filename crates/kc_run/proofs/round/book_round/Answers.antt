@@ -1,6 +1,6 @@
 use Rattle.std.proofs.Common.{◌≡◌, rules, subst}
 use Rattle.std.proofs.lemmas.Result.{err_from_is_err_and, IfErr-weaker}
-use Rattle.kc_stripe.specs.Setup.{stripe_count}
+use Rattle.kc_booking.specs.Setup.{stripe_count}
 use Rattle.kc_run.specs.Runs.{IsWorkerFault}
 use Rattle.kc_run.proofs.FaultLemmas.{fault_of_more}
 use Rattle.kc_run.proofs.round.book_round.Goals as goal

@@ -1,8 +1,8 @@
 use Rattle.std.proofs.Common.{◌≡◌, [], ◌∷◌, ◌++◌, ap, ◌∙◌, arith}
 use Rattle.std.proofs.lemmas.List.Elements.{All-push, All-same}
 use Rattle.std.specs.FinMap.{empty}
-use Rattle.kc_stripe.specs.Setup.{key_bits}
-use Rattle.kc_table.specs.declared.limited.LimitedCounts.{LimitedCounts}
+use Rattle.kc_booking.specs.Setup.{key_bits}
+use Rattle.kc_table.specs.declared.limited_counts.LimitedCounts.{LimitedCounts}
 use Rattle.kc_run_tests.proofs.whole_runs.refusing.Goals as goal
 
 pub loop-preserved : goal.loop-preserved

@@ -1,6 +1,6 @@
 use Rattle.std.proofs.Common.{◌≡◌, length, All}
 use Rattle.std.specs.FinMap.{empty}
-use Rattle.kc_stripe.specs.Setup.{key_bits}
+use Rattle.kc_booking.specs.Setup.{key_bits}
 use Rattle.kc_run_tests.proofs.whole_runs.refusing.Given as goal
 
 abbrev pub invariant-loop : goal.invariant-loop

@@ -1,6 +1,6 @@
 use Rattle.std.proofs.Common.{◌≡◌, All, vec_len}
 use Rattle.std.specs.FinMap.{empty}
-use Rattle.kc_stripe.specs.Setup.{key_bits}
+use Rattle.kc_booking.specs.Setup.{key_bits}
 use Rattle.kc_stripe_tests.proofs.sharings.tables_of.Given as goal
 
 abbrev pub invariant-loop : goal.invariant-loop

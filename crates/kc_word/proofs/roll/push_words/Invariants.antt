@@ -1,6 +1,6 @@
 use Rattle.std.proofs.Common.{◌≡◌, ◌++◌, ◌-◌, length, None}
 use Rattle.kc_fastx.specs.Reads.{read_of}
-use Rattle.kc_word.specs.Occurrences.{words_in}
+use Rattle.kc_kmer.specs.Occurrences.{words_in}
 use Rattle.kc_word.specs.Walking.{words_left}
 use Rattle.kc_word.proofs.roll.push_words.Given as goal
 

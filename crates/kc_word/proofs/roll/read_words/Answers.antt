@@ -1,8 +1,8 @@
 use Rattle.std.proofs.Common.{◌++◌, ◌-◌, ◌<◌, ◌^◌, All, length, arith, subst, ap, sym, ◌∙◌, None}
 use Rattle.std.proofs.lemmas.List.{take_all}
 use Rattle.kc_fastx.specs.Reads.{read_of}
-use Rattle.kc_word.specs.Occurrences.{words_in}
-use Rattle.kc_word.proofs.WordCounts.{All-words_in, length-words_in}
+use Rattle.kc_kmer.specs.Occurrences.{words_in}
+use Rattle.kc_kmer.proofs.WordCounts.{All-words_in, length-words_in}
 use Rattle.kc_word.proofs.Cleaning.{words_in-cleaned}
 use Rattle.kc_word.proofs.roll.read_words.Goals as goal
 

@@ -1,11 +1,11 @@
 use Rattle.std.proofs.Common.{ℕ, ◌^◌, ◌<◌, ◌++◌, List, [], take, All, None, length, ap, sym, ◌∙◌, subst, arith, get_or}
 use Rattle.std.proofs.lemmas.List.{take_all, get_or_default}
 use Rattle.kc_fastx.specs.Reads.{read_of}
-use Rattle.kc_word.specs.Occurrences.{words_in, words_of}
+use Rattle.kc_kmer.specs.Occurrences.{words_in, words_of}
 use Rattle.kc_word.specs.Cutting.{as_reads}
 use Rattle.kc_word.proofs.Counting.{words_of-none, words_of-more}
 use Rattle.kc_word.proofs.Cuttings.{length-words_of-pieces}
-use Rattle.kc_word.proofs.WordCounts.{All-words_of}
+use Rattle.kc_kmer.proofs.WordCounts.{All-words_of}
 use Rattle.kc_word.proofs.roll.words.Goals as goal
 
 pub loop-i-init : goal.loop-i-init

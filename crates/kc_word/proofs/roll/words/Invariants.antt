@@ -1,5 +1,5 @@
 use Rattle.std.proofs.Common.{◌≡◌, take}
-use Rattle.kc_word.specs.Occurrences.{words_of}
+use Rattle.kc_kmer.specs.Occurrences.{words_of}
 use Rattle.kc_word.specs.Cutting.{as_reads}
 use Rattle.kc_word.proofs.roll.words.Given as goal
 

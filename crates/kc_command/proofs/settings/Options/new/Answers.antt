@@ -1,5 +1,5 @@
 use Rattle.std.proofs.Common.{sym, subst, refl, lit≤, ◌≤◌, ◌^◌}
-use Rattle.kc_report.specs.declared.dumping.Dump.{Dump}
+use Rattle.kc_report.specs.declared.dump.Dump.{Dump}
 use Rattle.kc_command.specs.Settings.{AreStripes}
 use Rattle.kc_command.proofs.SettingsLemmas.{lowered_stripes, lowered-few}
 use Rattle.kc_command.proofs.settings.Options.new.Goals as goal

@@ -1,9 +1,9 @@
 use Rattle.std.proofs.Common.{◌<◌, length, ap, arith}
-use Rattle.kc_io.proofs.TakingLemmas.{read_failed, taken_none, taken_failed}
+use Rattle.kc_io.proofs.IntakesLemmas.{read_failed, taken_none, taken_failed}
 use Rattle.kc_io.proofs.intakes.Intake.fill.Goals as goal
 
-pub returns-in_default : goal.returns-in_default
-returns-in_default g c =
+pub returns-in_default-clause-filled : goal.returns-in_default-clause-filled
+returns-in_default-clause-filled g c =
     let old = g.S.Source.seen c.args.source.now in
     let new = g.S.Source.seen c.read.new.self in
     let whole = ap length c.as_mut_slice.ensures.value in

@@ -1,7 +1,7 @@
 use Rattle.std.proofs.Common.{◌≡◌, ◌↔◌, Err, sym, subst}
 use Rattle.std.proofs.lemmas.Result.{err_from_is_err_and}
-use Rattle.kc_stripe.specs.declared.fault.BookFault.TheVariants as book
-use Rattle.kc_stripe.specs.Stripe.{StripeState, IsBooked, IsOwnCut}
+use Rattle.kc_booking.specs.declared.booking_fault.BookFault.TheVariants as book
+use Rattle.kc_booking.specs.Stripe.{StripeState, IsBooked, IsOwnCut}
 use Rattle.kc_stripe.proofs.locked.Locked.book.Goals as goal
 
 pub returns-in_err-book-clause-twice : goal.returns-in_err-book-clause-twice

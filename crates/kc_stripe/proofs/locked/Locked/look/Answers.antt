@@ -1,5 +1,5 @@
 use Rattle.std.proofs.Common.{◌≡◌, ◌∙◌, ℕ, ap, subst, sym}
-use Rattle.kc_stripe.specs.Setup.{stripe_of}
+use Rattle.kc_booking.specs.Setup.{stripe_of}
 use Rattle.kc_stripe.specs.Seen.{form_stripe, AreNamed}
 use Rattle.kc_stripe.proofs.LockedLemmas.{named-from_among}
 use Rattle.kc_stripe.proofs.locked.Locked.look.Goals as goal

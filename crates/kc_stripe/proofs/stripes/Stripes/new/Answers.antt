@@ -1,7 +1,7 @@
 use Rattle.std.proofs.Common.{◌≡◌, ap, length, vec_len, rules, subst, sym, arith}
 use Rattle.kc_share.specs.declared.entry.Plan.{Plan}
 use Rattle.std.specs.FinMap.{empty}
-use Rattle.kc_stripe.specs.Setup.{stripe_count, key_bits}
+use Rattle.kc_booking.specs.Setup.{stripe_count, key_bits}
 use Rattle.std.proofs.lemmas.Iterator.Adapters.{YieldsList-from_vec}
 use Rattle.std.proofs.lemmas.Iterator.Consumers.{YieldsList-turn, YieldsList-end}
 use Rattle.kc_stripe.proofs.stripes.Stripes.new.Goals as goal

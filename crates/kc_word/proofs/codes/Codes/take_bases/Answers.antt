@@ -1,6 +1,6 @@
 use Rattle.std.proofs.Common.{◌+◌, ◌<◌, cond, length, get_or, ap, sym, ◌∙◌, arith}
 use Rattle.std.specs.Char.{to_ascii_uppercase}
-use Rattle.kc_word.specs.Letter.{is_base, code}
+use Rattle.kc_kmer.specs.Letter.{is_base, code}
 use Rattle.kc_word.proofs.PieceLemmas.{code-of-byte}
 use Rattle.kc_word.proofs.Readings.{reading-long, reading-byte}
 use Rattle.kc_word.proofs.codes.Codes.take_bases.Goals as goal

@@ -1,6 +1,6 @@
 use Rattle.std.proofs.Common.{◌≡◌, ◌+◌, ◌-◌, ◌≤◌, ◌++◌, ◌∷◌, [], ◌⊎◌, inl, inr, ⊎_elim, slice_range, length, refl, ap, sym, ◌∙◌, subst, arith}
 use Rattle.std.proofs.lemmas.Bool.{cases_lt}
-use Rattle.kc_word.specs.Occurrences.{position_count}
+use Rattle.kc_kmer.specs.Occurrences.{position_count}
 use Rattle.kc_word.specs.Cutting.{position_total}
 use Rattle.kc_word.specs.OpenCutting.{OpenCutting, HasCut, with_part}
 use Rattle.kc_word.proofs.Batching.{HasCut-next, HasCut-more, filled-up}

@@ -1,6 +1,6 @@
 use Rattle.std.proofs.Common.{◌≡◌, true, false, length, get_or, ap, sym, ◌∙◌, arith}
 use Rattle.std.proofs.lemmas.Bool.{cond-true, cond-false}
-use Rattle.kc_word.specs.Letter.{base}
+use Rattle.kc_kmer.specs.Letter.{base}
 use Rattle.kc_word.specs.Cutting.{unusable, is_piece_byte}
 use Rattle.kc_word.specs.Runs.{is_in_runs}
 use Rattle.kc_word.proofs.PieceLemmas.{length-bytes_of, get_or-bytes_of, byte_at-letter}

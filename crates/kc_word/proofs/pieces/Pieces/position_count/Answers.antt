@@ -1,6 +1,6 @@
 use Rattle.std.proofs.Common.{vec_len, ◌≡◌, ◌-◌, ◌<◌, ◌≤◌, get_or, ap, ◌∙◌, subst, arith}
 use Rattle.std.proofs.lemmas.List.{get_or_read_under}
-use Rattle.kc_word.specs.Occurrences.{position_count}
+use Rattle.kc_kmer.specs.Occurrences.{position_count}
 use Rattle.kc_word.specs.Cutting.{position_total}
 use Rattle.kc_word.specs.PackedBatch.{start_of}
 use Rattle.kc_word.proofs.Splitting.{IsCounted-more, IsCounted-all}

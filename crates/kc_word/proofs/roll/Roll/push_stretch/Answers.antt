@@ -1,7 +1,7 @@
 use Rattle.std.proofs.Common.{◌+◌, ◌-◌, ◌*◌, ◌/◌, ◌^◌, length, cond, get_or, bit_and, ap, ◌∙◌, arith}
 use Rattle.std.proofs.lemmas.Nat.{and_mask, and_le_r}
 use Rattle.std.specs.Char.{to_ascii_uppercase}
-use Rattle.kc_word.specs.Letter.{is_base, code}
+use Rattle.kc_kmer.specs.Letter.{is_base, code}
 use Rattle.kc_word.specs.Packed.{code_in}
 use Rattle.kc_word.proofs.Counting.{forward-fits, backward-fits, word-lesser, word-forward}
 use Rattle.kc_word.proofs.WalkLemmas.{StretchStep, stretched-on, stretched-word}

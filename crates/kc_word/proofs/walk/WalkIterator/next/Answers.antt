@@ -1,6 +1,6 @@
 use Rattle.std.proofs.Common.{◌+◌, ◌≤◌, ◌++◌, None, drop, length, ap, sym, ◌∙◌, arith}
 use Rattle.kc_fastx.specs.Reads.{read_of}
-use Rattle.kc_word.specs.Occurrences.{words_in, words_of}
+use Rattle.kc_kmer.specs.Occurrences.{words_in, words_of}
 use Rattle.kc_word.specs.Cutting.{as_reads}
 use Rattle.kc_word.specs.Walking.{words_left}
 use Rattle.kc_word.proofs.WalkLemmas.{words_of-at, words_of-past}

@@ -1,5 +1,5 @@
 use Rattle.std.proofs.Common.{◌≡◌, ◌-◌, ◌++◌, length, drop}
-use Rattle.kc_word.specs.Occurrences.{words_of}
+use Rattle.kc_kmer.specs.Occurrences.{words_of}
 use Rattle.kc_word.specs.Cutting.{as_reads}
 use Rattle.kc_word.specs.Walking.{words_left}
 use Rattle.kc_word.proofs.walk.WalkIterator.next.Given as goal

@@ -1,0 +1,34 @@
+-- A cut: the words of a batch that fall in one stripe.
+-- Source: this project's own; a stripe counts its words by their keys.
+use Rattle.std.specs.Prelude.{ℕ, ◌/◌, ◌%◌, ◌^◌, ◌==◌, List, map, filter}
+use Rattle.std.specs.List.{range_with_len}
+use Rattle.kc_kmer.specs.Occurrences.{words_of}
+use Rattle.kc_word.specs.Cutting.{NumberedPieces, as_reads}
+use Rattle.kc_booking.specs.Setup.{StripeSetup, stripe_count, stripe_of, key_of}
+
+-- the words of a batch, as they are divided by a setup, in one of its stripes
+pub record StripeCut : Type 0 where
+  pub setup : StripeSetup
+  pub stripe : ℕ
+  pub batch : NumberedPieces
+
+-- the keys of the words that fall in a stripe, in the words' order
+abbrev pub keys_among : StripeSetup → ℕ → List ℕ → List ℕ
+keys_among setup stripe words = map (key_of setup) (filter (λ word. stripe_of setup word == stripe) words)
+
+-- the keys of a cut: those of the words of its batch in its stripe, in order
+abbrev pub keys_of : StripeCut → List ℕ
+keys_of cut = keys_among cut.setup cut.stripe (words_of cut.setup.rule (as_reads cut.batch.pieces))
+
+-- a batch cut up: one cut for each stripe, in the order of the stripes
+abbrev pub cut_at : StripeSetup → NumberedPieces → ℕ → StripeCut
+cut_at setup batch stripe = record { setup = setup; stripe = stripe; batch = batch }
+
+abbrev pub cuts_of : StripeSetup → NumberedPieces → List StripeCut
+cuts_of setup batch = map (cut_at setup batch) (range_with_len 0 (stripe_count setup))
+
+-- codes divided among 2 ^ s stripes by their low s bits: for each stripe the other bits of its codes, in order
+abbrev pub key_parts : ℕ → List ℕ → List (List ℕ)
+key_parts s codes =
+    map (λ stripe. map (λ code. code / 2 ^ s) (filter (λ code. code % 2 ^ s == stripe) codes))
+    (range_with_len 0 (2 ^ s))

@@ -1,0 +1,6 @@
+pub mod Setup
+pub mod Cut
+pub mod Counted
+pub mod Stripe
+pub mod Faults
+pub mod Tables

@@ -1,0 +1,144 @@
+//! The words of a batch divided among the stripes.
+ghost use Rattle.std.specs.Prelude.{◌≡◌, ℕ, ◌%◌, ◌^◌, ◌<◌, ◌≤◌, ◌==◌, [], length, map, count_by, slice_index, All};
+ghost use Rattle.std.specs.Prelude.{IfOk};
+ghost use Rattle.kc_hash.specs.Product.{product};
+ghost use Rattle.kc_booking.specs.Cut.{StripeCut, keys_of, cuts_of, key_parts};
+
+use crate::setup::Setup;
+use kc_hash::MatrixTables;
+use kc_word::{Batch, words};
+use std::alloc::{AllocError, Global};
+use std::marker::Model;
+use std::sync::Arc;
+
+/// A batch, and the keys of its words in one stripe.
+#[derive(Drop)]
+pub struct Cut {
+    setup: Setup,
+    stripe: u32,
+    batch: Arc<Batch>,
+    keys: Vec<u64>,
+}
+
+impl Model for Cut {
+    ghost use Rattle.std.specs.Prelude.{◌≡◌};
+    ghost use Rattle.kc_booking.specs.Cut.{StripeCut, keys_of};
+
+    ghost Value = { StripeCut };
+
+    ghost view = { λ c. record { setup = c.setup; stripe = c.stripe; batch = c.batch.value } };
+
+    ghost invariant = { λ c.
+        c.keys.items ≡ keys_of (record { setup = c.setup; stripe = c.stripe; batch = c.batch.value }) };
+}
+
+impl Cut {
+    /// How the words are divided.
+    pub fn setup(&self) -> &Setup
+        ensures { result.now ≡ self.now.setup }
+    {
+        &self.setup
+    }
+
+    /// The number of the stripe.
+    pub fn stripe(&self) -> u32
+        ensures { result ≡ self.now.stripe }
+    {
+        self.stripe
+    }
+
+    /// The batch.
+    pub fn batch(&self) -> &Arc<Batch>
+        ensures { result.now.value ≡ self.now.batch }
+    {
+        &self.batch
+    }
+
+    /// The keys of the batch's words in the stripe, in the order of the words.
+    pub fn keys(&self) -> &[u64]
+        ensures { result.now ≡ keys_of self.now }
+    {
+        &self.keys
+    }
+}
+
+/// The words of a batch divided among the stripes: a cut for each stripe, in their order, also where no word falls in
+/// it.
+pub fn cut_up(alloc: Global, setup: &Setup, batch: &Arc<Batch>) -> Result<Vec<Cut>, AllocError>
+    ensures { IfOk result (λ cuts. cuts.items ≡ cuts_of setup.now batch.now.value) }
+{
+    let parts = stripe_keys(alloc, setup, batch)?;
+    let mut cuts = Vec::with_capacity(alloc, parts.len())?;
+    for keys in parts {
+        let cut = Cut {
+            setup: *setup,
+            stripe: cuts.len() as u32,
+            batch: batch.clone()?,
+            keys,
+        };
+        cuts.push(cut)?;
+    }
+    Ok(cuts)
+}
+
+// The keys of each stripe's cut.
+fn stripe_keys(alloc: Global, setup: &Setup, batch: &Batch) -> Result<Vec<Vec<u64>>, AllocError>
+    ensures keys { IfOk result (λ parts.
+        map (λ part. part.items) parts.items ≡ map keys_of (cuts_of setup.now batch.now)) }
+    ensures few { IfOk result (λ parts. length parts.items ≤ 64) }
+{
+    let stripe_bits = setup.stripe_bits();
+    let mut codes = words(alloc, batch, setup.rule())?;
+    hash_all(&setup.hash().forward_tables(), &mut codes);
+    divided(alloc, &codes, stripe_bits)
+}
+
+// Replaces each word by its code, the word's hashed number.
+fn hash_all(tables: &MatrixTables, words: &mut [u64])
+    requires { All (λ word. word < 2 ^ length tables.now) words.old }
+    ensures { words.new ≡ map (λ word. product tables.now word) words.old }
+{
+    for word in words.iter_mut() {
+        *word = tables.apply(*word);
+    }
+}
+
+// The codes divided by their low bits: for each stripe its keys, which are the other bits, in order.
+fn divided(alloc: Global, codes: &[u64], stripe_bits: u32) -> Result<Vec<Vec<u64>>, AllocError>
+    requires { stripe_bits ≤ 6 }
+    ensures { IfOk result (λ parts. map (λ part. part.items) parts.items ≡ key_parts stripe_bits codes.now) }
+{
+    let low = (1 << stripe_bits) - 1;
+    let mut parts = empty_parts(alloc, codes, stripe_bits)?;
+    for code in codes {
+        parts[(*code & low) as usize].push(*code >> stripe_bits)?;
+    }
+    Ok(parts)
+}
+
+// An empty vector for each stripe, with room for its keys.
+fn empty_parts(alloc: Global, codes: &[u64], stripe_bits: u32) -> Result<Vec<Vec<u64>>, AllocError>
+    requires { stripe_bits ≤ 6 }
+    ensures { IfOk result (λ parts. map (λ part. part.items) parts.items ≡ key_parts stripe_bits []) }
+{
+    let sizes = part_sizes(codes, stripe_bits);
+    let stripes = 1usize << stripe_bits;
+    let mut parts = Vec::with_capacity(alloc, stripes)?;
+    for stripe in 0..stripes {
+        parts.push(Vec::with_capacity(alloc, sizes[stripe])?)?;
+    }
+    Ok(parts)
+}
+
+// How many codes fall in each stripe.
+fn part_sizes(codes: &[u64], stripe_bits: u32) -> [usize; 64]
+    requires { stripe_bits ≤ 6 }
+    ensures { (stripe : ℕ) → slice_index result stripe ≡ count_by (λ code. code % 2 ^ stripe_bits == stripe) codes.now }
+{
+    let low = (1 << stripe_bits) - 1;
+    let mut sizes = [0usize; 64];
+    for code in codes {
+        sizes[(*code & low) as usize] += 1;
+    }
+    sizes
+}

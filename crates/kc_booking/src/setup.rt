@@ -1,0 +1,168 @@
+//! How the words of a count are divided among stripes.
+ghost use Rattle.std.specs.Prelude.{◌≡◌, ℕ, ◌+◌, ◌*◌, ◌^◌, ◌<◌, ◌≤◌, ◌↔◌, length, IsSome, IfSome};
+ghost use Rattle.kc_hash.specs.Product.{product};
+ghost use Rattle.kc_booking.specs.Setup.{StripeSetup, IsSetup, HasBits, word_count, stripe_count, key_bits};
+ghost use Rattle.kc_booking.specs.Setup.{stripe_of, key_of, StandsAt, DividesWords, form_of, form_text};
+ghost use Rattle.kc_kmer.specs.Word.{text};
+
+use kc_hash::Hash;
+use kc_word::{Rule, Word, canonical, word_laws};
+use std::marker::Model;
+
+/// The rule of a count, the hash of its words, and the number of stripes among which they are divided.
+///
+/// A word's code is its hashed number. The low bits of the code, as many as tell the stripes apart, are the
+/// word's stripe; the rest is its key. No call takes memory. It has about 1 KB: lend it where it is not kept.
+#[derive(Clone, Copy, PartialEq, Eq, Debug)]
+pub struct Setup {
+    rule: Rule,
+    hash: Hash,
+    stripe_bits: u32,
+}
+
+impl Model for Setup {
+    ghost use Rattle.kc_booking.specs.Setup.{StripeSetup, HasBits};
+
+    ghost Value = { StripeSetup };
+
+    ghost view = { λ s. record { rule = s.rule; hash = s.hash; stripe_bits = s.stripe_bits } };
+
+    ghost invariant = { λ s. HasBits s.rule.k s.hash s.stripe_bits };
+
+    ghost inverse = { λ v. record { rule = v.rule; hash = v.hash; stripe_bits = v.stripe_bits } };
+}
+
+impl Setup {
+    /// The most stripes.
+    pub const MOST_STRIPES: u32 = 64;
+
+    /// Counting by this rule, in so many stripes, with words hashed so: where the hash has two bits for each base
+    /// of a word, and `stripes` is a power of two, at most 64 and at most 4^k.
+    pub fn new(rule: Rule, hash: Hash, stripes: u32) -> Option<Setup>
+        ensures some { IsSome result ↔ IsSetup rule hash stripes }
+        ensures rule { IfSome result (λ setup. setup.rule ≡ rule) }
+        ensures hash { IfSome result (λ setup. setup.hash ≡ hash) }
+        ensures stripes { IfSome result (λ setup. stripe_count setup ≡ stripes) }
+    {
+        if stripes == 0 || stripes > Setup::MOST_STRIPES {
+            return None;
+        }
+        let word_bits = 2 * rule.k().get();
+        let stripe_bits = stripes.ilog2();
+        if hash.bits() != word_bits || stripes != 1 << stripe_bits || stripe_bits > word_bits {
+            return None;
+        }
+        Some(Setup {
+            rule,
+            hash,
+            stripe_bits,
+        })
+    }
+
+    /// The rule of the count.
+    pub fn rule(&self) -> &Rule
+        ensures { result.now ≡ self.now.rule }
+    {
+        &self.rule
+    }
+
+    /// The hash of the words.
+    pub fn hash(&self) -> &Hash
+        ensures { result.now ≡ self.now.hash }
+    {
+        &self.hash
+    }
+
+    /// The number of stripes.
+    pub fn stripes(&self) -> u32
+        ensures value { result ≡ stripe_count self.now }
+        ensures some { 1 ≤ result }
+        ensures at_most { result ≤ 64 }
+    {
+        1 << self.stripe_bits
+    }
+
+    /// How many bits of a code tell the stripes apart.
+    pub(crate) fn stripe_bits(&self) -> u32
+        ensures value { result ≡ self.now.stripe_bits }
+        ensures at_most { result ≤ 6 }
+        ensures bits { HasBits self.now.rule.k self.now.hash self.now.stripe_bits }
+    {
+        self.stripe_bits
+    }
+
+    /// The number of bits of a key.
+    pub fn key_bits(&self) -> u32
+        ensures value { result ≡ key_bits self.now }
+        ensures at_most { result ≤ 62 }
+    {
+        self.hash.bits() - self.stripe_bits
+    }
+
+    /// A law: each word has a stripe and a key, and each stripe and key has one word.
+    pub fn divides_words(&self)
+        ensures { DividesWords self.now }
+    {
+        self.hash.stays_below();
+        self.hash.is_one_to_one();
+        self.hash.is_onto();
+    }
+
+    /// The form under which a word counts: the canonical one where both strands do. Condition: the word is below 4^k.
+    pub fn form_of(&self, word: Word) -> Word
+        requires { word.0 < word_count self.now }
+        ensures value { result.0 ≡ form_of self.now word.0 }
+        ensures letters { text self.now.rule.k result.0 ≡ form_text self.now word.0 }
+        ensures below { result.0 < word_count self.now }
+    {
+        // what is known of the numbers of words
+        word_laws::number_of_text();
+        if self.rule.both() {
+            canonical(word, self.rule.k())
+        } else {
+            word
+        }
+    }
+
+    /// The stripe of a word. Condition: the word is below 4^k.
+    pub fn stripe_of(&self, word: Word) -> u32
+        requires { word.0 < word_count self.now }
+        ensures value { result ≡ stripe_of self.now word.0 }
+        ensures below { result < stripe_count self.now }
+    {
+        (self.hash.forward(word.0) & ((1 << self.stripe_bits) - 1)) as u32
+    }
+
+    /// The key of a word. Condition: the word is below 4^k.
+    pub fn key_of(&self, word: Word) -> u64
+        requires { word.0 < word_count self.now }
+        ensures value { result ≡ key_of self.now word.0 }
+        ensures below { result < 2 ^ key_bits self.now }
+    {
+        self.hash.forward(word.0) >> self.stripe_bits
+    }
+
+    /// The one word that has this stripe and this key. Conditions: the stripe is below the number of stripes, and the
+    /// key has at most `key_bits` bits.
+    pub fn word_of(&self, stripe: u32, key: u64) -> Word
+        requires stripe { stripe < stripe_count self.now }
+        requires key { key < 2 ^ key_bits self.now }
+        ensures found { StandsAt self.now stripe key result.0 }
+        ensures only { (word : ℕ) → StandsAt self.now stripe key word → result.0 ≡ word }
+    {
+        Word(self.hash.back(self.code_at(stripe, key)))
+    }
+
+    /// The code of the word that has this stripe and this key.
+    pub(crate) fn code_at(&self, stripe: u32, key: u64) -> u64
+        requires stripe { stripe < stripe_count self.now }
+        requires key { key < 2 ^ key_bits self.now }
+        ensures value { result ≡ key * stripe_count self.now + stripe }
+        ensures within { result < 2 ^ length self.now.hash }
+        ensures stands { (word : ℕ) → word < 2 ^ length self.now.hash → product self.now.hash word ≡ result
+            → StandsAt self.now stripe key word }
+        ensures hashed { (word : ℕ) → StandsAt self.now stripe key word → product self.now.hash word ≡ result }
+    {
+        (key << self.stripe_bits) + stripe as u64
+    }
+}

@@ -1,0 +1,232 @@
+//! A stripe, which always holds exactly the counts of the batches that its journal names.
+ghost use Rattle.std.specs.Prelude.{◌≡◌, ℕ, ◌+◌, ◌<◌, ◌≤◌, ◌^◌, ◌≢◌, ◌==◌, ◌↔◌, ◌⊎◌, [], ◌∷◌, ◌++◌, length, sum_by};
+ghost use Rattle.std.specs.Prelude.{count_by, IfOk, OnOk, OnErr};
+ghost use Rattle.std.specs.FinMap.{empty};
+ghost use Rattle.kc_word.specs.Shared.{values};
+ghost use Rattle.kc_tally.specs.Histogram.{last_bin, bin_of, bin_at};
+ghost use Rattle.kc_booking.specs.Setup.{word_count, stripe_count, key_bits, stripe_of, stripe_words};
+ghost use Rattle.kc_booking.specs.Cut.{keys_of};
+ghost use Rattle.kc_booking.specs.Counted.{KeepsLimits, SomeMayBeFull};
+ghost use Rattle.kc_booking.specs.Stripe.{StripeState, IsLawful, IsBooked, IsOwnCut, IsUnchanged, AreStripeRows};
+ghost use Rattle.kc_booking.specs.Stripe.{word_occurrences};
+
+use crate::booking_fault::BookFault;
+use crate::counted::CountedTable;
+use crate::cut::Cut;
+use crate::setup::Setup;
+use kc_table::Counts;
+use kc_tally::Row;
+use kc_word::{Batch, Word, word_laws};
+use std::alloc::{AllocError, Global};
+use std::collections::HashSet;
+use std::marker::Model;
+use std::sync::Arc;
+
+/// One stripe of a count: the batches that were booked in it, and the counts of their words that fall in it.
+#[derive(Drop)]
+pub struct Stripe<C: Counts> {
+    setup: Setup,
+    number: u32,
+    counted: CountedTable<C>,
+    journal: Vec<Arc<Batch>>,
+    // the numbers in the journal
+    booked: HashSet<u64>,
+}
+
+impl<C: Counts> Model for Stripe<C> {
+    ghost use Rattle.std.specs.Prelude.{nat_eq};
+    ghost use Rattle.std.specs.HashSet.{contains};
+    ghost use Rattle.kc_word.specs.Shared.{values};
+    ghost use Rattle.kc_booking.specs.Stripe.{StripeState, IsLawful, IsKept};
+
+    ghost Value = { StripeState C };
+
+    ghost view = { λ s. record {
+      setup = s.setup;
+      number = s.number;
+      journal = values s.journal.items;
+      table = s.counted.table;
+      bins = s.counted.bins;
+      total = s.counted.total;
+    } };
+
+    ghost invariant = { λ s.
+        IsLawful s.setup s.number (values s.journal.items)
+        (C.counts s.counted.table) s.counted.bins s.counted.total
+        × IsKept s.setup s.number (values s.journal.items) (C.bits s.counted.table) (contains nat_eq s.booked) };
+}
+
+impl<C: Counts + Drop> Stripe<C> {
+    /// The stripe of this number, in which nothing was booked. Conditions: the number is below the number of stripes;
+    /// nothing is stored in the table, and its keys have the setup's `key_bits`.
+    pub fn new(alloc: Global, setup: &Setup, number: u32, table: C) -> Result<Stripe<C>, AllocError>
+        requires number { number < stripe_count setup.now }
+        requires empty { C.counts table ≡ empty }
+        requires key_bits { C.bits table ≡ key_bits setup.now }
+        ensures setup { IfOk result (λ stripe. stripe.setup ≡ setup.now) }
+        ensures number { IfOk result (λ stripe. stripe.number ≡ number) }
+        ensures total { IfOk result (λ stripe. stripe.total ≡ 0) }
+        ensures journal { IfOk result (λ stripe. stripe.journal ≡ []) }
+        ensures table { IfOk result (λ stripe. stripe.table ≡ table) }
+    {
+        // what is known of the words and their keys
+        setup.divides_words();
+        Ok(Stripe {
+            setup: *setup,
+            number,
+            counted: CountedTable::new(alloc, table)?,
+            journal: Vec::new(alloc),
+            booked: HashSet::new(alloc),
+        })
+    }
+}
+
+impl<C: Counts> Stripe<C> {
+    /// A law: the stripe is lawful.
+    pub fn is_lawful(&self)
+        ensures { IsLawful self.now.setup self.now.number self.now.journal
+            (C.counts self.now.table) self.now.bins self.now.total }
+    {
+        // What a stripe keeps is known where it is read.
+        let _number = self.number;
+    }
+
+    /// How the words are divided.
+    pub fn setup(&self) -> &Setup
+        ensures { result.now ≡ self.now.setup }
+    {
+        &self.setup
+    }
+
+    /// The number of the stripe.
+    pub fn number(&self) -> u32
+        ensures value { result ≡ self.now.number }
+        ensures own { result < stripe_count self.now.setup }
+    {
+        self.number
+    }
+
+    /// The batches that were booked, in order.
+    pub fn journal(&self) -> &[Arc<Batch>]
+        ensures { values result.now ≡ self.now.journal }
+    {
+        &self.journal
+    }
+
+    /// How often the words of the stripe occur in the journal's batches, all together.
+    pub fn total(&self) -> u64
+        ensures value { result ≡ self.now.total }
+        ensures words { result ≡ sum_by (word_occurrences self.now.setup self.now.journal)
+            (stripe_words self.now.setup self.now.number) }
+        ensures at_most { result ≤ 2 ^ 62 }
+    {
+        self.counted.total()
+    }
+
+    /// How many words of the stripe occur so often in the journal's batches; those that occur more often than 10,000
+    /// times are in bin 10,001. Condition: the bin is 1 to 10,001.
+    pub fn bin(&self, bin: u64) -> u64
+        requires some { 1 ≤ bin }
+        requires within { bin ≤ last_bin }
+        ensures value { result ≡ bin_at self.now.bins bin }
+        ensures words { result ≡ count_by
+            (λ word. bin_of (word_occurrences self.now.setup self.now.journal word) == bin)
+            (stripe_words self.now.setup self.now.number) }
+    {
+        self.counted.bin(bin)
+    }
+
+    /// How often a word of the stripe occurs in the journal's batches, and 0 for a word of another stripe.
+    /// Condition: the word is below 4^k.
+    pub fn count_of(&self, word: Word) -> u64
+        requires { word.0 < word_count self.now.setup }
+        ensures own { stripe_of self.now.setup word.0 ≡ self.now.number
+            → result ≡ word_occurrences self.now.setup self.now.journal word.0 }
+        ensures other { stripe_of self.now.setup word.0 ≢ self.now.number → result ≡ 0 }
+    {
+        if self.setup.stripe_of(word) != self.number {
+            return 0;
+        }
+        self.counted.table().get(self.setup.key_of(word))
+    }
+
+    /// The words of the stripe that occur in the journal's batches, each once, with its occurrences, in any order.
+    pub fn rows(&self, alloc: Global) -> Result<Vec<Row>, AllocError>
+        ensures { IfOk result (λ rows. AreStripeRows self.now.setup self.now.number self.now.journal rows.items) }
+    {
+        // what is known of the words and their keys
+        self.setup.divides_words();
+        let _bits = self.setup.stripe_bits();
+        let counted = self.counted.table().rows(alloc)?;
+        let tables = self.setup.hash().back_tables();
+        let mut rows = Vec::with_capacity(alloc, counted.len())?;
+        for (key, count) in &counted {
+            let code = self.setup.code_at(self.number, *key);
+            rows.push(Row {
+                word: tables.apply(code),
+                count: *count,
+            })?;
+        }
+        Ok(rows)
+    }
+
+    /// Books a batch: its words that fall in this stripe are counted, and the journal names it.
+    pub fn book(&mut self, cut: &Cut) -> Result<(), BookFault>
+        ensures setup { self.new.setup ≡ self.old.setup }
+        ensures number { self.new.number ≡ self.old.number }
+        ensures journal { OnOk result (self.new.journal ≡ self.old.journal ++ cut.now.batch ∷ []) }
+        ensures total { OnOk result (self.new.total ≡ self.old.total + length (keys_of cut.now)) }
+        ensures own { OnOk result (IsOwnCut self.old cut.now) }
+        ensures unchanged { OnErr result (IsUnchanged C.counts self.old self.new) }
+        ensures twice { result ≡ Err BookFault.Twice ↔ IsBooked self.old.journal cut.now.batch.number }
+        ensures stranger { result ≡ Err BookFault.Stranger
+            ↔ (¬ IsBooked self.old.journal cut.now.batch.number × ¬ IsOwnCut self.old cut.now) }
+        ensures full { result ≡ Err BookFault.Full → (2 ^ 62 < self.old.total + length (keys_of cut.now))
+            ⊎ SomeMayBeFull (C.may_be_full self.old.table) (C.counts self.old.table) (keys_of cut.now) }
+        ensures memory { result ≡ Err BookFault.Memory → self.old.total + length (keys_of cut.now) ≤ 2 ^ 62 }
+        ensures limits { KeepsLimits C.bits C.may_be_full self.old.table self.new.table }
+    {
+        self.check(cut)?;
+        // what is known of the words of batches
+        word_laws::words_of_reads();
+        word_laws::counted_words();
+        word_laws::joined_occurrences();
+        // what can fail comes first, and changes no count and no name in the journal
+        let batch = cut.batch().clone()?;
+        self.journal.reserve(1)?;
+        self.booked.reserve(1)?;
+        self.counted.ready_all(cut.keys())?;
+        self.counted.add_all(cut.keys());
+        let Ok(_) = self.booked.insert(batch.number()) else {
+            unreachable!()
+        };
+        self.journal.push_reserved(batch);
+        Ok(())
+    }
+
+    // Whether the cut is a new one of this stripe, and the total stays within its limit.
+    fn check(&self, cut: &Cut) -> Result<(), BookFault>
+        ensures new { OnOk result (¬ IsBooked self.now.journal cut.now.batch.number) }
+        ensures own { OnOk result (IsOwnCut self.now cut.now) }
+        ensures room { OnOk result (self.now.total + length (keys_of cut.now) ≤ 2 ^ 62) }
+        ensures twice { result ≡ Err BookFault.Twice ↔ IsBooked self.now.journal cut.now.batch.number }
+        ensures stranger { result ≡ Err BookFault.Stranger
+            ↔ (¬ IsBooked self.now.journal cut.now.batch.number × ¬ IsOwnCut self.now cut.now) }
+        ensures full { result ≡ Err BookFault.Full → 2 ^ 62 < self.now.total + length (keys_of cut.now) }
+        ensures memory { ¬ (result ≡ Err BookFault.Memory) }
+    {
+        if self.booked.contains(&cut.batch().number()) {
+            return Err(BookFault::Twice);
+        }
+        if *cut.setup() != self.setup || cut.stripe() != self.number {
+            return Err(BookFault::Stranger);
+        }
+        if cut.keys().len() as u64 > MOST_WORDS - self.counted.total() {
+            return Err(BookFault::Full);
+        }
+        Ok(())
+    }
+}
+
+// The greatest total.
+const MOST_WORDS: u64 = 1 << 62;

@@ -1,0 +1,68 @@
+use Rattle.std.proofs.Common.{refl}
+use Rattle.clap.proofs.OnLiterals.{clap_on_literals}
+use Rattle.kc_command.specs.Laws.{CountsBothStrands, CountsFiles, ReadsTables, Refuses}
+use Rattle.kc_command.proofs.command_laws.command_lines.Goals as goal
+
+counts_both_strands : CountsBothStrands
+unfolding clap_on_literals
+counts_both_strands = record {
+  taken = refl;
+  good = refl;
+  mer_len = refl;
+  canonical = refl;
+  batch = refl;
+  print = refl;
+  size = refl;
+  threads = refl;
+  floor = refl;
+  stripes = refl;
+  column = refl;
+  lower = refl;
+  upper = refl;
+  high = refl;
+  files = refl;
+}
+
+counts_files : CountsFiles
+unfolding clap_on_literals
+counts_files = record { taken = refl; files = refl; output = refl }
+
+reads_tables : ReadsTables
+unfolding clap_on_literals
+reads_tables = record {
+  taken = refl;
+  good = refl;
+  column = refl;
+  tab = refl;
+  lower = refl;
+  upper = refl;
+  file = refl;
+  second_file = refl;
+  high = refl;
+  no_word = refl;
+  words = refl;
+}
+
+refuses : Refuses
+unfolding clap_on_literals
+refuses = record {
+  no_command = refl;
+  other_command = refl;
+  other_option = refl;
+  option_of_dump = refl;
+  twice = refl;
+  help = refl;
+  version = refl;
+}
+
+pub returns-clause-counts : goal.returns-clause-counts
+returns-clause-counts c = counts_both_strands
+
+pub returns-clause-files : goal.returns-clause-files
+returns-clause-files c = counts_files
+
+pub returns-clause-tables : goal.returns-clause-tables
+returns-clause-tables c = reads_tables
+
+pub returns-clause-refuses : goal.returns-clause-refuses
+returns-clause-refuses c = refuses

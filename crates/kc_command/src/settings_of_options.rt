@@ -1,0 +1,283 @@
+//! What the options of a command line ask for.
+ghost use Rattle.std.specs.Prelude.{MatchResult, IfSome, IfOk, Some, None, false, option_map, ◌≡◌, ◌≤◌, ◌^◌};
+ghost use Rattle.clap.specs.Words.{first_of, found_of, rows_of};
+ghost use Rattle.kc_command.specs.Arguments.{
+  AsksFor,
+  AsksForDump,
+  IsFlag,
+  IsValueOf,
+  batch_of,
+  first_bad,
+  first_bad_of_dump,
+  first_bad_of_histo,
+  floor_of,
+  high_of,
+  lower_of,
+  mer_len_of,
+  or_default,
+  print_of,
+  quality_byte,
+  report_named,
+  size_of,
+  as_stripes,
+  stripes_of,
+  threads_of,
+  upper_of,
+};
+ghost use Rattle.kc_command.specs.Numbers.{number_between};
+
+use crate::numbers::{number_between, scaled_between};
+use crate::option_name::OptionName;
+use crate::settings::{
+    FLOOR, GREATEST_BATCH, GREATEST_SIZE, MOST_STRIPES, MOST_WORKERS, Options, Print, USUAL_BATCH,
+    USUAL_HIGH, USUAL_SIZE, USUAL_STRIPES, USUAL_WORKERS,
+};
+use clap::ArgMatches;
+use kc_kmer::K;
+use kc_report::{Dump, GREATEST_COUNT, GREATEST_HIGH};
+use std::alloc::Global;
+
+/// What the options of `count` ask for.
+///
+/// # Errors
+/// The first option, in the order of the help, whose value is outside its limits, whether it acts or not. An absent
+/// `--mer-len` is so.
+pub fn options(_alloc: Global, matches: &ArgMatches<'_>) -> Result<Options, OptionName>
+    ensures first_bad { MatchResult result (λ o. first_bad (rows_of (found_of matches.now)) ≡ None)
+        (λ name. first_bad (rows_of (found_of matches.now)) ≡ Some name) }
+    ensures asked { IfOk result (AsksFor (rows_of (found_of matches.now))) }
+{
+    let k = mer_len(matches)?;
+    let size = size(matches)?;
+    let workers = threads(matches)?;
+    let floor = min_qual_char(matches)?;
+    let stripes = stripes(matches)?;
+    let batch = batch(matches)?;
+    let print = print(matches)?;
+    let dump = dump_options(matches)?;
+    let high = high_of(matches)?;
+    Ok(
+        Options::new(k)
+            .with_size(size)
+            .with_workers(workers)
+            .with_both(has_flag(matches, "canonical"))
+            .with_floor(floor)
+            .with_stripes(stripes)
+            .with_batch(batch)
+            .with_print(print)
+            .with_dump(dump)
+            .with_high(high),
+    )
+}
+
+/// What the options of `dump` ask for. They are options of `count` too. It takes no memory.
+///
+/// # Errors
+/// The first of `--lower-count` and `--upper-count` whose value is not 0 to 2^62.
+pub fn dump_options(matches: &ArgMatches<'_>) -> Result<Dump, OptionName>
+    ensures first_bad { MatchResult result (λ d. first_bad_of_dump (rows_of (found_of matches.now)) ≡ None)
+        (λ name. first_bad_of_dump (rows_of (found_of matches.now)) ≡ Some name) }
+    ensures asked { IfOk result (AsksForDump (rows_of (found_of matches.now))) }
+    ensures limits { IfOk result (λ dump. (dump.lower ≤ 2 ^ 62) × (dump.upper ≤ 2 ^ 62)) }
+{
+    let lower = lower_count(matches)?;
+    let upper = upper_count(matches)?;
+    Ok(Dump {
+        column: has_flag(matches, "column"),
+        tab: has_flag(matches, "tab"),
+        lower,
+        upper,
+    })
+}
+
+/// The greatest count that has a line of its own in a histogram, as `--high` of `histo` and of `count` asks for. It
+/// takes no memory.
+///
+/// # Errors
+/// `--high` where its value is not 1 to 10,000,000.
+pub fn high_of(matches: &ArgMatches<'_>) -> Result<u64, OptionName>
+    ensures first_bad { MatchResult result (λ h. first_bad_of_histo (rows_of (found_of matches.now)) ≡ None)
+        (λ name. first_bad_of_histo (rows_of (found_of matches.now)) ≡ Some name) }
+    ensures asked { IfOk result (λ high. high_of (rows_of (found_of matches.now)) ≡ Some high) }
+    ensures limits { IfOk result (λ high. (1 ≤ high) × (high ≤ 10000000)) }
+{
+    let high = number_of(matches, "high", USUAL_HIGH, 1, GREATEST_HIGH);
+    high.ok_or(OptionName::High)
+}
+
+// The length of the words.
+fn mer_len(matches: &ArgMatches<'_>) -> Result<K, OptionName>
+    ensures { IsValueOf OptionName.MerLen (mer_len_of (rows_of (found_of matches.now))) result }
+{
+    let k = text_of(matches, "mer-len").and_then(length);
+    k.ok_or(OptionName::MerLen)
+}
+
+// The length that a text is.
+fn length(text: &str) -> Option<K>
+    ensures { result ≡ number_between 1 31 text.now }
+{
+    let number = number_between(text.as_bytes(), 1, 31)?;
+    K::new(number as u32)
+}
+
+// The slots that the tables begin with.
+fn size(matches: &ArgMatches<'_>) -> Result<u64, OptionName>
+    ensures value { IsValueOf OptionName.Size (size_of (rows_of (found_of matches.now))) result }
+    ensures limits { IfOk result (λ size. (1 ≤ size) × (size ≤ 2 ^ 40)) }
+{
+    let size = match text_of(matches, "size") {
+        None => Some(USUAL_SIZE),
+        Some(text) => scaled_between(text.as_bytes(), 1, GREATEST_SIZE),
+    };
+    size.ok_or(OptionName::Size)
+}
+
+// The threads.
+fn threads(matches: &ArgMatches<'_>) -> Result<u32, OptionName>
+    ensures value { IsValueOf OptionName.Threads (threads_of (rows_of (found_of matches.now))) result }
+    ensures limits { IfOk result (λ threads. (1 ≤ threads) × (threads ≤ 64)) }
+{
+    let threads = number_of(
+        matches,
+        "threads",
+        u64::from(USUAL_WORKERS),
+        1,
+        u64::from(MOST_WORKERS),
+    );
+    match threads {
+        Some(threads) => Ok(threads as u32),
+        None => Err(OptionName::Threads),
+    }
+}
+
+// The floor of qualities.
+fn min_qual_char(matches: &ArgMatches<'_>) -> Result<u8, OptionName>
+    ensures value { IsValueOf OptionName.MinQualChar (floor_of (rows_of (found_of matches.now))) result }
+    ensures limits { IfOk result (λ floor. (33 ≤ floor) × (floor ≤ 126)) }
+{
+    let floor = match text_of(matches, "min-qual-char") {
+        None => Some(FLOOR),
+        Some(text) => quality_byte(text.as_bytes()),
+    };
+    floor.ok_or(OptionName::MinQualChar)
+}
+
+// The one byte of a text, where it is a quality.
+fn quality_byte(text: &[u8]) -> Option<u8>
+    ensures value { result ≡ quality_byte text.now }
+    ensures limits { IfSome result (λ floor. (33 ≤ floor) × (floor ≤ 126)) }
+{
+    match text {
+        [byte @ 33..=126] => Some(*byte),
+        _ => None,
+    }
+}
+
+// The stripes, before they are lowered to the number of words.
+fn stripes(matches: &ArgMatches<'_>) -> Result<u32, OptionName>
+    ensures { IsValueOf OptionName.Stripes (stripes_of (rows_of (found_of matches.now))) result }
+{
+    let stripes = match text_of(matches, "stripes") {
+        None => Some(USUAL_STRIPES),
+        Some(text) => {
+            number_between(text.as_bytes(), 1, u64::from(MOST_STRIPES)).and_then(as_stripes)
+        }
+    };
+    stripes.ok_or(OptionName::Stripes)
+}
+
+// The number, where it is a power of two up to 64.
+fn as_stripes(number: u64) -> Option<u32>
+    ensures { result ≡ as_stripes number }
+{
+    match number {
+        1 | 2 | 4 | 8 | 16 | 32 | 64 => Some(number as u32),
+        _ => None,
+    }
+}
+
+// The positions of a batch.
+fn batch(matches: &ArgMatches<'_>) -> Result<u64, OptionName>
+    ensures value { IsValueOf OptionName.Batch (batch_of (rows_of (found_of matches.now))) result }
+    ensures limits { IfOk result (λ batch. (1 ≤ batch) × (batch ≤ 2 ^ 36)) }
+{
+    let batch = number_of(matches, "batch", USUAL_BATCH, 1, GREATEST_BATCH);
+    batch.ok_or(OptionName::Batch)
+}
+
+// The report that is written.
+fn print(matches: &ArgMatches<'_>) -> Result<Print, OptionName>
+    ensures { IsValueOf OptionName.Print (print_of (rows_of (found_of matches.now))) result }
+{
+    let print = match text_of(matches, "print") {
+        None => Some(Print::Table),
+        Some(text) => report_named(text),
+    };
+    print.ok_or(OptionName::Print)
+}
+
+// The report of this name.
+fn report_named(text: &str) -> Option<Print>
+    ensures { result ≡ report_named text.now }
+{
+    match text {
+        "table" => Some(Print::Table),
+        "dump" => Some(Print::Dump),
+        "histo" => Some(Print::Histo),
+        "stats" => Some(Print::Stats),
+        _ => None,
+    }
+}
+
+// The least count that a dump shows.
+fn lower_count(matches: &ArgMatches<'_>) -> Result<u64, OptionName>
+    ensures value { IsValueOf OptionName.LowerCount (lower_of (rows_of (found_of matches.now))) result }
+    ensures limits { IfOk result (λ lower. lower ≤ 2 ^ 62) }
+{
+    let lower = number_of(matches, "lower-count", 0, 0, GREATEST_COUNT);
+    lower.ok_or(OptionName::LowerCount)
+}
+
+// The greatest count that a dump shows.
+fn upper_count(matches: &ArgMatches<'_>) -> Result<u64, OptionName>
+    ensures value { IsValueOf OptionName.UpperCount (upper_of (rows_of (found_of matches.now))) result }
+    ensures limits { IfOk result (λ upper. upper ≤ 2 ^ 62) }
+{
+    let upper = number_of(matches, "upper-count", GREATEST_COUNT, 0, GREATEST_COUNT);
+    upper.ok_or(OptionName::UpperCount)
+}
+
+// The number that an option asks for, where it stands between the bounds; where it is not given, its default.
+fn number_of(
+    matches: &ArgMatches<'_>,
+    name: &str,
+    default: u64,
+    least: u64,
+    most: u64,
+) -> Option<u64>
+    requires low { least ≤ default }
+    requires high { default ≤ most }
+    ensures value { result ≡ or_default default (number_between least most)
+        (first_of name.now (rows_of (found_of matches.now))) }
+    ensures limits { IfSome result (λ number. (least ≤ number) × (number ≤ most)) }
+{
+    match text_of(matches, name) {
+        None => Some(default),
+        Some(text) => number_between(text.as_bytes(), least, most),
+    }
+}
+
+/// The text of an option, where it was given.
+pub fn text_of<'a>(matches: &ArgMatches<'a>, name: &str) -> Option<&'a str>
+    ensures { option_map (λ text. text.now) result ≡ first_of name.now (rows_of (found_of matches.now)) }
+{
+    matches.get_str(name)
+}
+
+// Whether a flag was given.
+fn has_flag(matches: &ArgMatches<'_>, name: &str) -> bool
+    ensures { IsFlag (rows_of (found_of matches.now)) name.now result }
+{
+    matches.get_flag(name)
+}

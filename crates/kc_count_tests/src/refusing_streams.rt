@@ -1,0 +1,269 @@
+//! Tables and reports over streams that give and take few bytes at a time, and fail.
+use crate::report_rows::strings_of;
+use kc_io::{FromBytes, FromRead, ToWrite};
+use kc_report::{
+    Dump, ReportFault, query, read_table, write_dump, write_histo, write_stats, write_table,
+};
+use kc_tally::Tally;
+use std::alloc::{AllocError, Global};
+use std::io;
+use std::io::{Read, Write};
+use std::process::Abort;
+use std::test::Fail;
+
+const TABLE: &[u8] = b"KCT 1 3 c\nACG 2\nGTA 1\nEND 2 3\n";
+
+fn failure() -> io::Error {
+    io::Error::from(io::ErrorKind::Other)
+}
+
+// A reader that gives one byte at a time, and fails once it was read so often.
+#[derive(Drop)]
+struct ByteByByte<'a> {
+    left: &'a [u8],
+    reads: usize,
+}
+
+impl Read for ByteByByte<'_> {
+    fn read(&mut self, buf: &mut [u8]) -> io::Result<usize> {
+        if self.reads == 0 {
+            return Err(failure());
+        }
+        self.reads -= 1;
+        match (self.left, buf) {
+            ([first, rest @ ..], [place, ..]) => {
+                *place = *first;
+                self.left = rest;
+                Ok(1)
+            }
+            _ => Ok(0),
+        }
+    }
+}
+
+// What a text is read as by single bytes, of which so many reads succeed.
+fn read_slowly(alloc: Global, text: &[u8], reads: usize, limit: u64) -> Result<Tally, ReportFault> {
+    if limit > 1000 {
+        return Err(ReportFault::TableTooLong);
+    }
+    let slow = ByteByByte { left: text, reads };
+    read_table(alloc, &mut FromRead::new(slow), limit)
+}
+
+// A writer that has room for so many bytes, takes at most three at a time and then fails. Its vector has that room.
+#[derive(Drop)]
+struct Narrow {
+    bytes: Vec<u8>,
+    room: usize,
+    flushes: bool,
+}
+
+impl Write for Narrow {
+    fn write(&mut self, buf: &[u8]) -> io::Result<usize> {
+        let left = self.room.saturating_sub(self.bytes.len());
+        let count = buf.len().min(3).min(left);
+        if count == 0 {
+            return Err(failure());
+        }
+        match self.bytes.extend_from_slice(&buf[..count]) {
+            Ok(()) => Ok(count),
+            Err(_) => Err(failure()),
+        }
+    }
+
+    fn flush(&mut self) -> io::Result<()> {
+        if self.flushes { Ok(()) } else { Err(failure()) }
+    }
+}
+
+#[derive(Clone, Copy, Debug, PartialEq, Eq)]
+enum Report {
+    Table,
+    Dump,
+    Histogram,
+    Statistics,
+    Query,
+}
+
+fn write_report(
+    alloc: Global,
+    writer: &mut ToWrite<Narrow>,
+    tally: &Tally,
+    report: Report,
+    asked: &[String],
+) -> Result<(), ReportFault> {
+    match report {
+        Report::Table => write_table(writer, tally),
+        Report::Dump => write_dump(writer, tally, &Dump::in_lines()),
+        Report::Histogram => write_histo(alloc, writer, tally, 1),
+        Report::Statistics => write_stats(writer, tally),
+        Report::Query => query(writer, tally, asked),
+    }
+}
+
+const REPORTS: &[(Report, &[u8])] = &[
+    (Report::Table, TABLE),
+    (Report::Dump, b">2\nACG\n>1\nGTA\n"),
+    (Report::Histogram, b"1 1\n2 1\n"),
+    (
+        Report::Statistics,
+        b"Unique:    1\nDistinct:  2\nTotal:     3\nMax_count: 2\n",
+    ),
+    (Report::Query, b"ACG 2\nAAA 0\n"),
+];
+
+// A narrow writer, if there is memory.
+fn narrow_writer(alloc: Global, room: usize, flushes: bool) -> Result<ToWrite<Narrow>, AllocError> {
+    let bytes = Vec::with_capacity(alloc, 100)?;
+    Ok(ToWrite::new(Narrow {
+        bytes,
+        room,
+        flushes,
+    }))
+}
+
+// The writing of a report: its writer's room, whether the writer flushes, how it ends, and what the writer took.
+#[derive(Drop)]
+struct Writing<'a> {
+    report: Report,
+    room: usize,
+    flushes: bool,
+    outcome: Result<(), ReportFault>,
+    taken: &'a [u8],
+}
+
+// Asserts that a report is written so.
+fn assert_written<H: Abort + AllocGlobal>(rt: &H, writing: &Writing<'_>) -> Result<(), Fail> {
+    let alloc = rt.alloc();
+    let (report, room) = (writing.report, writing.room);
+    let tally = read_table(alloc, &mut FromBytes::new(TABLE), 100)?;
+    let asked = strings_of(alloc, &["CGT", "aaa"])?;
+    let mut sink = narrow_writer(alloc, room, writing.flushes)?;
+    let outcome = write_report(alloc, &mut sink, &tally, report, &asked);
+    let bytes = sink.into_inner().bytes;
+    assert_eq!(rt; outcome, writing.outcome, "{report:?}, room for {room}");
+    assert!(rt;
+        bytes.as_slice() == writing.taken,
+        "{report:?}, room for {room}"
+    );
+    Ok(())
+}
+
+#[test]
+fn a_writer_without_room_has_a_beginning(rt: HostRuntime) -> Result<(), Fail> {
+    for (report, text) in REPORTS {
+        for room in 0..=text.len() {
+            let outcome = if room < text.len() {
+                Err(ReportFault::Write)
+            } else {
+                Ok(())
+            };
+            let writing = Writing {
+                report: *report,
+                room,
+                flushes: true,
+                outcome,
+                taken: &text[..room],
+            };
+            assert_written(&rt, &writing)?;
+        }
+    }
+    Ok(())
+}
+
+#[test]
+fn a_failing_flush_has_the_whole_text(rt: HostRuntime) -> Result<(), Fail> {
+    for (report, text) in REPORTS {
+        let writing = Writing {
+            report: *report,
+            room: text.len(),
+            flushes: false,
+            outcome: Err(ReportFault::Write),
+            taken: *text,
+        };
+        assert_written(&rt, &writing)?;
+    }
+    Ok(())
+}
+
+// Asserts that a text that is read by single bytes is refused so.
+fn assert_refused<H: Abort + AllocGlobal>(
+    rt: &H,
+    text: &[u8],
+    reads: usize,
+    limit: u64,
+    want: ReportFault,
+) {
+    let fault = read_slowly(rt.alloc(), text, reads, limit).err();
+    assert_eq!(rt; fault, Some(want), "{reads} reads, limit {limit}");
+}
+
+#[test]
+fn fronts_of_a_table_byte_by_byte(rt: HostRuntime) -> Result<(), ReportFault> {
+    for count in 0..TABLE.len() {
+        let want = if count < 10 {
+            ReportFault::BadHeader
+        } else {
+            ReportFault::BadEnd
+        };
+        assert_refused(&rt, &TABLE[..count], usize::MAX, 100, want);
+    }
+    let tally = read_slowly(rt.alloc(), TABLE, usize::MAX, 30)?;
+    assert_eq!(rt; tally.total(), 3);
+    assert_eq!(rt; tally.row_count(), 2);
+    let more = b"KCT 1 3 c\nACG 2\nGTA 1\nEND 2 3\n\n";
+    assert_refused(&rt, more, usize::MAX, 100, ReportFault::BadEnd);
+    Ok(())
+}
+
+// Tables, and texts whose fault stands before their end.
+const TEXTS: &[&[u8]] = &[
+    TABLE,
+    b"KCT 2 3 c\nACG 2\nGTA 1\nEND 2 3\n",
+    b"KCT 1 3 c\nGTA 1\nACG 2\nEND 2 3\n",
+    b"KCT 1 3 c\nACG 2\nEND 2 3\nGTA 1\n",
+];
+
+// The end is told by one read more than there are bytes.
+#[test]
+fn every_failed_read(rt: HostRuntime) -> Result<(), ReportFault> {
+    for text in TEXTS {
+        for reads in 0..=text.len() {
+            assert_refused(&rt, *text, reads, 100, ReportFault::TableRead);
+        }
+        for limit in 0..text.len() as u64 {
+            assert_refused(&rt, *text, usize::MAX, limit, ReportFault::TableTooLong);
+        }
+    }
+    let tally = read_slowly(rt.alloc(), TABLE, TABLE.len() + 1, 100)?;
+    assert_eq!(rt; tally.total(), 3);
+    Ok(())
+}
+
+// The tally of a table text. Asserts that nothing but want of memory refuses it.
+fn read_if_memory<H: Abort + AllocGlobal>(rt: &H, text: &[u8]) -> Result<Tally, AllocError> {
+    match read_table(rt.alloc(), &mut FromBytes::new(text), 100) {
+        Ok(tally) => Ok(tally),
+        Err(fault) => {
+            assert_eq!(rt; fault, ReportFault::Memory);
+            Err(AllocError)
+        }
+    }
+}
+
+// Run with each growth refused in turn (tests/memory.sh): then it ends as refused, and nothing was written.
+#[test]
+fn memory_or_the_report(rt: HostRuntime) -> Result<(), AllocError> {
+    let text = b"KCT 1 2 s\nAA 1\nAC 1\nAG 1\nAT 1\nCA 2\nCC 1\nCG 1\nCT 1\nGA 1\nEND 9 10\n";
+    let mut sink = narrow_writer(rt.alloc(), 100, true)?;
+    let tally = read_if_memory(&rt, text)?;
+    let outcome = write_histo(rt.alloc(), &mut sink, &tally, 20_000);
+    let written = sink.into_inner().bytes;
+    if let Err(fault) = outcome {
+        assert_eq!(rt; fault, ReportFault::Memory);
+        assert_eq!(rt; written.len(), 0);
+        return Err(AllocError);
+    }
+    assert_eq!(rt; written.as_slice(), b"1 8\n2 1\n".as_slice());
+    Ok(())
+}

@@ -1,0 +1,234 @@
+//! Reports on a worked tally, and tables that are none.
+ghost use Rattle.std.specs.Prelude.{◌≡◌};
+
+use kc_io::{FromBytes, ToVec};
+use kc_kmer::K;
+use kc_report::{
+    Dump, GREATEST_HIGH, ReportFault, query, read_table, write_dump, write_histo, write_stats,
+    write_table,
+};
+use kc_tally::{Row, Tally};
+use std::alloc::{AllocError, Global};
+use std::process::Abort;
+use std::test::Fail;
+
+// The tally of AC twice, CG once and GT 70,000 times.
+fn worked_tally(alloc: Global, k: K) -> Result<Tally, AllocError>
+    requires { k ≡ 2 }
+{
+    let rows = vec![in alloc;
+        Row { word: 1, count: 2 },
+        Row { word: 6, count: 1 },
+        Row {
+            word: 11,
+            count: 70_000
+        },
+    ]?;
+    Tally::of_rows(alloc, k, false, rows)
+}
+
+// The same tally, with its length of words.
+fn tally_of_three(alloc: Global) -> Result<Tally, Fail> {
+    let k = K::new(2).ok_or("no length of a word")?;
+    Ok(worked_tally(alloc, k)?)
+}
+
+// Asserts that the tally's dump is this text.
+fn assert_dump<H: Abort + AllocGlobal>(rt: &H, tally: &Tally, dump: &Dump, want: &[u8]) {
+    let mut sink = ToVec::new(Vec::new(rt.alloc()));
+    assert_eq!(rt; write_dump(&mut sink, tally, dump), Ok(()));
+    assert_eq!(rt; sink.as_slice(), want);
+}
+
+#[test]
+fn dumps(rt: HostRuntime) -> Result<(), Fail> {
+    let tally = tally_of_three(rt.alloc())?;
+    let (lines, columns) = (Dump::in_lines(), Dump::in_columns());
+    let tabs = Dump {
+        tab: true,
+        ..columns
+    };
+    assert_dump(&rt, &tally, &lines, b">2\nAC\n>1\nCG\n>70000\nGT\n");
+    assert_dump(&rt, &tally, &columns, b"AC 2\nCG 1\nGT 70000\n");
+    assert_dump(&rt, &tally, &tabs, b"AC\t2\nCG\t1\nGT\t70000\n");
+    assert_dump(&rt, &tally, &tabs.between(1, 2), b"AC\t2\nCG\t1\n");
+    assert_dump(&rt, &tally, &columns.between(2, 69_999), b"AC 2\n");
+    assert_dump(&rt, &tally, &lines.between(3, 2), b"");
+    Ok(())
+}
+
+#[test]
+fn statistics_of_three_words(rt: HostRuntime) -> Result<(), Fail> {
+    let tally = tally_of_three(rt.alloc())?;
+    let mut sink = ToVec::new(Vec::new(rt.alloc()));
+    write_stats(&mut sink, &tally)?;
+    let want = b"Unique:    1\nDistinct:  3\nTotal:     70003\nMax_count: 70000\n";
+    assert_eq!(rt; sink.as_slice(), want.as_slice());
+    Ok(())
+}
+
+// Greatest counts that have a line of their own, and the histograms up to them.
+const HISTOGRAMS: &[(u64, &[u8])] = &[
+    (1, b"1 1\n2 2\n"),
+    (2, b"1 1\n2 1\n3 1\n"),
+    (10_000, b"1 1\n2 1\n10001 1\n"),
+    (10_001, b"1 1\n2 1\n10002 1\n"),
+    (69_999, b"1 1\n2 1\n70000 1\n"),
+    (70_000, b"1 1\n2 1\n70000 1\n"),
+    (100_000, b"1 1\n2 1\n70000 1\n"),
+];
+
+// Asserts that the tally's histogram up to this count is this text.
+fn assert_histogram<H: Abort + AllocGlobal>(rt: &H, tally: &Tally, high: u64, want: &[u8]) {
+    assert!(rt; 1 <= high && high <= GREATEST_HIGH);
+    let mut sink = ToVec::new(Vec::new(rt.alloc()));
+    let outcome = write_histo(rt.alloc(), &mut sink, tally, high);
+    assert_eq!(rt; outcome, Ok(()), "up to {high}");
+    assert_eq!(rt; sink.as_slice(), want, "up to {high}");
+}
+
+#[test]
+fn histograms(rt: HostRuntime) -> Result<(), Fail> {
+    let tally = tally_of_three(rt.alloc())?;
+    for (high, want) in HISTOGRAMS {
+        assert_histogram(&rt, &tally, *high, *want);
+    }
+    Ok(())
+}
+
+const TABLE: &[u8] = b"KCT 1 3 c\nACG 2\nGTA 1\nEND 2 3\n";
+
+// Asserts that reading a text of at most so many bytes as a table ends in this fault.
+fn assert_refused<H: Abort + AllocGlobal>(rt: &H, text: &[u8], limit: u64, want: ReportFault) {
+    assert!(rt; limit <= 100);
+    let outcome = read_table(rt.alloc(), &mut FromBytes::new(text), limit);
+    assert_eq!(rt; outcome.err(), Some(want));
+}
+
+// Asserts that what is written of the tally that a text gives is the text.
+fn assert_copied<H: Abort + AllocGlobal>(rt: &H, text: &[u8]) -> Result<(), ReportFault> {
+    let alloc = rt.alloc();
+    let tally = read_table(alloc, &mut FromBytes::new(text), 100)?;
+    let mut sink = ToVec::new(Vec::new(alloc));
+    write_table(&mut sink, &tally)?;
+    assert_eq!(rt; sink.as_slice(), text);
+    Ok(())
+}
+
+const TABLES: &[&[u8]] = &[
+    TABLE,
+    b"KCT 1 3 s\nEND 0 0\n",
+    b"KCT 1 1 c\nA 3\nC 2\nEND 2 5\n",
+    b"KCT 1 9 s\nACGTTGCAC 7\nTGCAACGTA 12\nEND 2 19\n",
+    b"KCT 1 31 s\nTTTTTTTTTTTTTTTTTTTTTTTTTTTTTTT 4611686018427387904\nEND 1 4611686018427387904\n",
+];
+
+#[test]
+fn tables_are_read_as_they_were_written(rt: HostRuntime) -> Result<(), ReportFault> {
+    for text in TABLES {
+        assert_copied(&rt, *text)?;
+    }
+    Ok(())
+}
+
+// Texts that are no tables, and how they are refused.
+const NO_TABLES: &[(&[u8], ReportFault)] = &[
+    (b"", ReportFault::BadHeader),
+    (b"KCT 1 32 s\nEND 0 0\n", ReportFault::BadHeader),
+    (b"KCT 1 0 s\nEND 0 0\n", ReportFault::BadHeader),
+    (b"KCT 1 3 s\r\nEND 0 0\r\n", ReportFault::BadHeader),
+    (b"KCT 1 3 s\nACG 1\n", ReportFault::BadEnd),
+    (b"KCT 1 3 s\nACG 1\nEND 1 2\n", ReportFault::BadEnd),
+    (b"KCT 1 3 s\nEND 0 0\n\n", ReportFault::BadEnd),
+    (b"KCT 1 3 c\nACG 02\n", ReportFault::BadRow(2)),
+    (b"KCT 1 3 c\nGTA 1\nACG 2\n", ReportFault::BadRow(3)),
+    (b"KCT 1 3 c\nCGT 1\nEND 1 1\n", ReportFault::BadRow(2)),
+    (b"KCT 1 3 s\nacg 1\nEND 1 1\n", ReportFault::BadRow(2)),
+    (b"KCT 1 3 s\nACG 0\nEND 1 0\n", ReportFault::BadRow(2)),
+    (b"KCT 1 3 s\n\nEND 0 0\n", ReportFault::BadRow(2)),
+    (b"KCT 1 3 s\nACG +1\nEND 1 1\n", ReportFault::BadRow(2)),
+    (b"KCT 1 3 s\nACG 1:\nEND 1 1\n", ReportFault::BadRow(2)),
+    (b"KCT 1 5 s\nACGTN 1\nEND 1 1\n", ReportFault::BadRow(2)),
+    (b"KCT 1 5 s\nacgtA 1\nEND 1 1\n", ReportFault::BadRow(2)),
+    (
+        b"KCT 1 3 s\nACG 18446744073709551617\nEND 1 1\n",
+        ReportFault::BadRow(2),
+    ),
+    (
+        b"KCT 1 3 s\nACG 4611686018427387905\n",
+        ReportFault::BadRow(2),
+    ),
+    (
+        b"KCT 1 3 s\nACG 4611686018427387904\nGTA 1\n",
+        ReportFault::BadRow(3),
+    ),
+];
+
+#[test]
+fn faults_of_tables(rt: HostRuntime) {
+    for (text, want) in NO_TABLES {
+        assert_refused(&rt, *text, 100, *want);
+    }
+}
+
+#[test]
+fn fronts_of_a_table(rt: HostRuntime) {
+    for count in 0..TABLE.len() {
+        let want = if count < 10 {
+            ReportFault::BadHeader
+        } else {
+            ReportFault::BadEnd
+        };
+        assert_refused(&rt, &TABLE[..count], 100, want);
+    }
+    let more = b"KCT 1 3 c\nACG 2\nGTA 1\nEND 2 3\n ";
+    assert_refused(&rt, more, 100, ReportFault::BadEnd);
+    assert_refused(&rt, TABLE, 29, ReportFault::TableTooLong);
+}
+
+// These words, as a query takes them.
+pub(crate) fn strings_of(alloc: Global, words: &[&str]) -> Result<Vec<String>, AllocError> {
+    let mut strings = Vec::new(alloc);
+    for word in words {
+        strings.push(String::from_str(alloc, word)?)?;
+    }
+    Ok(strings)
+}
+
+// Asserts that a query of these words on the table ends so, having written this.
+fn assert_answer<H: Abort + AllocGlobal>(
+    rt: &H,
+    words: &[&str],
+    outcome: Result<(), ReportFault>,
+    text: &[u8],
+) -> Result<(), Fail> {
+    let alloc = rt.alloc();
+    let tally = read_table(alloc, &mut FromBytes::new(TABLE), 100)?;
+    let asked = strings_of(alloc, words)?;
+    let mut sink = ToVec::new(Vec::new(alloc));
+    assert_eq!(rt; query(&mut sink, &tally, &asked), outcome);
+    assert_eq!(rt; sink.as_slice(), text);
+    Ok(())
+}
+
+// Asked words, and the answers.
+const ANSWERS: &[(&[&str], &[u8])] = &[
+    (&["CGT", "aaa"], b"ACG 2\nAAA 0\n"),
+    (&["gta", "GTA", "TAC"], b"GTA 1\nGTA 1\nGTA 1\n"),
+    (&[], b""),
+];
+
+// Asked words, and the number of the first that is none.
+const NO_WORDS: &[(&[&str], u64)] = &[(&["ACG", "AC"], 2), (&["ACN", "AC"], 1), (&["ACGT"], 1)];
+
+#[test]
+fn queries(rt: HostRuntime) -> Result<(), Fail> {
+    for (words, want) in ANSWERS {
+        assert_answer(&rt, *words, Ok(()), *want)?;
+    }
+    for (words, number) in NO_WORDS {
+        let refused = Err(ReportFault::BadWord(*number));
+        assert_answer(&rt, *words, refused, b"")?;
+    }
+    Ok(())
+}

@@ -1,0 +1,51 @@
+use Rattle.std.proofs.Common.{◌∙◌, ◌+◌, ap, sym, length}
+use Rattle.kc_io.proofs.IntakesLemmas.{filled_both, filled_end, filled_fails}
+use Rattle.kc_fastx.proofs.ReadingLemmas.{filling_none, some_came}
+use Rattle.kc_fastx.proofs.record_reader.Reading.grow.Goals as goal
+
+pub filling-init : goal.filling-init
+filling-init g c =
+    let failed = rw (← c.self.view_is) at c.requires.failed in
+    rw (← c.self.view_is)
+    (record {
+      filling = filling_none (g.S.Source.seen c.args.source.now) _ (rw (← c.self.view_is) at c.requires.ended) failed;
+      few = c.self.invariant.0;
+      fits = c.self.invariant.1 failed;
+    })
+
+pub returns-in-Err : goal.returns-in-Err
+returns-in-Err g c = filled_fails (g.S.Source.seen c.fill.new.source) c.in-Err.why c.filling.invariant.filling.filled
+    c.in-Err.ensures.filled
+
+pub returns-in-Ok-false : goal.returns-in-Ok-false
+returns-in-Ok-false g c =
+    let filling = c.filling.invariant.filling in
+    let told = rw c.in-Ok-false.field-0-test at c.in-Ok-false.ensures.filled in
+    record {
+      more = filling.filled.more;
+      taken = filled_end filling.filled told.0;
+      behind = ap (λ u. u.bytes) told.1 ∙ filling.filled.behind;
+      room = filling.filled.room ∙ ap (λ u. u.room + length filling.filled.more) (sym told.1);
+      some = tt;
+      used = filling.used;
+      lines_used = filling.lines_used;
+      is_fastq = filling.is_fastq;
+      unfailed = filling.unfailed;
+    }
+
+pub returns-then-as_slice-wanted : goal.returns-then-as_slice-wanted
+returns-then-as_slice-wanted g c =
+    let filling = c.filling.invariant.filling in
+    let told = rw c.in-Ok-true.field-0-test at c.in-Ok-true.ensures.filled in
+    let both = filled_both filling.filled told.0 in
+    record {
+      more = both.more;
+      taken = rw filling.unended (both.taken);
+      behind = both.behind;
+      room = both.room;
+      some = rw filling.unended (some_came both filling.filled told.1);
+      used = filling.used;
+      lines_used = filling.lines_used;
+      is_fastq = filling.is_fastq;
+      unfailed = filling.unfailed;
+    }

@@ -1,0 +1,257 @@
+//! The reads that a source says, one after another: of its bytes the reader keeps a block and what a record takes.
+ghost use Rattle.std.specs.Prelude.{◌≡◌, ℕ, List, Bool, true, false, None, [], ◌+◌, ◌≤◌, ◌<◌, ◌^◌, length, drop};
+ghost use Rattle.std.specs.Prelude.{IfOk, IfErr, OnOk, IfSome};
+ghost use Rattle.kc_io.specs.Sources.{Seen};
+ghost use Rattle.kc_fastx.specs.Reads.{Read};
+ghost use Rattle.kc_fastx.specs.Lines.{line_count, skip_blanks, Passes, HasWhole};
+ghost use Rattle.kc_fastx.specs.Parsing.{most_bytes, RefusesFor};
+ghost use Rattle.kc_fastx.specs.Reading.{Stand, first_stand, HasGiven, MeetsFault, GivesNext, TellsNext};
+ghost use Rattle.kc_fastx.specs.Reading.{IsNext, NextFails, IsSure, Moves, Grows};
+ghost use Rattle.kc_fastx.specs.Faults.{UnlessMemory};
+
+use crate::fasta::next_fasta;
+use crate::fastq::next_fastq;
+use crate::read_faults::FastxFault;
+use crate::reads::SeqRead;
+use crate::text_lines::LineCursor;
+use kc_io::{Intake, Source, TakeFault};
+use memchr::memrchr;
+use std::alloc::{AllocError, Global};
+use std::marker::Model;
+
+// What the bytes that were taken tell of the next read.
+#[derive(Drop)]
+pub enum Next {
+    Given(SeqRead),
+    // All bytes were taken, and no record is left.
+    End,
+    // A whole record isn't there yet.
+    Short,
+}
+
+/// A reader of the reads of a source, one after another, which leaves the source with its caller. It keeps a block of
+/// the bytes and what one record takes, whatever came before.
+///
+/// Contracts speak of the reads that were given so far: `HasGiven` with none of them stands behind `new`, `next_read`
+/// adds the read that it gives, and where it answers `None` they are all reads of all bytes. Each call is handed the
+/// same source, of which nobody else takes bytes meanwhile.
+#[derive(Drop)]
+pub struct Reading {
+    intake: Intake,
+    used: u64,
+    lines_used: u64,
+    is_fastq: bool,
+    ended: bool,
+    failed: Option<TakeFault>,
+}
+
+impl Model for Reading {
+    ghost use Rattle.std.specs.Prelude.{◌≡◌, ◌≤◌, ◌<◌, ◌+◌, ◌^◌, length, None};
+    ghost use Rattle.kc_fastx.specs.Reading.{Stand};
+
+    ghost Value = { Stand };
+
+    ghost view = { λ r. record {
+      unread = r.intake;
+      used = r.used;
+      lines_used = r.lines_used;
+      is_fastq = r.is_fastq;
+      ended = r.ended;
+      failed = r.failed;
+    } };
+
+    ghost invariant = { λ r. (r.lines_used ≤ r.used)
+        × (r.failed ≡ None → r.used + (length r.intake.bytes + r.intake.room) < 2 ^ 63) };
+}
+
+impl Reading {
+    /// A reader that takes at most `limit` bytes of its source. Nothing was taken yet. Condition: the limit is at most
+    /// 2^36.
+    ///
+    /// # Errors
+    /// `AllocError` where the block was refused.
+    pub fn new(alloc: Global, limit: u64) -> Result<Reading, AllocError>
+        requires { limit ≤ most_bytes }
+        ensures { IfOk result (λ reading. reading ≡ first_stand limit) }
+    {
+        let intake = Intake::new(alloc, limit)?;
+        Ok(Reading {
+            intake,
+            used: 0,
+            lines_used: 0,
+            is_fastq: false,
+            ended: false,
+            failed: None,
+        })
+    }
+
+    /// The next read, or none where all bytes were taken and no read is left. Blocks are taken until a whole record is
+    /// there or the source has told its end.
+    ///
+    /// # Errors
+    /// The first fault of all bytes, with its line, where the lines that were taken tell it already. `TooLong` where
+    /// the source gave more bytes than the limit, and `Read` where it failed, before the next record was whole.
+    /// `Memory` where a growth was refused. A reader that couldn't take bytes answers the same from then on.
+    pub fn next_read<S: Source>(
+        &mut self,
+        alloc: Global,
+        source: &mut S,
+    ) -> Result<Option<SeqRead>, FastxFault>
+        ensures given { (start : Seen) (limit : ℕ) (reads : List Read)
+            → HasGiven start (S.seen source.old) limit reads self.old
+            → GivesNext start (S.seen source.new) limit reads self.new result }
+        ensures used { IfOk result (λ next. IfSome next (λ read. self.old.used < self.new.used)) }
+    {
+        if let Some(why) = self.failed {
+            return Err(FastxFault::from(why));
+        }
+        'reading: loop {
+            match self.next_of_whole(alloc)? {
+                Next::Given(read) => return Ok(Some(read)),
+                Next::End => return Ok(None),
+                Next::Short => self.grow(source)?,
+            }
+        }
+    }
+
+    /// How many bytes were taken. Condition: no taking of bytes has failed, as where `next_read` has answered a read or
+    /// none.
+    pub fn byte_count(&self) -> u64
+        requires { self.now.failed ≡ None }
+        ensures { result ≡ self.now.used + length self.now.unread.bytes }
+    {
+        self.used + self.intake.as_slice().len() as u64
+    }
+
+    /// The fault of the source, where all its bytes are asked for and `next_read` has answered this fault. Behind a
+    /// fault of lines the other bytes are taken and forgotten: that they are too many, or that a read fails, comes
+    /// first.
+    pub fn settle<S: Source>(self, source: &mut S, fault: FastxFault) -> FastxFault
+        ensures { (start : Seen) (limit : ℕ) → MeetsFault start (S.seen source.old) limit self fault
+            → RefusesFor start (S.seen source.new) limit result }
+    {
+        if self.ended || !fault.is_of_lines() {
+            return fault;
+        }
+        match self.intake.skip_rest(source) {
+            Ok(_) => fault,
+            Err(why) => FastxFault::from(why),
+        }
+    }
+
+    // Takes at least as many bytes more as are there, in blocks, or all up to the end.
+    fn grow<S: Source>(&mut self, source: &mut S) -> Result<(), TakeFault>
+        requires ended { self.old.ended ≡ false }
+        requires failed { self.old.failed ≡ None }
+        ensures { Grows (S.seen source.old) (S.seen source.new) self.old self.new result }
+    {
+        let wanted = self.intake.as_slice().len().saturating_mul(2);
+        'filling: loop {
+            match self.intake.fill(source) {
+                Ok(true) => {}
+                Ok(false) => {
+                    self.ended = true;
+                    return Ok(());
+                }
+                Err(why) => {
+                    self.failed = Some(why);
+                    return Err(why);
+                }
+            }
+            if self.intake.as_slice().len() >= wanted {
+                return Ok(());
+            }
+        }
+    }
+
+    // The next read, as far as the lines that are whole in the block tell it.
+    fn next_of_whole(&mut self, alloc: Global) -> Result<Next, FastxFault>
+        requires { self.old.failed ≡ None }
+        ensures tells { (start now : Seen) (limit : ℕ) (reads : List Read)
+            → HasGiven start now limit reads self.old → TellsNext start now limit reads self.new result }
+        ensures moves { Moves self.old self.new result }
+    {
+        let whole = self.whole_lines();
+        let mut lines = LineCursor::behind(self.lines_used, whole);
+        lines.pass_blanks();
+        let next = next_record(alloc, &mut lines, self.is_fastq);
+        if !self.ended && !is_sure(&next, &lines) {
+            return Ok(Next::Short);
+        }
+        let Some((read, is_fastq)) = next? else {
+            return Ok(Next::End);
+        };
+        let count = whole.len() - lines.rest().len();
+        let lines_used = lines.taken();
+        self.use_up(count, lines_used, is_fastq);
+        Ok(Next::Given(read))
+    }
+
+    // The bytes up to the last line end, or all of them once the source has ended.
+    fn whole_lines(&self) -> &[u8]
+        ensures { HasWhole self.now.ended self.now.unread.bytes result.now }
+    {
+        let bytes = self.intake.as_slice();
+        if self.ended {
+            return bytes;
+        }
+        match memrchr(b'\n', bytes) {
+            Some(end) => &bytes[..end + 1],
+            None => &bytes[..0],
+        }
+    }
+
+    // Drops the bytes of a record that was read from the front, and keeps the number of its last line and its format.
+    fn use_up(&mut self, count: usize, lines_used: u64, is_fastq: bool)
+        requires failed { self.old.failed ≡ None }
+        requires count { count ≤ length self.old.unread.bytes }
+        requires lines { lines_used ≤ self.old.lines_used + count }
+        ensures { self.new ≡ record self.old {
+          unread = record self.old.unread { bytes = drop count self.old.unread.bytes };
+          used = self.old.used + count;
+          lines_used = lines_used;
+          is_fastq = is_fastq;
+        } }
+    {
+        self.intake.use_up(count);
+        self.used += count as u64;
+        self.lines_used = lines_used;
+        self.is_fastq = is_fastq;
+    }
+}
+
+// The next record of lines of which the first isn't blank, and whether it is of FASTQ.
+fn next_record(
+    alloc: Global,
+    lines: &mut LineCursor<'_>,
+    is_fastq: bool,
+) -> Result<Option<(SeqRead, bool)>, FastxFault>
+    requires { skip_blanks lines.old.left ≡ lines.old.left }
+    ensures ok { IfOk result (λ next. IsNext is_fastq lines.old.left next lines.new.left) }
+    ensures counted { OnOk result (line_count lines.new ≡ line_count lines.old) }
+    ensures passes { OnOk result (Passes lines.old lines.new) }
+    ensures err { IfErr result (UnlessMemory (NextFails is_fastq (line_count lines.old) lines.old.left)) }
+{
+    if !is_fastq && lines.is_at(b'>') {
+        let Some(read) = next_fasta(alloc, lines)? else {
+            return Ok(None);
+        };
+        return Ok(Some((read, false)));
+    }
+    let Some(read) = next_fastq(alloc, lines)? else {
+        return Ok(None);
+    };
+    Ok(Some((read, true)))
+}
+
+// Whether this answer stays right whatever bytes the source still gives: a record may go on in lines to come.
+fn is_sure(next: &Result<Option<(SeqRead, bool)>, FastxFault>, lines: &LineCursor<'_>) -> bool
+    ensures { result ≡ true → IsSure next.now lines.now.left }
+{
+    match next {
+        Ok(Some(_)) => !lines.is_done(),
+        Ok(None) => false,
+        Err(FastxFault::Truncated(_)) => false,
+        Err(_) => true,
+    }
+}

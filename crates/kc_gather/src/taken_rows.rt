@@ -1,0 +1,90 @@
+//! The rows that are taken from the stripes of a count, where these hold what was given.
+ghost use Rattle.std.specs.Prelude.{◌≡◌, ◌≢◌, ◌≤◌, map, All, IfOk, OnOk, IfErr};
+ghost use Rattle.kc_word.specs.Shared.{values};
+ghost use Rattle.kc_gather.specs.declared.gather_fault.GatherFault.TheVariants.{Memory};
+ghost use Rattle.kc_gather.specs.Gathering.{IsWholeThere, IsFirstRefusal, HasRowsOf, HaveRowsOf};
+
+use crate::gather_fault::GatherFault;
+use crate::journal::check_stripe;
+use crate::parts::parted;
+use crate::piles::{all_ok, dealt, joined};
+use crate::placed::Placed;
+use kc_booking::{Setup, Stripe};
+use kc_table::Counts;
+use kc_tally::Row;
+use kc_word::Batch;
+use std::alloc::{AllocError, Global};
+use std::sync::Arc;
+use std::thread;
+use std::thread::Threads;
+
+/// The rows of each stripe in parts. It is refused at the first stripe that isn't that of its index, or whose journal
+/// doesn't hold exactly the given batches. Each stripe is freed as soon as its rows are taken.
+pub(crate) fn taken_of_each<C: Counts + Drop>(
+    alloc: Global,
+    stripes: Vec<Placed<C>>,
+    batches: &[Arc<Batch>],
+    setup: &Setup,
+) -> Result<Vec<Vec<Vec<Row>>>, GatherFault>
+    ensures whole { OnOk result (All (IsWholeThere setup.now (values batches.now)) stripes.items) }
+    ensures rows { IfOk result (λ taken. HaveRowsOf (map (λ there. there.stripe) stripes.items) taken.items) }
+    ensures refused { IfErr result (λ fault. fault ≢ Memory
+        → IsFirstRefusal setup.now (values batches.now) stripes.items fault) }
+{
+    let mut taken = Vec::with_capacity(alloc, stripes.len())?;
+    for placed in stripes {
+        let Placed { index, stripe } = placed;
+        check_stripe(alloc, index, &stripe, batches, setup)?;
+        let parts = rows_of(alloc, stripe)?;
+        let Ok(()) = taken.push(parts) else {
+            return Err(GatherFault::Memory);
+        };
+    }
+    Ok(taken)
+}
+
+/// The same with at most so many threads, each of which looks at the stripes that it takes. A single one is started
+/// too: the C library lets threads use again what the threads before them freed, and so rows come to lie where tables
+/// were. Condition: one at the least.
+pub(crate) fn taken_in_parallel<C: Counts + Drop + Send, H: Threads + Sync>(
+    rt: &H,
+    alloc: Global,
+    threads: u32,
+    stripes: Vec<Placed<C>>,
+    batches: &[Arc<Batch>],
+    setup: &Setup,
+) -> Result<Vec<Vec<Vec<Row>>>, GatherFault>
+    requires { 1 ≤ threads }
+    ensures whole { OnOk result (All (IsWholeThere setup.now (values batches.now)) stripes.items) }
+    ensures rows { IfOk result (λ taken. HaveRowsOf (map (λ there. there.stripe) stripes.items) taken.items) }
+    ensures refused { IfErr result (λ fault. fault ≢ Memory
+        → IsFirstRefusal setup.now (values batches.now) stripes.items fault) }
+{
+    let piles = dealt(alloc, stripes, threads)?;
+    let answers = thread::map_vec(
+        rt,
+        piles,
+        &|pile: Vec<Placed<C>>| -> Result<Vec<Vec<Vec<Row>>>, GatherFault>
+            ensures whole { OnOk result (All (IsWholeThere setup.entry.now (values batches.entry.now)) pile.items) }
+            ensures rows { IfOk result (λ taken. HaveRowsOf (map (λ there. there.stripe) pile.items) taken.items) }
+            ensures refused { IfErr result (λ fault. fault ≢ Memory
+                → IsFirstRefusal setup.entry.now (values batches.entry.now) pile.items fault) }
+        { taken_of_each(alloc, pile, batches, setup) },
+    )?;
+    let answered = all_ok(alloc, answers)?;
+    let lists = answered?;
+    let taken = joined(alloc, lists)?;
+    Ok(taken)
+}
+
+// The words of a stripe with their counts, in parts by the highest bits of the words. The stripe is freed.
+fn rows_of<C: Counts + Drop>(alloc: Global, stripe: Stripe<C>) -> Result<Vec<Vec<Row>>, AllocError>
+    ensures { IfOk result (λ parts. HasRowsOf stripe parts) }
+{
+    // what is known of the journal
+    stripe.is_lawful();
+    let k = stripe.setup().rule().k();
+    let rows = stripe.rows(alloc)?;
+    drop(stripe);
+    parted(alloc, k, &rows)
+}

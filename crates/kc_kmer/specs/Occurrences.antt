@@ -1,0 +1,60 @@
+-- Where a word stands in reads, and how often.
+-- Source: the k-mers of a read and their counts, Marçais and Kingsford 2011; usable bases, the Jellyfish user guide.
+use Rattle.std.specs.Prelude.{ℕ, Bool, true, false, ◌+◌, ◌-◌, ◌&&◌, nat_le, List, length, map, take, drop}
+use Rattle.std.specs.Prelude.{slice_index, Option, None, Some, if◌then◌else◌, sum_by, count_by}
+use Rattle.std.specs.List.{list_all, filter_map, flat_map, range_with_len}
+use Rattle.std.specs.Option.{option_map, option_map_or}
+use Rattle.std.specs.Char.{to_ascii_uppercase}
+use Rattle.std.specs.Str.{bytes_eq}
+use Rattle.kc_fastx.specs.Reads.{Read}
+use Rattle.kc_kmer.specs.Letter.{is_base}
+use Rattle.kc_kmer.specs.Word.{number, form}
+use Rattle.kc_kmer.specs.Rule.{CountingRule}
+
+-- whether the quality byte of base j, where there is one, is at least the floor
+abbrev pub passes_floor : ℕ → Option (List ℕ) → ℕ → Bool
+passes_floor floor None j = true
+passes_floor floor (Some quals) j = nat_le floor (slice_index quals j)
+
+-- whether base j is one of ACGTacgt and passes the floor
+unfoldable pub is_usable : CountingRule → Read → ℕ → Bool
+is_usable rule read j = is_base (to_ascii_uppercase (slice_index read.bases j)) && passes_floor rule.floor read.quals j
+
+-- the word at position p: the k bases from p on in upper case, where the read has them and all are usable
+unfoldable pub word_at : CountingRule → Read → ℕ → Option (List ℕ)
+word_at rule read p =
+    if nat_le (p + rule.k) (length read.bases) && list_all (λ j. is_usable rule read j) (range_with_len p rule.k)
+    then Some (map to_ascii_uppercase (take rule.k (drop p read.bases)))
+    else None
+
+-- the form under which position p counts
+unfoldable pub form_at : CountingRule → Read → ℕ → Option (List ℕ)
+form_at rule read p = option_map (form rule.both) (word_at rule read p)
+
+-- how many positions n bases have: the words of k bases begin at 0 to n - k
+abbrev pub position_count : ℕ → ℕ → ℕ
+position_count k n = n + 1 - k
+
+-- the positions of a read
+abbrev pub positions : CountingRule → Read → List ℕ
+positions rule read = range_with_len 0 (position_count rule.k (length read.bases))
+
+-- whether position p counts under this word
+abbrev pub counts_under : CountingRule → Read → List ℕ → ℕ → Bool
+counts_under rule read word p = option_map_or (λ found. bytes_eq found word) (form_at rule read p) false
+
+-- at how many positions of a read the word stands, in the form under which it counts
+unfoldable pub occurrences_in : CountingRule → Read → List ℕ → ℕ
+occurrences_in rule read word = count_by (λ p. counts_under rule read word p) (positions rule read)
+
+-- the occurrences of a word: at how many positions of all reads it stands
+unfoldable pub occurrences : CountingRule → List Read → List ℕ → ℕ
+occurrences rule reads word = sum_by (λ read. occurrences_in rule read word) reads
+
+-- the numbers of the words of a read, in the forms under which they count, in the order of their positions
+unfoldable pub words_in : CountingRule → Read → List ℕ
+words_in rule read = filter_map (λ p. option_map number (form_at rule read p)) (positions rule read)
+
+-- the same for all reads, one after another
+unfoldable pub words_of : CountingRule → List Read → List ℕ
+words_of rule reads = flat_map (λ read. words_in rule read) reads

@@ -1,0 +1,65 @@
+//! Laws of words and their occurrences. Each is the contract of a function that does nothing.
+ghost use Rattle.std.specs.Prelude.{◌≡◌, [], ◌∷◌, Some, None, true, false, codes};
+ghost use Rattle.kc_fastx.specs.Reads.{read_of};
+ghost use Rattle.kc_kmer.specs.Word.{number, text, reverse_complement, canonical};
+ghost use Rattle.kc_kmer.specs.Rule.{counting_all};
+ghost use Rattle.kc_kmer.specs.Occurrences.{occurrences, words_in};
+ghost use Rattle.kc_kmer.specs.Laws.{NumberOfText, PackedText, OrderOfTexts, ReversedTwice, OneCanonicalForm};
+ghost use Rattle.kc_kmer.specs.Laws.{JoinedOccurrences, CountedWords, WordsAreBelow, WordsAreForms, WordsAreFew};
+
+/// A number below 4^k is the number of its text.
+pub fn number_of_text()
+    ensures { NumberOfText }
+{}
+
+/// `pack` of the letters that `text` writes is the word.
+pub fn packed_text()
+    ensures { PackedText }
+{}
+
+/// The order of the numbers is the order of the texts.
+pub fn order_of_texts()
+    ensures { OrderOfTexts }
+{}
+
+/// Read back from the other strand twice, a word is itself.
+pub fn reversed_twice()
+    ensures { ReversedTwice }
+{}
+
+/// A word and its reverse complement have one canonical form.
+pub fn one_canonical_form()
+    ensures { OneCanonicalForm }
+{}
+
+/// In reads that are joined each word occurs as often as in both parts together.
+pub fn joined_occurrences()
+    ensures { JoinedOccurrences }
+{}
+
+/// A word occurs as often as its number stands among the words of the reads.
+pub fn counted_words()
+    ensures { CountedWords }
+{}
+
+/// The words of reads are below 4^k and in the forms under which they count, and at most as many as the bases.
+pub fn words_of_reads()
+    ensures below { WordsAreBelow }
+    ensures forms { WordsAreForms }
+    ensures few { WordsAreFew }
+{}
+
+/// Worked rows of the definitions.
+pub fn worked_rows()
+    ensures text { text 3 44 ≡ codes "GTA" }
+    ensures number { number (codes "GTA") ≡ 44 }
+    ensures greatest { number (codes "TTTTTTTTTTTTTTTTTTTTTTTTTTTTTTT") ≡ 4_611_686_018_427_387_903 }
+    ensures other_strand { reverse_complement (codes "GTA") ≡ codes "TAC" }
+    ensures canonical { canonical (codes "CGT") ≡ codes "ACG" }
+    ensures words { words_in (counting_all 3 false) (read_of (codes "ACGTA") None) ≡ 6 ∷ 27 ∷ 44 ∷ [] }
+    ensures both_strands { words_in (counting_all 3 true) (read_of (codes "ACGTA") None) ≡ 6 ∷ 6 ∷ 44 ∷ [] }
+    ensures broken { words_in (counting_all 3 false) (read_of (codes "ACNGT") None) ≡ [] }
+    ensures low_quality { words_in (record { k = 2; both = false; floor = 35 })
+        (read_of (codes "ACGT") (Some (codes "II!I"))) ≡ 1 ∷ [] }
+    ensures palindrome { occurrences (counting_all 4 true) (read_of (codes "ACGT") None ∷ []) (codes "ACGT") ≡ 1 }
+{}

@@ -1,8 +1,0 @@
-use Rattle.std.proofs.Common.{◌≡◌, replicate, ◌∙◌}
-use Rattle.kc_report.proofs.CountLemmas.{words_by_count-zeros}
-use Rattle.kc_report.proofs.histo.words_of_rows.Goals as goal
-
-pub count_rows-requires : goal.count_rows-requires
-count_rows-requires c =
-    let zeros : c.as_mut_slice.result.now ≡ replicate c.args.high 0 = c.as_mut_slice.ensures.value ∙ c.in_ok-words.ensures.items_if_clones_equal (λ words same. same) in
-    words_by_count-zeros c.args.high c.as_mut_slice.result.now zeros

@@ -1,0 +1,180 @@
+//! The dump: the words of a tally with their counts.
+ghost use Rattle.std.specs.Prelude.{◌≡◌, ◌≤◌, ◌<◌, ◌+◌, ◌^◌, ◌++◌, length, OnOk, OnErr, IfErr, true, false};
+ghost use Rattle.kc_kmer.specs.Word.{text};
+ghost use Rattle.kc_io.specs.Sinks.{Writes, HasBegun, Drains};
+ghost use Rattle.kc_report.specs.declared.report_faults.ReportFault.TheVariants.{Write};
+ghost use Rattle.kc_report.specs.Dumping.{dump_text, row_text, row_in_columns, row_in_lines, is_shown, shown_text};
+
+use crate::letters::{LETTERS_SIZE, letters_of};
+use crate::report_faults::ReportFault;
+use kc_io::{BLOCK_SIZE, Block, Failed, NUMBER_SIZE, Sink, write_out};
+use kc_kmer::{K, Word};
+use kc_tally::{Row, Tally};
+
+/// The greatest count that a dump can bound, which no count passes.
+pub const GREATEST_COUNT: u64 = 1 << 62;
+
+/// How a dump is laid out, and which rows it shows.
+#[derive(Clone, Copy, Debug, PartialEq, Eq)]
+pub struct Dump {
+    /// A row is one line, `WORD COUNT`; else it is two, `>COUNT` and `WORD`.
+    pub column: bool,
+    /// In columns, a tab stands in place of the blank.
+    pub tab: bool,
+    /// The least count that is shown.
+    pub lower: u64,
+    /// The greatest count that is shown.
+    pub upper: u64,
+}
+
+impl Dump {
+    /// A dump of all rows, in two lines each.
+    pub fn in_lines() -> Dump
+        ensures { result ≡ record { column = false; tab = false; lower = 0; upper = 2 ^ 62 } }
+    {
+        Dump {
+            column: false,
+            tab: false,
+            lower: 0,
+            upper: GREATEST_COUNT,
+        }
+    }
+
+    /// A dump of all rows, in columns with a blank between them.
+    pub fn in_columns() -> Dump
+        ensures { result ≡ record { column = true; tab = false; lower = 0; upper = 2 ^ 62 } }
+    {
+        Dump {
+            column: true,
+            ..Dump::in_lines()
+        }
+    }
+
+    /// The same dump of the rows with a count from `lower` to `upper`, both of which count.
+    pub fn between(self, lower: u64, upper: u64) -> Dump
+        ensures { result ≡ record self { lower = lower; upper = upper } }
+    {
+        Dump {
+            lower,
+            upper,
+            ..self
+        }
+    }
+}
+
+/// Writes the dump of a tally. It takes no memory.
+///
+/// # Errors
+/// `Write` where the writer failed or took no byte. It took a beginning of the dump.
+pub fn write_dump<W: Sink>(writer: &mut W, tally: &Tally, dump: &Dump) -> Result<(), ReportFault>
+    ensures written { Writes (W.seen writer.old) (W.seen writer.new) result
+        (dump_text tally.now.k dump.now tally.now.rows) }
+    ensures fault { IfErr result (λ fault. fault ≡ Write) }
+{
+    Ok(dump_by_blocks(writer, tally, dump)?)
+}
+
+// Writes the dump of a tally, a block at a time.
+fn dump_by_blocks<W: Sink>(writer: &mut W, tally: &Tally, dump: &Dump) -> Result<(), Failed>
+    ensures { Writes (W.seen writer.old) (W.seen writer.new) result (dump_text tally.now.k dump.now tally.now.rows) }
+{
+    let mut block = Block::new();
+    for row in tally.rows() {
+        put_row(writer, &mut block, tally.k(), dump, row)?;
+    }
+    write_out(writer, block.as_slice())
+}
+
+// Puts the row behind the block, where it is shown. A block without room goes to the writer first.
+#[inline(always)]
+fn put_row<W: Sink>(
+    writer: &mut W,
+    block: &mut Block,
+    k: K,
+    dump: &Dump,
+    row: Row,
+) -> Result<(), Failed>
+    requires below { row.word < 4 ^ k }
+    ensures ok { OnOk result (Drains (W.seen writer.old) (W.seen writer.new)
+        (block.old ++ shown_text k dump.now row) block.new) }
+    ensures err { OnErr result (HasBegun (W.seen writer.old) (W.seen writer.new) block.old) }
+{
+    if is_shown(dump, row) {
+        block.make_room(writer, ROW_SIZE)?;
+        push_row(block, k, dump, row);
+    }
+    Ok(())
+}
+
+// Whether the row's count stands within the bounds.
+#[inline(always)]
+fn is_shown(dump: &Dump, row: Row) -> bool
+    ensures { result ≡ is_shown dump.now row }
+{
+    dump.lower <= row.count && row.count <= dump.upper
+}
+
+// The most letters of a word: the greatest length that a `K` can be.
+pub(crate) const WORD_SIZE: usize = 31;
+
+// The most bytes that a row takes. Beside the word and the count, a layout has at most three bytes of its own.
+pub(crate) const ROW_SIZE: usize = WORD_SIZE + NUMBER_SIZE + 3;
+
+// Puts a row of the dump, in the layout that was asked for, at the end of the block.
+#[inline(always)]
+fn push_row(block: &mut Block, k: K, dump: &Dump, row: Row)
+    requires room { length block.old + ROW_SIZE ≤ BLOCK_SIZE }
+    requires below { row.word < 4 ^ k }
+    ensures { block.new ≡ block.old ++ row_text k dump.now row }
+{
+    if dump.column {
+        push_columns(block, k, dump.tab, row);
+    } else {
+        push_lines(block, k, row);
+    }
+}
+
+// Puts a word and its count, in one line, at the end of the block.
+#[inline(always)]
+pub(crate) fn push_columns(block: &mut Block, k: K, tab: bool, row: Row)
+    requires room { length block.old + ROW_SIZE ≤ BLOCK_SIZE }
+    requires below { row.word < 4 ^ k }
+    ensures { block.new ≡ block.old ++ row_in_columns k tab row }
+{
+    push_word(block, k, Word(row.word));
+    if tab {
+        block.push(b"\t");
+    } else {
+        block.push(b" ");
+    }
+    block.push_number(row.count);
+    block.push(b"\n");
+}
+
+// Puts `>COUNT` and then the word, in two lines, at the end of the block.
+#[inline(always)]
+fn push_lines(block: &mut Block, k: K, row: Row)
+    requires room { length block.old + ROW_SIZE ≤ BLOCK_SIZE }
+    requires below { row.word < 4 ^ k }
+    ensures { block.new ≡ block.old ++ row_in_lines k row }
+{
+    block.push(b">");
+    block.push_number(row.count);
+    block.push(b"\n");
+    push_word(block, k, Word(row.word));
+    block.push(b"\n");
+}
+
+// Puts the letters of a word at the end of the block.
+#[inline(always)]
+pub(crate) fn push_word(block: &mut Block, k: K, word: Word)
+    requires room { length block.old + LETTERS_SIZE ≤ BLOCK_SIZE }
+    requires below { word.0 < 4 ^ k }
+    ensures pushed { block.new ≡ block.old ++ text k word.0 }
+    ensures short { length block.new ≤ length block.old + WORD_SIZE }
+{
+    let bases = k.get();
+    // the codes of the word in the highest bits, so that its letters come first
+    let letters = letters_of(word.0 << (64 - 2 * bases));
+    block.push_front(&letters, bases as usize);
+}

@@ -1,0 +1,130 @@
+//! The histogram of a tally: how many words have which count.
+ghost use Rattle.std.specs.Prelude.{◌≡◌, ◌≤◌, ◌<◌, ◌+◌, ◌++◌, [], length, IfOk, OnOk, OnErr};
+ghost use Rattle.kc_io.specs.Sinks.{Writes, HasBegun, Drains};
+ghost use Rattle.kc_tally.specs.Histogram.{last_bin};
+ghost use Rattle.kc_report.specs.Histo.{histo_text, words_by_count, count_line, WritesUnlessMemory};
+
+use crate::report_faults::ReportFault;
+use kc_io::{BLOCK_SIZE, Block, Failed, NUMBER_SIZE, Sink, write_out};
+use kc_tally::Tally;
+use std::alloc::{AllocError, Global};
+
+/// The greatest count that a histogram can have a line of its own for.
+pub const GREATEST_HIGH: u64 = 10_000_000;
+
+/// Writes the histogram of a tally: a line for each count from 1 to `high` that words have, and one for all greater
+/// counts. Condition: `high` is 1 to 10,000,000.
+///
+/// # Errors
+/// `Write` where the writer failed or took no byte. It took a beginning of the text. `Memory` where a growth was
+/// refused; the writer was not touched.
+pub fn write_histo<W: Sink>(
+    alloc: Global,
+    writer: &mut W,
+    tally: &Tally,
+    high: u64,
+) -> Result<(), ReportFault>
+    requires some { 1 ≤ high }
+    requires most { high ≤ GREATEST_HIGH }
+    ensures { WritesUnlessMemory (W.seen writer.old) (W.seen writer.new) result (histo_text high tally.now.rows) }
+{
+    let words = words_by_count(alloc, tally, high)?;
+    Ok(histo_by_blocks(writer, tally, &words)?)
+}
+
+// The number of the tally's last bin. The bins before it have one count each.
+const LAST_BIN: u64 = 10_001;
+
+// For each count from 1 to high how many words have it.
+fn words_by_count(alloc: Global, tally: &Tally, high: u64) -> Result<Vec<u64>, AllocError>
+    requires { high ≤ GREATEST_HIGH }
+    ensures { IfOk result (λ words. words.items ≡ words_by_count high tally.now.rows) }
+{
+    if high < LAST_BIN {
+        words_of_bins(alloc, tally, high)
+    } else {
+        words_of_rows(alloc, tally, high)
+    }
+}
+
+// How many words have each count from 1 to high, from the tally's bins, which know the counts up to 10,000.
+fn words_of_bins(alloc: Global, tally: &Tally, high: u64) -> Result<Vec<u64>, AllocError>
+    requires { high < last_bin }
+    ensures { IfOk result (λ words. words.items ≡ words_by_count high tally.now.rows) }
+{
+    let mut words = Vec::with_capacity(alloc, high as usize)?;
+    for i in 0..high {
+        words.push(tally.bin(i + 1))?;
+    }
+    Ok(words)
+}
+
+// How many words have each count from 1 to high, where the bins don't know them all: row by row.
+fn words_of_rows(alloc: Global, tally: &Tally, high: u64) -> Result<Vec<u64>, AllocError>
+    requires { high ≤ GREATEST_HIGH }
+    ensures { IfOk result (λ words. words.items ≡ words_by_count high tally.now.rows) }
+{
+    let mut words = vec![in alloc; 0u64; high as usize]?;
+    count_rows(words.as_mut_slice(), tally);
+    Ok(words)
+}
+
+// Counts the rows that have one of the counts.
+fn count_rows(words: &mut [u64], tally: &Tally)
+    requires { words.old ≡ words_by_count (length words.old) [] }
+    ensures { words.new ≡ words_by_count (length words.old) tally.now.rows }
+{
+    for row in tally.rows() {
+        if row.count <= words.len() as u64 {
+            words[row.count as usize - 1] += 1;
+        }
+    }
+}
+
+// Writes the histogram, a block at a time.
+fn histo_by_blocks<W: Sink>(writer: &mut W, tally: &Tally, words: &[u64]) -> Result<(), Failed>
+    requires { words.now ≡ words_by_count (length words.now) tally.now.rows }
+    ensures { Writes (W.seen writer.old) (W.seen writer.new) result (histo_text (length words.now) tally.now.rows) }
+{
+    let mut block = Block::new();
+    let mut above = tally.row_count();
+    for i in 0..words.len() {
+        put_line(writer, &mut block, i as u64 + 1, words[i])?;
+        above -= words[i];
+    }
+    put_line(writer, &mut block, words.len() as u64 + 1, above)?;
+    write_out(writer, block.as_slice())
+}
+
+// The most bytes that a line takes: two numbers, the blank between them and the end.
+const LINE_SIZE: usize = 2 * NUMBER_SIZE + 2;
+
+// Puts the line of a count behind the block, where words have it. A block without room goes to the writer first.
+fn put_line<W: Sink>(
+    writer: &mut W,
+    block: &mut Block,
+    count: u64,
+    words: u64,
+) -> Result<(), Failed>
+    ensures ok { OnOk result (Drains (W.seen writer.old) (W.seen writer.new)
+        (block.old ++ count_line count words) block.new) }
+    ensures err { OnErr result (HasBegun (W.seen writer.old) (W.seen writer.new) block.old) }
+{
+    if words > 0 {
+        block.make_room(writer, LINE_SIZE)?;
+        push_line(block, count, words);
+    }
+    Ok(())
+}
+
+// Puts a line of the histogram, a count and how many words have it, behind the block. No words, no line.
+fn push_line(block: &mut Block, count: u64, words: u64)
+    requires room { length block.old + LINE_SIZE ≤ BLOCK_SIZE }
+    requires some { 0 < words }
+    ensures { block.new ≡ block.old ++ count_line count words }
+{
+    block.push_number(count);
+    block.push(b" ");
+    block.push_number(words);
+    block.push(b"\n");
+}

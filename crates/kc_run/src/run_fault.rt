@@ -1,0 +1,47 @@
+//! The faults of a run: why it gives no tally.
+ghost use Rattle.std.specs.Prelude.{◌≡◌};
+ghost use Rattle.kc_run.specs.declared.run_fault.RunFault.TheVariants.{Memory};
+ghost use Rattle.kc_run.specs.Runs.{booking_fault};
+
+use kc_stripe::BookFault;
+use std::alloc::AllocError;
+use thiserror::Error;
+
+/// Why a run gave no tally. Where several workers fail, the fault of the lowest-numbered one is answered.
+#[derive(Clone, Copy, Debug, Drop, Eq, Error, PartialEq)]
+pub enum RunFault {
+    /// Refusal 31: the stripe of this number is foreign: it has another setup or number, or a batch that is not the one
+    /// given under its number, or one that was booked before.
+    #[error("stripe {0} is foreign")]
+    Foreign(u32),
+    /// Refusal 33: the worker of this number could not be started.
+    #[error("no thread for worker {0}")]
+    NoThread(u32),
+    /// Refusal 34: memory was refused.
+    #[error("no memory")]
+    Memory,
+    /// Refusal 35: the stripe of this number has no place for a key, or its total would pass 2^62.
+    #[error("stripe {0} is full")]
+    Full(u32),
+}
+
+impl RunFault {
+    /// What a worker ends with whose booking into the stripe of this number was refused.
+    pub(crate) fn of_booking(stripe: u32, fault: BookFault) -> RunFault
+        ensures { result ≡ booking_fault stripe fault }
+    {
+        match fault {
+            BookFault::Twice | BookFault::Stranger => RunFault::Foreign(stripe),
+            BookFault::Full => RunFault::Full(stripe),
+            BookFault::Memory => RunFault::Memory,
+        }
+    }
+}
+
+impl From<AllocError> for RunFault {
+    ghost from_gives = { λ _ fault. fault ≡ Memory };
+
+    fn from(_error: AllocError) -> RunFault {
+        RunFault::Memory
+    }
+}

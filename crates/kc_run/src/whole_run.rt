@@ -1,0 +1,147 @@
+//! Whole runs: batches counted by several workers over one table in locked stripes.
+ghost use Rattle.std.specs.Prelude.{◌≡◌, ◌<◌, ◌≤◌, ◌^◌, All, IfOk, IfErr, length};
+ghost use Rattle.std.specs.FinMap.{empty};
+ghost use Rattle.kc_word.specs.Shared.{values};
+ghost use Rattle.kc_tally.specs.Tally.{IsTallyOf};
+ghost use Rattle.kc_share.specs.Sheet.{plan_of};
+ghost use Rattle.kc_booking.specs.Setup.{stripe_count, key_bits};
+ghost use Rattle.kc_booking.specs.Stripe.{reads_in};
+ghost use Rattle.kc_gather.specs.Gathering.{position_sum};
+ghost use Rattle.kc_run.specs.Runs.{IsGatheringFault, IsRunFault};
+
+use crate::crew::{joined, work_all, workers_of};
+use crate::gate::Gate;
+use crate::round::round_len;
+use crate::run_fault::RunFault;
+use crate::worker::Job;
+use kc_gather::{GatherFault, gather_in_parallel};
+use kc_share::{Books, Plan, Sheet};
+use kc_stripe::{Setup, Stripe, Stripes};
+use kc_table::Counts;
+use kc_tally::Tally;
+use kc_tickets::Tickets;
+use kc_word::Batch;
+use std::alloc::Global;
+use std::marker::Brand;
+use std::sync::{Arc, Wait};
+use std::thread::Threads;
+
+/// Counts batches with so many workers over one table in locked stripes: the tally of all batches, whatever the
+/// workers, the stripes and the order in which threads are served. A refused run gives no tally; where its fault names
+/// a worker or a stripe, it is one of this run's.
+///
+/// Each worker, in a thread of its own, draws numbers until there is none left, and books the batch of each number into
+/// every stripe. It does so in rounds of some 4 million positions: it cuts up all batches of a round, and books them
+/// stripe by stripe. The gate is called before the first and after the last booking of a batch.
+///
+/// Conditions: 1 to 64 workers; at most 2^40 batches, with together at most 2^62 positions; a table for each stripe,
+/// with nothing stored and keys of the setup's `key_bits`.
+pub fn run<H: Threads + Wait + Sync, C: Counts + Drop + Send, G: Gate + Sync>(
+    rt: &H,
+    alloc: Global,
+    batches: &[Arc<Batch>],
+    setup: &Setup,
+    tables: Vec<C>,
+    workers: u32,
+    gate: &G,
+) -> Result<Tally, RunFault>
+    requires workers { (1 ≤ workers) × (workers ≤ 64) }
+    requires few { length batches.now ≤ 2 ^ 40 }
+    requires small { position_sum setup.now.rule.k (values batches.now) ≤ 2 ^ 62 }
+    requires one_each { length tables.items ≡ stripe_count setup.now }
+    requires tables { All (λ table. (C.counts table ≡ empty) × (C.bits table ≡ key_bits setup.now)) tables.items }
+    ensures tally { IfOk result (IsTallyOf setup.now.rule (reads_in (values batches.now))) }
+    ensures refused { IfErr result (IsRunFault workers (stripe_count setup.now)) }
+{
+    let sheet = Sheet::new(alloc, setup.stripes(), u64::from(workers))?;
+    let count = Count {
+        batches,
+        setup,
+        workers,
+        gate,
+    };
+    run_named::<H, C, G, Brand>(rt, alloc, &count, tables, sheet)
+}
+
+// What is counted, and how.
+#[derive(Drop)]
+struct Count<'a, G: Gate> {
+    batches: &'a [Arc<Batch>],
+    setup: &'a Setup,
+    workers: u32,
+    gate: &'a G,
+}
+
+// Counts and gathers the batches. Every sheet of shares has a type of its own, N, so that no share of another gets in.
+fn run_named<
+    H: Threads + Wait + Sync,
+    C: Counts + Drop + Send,
+    G: Gate + Sync,
+    N: Books + Send + Sync,
+>(rt: &H, alloc: Global, count: &Count<G>, tables: Vec<C>, sheet: Sheet) -> Result<Tally, RunFault>
+    requires name { sheet.table ≡ N.table }
+    requires plan { sheet.plan ≡ plan_of (stripe_count count.now.setup.now) count.now.workers }
+    requires workers { (1 ≤ count.now.workers) × (count.now.workers ≤ 64) }
+    requires few { length count.now.batches.now ≤ 2 ^ 40 }
+    requires small { position_sum count.now.setup.now.rule.k (values count.now.batches.now) ≤ 2 ^ 62 }
+    requires one_each { length tables.items ≡ stripe_count count.now.setup.now }
+    requires tables { All (λ table. (C.counts table ≡ empty) × (C.bits table ≡ key_bits count.now.setup.now))
+        tables.items }
+    ensures tally { IfOk result
+        (IsTallyOf count.now.setup.now.rule (reads_in (values count.now.batches.now))) }
+    ensures refused { IfErr result (IsRunFault count.now.workers (stripe_count count.now.setup.now)) }
+{
+    let Count {
+        batches,
+        setup,
+        workers,
+        gate,
+    } = *count;
+    let (tickets, seats) = Tickets::new(alloc, batches.len() as u64, workers)?;
+    let (stripes, share) = Stripes::<C, N>::new(alloc, setup, tables, sheet)?;
+    let ready = workers_of(alloc, &stripes, seats, share)?;
+    let plan = Plan {
+        stripes: u64::from(setup.stripes()),
+        parts: u64::from(workers),
+    };
+    let job = Job {
+        batches,
+        stripes: &stripes,
+        plan,
+        tickets: &tickets,
+        gate,
+        round_len: round_len(batches, setup.rule().k(), workers),
+        stripes_apart: (setup.stripes() / workers).max(1),
+    };
+    let ended = work_all(rt, alloc, &job, ready)?;
+    let (seats, share) = joined(alloc, &stripes, ended)?;
+    tickets.close(seats);
+    let (stripes, _) = stripes.into_stripes(alloc, share)?;
+    gathered(rt, alloc, count, stripes)
+}
+
+// The tally that is gathered from the stripes. None lacks a batch, since each journal has as many entries as there are
+// batches.
+fn gathered<H: Threads + Sync, C: Counts + Drop + Send, G: Gate>(
+    rt: &H,
+    alloc: Global,
+    count: &Count<G>,
+    stripes: Vec<Stripe<C>>,
+) -> Result<Tally, RunFault>
+    requires workers { 1 ≤ count.now.workers }
+    requires small { position_sum count.now.setup.now.rule.k (values count.now.batches.now) ≤ 2 ^ 62 }
+    requires one_each { length stripes.items ≡ stripe_count count.now.setup.now }
+    requires counted { All (λ stripe. stripe.number < stripe_count count.now.setup.now
+        → length stripe.journal ≡ length count.now.batches.now) stripes.items }
+    ensures tally { IfOk result
+        (IsTallyOf count.now.setup.now.rule (reads_in (values count.now.batches.now))) }
+    ensures refused { IfErr result (IsGatheringFault (stripe_count count.now.setup.now)) }
+{
+    let (batches, setup) = (count.batches, count.setup);
+    match gather_in_parallel(rt, alloc, count.workers, stripes, batches, setup) {
+        Ok(tally) => Ok(tally),
+        Err(GatherFault::Foreign(stripe)) => Err(RunFault::Foreign(stripe)),
+        Err(GatherFault::Missing(_, _)) => unreachable!(),
+        Err(GatherFault::Memory) => Err(RunFault::Memory),
+    }
+}

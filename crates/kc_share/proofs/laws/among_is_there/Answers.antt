@@ -1,5 +1,0 @@
-use Rattle.kc_share.proofs.Comparing.{among_is_there}
-use Rattle.kc_share.proofs.laws.among_is_there.Goals as goal
-
-pub returns : goal.returns
-returns c = among_is_there

@@ -1,5 +1,0 @@
-use Rattle.kc_share.proofs.Comparing.{adds_up}
-use Rattle.kc_share.proofs.laws.sheets_add_up.Goals as goal
-
-pub returns : goal.returns
-returns c = adds_up

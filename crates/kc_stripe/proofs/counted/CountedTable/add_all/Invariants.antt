@@ -1,5 +1,0 @@
-use Rattle.kc_stripe.proofs.CountedTables.{IsAddedTo}
-use Rattle.kc_stripe.proofs.counted.CountedTable.add_all.Given as goal
-
-abbrev pub invariant-loop-key : goal.invariant-loop-key
-invariant-loop-key g l = IsAddedTo g.C.Counts.bits g.C.Counts.counts g.C.Counts.may_be_full l.fn.self l.self l.keys l.key-index

@@ -1,9 +1,0 @@
-use Rattle.kc_stripe.proofs.Codes.{word-fits, high-bits}
-use Rattle.kc_stripe.proofs.setup.Setup.key_of.Goals as goal
-
-pub forward-requires : goal.forward-requires
-forward-requires c = word-fits c.self.inside.rule.k _ _ c.self.invariant.word_bits (rw (← c.self.view_is) at c.requires)
-
-pub returns-clause-below : goal.returns-clause-below
-returns-clause-below c =
-    rw (← c.self.view_is) (high-bits c.self.inside.rule.k c.self.inside.stripe_bits _ _ c.self.invariant.word_bits c.self.invariant.stripe_bits_few c.forward.ensures.within)

@@ -1,7 +1,0 @@
-use Rattle.std.proofs.Common.{arith}
-use Rattle.kc_stripe.proofs.Codes.{stripes-shifted, stripes-few}
-use Rattle.kc_stripe.proofs.setup.Setup.stripes.Goals as goal
-
-pub returns-clause-at_most : goal.returns-clause-at_most
-returns-clause-at_most c =
-    omega (arith, stripes-shifted c.self.inside.stripe_bits c.self.invariant.stripe_bits_at_most, stripes-few c.self.inside.stripe_bits c.self.invariant.stripe_bits_at_most)

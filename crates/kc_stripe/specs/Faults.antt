@@ -1,9 +1,0 @@
--- What a refusal of a table is for a stripe.
-use Rattle.kc_table.specs.declared.fault.TableFault.{TableFault}
-use Rattle.kc_table.specs.declared.fault.TableFault.TheVariants as table
-use Rattle.kc_stripe.specs.declared.fault.BookFault.{BookFault}
-use Rattle.kc_stripe.specs.declared.fault.BookFault.TheVariants as book
-
-abbrev pub booking_fault : TableFault → BookFault
-booking_fault table.Full = book.Full
-booking_fault table.Memory = book.Memory

@@ -1,0 +1,224 @@
+//! Seeded reads, whose words are counted in stripes, and by the slow tally.
+ghost use Rattle.std.specs.Prelude.{◌≤◌};
+ghost use Rattle.kc_tally.specs.Histogram.{last_bin};
+
+use crate::sample_batches::{batches_of, plain_stripe};
+use kc_fastx::SeqRead;
+use kc_hash::Hash;
+use kc_stripe::{BookFault, Setup, Stripe, cut_up};
+use kc_table::{Counts, PlainCounts, QuotientTable};
+use kc_word::slow_count::base_count;
+use kc_word::{Batch, K, Rule};
+use rand_core::SeedableRng;
+use rand_core::utils::NextWord;
+use rand_xoshiro::SplitMix64;
+use std::alloc::{AllocError, Global};
+use std::process::Abort;
+use std::sync::Arc;
+use std::test::Fail;
+
+// Words of three bases on both strands, in eight stripes.
+pub(crate) fn seeded_setup() -> Result<Setup, Fail> {
+    let rule = Rule::new(K::new(3).ok_or("no length of a word")?, true, b'!');
+    Ok(Setup::new(rule, Hash::seeded(6, 1), 8).ok_or("no setup")?)
+}
+
+// So many random bases, some of them N.
+pub(crate) fn random_read(
+    alloc: Global,
+    random: &mut SplitMix64,
+    length: u64,
+) -> Result<SeqRead, Fail> {
+    let mut bases = Vec::new(alloc);
+    for _ in 0..length {
+        bases.push(b"ACGTACGTN"[random.next_word() as usize % 9])?;
+    }
+    let read = SeqRead::new(bases, None).ok_or("no read")?;
+    Ok(read)
+}
+
+// Reads of random lengths below 50.
+fn random_reads(alloc: Global, random: &mut SplitMix64) -> Result<Vec<SeqRead>, Fail> {
+    let mut reads = Vec::new(alloc);
+    for _ in 0..40 {
+        let length = random.next_word() % 50;
+        reads.push(random_read(alloc, random, length)?)?;
+    }
+    Ok(reads)
+}
+
+// The rows of the slow tally.
+pub(crate) fn slow_rows(
+    alloc: Global,
+    reads: &[SeqRead],
+    rule: &Rule,
+) -> Result<Vec<(u64, u64)>, Fail> {
+    let Some(_) = base_count(reads) else {
+        return Err(Fail::from("too many bases"));
+    };
+    let mut rows = Vec::new(alloc);
+    for row in &kc_tally::slow_tally::tally(alloc, reads, rule)? {
+        rows.push((row.word, row.count))?;
+    }
+    Ok(rows)
+}
+
+// Rows of all stripes, in the order of the words.
+pub(crate) fn sorted_rows<C: Counts>(
+    alloc: Global,
+    stripes: &[Stripe<C>],
+) -> Result<Vec<(u64, u64)>, AllocError> {
+    let mut rows = Vec::new(alloc);
+    for stripe in stripes {
+        for row in &stripe.rows(alloc)? {
+            rows.push((row.word, row.count))?;
+        }
+    }
+    // no word stands in two stripes
+    rows.sort_unstable();
+    Ok(rows)
+}
+
+// So many indices, each once, in another order.
+fn shuffled(alloc: Global, count: usize) -> Result<Vec<(u64, u64)>, AllocError> {
+    let mut order = Vec::new(alloc);
+    for index in 0..count as u64 {
+        order.push((index.wrapping_mul(0x9e37_79b9_7f4a_7c15), index))?;
+    }
+    order.sort_unstable();
+    Ok(order)
+}
+
+// Books the batch in each of the stripes.
+fn book_batch<C: Counts>(
+    alloc: Global,
+    setup: &Setup,
+    stripes: &mut [Stripe<C>],
+    batch: &Arc<Batch>,
+) -> Result<(), BookFault> {
+    let cuts = cut_up(alloc, setup, batch)?;
+    for (stripe, cut) in stripes.iter_mut().zip(&cuts) {
+        stripe.book(cut)?;
+    }
+    Ok(())
+}
+
+// Books batches of seven positions in all stripes, in another order than that of their numbers.
+fn book_everywhere<C: Counts>(
+    alloc: Global,
+    setup: &Setup,
+    stripes: &mut [Stripe<C>],
+    reads: &[SeqRead],
+) -> Result<(), Fail> {
+    let batches = batches_of(alloc, setup, reads, 7)?;
+    for (_, index) in &shuffled(alloc, batches.len())? {
+        let batch = batches.get(*index as usize).ok_or("no batch")?;
+        book_batch(alloc, setup, stripes, batch)?;
+    }
+    Ok(())
+}
+
+// How many words are in this bin, over all stripes.
+fn words_in_bin<C: Counts>(stripes: &[Stripe<C>], bin: u64) -> u64
+    requires some { 1 ≤ bin }
+    requires within { bin ≤ last_bin }
+{
+    let mut words = 0u64;
+    for stripe in stripes {
+        words = words.saturating_add(stripe.bin(bin));
+    }
+    words
+}
+
+// How many rows have this count.
+fn rows_of_count(rows: &[(u64, u64)], wanted: u64) -> u64 {
+    let mut found = 0u64;
+    for (_, count) in rows {
+        if *count == wanted {
+            found = found.saturating_add(1);
+        }
+    }
+    found
+}
+
+// The bins 1 to 8 are those of the rows.
+fn assert_bins<C: Counts>(rt: &impl Abort, stripes: &[Stripe<C>], rows: &[(u64, u64)]) {
+    for bin in 1..9 {
+        assert_eq!(rt; words_in_bin(stripes, bin), rows_of_count(rows, bin));
+    }
+}
+
+// The totals of the stripes.
+fn total_booked<C: Counts>(stripes: &[Stripe<C>]) -> u64 {
+    let mut total = 0u64;
+    for stripe in stripes {
+        total = total.saturating_add(stripe.total());
+    }
+    total
+}
+
+// The counts of the rows.
+fn total_of(rows: &[(u64, u64)]) -> u64 {
+    let mut total = 0u64;
+    for (_, count) in rows {
+        total = total.saturating_add(*count);
+    }
+    total
+}
+
+// Books seeded reads in the eight stripes: rows, totals and bins are those of the slow tally.
+fn hold_the_tally<C: Counts + Drop>(
+    rt: &impl Abort,
+    alloc: Global,
+    mut stripes: Vec<Stripe<C>>,
+) -> Result<(), Fail> {
+    let setup = seeded_setup()?;
+    let reads = random_reads(alloc, &mut SplitMix64::seed_from_u64(11))?;
+    let want = slow_rows(alloc, &reads, setup.rule())?;
+    book_everywhere(alloc, &setup, &mut stripes, &reads)?;
+    assert_eq!(rt; sorted_rows(alloc, &stripes)?.as_slice(), want.as_slice());
+    assert_eq!(rt; total_booked(&stripes), total_of(&want));
+    assert_bins(rt, &stripes, &want);
+    Ok(())
+}
+
+// An empty stripe over a quotient table with a slot for each key.
+fn quotient_stripe(
+    alloc: Global,
+    setup: &Setup,
+    number: u32,
+) -> Result<Stripe<QuotientTable>, Fail> {
+    if setup.key_bits() != 3 || number >= setup.stripes() {
+        return Err(Fail::from("another setup"));
+    }
+    let table = QuotientTable::new(alloc, 3, 3, 3)?;
+    let stripe = Stripe::new(alloc, setup, number, table)?;
+    Ok(stripe)
+}
+
+// The eight stripes over a `BTreeMap`.
+fn plain_stripes(alloc: Global) -> Result<Vec<Stripe<PlainCounts>>, Fail> {
+    let setup = seeded_setup()?;
+    let mut stripes = Vec::new(alloc);
+    for number in 0..8 {
+        stripes.push(plain_stripe(alloc, &setup, number)?)?;
+    }
+    Ok(stripes)
+}
+
+// The eight stripes over quotient tables.
+fn quotient_stripes(alloc: Global) -> Result<Vec<Stripe<QuotientTable>>, Fail> {
+    let setup = seeded_setup()?;
+    let mut stripes = Vec::new(alloc);
+    for number in 0..8 {
+        stripes.push(quotient_stripe(alloc, &setup, number)?)?;
+    }
+    Ok(stripes)
+}
+
+#[test]
+fn stripes_hold_the_tally(rt: HostRuntime) -> Result<(), Fail> {
+    let alloc = rt.alloc();
+    hold_the_tally(&rt, alloc, plain_stripes(alloc)?)?;
+    hold_the_tally(&rt, alloc, quotient_stripes(alloc)?)
+}

@@ -1,0 +1,191 @@
+//! The hash table of remainders, which grows by doubling.
+ghost use Rattle.std.specs.Prelude.{◌≡◌, ℕ, ◌+◌, ◌-◌, ◌<◌, ◌≤◌, ◌^◌, ◌↔◌, min, true};
+ghost use Rattle.std.specs.Prelude.{IfOk, IfSome, IfNone, IsSome, IsOk, OnOk, OnErr};
+ghost use Rattle.std.specs.FinMap.{empty};
+ghost use Rattle.kc_table.specs.Counts.{KeyCounts, IsStored, count_at, readied, added};
+ghost use Rattle.kc_table.specs.QuotientTable.{Table, counts_in, HoldsKey, IsShutOut, IsFoundAfter, IsMissedAfter};
+ghost use Rattle.kc_table.specs.QuotientTable.{IsCrowded, MayBeTooSmall, MayBeFull};
+ghost use Rattle.kc_table.specs.Reprobing.{IsPlaceOf};
+ghost use Rattle.kc_table.specs.Sizes.{place_count, spread_log, most_bits, least_log, most_log, count_bits};
+
+use crate::counts::Counts;
+use crate::reprobes::Reprobing;
+use crate::slots::Slots;
+use crate::table_fault::TableFault;
+use kc_lemmas::Counter;
+use std::alloc::{AllocError, Global};
+use std::marker::Model;
+
+/// The map as a table of 2^log slots, which grows up to 2^max_log. A slot is a word that holds a tag, which is a key's
+/// remainder and its number of reprobes, and the low bits of the key's count; the slot's index gives the rest of the
+/// key, and the count's high bits stand apart.
+#[derive(Drop)]
+pub struct QuotientTable {
+    alloc: Global,
+    max_log: u32,
+    slots: Slots,
+}
+
+impl Model for QuotientTable {
+    ghost use Rattle.kc_table.specs.QuotientTable.{Table, IsWithinLimits};
+    ghost use Rattle.kc_table.specs.Slot.{contents_of};
+
+    ghost Value = { Table };
+
+    ghost view = { λ t. record {
+      bits = t.slots.bits;
+      max_log = t.max_log;
+      log = t.slots.log;
+      slots = contents_of t.slots.log t.slots.slots.items;
+    } };
+
+    ghost invariant = { λ t. IsWithinLimits t.slots.bits t.slots.log t.max_log };
+}
+
+impl QuotientTable {
+    /// An empty table of 2^log slots, which may grow to 2^max_log, for keys of so many bits.
+    pub fn new(
+        alloc: Global,
+        bits: u32,
+        log: u32,
+        max_log: u32,
+    ) -> Result<QuotientTable, AllocError>
+        requires few_bits { bits ≤ most_bits }
+        requires enough_slots { min least_log bits ≤ log }
+        requires may_grow { log ≤ max_log }
+        requires enough_places { min spread_log bits ≤ max_log }
+        requires few_slots { max_log ≤ min most_log bits }
+        ensures bits { IfOk result (λ t. t.bits ≡ bits) }
+        ensures log { IfOk result (λ t. t.log ≡ log) }
+        ensures max_log { IfOk result (λ t. t.max_log ≡ max_log) }
+        ensures empty { IfOk result (λ t. counts_in t.slots ≡ empty) }
+    {
+        let slots = Slots::empty(alloc, bits, log)?;
+        Ok(QuotientTable {
+            alloc,
+            max_log,
+            slots,
+        })
+    }
+
+    /// The table has 2^log slots.
+    pub fn log(&self) -> u32
+        ensures { result ≡ self.now.log }
+    {
+        self.slots.log
+    }
+
+    /// The slot that holds the key. The key's places are read in their order, up to the one that holds it or is
+    /// empty, so at most 63 slots. It takes no memory.
+    #[inline]
+    pub fn find(&self, key: u64, steps: &mut Counter) -> Option<u64>
+        requires { key < 2 ^ self.now.bits }
+        ensures stored { IsSome result ↔ IsStored (counts_in self.now.slots) key }
+        ensures slot { IfSome result (λ s. HoldsKey self.now.slots s key) }
+        ensures place { IfSome result (λ s. IsPlaceOf self.now.log key s) }
+        ensures home { self.now.log ≡ self.now.bits → IfSome result (λ s. s ≡ key) }
+        ensures found_after { IfSome result (IsFoundAfter self.now key (steps.new.count - steps.old.count)) }
+        ensures missed_after { IfNone result (IsMissedAfter self.now key (steps.new.count - steps.old.count)) }
+        ensures reads { steps.new.count ≤ steps.old.count + place_count }
+    {
+        match self.slots.reprobe(key, steps) {
+            Reprobing::Found { place } => Some(place as u64),
+            Reprobing::Free { .. } => None,
+            Reprobing::Crowded => None,
+        }
+    }
+}
+
+impl Counts for QuotientTable {
+    ghost bits = { λ t. t.bits };
+
+    ghost counts = { λ t. counts_in t.slots };
+
+    ghost may_be_full = { MayBeFull };
+
+    fn key_bits(&self) -> u32 {
+        self.slots.bits
+    }
+
+    /// Stores the key, as the trait says. The table grows only where other keys stand at all places of this one, and
+    /// then to the smallest size at which neither this key nor a stored one finds all its places taken.
+    #[inline]
+    fn ready(&mut self, key: u64) -> Result<(), TableFault>
+        requires { key < 2 ^ self.old.bits }
+        ensures known { IsStored (counts_in self.old.slots) key → IsOk result }
+        ensures stored { OnOk result (counts_in self.new.slots ≡ readied (counts_in self.old.slots) key) }
+        ensures refused { OnErr result (counts_in self.new.slots ≡ counts_in self.old.slots) }
+        ensures full_only_there { result ≡ Err TableFault.Full → MayBeFull self.old (counts_in self.old.slots) key }
+        ensures same_bits { self.new.bits ≡ self.old.bits }
+        ensures same_limits { (m : KeyCounts) (q : ℕ) → MayBeFull self.new m q ↔ MayBeFull self.old m q }
+        ensures unchanged { OnErr result (self.new ≡ self.old) }
+        ensures untouched { IsStored (counts_in self.old.slots) key → self.new ≡ self.old }
+        ensures same_max_log { self.new.max_log ≡ self.old.max_log }
+        ensures within_max_log { self.new.log ≤ self.new.max_log }
+        ensures placed { ¬ IsShutOut self.old key → result ≡ Ok tt }
+        ensures stays { ¬ IsShutOut self.old key → self.new.log ≡ self.old.log }
+        ensures uncrowded { ¬ IsCrowded (counts_in self.old.slots) self.old.log key → self.new.log ≡ self.old.log }
+        ensures grown { OnOk result (IsShutOut self.old key → self.old.log < self.new.log) }
+        ensures never_smaller { self.old.log ≤ self.new.log }
+        ensures smallest { (log : ℕ) → self.old.log ≤ log → log < self.new.log
+            → MayBeTooSmall self.old.bits log (counts_in self.old.slots) key }
+    {
+        match self.slots.reprobe(key, &mut Counter::zero()) {
+            Reprobing::Found { .. } => Ok(()),
+            Reprobing::Free { place, tag } => {
+                self.slots.put(key, place, tag, 0);
+                Ok(())
+            }
+            Reprobing::Crowded => {
+                self.slots = self.slots.grown(self.alloc, key, self.max_log)?;
+                Ok(())
+            }
+        }
+    }
+
+    /// Adds one to the key's count, as the trait says. The table keeps its size.
+    #[inline]
+    fn add(&mut self, key: u64)
+        requires in_range { key < 2 ^ self.old.bits }
+        requires stored { IsStored (counts_in self.old.slots) key }
+        requires room { count_at (counts_in self.old.slots) key < 2 ^ count_bits }
+        ensures counted { counts_in self.new.slots ≡ added (counts_in self.old.slots) key }
+        ensures same_bits { self.new.bits ≡ self.old.bits }
+        ensures same_limits { (m : KeyCounts) (q : ℕ) → MayBeFull self.new m q ↔ MayBeFull self.old m q }
+        ensures same_log { self.new.log ≡ self.old.log }
+        ensures same_max_log { self.new.max_log ≡ self.old.max_log }
+    {
+        self.increment(key);
+    }
+
+    /// Adds one to the key's count and tells the new count, as the trait says. The table keeps its size.
+    #[inline]
+    fn increment(&mut self, key: u64) -> u64
+        requires in_range { key < 2 ^ self.old.bits }
+        requires stored { IsStored (counts_in self.old.slots) key }
+        requires room { count_at (counts_in self.old.slots) key < 2 ^ count_bits }
+        ensures told { result ≡ count_at (counts_in self.old.slots) key + 1 }
+        ensures counted { counts_in self.new.slots ≡ added (counts_in self.old.slots) key }
+        ensures same_bits { self.new.bits ≡ self.old.bits }
+        ensures same_limits { (m : KeyCounts) (q : ℕ) → MayBeFull self.new m q ↔ MayBeFull self.old m q }
+        ensures same_log { self.new.log ≡ self.old.log }
+        ensures same_max_log { self.new.max_log ≡ self.old.max_log }
+    {
+        match self.find(key, &mut Counter::zero()) {
+            Some(place) => self.slots.count_key(key, place as usize),
+            None => unreachable!(),
+        }
+    }
+
+    #[inline]
+    fn get(&self, key: u64) -> u64 {
+        match self.find(key, &mut Counter::zero()) {
+            Some(place) => self.slots.slots.count(place as usize),
+            None => 0,
+        }
+    }
+
+    fn rows(&self, alloc: Global) -> Result<Vec<(u64, u64)>, AllocError> {
+        self.slots.entries(alloc)
+    }
+}

@@ -1,5 +1,0 @@
-use Rattle.kc_tally.proofs.Tallies.{bounded_tally}
-use Rattle.kc_tally.proofs.laws.bounded_tally.Goals as goal
-
-pub returns : goal.returns
-returns c = bounded_tally

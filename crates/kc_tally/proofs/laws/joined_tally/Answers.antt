@@ -1,5 +1,0 @@
-use Rattle.kc_tally.proofs.Tallies.{joined_tally}
-use Rattle.kc_tally.proofs.laws.joined_tally.Goals as goal
-
-pub returns : goal.returns
-returns c = joined_tally

@@ -1,5 +1,0 @@
-use Rattle.kc_tally.proofs.Tallies.{tally-AreRows}
-use Rattle.kc_tally.proofs.laws.rows_of_tally.Goals as goal
-
-pub returns : goal.returns
-returns c = tally-AreRows

@@ -1,5 +1,0 @@
-use Rattle.kc_tally.proofs.Tallies.{tally_total}
-use Rattle.kc_tally.proofs.laws.tally_total.Goals as goal
-
-pub returns : goal.returns
-returns c = tally_total

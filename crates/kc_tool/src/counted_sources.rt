@@ -1,0 +1,144 @@
+//! The tally of the reads of all sources: they are read, cleaned and cut into batches, and the words of the batches are
+//! counted by as many threads as are asked for.
+ghost use Rattle.std.specs.Prelude.{◌≡◌, ◌≤◌, IfOk, IfErr};
+ghost use Rattle.kc_fastx.specs.Parsing.{most_bytes};
+ghost use Rattle.kc_booking.specs.Setup.{stripe_count};
+ghost use Rattle.kc_tool.specs.Tallies.{CutsSources, RefusesSources, CutsPieces, RefusesSource, TalliesSources};
+ghost use Rattle.kc_command.specs.Settings.{rule_of};
+
+use crate::count_progress::{Progress, ToldGate, ToldSource};
+use crate::tool_faults::ToolFault;
+use kc_command::Options;
+use kc_fastx::{FastxFault, Reading, Source};
+use kc_gather::gather_laws;
+use kc_hash::Hash;
+use kc_run::{quotient_tables, run};
+use kc_stripe::Setup;
+use kc_tally::Tally;
+use kc_word::{Cutting, Rule, clean};
+use std::alloc::Global;
+use std::sync::Wait;
+use std::thread::Threads;
+
+/// The most bytes that the sources of one count may have together.
+pub const MOST_BYTES: u64 = 1 << 36;
+
+/// The seed of the hash that divides the words among the stripes. No report depends on it.
+const SEED: u64 = 1;
+
+/// The tally of the reads of all sources, in order, counted as the options say. How many bytes each read gave is told,
+/// how many batches there are, and each that was booked.
+///
+/// # Errors
+/// `Fastx` with the fault of the first source that has one, and its number from 1. `Run` where a thread, a place in a
+/// table or memory for them was refused. `Memory` where a growth was refused elsewhere.
+pub(crate) fn count_sources<H: Threads + Wait + Sync, R: Source + Drop, P: Progress + Sync>(
+    rt: &H,
+    alloc: Global,
+    sources: Vec<R>,
+    options: &Options,
+    progress: &P,
+) -> Result<Tally, ToolFault>
+    ensures tally { IfOk result (TalliesSources R.seen sources.items options.now) }
+    ensures fault { IfErr result (RefusesSources R.seen sources.items) }
+{
+    let cutting = cut_sources(alloc, sources, options, progress)?;
+    let rule = options.rule();
+    // what is known of a length, of the size of a batch, and of the tally of a cutting
+    let _bases = rule.k().get();
+    let _positions = options.batch();
+    gather_laws::tally_of_cutting();
+    let batches = cutting.finish(alloc)?;
+    progress.counting_begins(batches.len() as u64);
+    let setup = setup_of(options);
+    let tables = quotient_tables(alloc, &setup, options.size())?;
+    let tally = run(
+        rt,
+        alloc,
+        &batches,
+        &setup,
+        tables,
+        options.workers(),
+        &ToldGate { progress },
+    )?;
+    Ok(tally)
+}
+
+// The cutting of the reads of all sources, in order. Each source is read whole before the next one, and each read is
+// cleaned and cut before the next one is read, so that the text of one read is in memory at a time. A fault is that of
+// the first source that has one, with its number from 1, or `Memory` where a growth was refused outside the reading.
+fn cut_sources<R: Source + Drop, P: Progress>(
+    alloc: Global,
+    sources: Vec<R>,
+    options: &Options,
+    progress: &P,
+) -> Result<Cutting, ToolFault>
+    ensures cut { IfOk result (CutsSources R.seen sources.items (rule_of options.now) options.now.batch) }
+    ensures fault { IfErr result (RefusesSources R.seen sources.items) }
+{
+    let rule = options.rule();
+    let mut cutting = Cutting::new(alloc, rule.k(), options.batch());
+    let mut left = MOST_BYTES;
+    let mut number = 0u64;
+    let _fits = sources.len();
+    for source in sources {
+        let mut source = ToldSource { source, progress };
+        number += 1;
+        left -= cut_source(alloc, &mut source, number, left, &rule, &mut cutting)?;
+    }
+    Ok(cutting)
+}
+
+// Reads this source whole and cuts the pieces of its reads behind those that were cut. It answers how many bytes the
+// source gave. A fault of the lines is told where the rest was read too.
+fn cut_source<R: Source>(
+    alloc: Global,
+    source: &mut R,
+    number: u64,
+    limit: u64,
+    rule: &Rule,
+    cutting: &mut Cutting,
+) -> Result<u64, ToolFault>
+    requires { limit ≤ most_bytes }
+    ensures pieces { let Cuts = CutsPieces (R.seen source.old) (R.seen source.new) limit rule.now in
+        IfOk result (λ count. Cuts count cutting.old cutting.new) }
+    ensures fault { IfErr result (RefusesSource (R.seen source.old) (R.seen source.new) number limit) }
+{
+    let mut reading = match Reading::new(alloc, limit) {
+        Ok(reading) => reading,
+        Err(_) => {
+            return Err(ToolFault::Fastx {
+                source: number,
+                fault: FastxFault::Memory,
+            });
+        }
+    };
+    'reads: loop {
+        match reading.next_read(alloc, source) {
+            Ok(Some(read)) => {
+                let piece = clean(alloc, &read, rule)?;
+                cutting.push(alloc, &piece)?;
+            }
+            Ok(None) => return Ok(reading.byte_count()),
+            Err(fault) => {
+                return Err(ToolFault::Fastx {
+                    source: number,
+                    fault: reading.settle(source, fault),
+                });
+            }
+        }
+    }
+}
+
+// The setup that the options ask for: how words are divided among the stripes.
+fn setup_of(options: &Options) -> Setup
+    ensures rule { result.rule ≡ rule_of options.now }
+    ensures stripes { stripe_count result ≡ options.now.stripes }
+{
+    let rule = options.rule();
+    let hash = Hash::seeded(2 * rule.k().get(), SEED);
+    let Some(setup) = Setup::new(rule, hash, options.stripes()) else {
+        unreachable!()
+    };
+    setup
+}

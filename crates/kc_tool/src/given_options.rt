@@ -1,0 +1,61 @@
+//! What the options of a command line ask for, where an option that is refused is a fault of the program.
+ghost use Rattle.std.specs.Prelude.{MatchResult, IfOk, Some, None, ◌≡◌, ◌≤◌, ◌^◌};
+ghost use Rattle.clap.specs.Words.{found_of, rows_of};
+ghost use Rattle.kc_command.specs.Arguments.{
+  AsksFor,
+  AsksForDump,
+  first_bad,
+  first_bad_of_dump,
+  first_bad_of_histo,
+  high_of,
+};
+ghost use Rattle.kc_command.specs.declared.option_name.OptionName.{OptionName};
+
+use crate::tool_faults::ToolFault;
+use clap::ArgMatches;
+use kc_command::Options;
+use kc_report::Dump;
+use std::alloc::Global;
+
+/// What the options of `count` ask for.
+///
+/// # Errors
+/// `BadOption` with the first option, in the order of the help, whose value is outside its limits, whether it acts or
+/// not. An absent `--mer-len` is so.
+pub fn options(alloc: Global, matches: &ArgMatches<'_>) -> Result<Options, ToolFault>
+    ensures first_bad { MatchResult result (λ o. first_bad (rows_of (found_of matches.now)) ≡ None)
+        (λ fault. (name : OptionName) × (first_bad (rows_of (found_of matches.now)) ≡ Some name)
+        × (fault ≡ ToolFault.BadOption name)) }
+    ensures asked { IfOk result (AsksFor (rows_of (found_of matches.now))) }
+{
+    Ok(kc_command::options(alloc, matches)?)
+}
+
+/// What the options of `dump` ask for. They are options of `count` too. It takes no memory.
+///
+/// # Errors
+/// `BadOption` with the first of `--lower-count` and `--upper-count` whose value is not 0 to 2^62.
+pub fn dump_options(matches: &ArgMatches<'_>) -> Result<Dump, ToolFault>
+    ensures first_bad { MatchResult result (λ d. first_bad_of_dump (rows_of (found_of matches.now)) ≡ None)
+        (λ fault. (name : OptionName) × (first_bad_of_dump (rows_of (found_of matches.now)) ≡ Some name)
+        × (fault ≡ ToolFault.BadOption name)) }
+    ensures asked { IfOk result (AsksForDump (rows_of (found_of matches.now))) }
+    ensures limits { IfOk result (λ dump. (dump.lower ≤ 2 ^ 62) × (dump.upper ≤ 2 ^ 62)) }
+{
+    Ok(kc_command::dump_options(matches)?)
+}
+
+/// The greatest count that has a line of its own in a histogram, as `--high` of `histo` and of `count` asks for. It
+/// takes no memory.
+///
+/// # Errors
+/// `BadOption` with `--high` where its value is not 1 to 10,000,000.
+pub fn high_of(matches: &ArgMatches<'_>) -> Result<u64, ToolFault>
+    ensures first_bad { MatchResult result (λ h. first_bad_of_histo (rows_of (found_of matches.now)) ≡ None)
+        (λ fault. (name : OptionName) × (first_bad_of_histo (rows_of (found_of matches.now)) ≡ Some name)
+        × (fault ≡ ToolFault.BadOption name)) }
+    ensures asked { IfOk result (λ high. high_of (rows_of (found_of matches.now)) ≡ Some high) }
+    ensures limits { IfOk result (λ high. (1 ≤ high) × (high ≤ 10000000)) }
+{
+    Ok(kc_command::high_of(matches)?)
+}

@@ -1,0 +1,115 @@
+//! The refusals of the program.
+ghost use Rattle.std.specs.Prelude.{◌≡◌};
+ghost use Rattle.kc_tool.specs.declared.tool_faults.ToolFault.TheVariants.{BadOption, Memory, Run, Write};
+ghost use Rattle.kc_tool.specs.Faults.{report_fault};
+
+use kc_command::OptionName;
+use kc_fastx::FastxFault;
+use kc_io::Failed;
+use kc_report::ReportFault;
+use kc_run::RunFault;
+use std::alloc::{AllocError, AllocFailed};
+use thiserror::Error;
+
+/// Why a command could not be carried out.
+#[derive(Debug, Drop, PartialEq, Eq, Error)]
+pub enum ToolFault {
+    /// A source could not be read as sequence reads. Sources are numbered from 1.
+    #[error("{fault}, source {source}")]
+    Fastx {
+        /// The number of the source.
+        source: u64,
+        /// What is wrong with it.
+        fault: FastxFault,
+    },
+    /// The first line of a table is no header.
+    #[error("bad header")]
+    BadHeader,
+    /// This line of a table, numbered from 1, is no row in its place.
+    #[error("bad row, line {0}")]
+    BadRow(u64),
+    /// A table has no end line, or a wrong one, or goes on behind it.
+    #[error("bad end")]
+    BadEnd,
+    /// The source of a table gave more bytes than its limit.
+    #[error("table too long")]
+    TableTooLong,
+    /// The source of a table failed.
+    #[error("table read failed")]
+    TableRead,
+    /// A growth was refused.
+    #[error("no memory")]
+    Memory,
+    /// An option has a value outside its limits.
+    #[error("bad option")]
+    BadOption(OptionName),
+    /// This asked word, numbered from 1, is no word of the tally's length.
+    #[error("bad word {0}")]
+    BadWord(u64),
+    /// The writer failed, or took no byte.
+    #[error("write failed")]
+    Write,
+    /// The counting was refused.
+    #[error("{0}")]
+    Run(RunFault),
+    /// The file of this name could not be opened, or not be created.
+    #[error("cannot open {0}")]
+    OpenFailed(String),
+}
+
+impl From<AllocError> for ToolFault {
+    ghost from_gives = { λ _ fault. fault ≡ Memory };
+
+    fn from(_error: AllocError) -> ToolFault {
+        ToolFault::Memory
+    }
+}
+
+impl<T: Drop> From<AllocFailed<T>> for ToolFault {
+    ghost from_gives = { λ _ fault. fault ≡ Memory };
+
+    fn from(_error: AllocFailed<T>) -> ToolFault {
+        ToolFault::Memory
+    }
+}
+
+impl From<Failed> for ToolFault {
+    ghost from_gives = { λ _ fault. fault ≡ Write };
+
+    fn from(_error: Failed) -> ToolFault {
+        ToolFault::Write
+    }
+}
+
+impl From<OptionName> for ToolFault {
+    ghost from_gives = { λ name fault. fault ≡ BadOption name };
+
+    fn from(name: OptionName) -> ToolFault {
+        ToolFault::BadOption(name)
+    }
+}
+
+impl From<RunFault> for ToolFault {
+    ghost from_gives = { λ why fault. fault ≡ Run why };
+
+    fn from(fault: RunFault) -> ToolFault {
+        ToolFault::Run(fault)
+    }
+}
+
+impl From<ReportFault> for ToolFault {
+    ghost from_gives = { λ report fault. fault ≡ report_fault report };
+
+    fn from(fault: ReportFault) -> ToolFault {
+        match fault {
+            ReportFault::BadHeader => ToolFault::BadHeader,
+            ReportFault::BadRow(line) => ToolFault::BadRow(line),
+            ReportFault::BadEnd => ToolFault::BadEnd,
+            ReportFault::TableTooLong => ToolFault::TableTooLong,
+            ReportFault::TableRead => ToolFault::TableRead,
+            ReportFault::Memory => ToolFault::Memory,
+            ReportFault::BadWord(number) => ToolFault::BadWord(number),
+            ReportFault::Write => ToolFault::Write,
+        }
+    }
+}

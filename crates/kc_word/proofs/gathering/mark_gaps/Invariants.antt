@@ -1,6 +1,0 @@
-use Rattle.std.proofs.Common.{◌+◌}
-use Rattle.kc_word.specs.Gathering.{AreGaps}
-use Rattle.kc_word.proofs.gathering.mark_gaps.Given as goal
-
-abbrev pub invariant-loop-i : goal.invariant-loop-i
-invariant-loop-i l = AreGaps l.rule l.read (l.from + l.i) l.runs.items

@@ -1,5 +1,0 @@
-use Rattle.kc_word.proofs.Cleaning.{length-cleaned}
-use Rattle.kc_word.proofs.laws.cleaned_length.Goals as goal
-
-pub returns : goal.returns
-returns c = length-cleaned

@@ -1,5 +1,0 @@
-use Rattle.kc_word.proofs.Cuttings.{get_or-cutting}
-use Rattle.kc_word.proofs.laws.cutting_numbers.Goals as goal
-
-pub returns : goal.returns
-returns c = get_or-cutting

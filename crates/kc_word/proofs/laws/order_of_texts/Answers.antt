@@ -1,5 +1,0 @@
-use Rattle.kc_word.proofs.WordLemmas.{slice_cmp-text}
-use Rattle.kc_word.proofs.laws.order_of_texts.Goals as goal
-
-pub returns : goal.returns
-returns c = slice_cmp-text

@@ -1,5 +1,0 @@
-use Rattle.kc_word.proofs.Cuttings.{position_total-le}
-use Rattle.kc_word.proofs.laws.positions_within_bytes.Goals as goal
-
-pub returns : goal.returns
-returns c = position_total-le

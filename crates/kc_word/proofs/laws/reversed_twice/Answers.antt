@@ -1,6 +1,0 @@
-use Rattle.kc_word.specs.Word.{text}
-use Rattle.kc_word.proofs.WordLemmas.{reverse_complement-twice, are_bases-text}
-use Rattle.kc_word.proofs.laws.reversed_twice.Goals as goal
-
-pub returns : goal.returns
-returns c = λ k n. reverse_complement-twice (text k n) (are_bases-text k n)

@@ -1,6 +1,0 @@
-use Rattle.kc_word.specs.Word.{text}
-use Rattle.kc_word.proofs.Looking.{IsCountedTo}
-use Rattle.kc_word.proofs.slow.occurrences_in.Given as goal
-
-abbrev pub invariant-loop-position : goal.invariant-loop-position
-invariant-loop-position l = IsCountedTo l.rule l.read (text l.rule.k l.word.0) l.position l.count

@@ -1,0 +1,5 @@
+use Rattle.kc_word.proofs.Gatherings.{IsTaken}
+use Rattle.kc_word.proofs.usable_codes.gather.Given as goal
+
+abbrev pub invariant-loop-i : goal.invariant-loop-i
+invariant-loop-i l = IsTaken l.rule l.read l.from l.i l.word l.seen

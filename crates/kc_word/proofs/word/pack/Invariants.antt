@@ -1,6 +1,0 @@
-use Rattle.std.proofs.Common.{take}
-use Rattle.kc_word.proofs.Packing.{IsPacked}
-use Rattle.kc_word.proofs.word.pack.Given as goal
-
-abbrev pub invariant-loop-byte : goal.invariant-loop-byte
-invariant-loop-byte l = IsPacked (take l.byte-index l.bytes) l.number

@@ -1,0 +1,81 @@
+//! The codes of a read and its gaps, 32 bases at a time.
+ghost use Rattle.std.specs.Prelude.{◌≡◌, ◌+◌, ◌^◌, ◌<◌, ◌≤◌, length, OnOk};
+ghost use Rattle.kc_word.specs.Gathering.{usable_code, IsBlock, AreGaps};
+
+use crate::runs::{Run, extend_runs};
+use kc_fastx::SeqRead;
+use kc_kmer::Rule;
+use kc_kmer::letter::{NO_BASE, code_of};
+use std::alloc::AllocError;
+
+/// Up to 32 bases of a read.
+#[derive(Clone, Copy)]
+pub(crate) struct Block {
+    /// Their codes, the first one in the highest bits, 0 for a base that is not usable.
+    pub(crate) word: u64,
+    /// Whether one of them is not usable.
+    pub(crate) has_gap: bool,
+}
+
+/// The block of `count` bases from index `from` on. Condition: the count is 1 to 32, and the read has these bases.
+#[inline(always)]
+pub(crate) fn gather(read: &SeqRead, rule: &Rule, from: usize, count: usize) -> Block
+    requires some { 1 ≤ count }
+    requires most { count ≤ 32 }
+    requires within { from + count ≤ length read.now.bases }
+    requires fits { from + count < 2 ^ 64 }
+    ensures { IsBlock rule.now read.now from count result.word result.has_gap }
+{
+    let mut word = 0u64;
+    let mut seen = 0u8;
+    for i in 0..count {
+        let code = usable_code(read, rule, from + i);
+        word = (word << 2) + (code & 3) as u64;
+        seen |= code;
+    }
+    Block {
+        word: word << (64 - 2 * count),
+        has_gap: seen >= NO_BASE,
+    }
+}
+
+/// Takes the bases that are not usable, of `count` ones from index `from` on, into the runs of those before.
+pub(crate) fn mark_gaps(
+    read: &SeqRead,
+    rule: &Rule,
+    from: usize,
+    count: usize,
+    runs: &mut Vec<Run>,
+) -> Result<(), AllocError>
+    requires before { AreGaps rule.now read.now from runs.old.items }
+    requires within { from + count ≤ length read.now.bases }
+    requires fits { from + count < 2 ^ 64 }
+    ensures { OnOk result (AreGaps rule.now read.now (from + count) runs.new.items) }
+{
+    for i in 0..count {
+        if usable_code(read, rule, from + i) >= NO_BASE {
+            extend_runs(runs, from + i)?;
+        }
+    }
+    Ok(())
+}
+
+// the code of a base where it is one of ACGTacgt and its quality, where it has one, reaches the floor, and else
+// NO_BASE
+#[inline(always)]
+fn usable_code(read: &SeqRead, rule: &Rule, i: usize) -> u8
+    requires { i < length read.now.bases }
+    ensures { result ≡ usable_code rule.now read.now i }
+{
+    let code = code_of(read.bases()[i]);
+    match read.quals() {
+        None => code,
+        Some(quals) => {
+            if quals[i] >= rule.floor() {
+                code
+            } else {
+                NO_BASE
+            }
+        }
+    }
+}
