@@ -15,6 +15,7 @@ mod journal;
 mod parts;
 mod piles;
 mod placed;
+mod room;
 mod taken_rows;
 
 pub use gather_fault::GatherFault;
