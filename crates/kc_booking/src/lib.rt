@@ -17,6 +17,7 @@
 mod booking_fault;
 mod counted;
 mod cut;
+mod room;
 mod setup;
 mod starting_tables;
 mod stripe;

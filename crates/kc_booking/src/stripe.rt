@@ -13,6 +13,7 @@ ghost use Rattle.kc_booking.specs.Stripe.{word_occurrences};
 use crate::booking_fault::BookFault;
 use crate::counted::CountedTable;
 use crate::cut::Cut;
+use crate::room::{make_room, room_beside};
 use crate::setup::Setup;
 use kc_table::Counts;
 use kc_tally::Row;
@@ -159,7 +160,7 @@ impl<C: Counts> Stripe<C> {
         let _bits = self.setup.stripe_bits();
         let counted = self.counted.table().rows(alloc)?;
         let tables = self.setup.hash().back_tables();
-        let mut rows = Vec::with_capacity(alloc, counted.len())?;
+        let mut rows = room_beside(alloc, &counted)?;
         for (key, count) in &counted {
             let code = self.setup.code_at(self.number, *key);
             rows.push(Row {
@@ -193,13 +194,12 @@ impl<C: Counts> Stripe<C> {
         word_laws::joined_occurrences();
         // what can fail comes first, and changes no count and no name in the journal
         let batch = cut.batch().clone()?;
-        self.journal.reserve(1)?;
-        self.booked.reserve(1)?;
+        make_room(&mut self.journal)?;
         self.counted.ready_all(cut.keys())?;
-        self.counted.add_all(cut.keys());
         let Ok(_) = self.booked.insert(batch.number()) else {
-            unreachable!()
+            return Err(BookFault::Memory);
         };
+        self.counted.add_all(cut.keys());
         self.journal.push_reserved(batch);
         Ok(())
     }
