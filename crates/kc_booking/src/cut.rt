@@ -5,9 +5,9 @@ ghost use Rattle.std.specs.Vec.{vec_capacity};
 ghost use Rattle.kc_hash.specs.Product.{product};
 ghost use Rattle.kc_booking.specs.Cut.{StripeCut, keys_of, cuts_of, key_parts};
 
-use crate::room::room_beside;
 use crate::setup::Setup;
 use kc_hash::MatrixTables;
+use kc_lemmas::room_for_each;
 use kc_word::{Batch, words};
 use std::alloc::{AllocError, Global};
 use std::marker::Model;
@@ -70,7 +70,7 @@ pub fn cut_up(alloc: Global, setup: &Setup, batch: &Arc<Batch>) -> Result<Vec<Cu
     ensures { IfOk result (λ cuts. cuts.items ≡ cuts_of setup.now batch.now.value) }
 {
     let parts = stripe_keys(alloc, setup, batch)?;
-    let mut cuts = room_beside(alloc, &parts)?;
+    let mut cuts = room_for_each(alloc, &parts)?;
     for keys in parts {
         let cut = Cut {
             setup: *setup,
@@ -127,7 +127,7 @@ fn empty_parts(alloc: Global, codes: &[u64], stripe_bits: u32) -> Result<Vec<Vec
 {
     let sizes = part_sizes(codes, stripe_bits);
     let stripes = 1usize << stripe_bits;
-    let mut parts = room_beside(alloc, &sizes[..stripes])?;
+    let mut parts = room_for_each(alloc, &sizes[..stripes])?;
     for stripe in 0..stripes {
         parts.push(Vec::with_capacity(alloc, sizes[stripe])?)?;
     }

@@ -17,7 +17,6 @@
 mod booking_fault;
 mod counted;
 mod cut;
-mod room;
 mod setup;
 mod starting_tables;
 mod stripe;

@@ -15,7 +15,6 @@ mod journal;
 mod parts;
 mod piles;
 mod placed;
-mod room;
 mod taken_rows;
 
 pub use gather_fault::GatherFault;

@@ -1,9 +1,10 @@
 //! Items that are dealt out in piles, one for each thread, and what the threads answer, joined.
-ghost use Rattle.std.specs.Prelude.{◌≡◌, ◌≤◌, ◌^◌, ◌-◌, length, map, min, IfOk, IfErr, Ok};
+ghost use Rattle.std.specs.Prelude.{◌≡◌, ◌≤◌, ◌^◌, ◌-◌, [], length, map, min, IfOk, IfErr, Ok};
 ghost use Rattle.std.specs.List.{flat_map};
+ghost use Rattle.std.specs.Vec.{vec_capacity};
 ghost use Rattle.kc_gather.specs.Piles.{IsFirstFault};
 
-use crate::room::{room_for_all, room_for_each};
+use kc_lemmas::room_for_each;
 use std::alloc::{AllocError, Global};
 use std::mem::replace;
 
@@ -76,6 +77,14 @@ pub(crate) fn joined<T: Drop>(alloc: Global, lists: Vec<Vec<T>>) -> Result<Vec<T
         all.append(&mut list)?;
     }
     Ok(all)
+}
+
+// An empty list with room for the items of all lists.
+fn room_for_all<T>(alloc: Global, lists: &[Vec<T>]) -> Result<Vec<T>, AllocError>
+    ensures empty { IfOk result (λ room. room.items ≡ []) }
+    ensures bounded { IfOk result (λ room. vec_capacity room ≤ length (flat_map (λ list. list.items) lists.now)) }
+{
+    Vec::with_capacity(alloc, item_count(lists))
 }
 
 /// How many items the lists have, as far as a `usize` tells.

@@ -4,8 +4,8 @@ ghost use Rattle.kc_booking.specs.Setup.{stripe_count};
 ghost use Rattle.kc_gather.specs.Gathering.{AreAtPlaces};
 
 use crate::piles::Weighed;
-use crate::room::room_for_each;
 use kc_booking::{Setup, Stripe};
+use kc_lemmas::room_for_each;
 use kc_table::Counts;
 use std::alloc::{AllocError, Global};
 

@@ -1,5 +1,5 @@
 //! The histogram of a tally: how many words have which count.
-ghost use Rattle.std.specs.Prelude.{◌≡◌, ◌≤◌, ◌<◌, ◌+◌, ◌++◌, [], length, replicate, IfOk, OnOk, OnErr};
+ghost use Rattle.std.specs.Prelude.{◌≡◌, ◌≤◌, ◌<◌, ◌+◌, ◌++◌, [], length, IfOk, OnOk, OnErr};
 ghost use Rattle.std.specs.Vec.{vec_capacity};
 ghost use Rattle.kc_io.specs.Sinks.{Writes, HasBegun, Drains};
 ghost use Rattle.kc_tally.specs.Histogram.{last_bin};
@@ -7,6 +7,7 @@ ghost use Rattle.kc_report.specs.Histo.{histo_text, words_by_count, count_line, 
 
 use crate::report_faults::ReportFault;
 use kc_io::{BLOCK_SIZE, Block, Failed, NUMBER_SIZE, Sink, write_out};
+use kc_lemmas::zeros;
 use kc_tally::Tally;
 use std::alloc::{AllocError, Global};
 
@@ -68,21 +69,9 @@ fn words_of_rows(alloc: Global, tally: &Tally, high: u64) -> Result<Vec<u64>, Al
     ensures words { IfOk result (λ words. words.items ≡ words_by_count high tally.now.rows) }
     ensures bounded { IfOk result (λ words. vec_capacity words ≤ high) }
 {
-    let mut words = zeros(alloc, high)?;
+    let mut words = zeros(alloc, high as usize)?;
     count_rows(words.as_mut_slice(), tally);
     Ok(words)
-}
-
-// So many numbers, each of them 0, in room for these alone.
-fn zeros(alloc: Global, count: u64) -> Result<Vec<u64>, AllocError>
-    ensures zeros { IfOk result (λ numbers. numbers.items ≡ replicate count 0) }
-    ensures bounded { IfOk result (λ numbers. vec_capacity numbers ≤ count) }
-{
-    let mut numbers = Vec::with_capacity(alloc, count as usize)?;
-    for _ in 0..count {
-        numbers.push_reserved(0);
-    }
-    Ok(numbers)
 }
 
 // Counts the rows that have one of the counts.

@@ -5,6 +5,7 @@ ghost use Rattle.kc_table.specs.Sizes.{remainder_bits, count_bits};
 ghost use Rattle.kc_table.specs.Slot.{empty_slot, tag_at, slot_count};
 
 use crate::tag::Tag;
+use kc_lemmas::zeros;
 use std::alloc::{AllocError, Global};
 use std::marker::Model;
 
@@ -37,7 +38,7 @@ impl PackedSlots {
         ensures empty { IfOk result (λ p. p.items ≡ replicate size empty_slot) }
     {
         let high = Vec::with_capacity(alloc, size)?;
-        let words = empty_words(alloc, size)?;
+        let words = zeros(alloc, size)?;
         Ok(PackedSlots { low, words, high })
     }
 
@@ -107,18 +108,6 @@ impl PackedSlots {
         }
         count
     }
-}
-
-// The words of so many empty slots, in room for these alone.
-fn empty_words(alloc: Global, size: usize) -> Result<Vec<u64>, AllocError>
-    ensures empty { IfOk result (λ words. words.items ≡ replicate size 0) }
-    ensures bounded { IfOk result (λ words. vec_capacity words ≤ size) }
-{
-    let mut words = Vec::with_capacity(alloc, size)?;
-    for _ in 0..size {
-        words.push_reserved(0);
-    }
-    Ok(words)
 }
 
 // The lowest `low` bits of a count, which stand in the slot's word.

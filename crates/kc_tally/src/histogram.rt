@@ -1,12 +1,12 @@
 //! Histograms: how many words have which count.
 ghost use Rattle.std.specs.Prelude.{◌≡◌, ◌+◌, ◌%◌, ◌^◌, ◌<◌, ◌≤◌, ℕ, [], length, All, IfOk};
 ghost use Rattle.std.specs.List.{flat_map};
-ghost use Rattle.std.specs.Vec.{vec_capacity};
 ghost use Rattle.kc_tally.specs.Histogram.{last_bin, bin_of, bins_of, bin_at, gained, lost, counted_in, raised};
 ghost use Rattle.kc_tally.specs.Histogram.{joined_bins, counts_of};
 ghost use Rattle.kc_tally.specs.Tally.{total_of};
 
 use crate::row::Row;
+use kc_lemmas::zeros;
 use std::alloc::{AllocError, Global};
 use std::marker::Model;
 
@@ -36,7 +36,7 @@ impl Histogram {
     pub fn new(alloc: Global) -> Result<Histogram, AllocError>
         ensures { IfOk result (λ bins. bins ≡ bins_of []) }
     {
-        let bins = empty_bins(alloc)?;
+        let bins = zeros(alloc, LAST_BIN as usize)?;
         Ok(Histogram { bins })
     }
 
@@ -138,16 +138,4 @@ impl Histogram {
     {
         self.bins[bin as usize - 1] -= 1;
     }
-}
-
-// The bins of no words, in room for these alone.
-fn empty_bins(alloc: Global) -> Result<Vec<u64>, AllocError>
-    ensures empty { IfOk result (λ bins. bins.items ≡ bins_of []) }
-    ensures bounded { IfOk result (λ bins. vec_capacity bins ≤ last_bin) }
-{
-    let mut bins = Vec::with_capacity(alloc, LAST_BIN as usize)?;
-    for _ in 0..LAST_BIN {
-        bins.push_reserved(0);
-    }
-    Ok(bins)
 }

@@ -9,8 +9,8 @@ slice_bounds-sizes-end c =
     let few = stripes-within_64 c.args.stripe_bits c.requires in
     omega (arith, long, few)
 
-pub slice_bounds-room_beside-end : goal.slice_bounds-room_beside-end
-slice_bounds-room_beside-end c =
+pub slice_bounds-room_for_each-end : goal.slice_bounds-room_for_each-end
+slice_bounds-room_for_each-end c =
     let long : length c.part_sizes-sizes.result ≡ 64 = search rules in
     let few = stripes-within_64 c.args.stripe_bits c.requires in
     sym (length-take-le _ c.part_sizes-sizes.result (omega (arith, long, few)))

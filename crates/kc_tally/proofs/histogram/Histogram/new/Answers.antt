@@ -1,6 +1,6 @@
-use Rattle.std.proofs.Common.{◌∙◌, [], ap, length}
-use Rattle.kc_tally.proofs.Bins.{length-bins_of}
+use Rattle.std.proofs.Common.{refl}
+use Rattle.kc_tally.proofs.Bins.{bins_of-nil}
 use Rattle.kc_tally.proofs.histogram.Histogram.new.Goals as goal
 
-pub invariant_of-result : goal.invariant_of-result
-invariant_of-result c = ap length c.in_ok-bins.ensures.empty ∙ length-bins_of []
+pub returns : goal.returns
+returns c = bins_of-nil c.in_ok-bins.bins.items 10_001 refl c.in_ok-bins.ensures.zeros
