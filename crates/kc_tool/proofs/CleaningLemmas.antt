@@ -110,6 +110,22 @@ all_cut {old} {new} {rule = rule} {left = left} {number = number} r all = record
   };
 }
 
+-- One source alone was read, and its pieces were cut.
+pub one_cut : {old new : Seen} {rule : CountingRule} {batch count : ℕ} {cutting after : OpenCutting}
+    → cutting.k ≡ rule.k → cutting.size ≡ batch → HasTaken cutting []
+    → CutsPieces old new most_bytes rule count cutting after → CutsSources (old ∷ []) (new ∷ []) rule batch after
+one_cut {old} {new} {rule} {batch} {count} {cutting} length_of_words size none gives =
+    let begun = cutting_begun (old ∷ []) rule batch cutting length_of_words size none in
+    all_cut (one_more_cut old new count begun (omega arith) gives) (omega arith)
+
+-- It was refused.
+pub one_refused : {old new : Seen} {rule : CountingRule} {batch : ℕ} {cutting : OpenCutting} (fault : ToolFault)
+    → cutting.k ≡ rule.k → cutting.size ≡ batch → HasTaken cutting []
+    → RefusesSource old new 1 most_bytes fault → RefusesSources (old ∷ []) (new ∷ []) fault
+one_refused {old} {new} {rule} {batch} {cutting} fault length_of_words size none refuses =
+    let begun = cutting_begun (old ∷ []) rule batch cutting length_of_words size none in
+    refused_cleaning old new fault begun (omega arith) refuses
+
 -- A source was read so far: the pieces of its reads were cut behind those that were cut before.
 pub record PiecesSoFar (start now : Seen) (limit : ℕ) (rule : CountingRule) (before cutting : OpenCutting)
     (stand : Stand) : Type 0 where

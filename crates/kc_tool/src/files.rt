@@ -71,7 +71,12 @@ impl<F: Write> Sink for FileSink<F> {
     ghost seen = { λ f. f };
 
     fn write(&mut self, bytes: &[u8]) -> Result<usize, Failed> {
-        let answer = self.stream.write(bytes);
+        // to take none of a text that has bytes is to fail
+        let answer = match self.stream.write(bytes) {
+            Ok(0) if !bytes.is_empty() => Err(Failed),
+            Ok(n) => Ok(n),
+            Err(Failed) => Err(Failed),
+        };
         self.heard = self.heard.and(&answer, bytes);
         answer
     }
