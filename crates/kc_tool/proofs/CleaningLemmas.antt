@@ -119,12 +119,10 @@ one_cut {old} {new} {rule} {batch} {count} {cutting} length_of_words size none g
     all_cut (one_more_cut old new count begun (omega arith) gives) (omega arith)
 
 -- It was refused.
-pub one_refused : {old new : Seen} {rule : CountingRule} {batch : ℕ} {cutting : OpenCutting} (fault : ToolFault)
-    → cutting.k ≡ rule.k → cutting.size ≡ batch → HasTaken cutting []
+pub one_refused : (old new : Seen) {rule : CountingRule} {batch : ℕ} {cutting : OpenCutting} (fault : ToolFault)
+    → CutSoFar (old ∷ []) (old ∷ []) rule batch cutting most_bytes 0
     → RefusesSource old new 1 most_bytes fault → RefusesSources (old ∷ []) (new ∷ []) fault
-one_refused {old} {new} {rule} {batch} {cutting} fault length_of_words size none refuses =
-    let begun = cutting_begun (old ∷ []) rule batch cutting length_of_words size none in
-    refused_cleaning old new fault begun (omega arith) refuses
+one_refused old new fault begun refuses = refused_cleaning old new fault begun (omega arith) refuses
 
 -- A source was read so far: the pieces of its reads were cut behind those that were cut before.
 pub record PiecesSoFar (start now : Seen) (limit : ℕ) (rule : CountingRule) (before cutting : OpenCutting)

@@ -44,8 +44,8 @@ module _ (rows : List Row) (input : Seen) where
   one_of : (names : List Text) (sources : List (NamedSource Seen)) → names_of sources ≡ take 1 names → length (sources_from input (seen_of (λ seen. seen) sources)) ≡ 1
   one_of names [] are = refl
   one_of names (source ∷ []) are = refl
-  one_of [] (source ∷ other ∷ sources) are = absurd (cc : ⊥)
-  one_of (name ∷ names) (source ∷ other ∷ sources) are = absurd (cc : ⊥)
+  one_of [] (source ∷ other ∷ sources) are = let none : ⊥ = cc in absurd none
+  one_of (name ∷ names) (source ∷ other ∷ sources) are = let none : ⊥ = cc in absurd none
 
   -- A command has the sources that its task wants.
   pub has_sources : (command : Verb) (task : Task) (sources : List (NamedSource Seen)) → AsksForTask command rows task

@@ -82,8 +82,8 @@ same_tail e = cc
 
 pub paired : (old new : List (NamedSource Seen)) → names_of new ≡ names_of old → (files : List FileRead) × PairedTo old new files
 paired [] [] same = ([], record { are = record { named = refl; before = refl }; after = refl; log = refl })
-paired [] (source ∷ new) same = absurd (cc : ⊥)
-paired (source ∷ old) [] same = absurd (cc : ⊥)
+paired [] (source ∷ new) same = let none : ⊥ = cc in absurd none
+paired (source ∷ old) [] same = let none : ⊥ = cc in absurd none
 paired (before ∷ old) (after ∷ new) same =
     let rest = paired old new (same_tail same) in
     let file : FileRead = record { name = before.name.now; before = before.source; after = after.source } in
