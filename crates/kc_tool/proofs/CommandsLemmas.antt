@@ -66,7 +66,7 @@ module _ (rows : List Row) (input : Seen) where
   has_sources verb.Query (Report report) sources asks are = absurd asks
   has_sources verb.Query (Query words) sources asks are = one_of (files_named rows) sources are
 
-module _ {old new : List Seen} {task : Task} (settings : Settings) (is : task ≡ Count settings) where
+module _ (old new : List Seen) {task : Task} (settings : Settings) (is : task ≡ Count settings) where
   -- The tally of a count.
   pub is_counted : (r : Result TallySeen ToolFault) → IfOk r (TalliesSources old new settings) → IfOk r (IsTallyFor old new task)
   is_counted (Ok tally) h = rw is h
@@ -151,7 +151,7 @@ task_done {sources} {later} {task} {old} {new} {outcome} files paired kept log d
       (ap (λ (v : List Seen). record { sources = sources_from new.input v; output = new.output }) (sym paired.after)) done);
 }
 
-module _ {command : Verb} {rows : List Row} where
+module _ (command : Verb) (rows : List Row) where
   -- An option was refused, or there was no memory, before anything was asked of files.
   pub option_left : {old : Surroundings} {outcome : Result (Unit {0}) ToolFault} (fault : ToolFault) → outcome ≡ Err fault → IsRefusedOption command rows fault
       → EndsSo command rows old old outcome
@@ -217,7 +217,7 @@ module _ {command : Verb} {rows : List Row} where
     refused = subst (λ fault. IsRefused command rows [] fault) (sym fails.0) (inl refl);
   })
 
-  module _ {task : Task} {sources : List (NamedSource Seen)} {outcome : Result (Unit {0}) ToolFault} (asks : AsksForTask command rows task)
+  module _ (task : Task) {sources : List (NamedSource Seen)} {outcome : Result (Unit {0}) ToolFault} (asks : AsksForTask command rows task)
       {old : Surroundings} {mid : List FileEvent} (opens : OpensAll (files_of command rows) old.asked mid sources) where
     opened_files : (files : List FileRead) → AreOf sources files → AreOpened (files_of command rows) files
     opened_files files are = record {
@@ -264,7 +264,7 @@ module _ {command : Verb} {rows : List Row} where
             file,
             does.is_created,
             does.log ∙ ap (λ v. v ++ behind) (opening_log files does.are) ∙ append_assoc old.asked (openings files) behind
-                ∙ ap (λ v. old.asked ++ openings files ++ v) same,
+                ∙ ap (λ v. old.asked ++ (openings files ++ v)) same,
             does.done,
           );
         })

@@ -1,9 +1,9 @@
 -- Files that are opened one after another, and given back.
-use Rattle.std.proofs.Common.{◌≡◌, ◌<◌, ◌+◌, ◌++◌, ℕ, List, [], ◌∷◌, length, map, take, drop, get_or, Bor, sym, ◌∙◌, ap, ap₂}
+use Rattle.std.proofs.Common.{◌≡◌, ◌<◌, ◌+◌, ◌++◌, ℕ, suc, List, [], ◌∷◌, length, map, take, drop, get_or, Bor, sym, ◌∙◌, ap, ap₂}
 use Rattle.std.proofs.Common.{refl, append_assoc, append-nil, subst, inl, arith}
 use Rattle.std.specs.Prelude.{All}
 use Rattle.std.proofs.lemmas.List.{map-append, take_more, take-append-drop}
-use Rattle.std.proofs.lemmas.List.Elements.{All-head, All-push, All-tail}
+use Rattle.std.proofs.lemmas.List.Elements.{All-head, All-nil, All-push, All-tail}
 use Rattle.std.proofs.Math.Seq.{drop-cons}
 use Rattle.clap.specs.Words.{Text}
 use Rattle.kc_io.specs.History.{no_history}
@@ -16,9 +16,9 @@ use Rattle.kc_tool.specs.declared.tool_faults.ToolFault.{ToolFault}
 
 -- Nothing was opened yet.
 pub opened_none : (log : List FileEvent) → OpensAll [] log log []
-opened_none log = record { named = refl; fresh = tt; log = sym (append-nil log) }
+opened_none log = record { named = refl; fresh = All-nil (λ (seen : Seen). seen.history ≡ no_history); log = sym (append-nil log) }
 
-now_of : List (Bor Text) → List Text
+abbrev now_of : List (Bor Text) → List Text
 now_of names = map (λ name. name.now) names
 
 one_now : (names : List (Bor Text)) (i : ℕ) (d : Bor Text) → i < length names → now_of (take (i + 1) names) ≡ now_of (take i names) ++ (get_or names i d).now ∷ []
@@ -86,8 +86,7 @@ paired [] (source ∷ new) same = let none : ⊥ = cc in absurd none
 paired (source ∷ old) [] same = let none : ⊥ = cc in absurd none
 paired (before ∷ old) (after ∷ new) same =
     let rest = paired old new (same_tail same) in
-    let file : FileRead = record { name = before.name.now; before = before.source; after = after.source } in
-    (
+    let file : FileRead = record { name = before.name.now; before = before.source; after = after.source } in (
       file ∷ rest.0,
       record {
         are = record { named = ap (λ v. before.name.now ∷ v) rest.1.are.named; before = ap (λ v. before.source ∷ v) rest.1.are.before };

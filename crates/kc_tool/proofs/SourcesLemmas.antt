@@ -10,7 +10,7 @@ use Rattle.kc_tool.specs.Tallies.{CutsSources, IsCuttingOf, IsUncounted, Refuses
 use Rattle.kc_tool.specs.declared.tool_faults.ToolFault.{ToolFault}
 use Rattle.kc_tool.specs.declared.tool_faults.ToolFault.TheVariants.{Fastx, BadHeader, BadRow, BadEnd, TableTooLong, TableRead, Memory, BadOption, BadWord, Write, Run, OpenFailed}
 
-module _ {old new : List Seen} {settings : Settings} {cutting : OpenCutting} (cut : CutsSources old new (rule_of settings) settings.batch cutting) where
+module _ {old new : List Seen} (settings : Settings) {cutting : OpenCutting} (cut : CutsSources old new (rule_of settings) settings.batch cutting) where
   -- The tally of the cutting is that of the sources.
   pub counted : (r : Result TallySeen ToolFault) → IfOk r (λ tally. (reads : List Read) → IsCuttingOf (rule_of settings) settings.batch reads cutting → IsTallyOf (rule_of settings) reads tally)
       → IfOk r (TalliesSources old new settings)

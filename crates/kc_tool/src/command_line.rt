@@ -43,14 +43,7 @@ pub(crate) const REFUSED: u8 = 2;
 /// was, or has a beginning of the answer where writing failed. Status 2: the output is as it was, and why the arguments
 /// are refused went to the errors. The input is read where a command reads no file, and else it is as it was; and
 /// nothing is asked of files but what the command asks for.
-pub fn run<
-    H: Threads + Wait + Sync,
-    S: Files,
-    R: Source,
-    W: Sink,
-    E: Sink,
-    P: Progress + Sync,
->(
+pub fn run<H: Threads + Wait + Sync, S: Files, R: Source, W: Sink, E: Sink, P: Progress + Sync>(
     rt: &H,
     alloc: Global,
     arguments: &[String],
@@ -122,13 +115,7 @@ fn status_of(fault: &ToolFault) -> u8
 }
 
 // Reads the command line and runs the command that it names, or shows the help or the version that it asks for.
-fn run_arguments<
-    H: Threads + Wait + Sync,
-    S: Files,
-    R: Source,
-    W: Sink,
-    P: Progress + Sync,
->(
+fn run_arguments<H: Threads + Wait + Sync, S: Files, R: Source, W: Sink, P: Progress + Sync>(
     rt: &H,
     alloc: Global,
     arguments: &[String],
@@ -153,9 +140,7 @@ fn run_arguments<
     let Some(verb) = verb_named(name) else {
         unreachable!()
     };
-    Ok(run_command(
-        rt, alloc, verb, matches, files, input, output, progress,
-    )?)
+    Ok(run_command(rt, alloc, verb, matches, files, input, output, progress)?)
 }
 
 // What `clap` makes of the command line.

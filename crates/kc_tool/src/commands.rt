@@ -128,13 +128,7 @@ pub(crate) fn run_command<
 
 // Does a task with files that were opened, or with the given input where there are none, and gives the files back.
 // Condition: a task over a table has one source, and a histogram is for counts up to 1 to 10,000,000.
-fn do_task<
-    H: Threads + Wait + Sync,
-    S: Files,
-    R: Source,
-    W: Sink,
-    P: Progress + Sync,
->(
+fn do_task<H: Threads + Wait + Sync, S: Files, R: Source, W: Sink, P: Progress + Sync>(
     rt: &H,
     alloc: Global,
     task: &Task,
@@ -169,27 +163,29 @@ fn do_task_into<H: Threads + Wait + Sync, S: Files, R: Source, P: Progress + Syn
 ) -> Result<(), ToolFault>
     requires sources { HasSourcesFor task.now (sources_from (R.seen input.old) (seen_of (λ s. s) sources.items)) }
     requires writable { HasWritableReport task.now }
-    ensures {
-        DoesTaskInto name.now sources.entry.items task.now (R.seen input.old) (R.seen input.new) files.old files.new result
+    ensures { DoesTaskInto name.now sources.entry.items task.now (R.seen input.old) (R.seen input.new) files.old files.new result
         ⊎ LacksOutput name.now sources.entry.items (R.seen input.old) (R.seen input.new) files.old files.new result }
 {
     let Some(mut file) = files.create(name) else {
         take_sources(files, sources);
         return Err(open_failed(alloc, name));
     };
-    let outcome = do_task(rt, alloc, task, files, sources, input, &mut file.sink, progress);
+    let outcome = do_task(
+        rt,
+        alloc,
+        task,
+        files,
+        sources,
+        input,
+        &mut file.sink,
+        progress,
+    );
     files.take_sink(file);
     outcome
 }
 
 // Takes the tally that a task is about, and writes its answer. The sources keep their names.
-fn answer<
-    H: Threads + Wait + Sync,
-    R: Source,
-    F: Source,
-    W: Sink,
-    P: Progress + Sync,
->(
+fn answer<H: Threads + Wait + Sync, R: Source, F: Source, W: Sink, P: Progress + Sync>(
     rt: &H,
     alloc: Global,
     task: &Task,

@@ -116,10 +116,7 @@ impl<'a, H: Files> NamedFiles<'a, H> {
     }
 
     /// Opens the file of this name; None where it can't be opened.
-    pub(crate) fn open<'n>(
-        &mut self,
-        name: &'n str,
-    ) -> Option<NamedSource<'n, FileSource<H::File>>>
+    pub(crate) fn open<'n>(&mut self, name: &'n str) -> Option<NamedSource<'n, FileSource<H::File>>>
         ensures asked { MatchOption result (self.new ≡ self.old ++ not_opened name.entry.now ∷ [])
             (λ file. self.new ≡ self.old ++ opened name.entry.now ∷ []) }
         ensures named { IfSome result (λ file. file.name.now ≡ name.entry.now) }

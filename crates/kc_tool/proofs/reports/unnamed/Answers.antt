@@ -14,9 +14,9 @@ loop-source-preserved g c =
     let named = c.loop-source.named.items in
     let rest = map seen (into_iter_items c.next.new.self) in
     rw c.in_ok-push.ensures.items (
-      ap (λ v. v ++ rest) (map-append (λ source. seen source.source) named (_ ∷ []))
-      ∙ append_assoc (seen_of seen named) (seen c.in-Some.source ∷ []) rest
-      ∙ ap (λ v. seen_of seen named ++ map seen v) (sym c.in-Some.ensures.steps.0) ∙ c.loop-source.invariant)
+    ap (λ v. v ++ rest) (map-append (λ source. seen source.source) named (_ ∷ []))
+    ∙ append_assoc (seen_of seen named) (seen c.in-Some.source ∷ []) rest
+    ∙ ap (λ v. seen_of seen named ++ map seen v) (sym c.in-Some.ensures.steps.0) ∙ c.loop-source.invariant)
 
 pub returns : goal.returns
 returns g c =
