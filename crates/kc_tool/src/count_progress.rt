@@ -44,17 +44,17 @@ impl Progress for NoProgress {
     fn ends(&self) {}
 }
 
-/// A source that tells how many bytes each read gave. It gives what the source inside gives.
+/// A source that tells how many bytes each read gave. It gives what the source behind it gives.
 #[derive(Drop)]
 pub(crate) struct ToldSource<'a, R: Source, P: Progress> {
-    /// The source inside.
-    pub source: R,
+    /// The source behind it.
+    pub source: &'a mut R,
     /// What is told.
     pub progress: &'a P,
 }
 
 impl<R: Source, P: Progress> Source for ToldSource<'_, R, P> {
-    ghost seen = { λ told. R.seen told.source };
+    ghost seen = { λ told. R.seen told.source.now };
 
     fn read(&mut self, buffer: &mut [u8]) -> Result<usize, Failed> {
         match self.source.read(buffer) {
