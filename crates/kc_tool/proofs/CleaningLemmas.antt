@@ -1,8 +1,8 @@
 -- Cleaning the reads of source after source.
 use Rattle.std.proofs.Common.{◌≡◌, ◌≤◌, ◌<◌, ◌+◌, ◌-◌, ◌++◌, ℕ, List, [], ◌∷◌, length, get_or, set, refl, sym, ◌∙◌, ap, subst}
-use Rattle.std.proofs.Common.{arith, append_assoc, append-nil}
+use Rattle.std.proofs.Common.{arith, append_assoc, append-nil, map}
 use Rattle.std.specs.Prelude.{sum_by}
-use Rattle.std.proofs.lemmas.List.{map-append}
+use Rattle.std.proofs.lemmas.List.{get_or-map, length-map, map-append, map-set}
 use Rattle.std.proofs.lemmas.List.Sums.{sum_by-cons}
 use Rattle.kc_io.specs.Sources.{Seen}
 use Rattle.kc_fastx.specs.Parsing.{most_bytes}
@@ -94,6 +94,31 @@ refused_cleaning d later (BadOption name) r within h = absurd h
 refused_cleaning d later (BadWord at) r within h = absurd h
 refused_cleaning d later Write r within h = absurd h
 refused_cleaning d later (OpenFailed name) r within h = absurd h
+
+-- The same, where the sources are seen by `see`, and this one is replaced in their list.
+module _ {X : Type 0} (see : X → Seen) (xs : List X) {i : ℕ} (x y : X) (is : x ≡ get_or xs i x) (within : i < length xs)
+    {old : List Seen} {rule : CountingRule} {batch : ℕ} {cutting : OpenCutting} {left number : ℕ} (counted : number ≡ i)
+    (r : CutSoFar old (map see xs) rule batch cutting left number) where
+  here : see x ≡ get_or (map see xs) number (see x)
+  here = ap see is ∙ sym (get_or-map see xs i x (see x) within) ∙ ap (λ n. get_or (map see xs) n (see x)) (sym counted)
+
+  below : number < length (map see xs)
+  below = rw (length-map xs see, counted) within
+
+  replaced : set (map see xs) number (see y) ≡ map see (set xs i y)
+  replaced = ap (λ n. set (map see xs) n (see y)) counted ∙ sym (map-set see xs i y)
+
+  pub one_more_kept : {after : OpenCutting} (count : ℕ) → CutsPieces (see x) (see y) left rule count cutting after
+      → CutSoFar old (map see (set xs i y)) rule batch after (left - count) (number + 1)
+  one_more_kept {after} count gives =
+      subst (λ v. CutSoFar old v rule batch after (left - count) (number + 1)) replaced
+      (one_more_cut (see x) (see y) count r below (subst (λ v. CutsPieces v (see y) left rule count cutting after) here gives))
+
+  pub refused_kept : (fault : ToolFault) → RefusesSource (see x) (see y) (number + 1) left fault
+      → RefusesSources old (map see (set xs i y)) fault
+  refused_kept fault h =
+      subst (λ v. RefusesSources old v fault) replaced
+      (refused_cleaning (see x) (see y) fault r below (subst (λ v. RefusesSource v (see y) (number + 1) left fault) here h))
 
 -- All sources were read.
 pub all_cut : {old new : List Seen} {rule : CountingRule} {batch : ℕ} {cutting : OpenCutting} {left number : ℕ}

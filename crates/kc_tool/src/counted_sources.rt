@@ -17,7 +17,7 @@ ghost use Rattle.kc_tool.specs.Tallies.{
 };
 ghost use Rattle.kc_command.specs.Settings.{rule_of};
 
-use crate::count_progress::{Progress, ToldGate, ToldSource};
+use crate::count_progress::{Progress, ToldGate};
 use crate::named_sources::NamedSource;
 use crate::tool_faults::ToolFault;
 use kc_command::Options;
@@ -135,12 +135,9 @@ fn cut_sources<R: Source, P: Progress>(
     let mut number = 0u64;
     let _fits = sources.len();
     for source in sources.iter_mut() {
-        let mut source = ToldSource {
-            source: &mut source.source,
-            progress,
-        };
         number += 1;
-        left -= cut_source(alloc, &mut source, number, left, &rule, &mut cutting)?;
+        let source = &mut source.source;
+        left -= cut_source(alloc, source, number, left, &rule, &mut cutting, progress)?;
     }
     Ok(cutting)
 }
@@ -158,23 +155,20 @@ fn cut_input<R: Source, P: Progress>(
 {
     let rule = options.rule();
     let mut cutting = Cutting::new(alloc, rule.k(), options.batch());
-    let mut source = ToldSource {
-        source: input,
-        progress,
-    };
-    let _count = cut_source(alloc, &mut source, 1, MOST_BYTES, &rule, &mut cutting)?;
+    let _count = cut_source(alloc, input, 1, MOST_BYTES, &rule, &mut cutting, progress)?;
     Ok(cutting)
 }
 
 // Reads this source whole and cuts the pieces of its reads behind those that were cut. It answers how many bytes the
-// source gave. A fault of the lines is told where the rest was read too.
-fn cut_source<R: Source>(
+// source gave, and tells of them read by read. A fault of the lines is told where the rest was read too.
+fn cut_source<R: Source, P: Progress>(
     alloc: Global,
     source: &mut R,
     number: u64,
     limit: u64,
     rule: &Rule,
     cutting: &mut Cutting,
+    progress: &P,
 ) -> Result<u64, ToolFault>
     requires { limit ≤ most_bytes }
     ensures pieces { let Cuts = CutsPieces (R.seen source.old) (R.seen source.new) limit rule.now in
@@ -190,13 +184,15 @@ fn cut_source<R: Source>(
             });
         }
     };
+    let mut told = 0u64;
     'reads: loop {
         match reading.next_read(alloc, source) {
             Ok(Some(read)) => {
+                told = tell_bytes(progress, told, reading.byte_count());
                 let piece = clean(alloc, &read, rule)?;
                 cutting.push(alloc, &piece)?;
             }
-            Ok(None) => return Ok(reading.byte_count()),
+            Ok(None) => return Ok(tell_bytes(progress, told, reading.byte_count())),
             Err(fault) => {
                 return Err(ToolFault::Fastx {
                     source: number,
@@ -205,6 +201,17 @@ fn cut_source<R: Source>(
             }
         }
     }
+}
+
+// Tells of the bytes that came since the last call, where some did: so many were told of, and so many were read. It
+// answers how many were read.
+fn tell_bytes<P: Progress>(progress: &P, told: u64, count: u64) -> u64
+    ensures { result ≡ count }
+{
+    if told < count {
+        progress.bytes_read(count - told);
+    }
+    count
 }
 
 // The setup that the options ask for: how words are divided among the stripes.
