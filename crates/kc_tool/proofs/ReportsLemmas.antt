@@ -21,7 +21,7 @@ module _ (sources later : List Seen) where
       → IfErr result (λ fault. fault ≢ Write → LeavesUnwritten sources old new fault)
   unwritten text old new (Ok done) h = tt
   unwritten text old new (Err Write) h = λ other. absurd (other refl)
-  unwritten text old new (Err Memory) h = λ other. (h, later, tt)
+  unwritten text old new (Err Memory) h = λ other. (h, (later, tt))
   unwritten text old new (Err (Fastx number fault)) h = absurd h
   unwritten text old new (Err BadHeader) h = absurd h
   unwritten text old new (Err (BadRow line)) h = absurd h
