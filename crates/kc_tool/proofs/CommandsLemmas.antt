@@ -1,7 +1,7 @@
 -- The commands and their tasks.
 use Rattle.std.proofs.Common.{suc, ◌≡◌, ◌∙◌, ◌++◌, List, [], ◌∷◌, Option, Some, None, length, map, take, refl, sym, ap, ap₂, subst, inl, inr, Result, Ok, Err, IfOk, IfErr, ℕ, true, false, arith}
 use Rattle.std.proofs.Common.{append_assoc, append-nil}
-use Rattle.std.specs.Prelude.{◌==◌, unwrap_or, All, string_bytes}
+use Rattle.std.specs.Prelude.{◌==◌, ◌⊎◌, unwrap_or, All, string_bytes}
 use Rattle.std.proofs.lemmas.List.{nil_from_length, map-append}
 use Rattle.std.proofs.lemmas.Bool.Decides.{nat_tests}
 use Rattle.clap.specs.Words.{Row, Text}
@@ -287,6 +287,13 @@ module _ (command : Verb) (rows : List Row) where
           refused = told_so name asked lacks.fault lawful (inr (named, refl)) lacks.told;
         })
 
+    -- The file that is named for the output has it, or can't be created.
+    pub into_ends : {name : Text} {input : Seen} {log : List FileEvent} → output_of rows ≡ Some name → first_refused command rows ≡ None
+        → DoesTaskInto name sources task old.input input mid log outcome ⊎ LacksOutput name sources old.input input mid log outcome
+        → EndsSo command rows old (record { input = input; output = old.output; asked = log }) outcome
+    into_ends named lawful (inl does) = to_file named does
+    into_ends named lawful (inr lacks) = output_left named lawful lacks
+
 -- Whether a list is empty, by its length.
 pub nothing_named : {X : Type 0} (names : List X) (n : ℕ) → (n == 0) ≡ true → n ≡ length names → names ≡ []
 nothing_named names n is counted = nil_from_length names (let zero : n ≡ 0 = grind (arith, nat_tests) in sym counted ∙ zero)
@@ -296,3 +303,59 @@ something_named names n not counted none =
     let zero : n ≡ 0 = counted ∙ ap length none in
     let same : (n == 0) ≡ true = rw zero refl in
     cc
+
+module _ {S : Type 0} (seen : S → Seen) (input input_after : Seen) where
+  -- Where there are no files, what holds of the given input holds of the sources.
+  pub from_input : (files later : List (NamedSource S)) (Holds : List Seen → List Seen → Type 0) → files ≡ [] → later ≡ files
+      → Holds (input ∷ []) (input_after ∷ []) → Holds (sources_from input (seen_of seen files)) (sources_from input_after (seen_of seen later))
+  from_input [] [] Holds none same h = h
+  from_input [] (source ∷ later) Holds none same h = let no : ⊥ = cc in absurd no
+  from_input (source ∷ files) later Holds none same h = let no : ⊥ = cc in absurd no
+
+  -- Where there are files, what holds of them holds of the sources.
+  pub from_files : (files later : List (NamedSource S)) (Holds : List Seen → List Seen → Type 0) → (files ≡ [] → ⊥) → names_of later ≡ names_of files
+      → Holds (seen_of seen files) (seen_of seen later) → Holds (sources_from input (seen_of seen files)) (sources_from input_after (seen_of seen later))
+  from_files [] later Holds some same h = absurd (some refl)
+  from_files (source ∷ files) [] Holds some same h = let no : ⊥ = cc in absurd no
+  from_files (source ∷ files) (other ∷ later) Holds some same h = h
+
+  -- The given input may be read where there are no files, and else it is as it was.
+  pub input_used : (files : List (NamedSource S)) → files ≡ [] → KeepsInput (seen_of seen files) input input_after
+  input_used [] none = tt
+  input_used (source ∷ files) none = let no : ⊥ = cc in absurd no
+
+  pub input_kept : (files : List (NamedSource S)) → input_after ≡ input → KeepsInput (seen_of seen files) input input_after
+  input_kept [] same = tt
+  input_kept (source ∷ files) same = same
+
+-- A task was done with a file that was created for it.
+pub done_into : {sources : List (NamedSource Seen)} {task : Task} {input input_after : Seen} {asked mid back asked_after : List FileEvent} {name told : Text}
+    {before after : Written} {outcome : Result (Unit {0}) ToolFault} → mid ≡ asked ++ created name ∷ [] → before.history ≡ no_history → told ≡ name
+    → DoesTask sources task (record { input = input; output = before; asked = mid }) (record { input = input_after; output = after; asked = back }) outcome
+    → asked_after ≡ back ++ wrote told after.history ∷ [] → DoesTaskInto name sources task input input_after asked asked_after outcome
+done_into {sources} {task} {input} {input_after} {asked} {mid} {back} {asked_after} {name} {told} {before} {after} {outcome} creates fresh same does gone =
+    let given = returned does.files in
+    let end = wrote name after.history ∷ [] in
+    record {
+      files = does.files;
+      are = does.are;
+      input_kept = does.input;
+      file = record { name = name; before = before; after = after };
+      is_created = record { named = refl; fresh = fresh };
+      log = gone ∙ ap (λ (v : Text). back ++ wrote v after.history ∷ []) same
+          ∙ ap (λ v. v ++ end) (does.log ∙ ap (λ v. v ++ given) creates ∙ append_assoc asked (created name ∷ []) given)
+          ∙ append_assoc asked (created name ∷ given) end;
+      done = does.done;
+    }
+
+-- The file for the output could not be created.
+pub not_into : {sources : List (NamedSource Seen)} {input : Seen} {asked mid asked_after : List FileEvent} {name : Text} (fault : ToolFault)
+    → mid ≡ asked ++ not_created name ∷ [] → asked_after ≡ mid ++ given_back sources → TellsName name fault
+    → LacksOutput name sources input input asked asked_after (Err fault)
+not_into {sources} {input} {asked} {mid} {asked_after} {name} fault lacks back told = record {
+  fault = fault;
+  is = refl;
+  told = told;
+  unread = refl;
+  log = back ∙ ap (λ v. v ++ given_back sources) lacks ∙ append_assoc asked (not_created name ∷ []) (given_back sources);
+}

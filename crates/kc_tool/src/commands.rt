@@ -1,5 +1,5 @@
 //! The commands: what a command is to do, the sources that it reads, the tally that it is about, and what it writes.
-ghost use Rattle.std.specs.Prelude.{◌≡◌, ◌⊎◌, [], IfErr, IfOk, None, length, map, string_bytes, unwrap_or};
+ghost use Rattle.std.specs.Prelude.{◌≡◌, ◌⊎◌, [], ◌∷◌, IfErr, IfOk, None, length, map, string_bytes, unwrap_or};
 ghost use Rattle.clap.specs.Words.{all_of, found_of, rows_of};
 ghost use Rattle.kc_tool.specs.NamedSources.{names_of, seen_of};
 ghost use Rattle.kc_tool.specs.Commands.{
@@ -23,6 +23,7 @@ ghost use Rattle.kc_tool.specs.Commands.{
   sources_from,
   verb_named,
 };
+ghost use Rattle.kc_tool.specs.Tallies.{RefusesSources, TalliesSources};
 
 use crate::count_progress::Progress;
 use crate::counted_sources::{count_input, count_sources};
@@ -301,13 +302,31 @@ fn tally_for<H: Threads + Wait + Sync, R: Source, F: Source, P: Progress + Sync>
     let Task::Count(options) = task else {
         return table_of(alloc, files, input);
     };
-    let counted = if files.is_empty() {
-        count_input(rt, alloc, input, options, progress)
-    } else {
-        count_sources(rt, alloc, files, options, progress)
-    };
+    let counted = count_of(rt, alloc, options, files, input, progress);
     progress.ends();
     counted
+}
+
+// The tally of the reads of the files, or where there are none, of those of the given input.
+fn count_of<H: Threads + Wait + Sync, R: Source, F: Source, P: Progress + Sync>(
+    rt: &H,
+    alloc: Global,
+    options: &Options,
+    files: &mut [NamedSource<'_, F>],
+    input: &mut R,
+    progress: &P,
+) -> Result<Tally, ToolFault>
+    ensures tally { let Tallies = TalliesSources (sources_from (R.seen input.old) (seen_of F.seen files.old)) in
+        IfOk result (Tallies (sources_from (R.seen input.new) (seen_of F.seen files.new)) options.now) }
+    ensures fault { let Refuses = RefusesSources (sources_from (R.seen input.old) (seen_of F.seen files.old)) in
+        IfErr result (Refuses (sources_from (R.seen input.new) (seen_of F.seen files.new))) }
+    ensures input { KeepsInput (seen_of F.seen files.old) (R.seen input.old) (R.seen input.new) }
+    ensures names { names_of files.new ≡ names_of files.old }
+{
+    if files.is_empty() {
+        return count_input(rt, alloc, input, options, progress);
+    }
+    count_sources(rt, alloc, files, options, progress)
 }
 
 // The tally that the table text of the file says, or where there is none, that of the given input.
@@ -324,10 +343,18 @@ fn table_of<R: Source, F: Source>(
     ensures input { KeepsInput (seen_of F.seen files.old) (R.seen input.old) (R.seen input.new) }
     ensures names { names_of files.new ≡ names_of files.old }
 {
-    match files.first_mut() {
-        Some(file) => Ok(read_table(alloc, &mut file.source, MOST_TABLE_BYTES)?),
-        None => Ok(read_table(alloc, input, MOST_TABLE_BYTES)?),
+    if files.is_empty() {
+        return table_from(alloc, input);
     }
+    table_from(alloc, &mut files[0].source)
+}
+
+// The tally that the table text of this source says.
+fn table_from<R: Source>(alloc: Global, source: &mut R) -> Result<Tally, ToolFault>
+    ensures table { IfOk result (TellOneTable (R.seen source.old ∷ []) (R.seen source.new ∷ [])) }
+    ensures fault { IfErr result (TellNoTable (R.seen source.old ∷ []) (R.seen source.new ∷ [])) }
+{
+    Ok(read_table(alloc, source, MOST_TABLE_BYTES)?)
 }
 
 // Writes what a task is to write about its tally. Condition: a histogram is for counts up to 1 to 10,000,000.
