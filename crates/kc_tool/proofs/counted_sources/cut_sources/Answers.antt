@@ -40,7 +40,7 @@ returns-in_err-left-clause-fault g c =
     let within : loop.source-index < length loop.sources = omega arith in
     let read = record item { source = c.cut_source.new.source } in
     rw (p.1, p.2) (refused_kept (λ source. g.R.Source.seen source.source) loop.sources item read is within
-        loop.invariant.counted loop.invariant.so_far c.in_err-left.field-0.0 c.in_err-left.ensures.fault)
+    loop.invariant.counted loop.invariant.so_far c.in_err-left.field-0.0 c.in_err-left.ensures.fault)
 
 pub returns-in_err-left-clause-names : goal.returns-in_err-left-clause-names
 returns-in_err-left-clause-names g c =
@@ -49,7 +49,7 @@ returns-in_err-left-clause-names g c =
     let is = ap (λ v. get_or loop.sources loop.source-index v) c.source-item.is in
     let read = record item { source = c.cut_source.new.source } in
     map-set_same (λ source. source.name.now) loop.sources loop.source-index read item
-        (ap (λ source. source.name.now) is) ∙ loop.invariant.names
+    (ap (λ source. source.name.now) is) ∙ loop.invariant.names
 
 pub returns-clause-cut : goal.returns-clause-cut
 returns-clause-cut g c =
