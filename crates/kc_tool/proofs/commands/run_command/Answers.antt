@@ -25,16 +25,6 @@ returns-in_err-sources g c =
     let fails = subst (λ names. FailsToOpen names c.args.files.now c.open_files.new.files fault) named c.in_err-sources.ensures.fault in
     file_left c.args.verb (rows_of (found_of c.args.matches.now)) fault (p.1 ∙ ap Err p.2) c.in_ok-task.ensures.lawful fails
 
-pub do_task-requires : goal.do_task-requires
-do_task-requires g c =
-    let rows = rows_of (found_of c.args.matches.now) in
-    let named = ap (map (λ (name : Bor (List ℕ)). name.now)) c.deref.ensures.value ∙ c.in_ok-names.ensures in
-    (
-      has_sources rows (g.R.Source.seen c.args.input.now) c.args.verb c.in_ok-task.task c.in_ok-sources.sources.items c.in_ok-task.ensures.asked
-          (c.in_ok-sources.ensures.opened.named ∙ named),
-      ?,
-    )
-
 pub returns-in-None : goal.returns-in-None
 returns-in-None g c =
     let rows = rows_of (found_of c.args.matches.now) in
@@ -43,16 +33,6 @@ returns-in-None g c =
     let output = sym c.text_of.ensures ∙ ap (option_map (λ (name : Bor (List ℕ)). name.now)) c.in-None.is in
     to_output c.args.verb rows c.in_ok-task.task c.in_ok-task.ensures.asked opens output c.do_task.ensures
 
-pub do_task_into-requires : goal.do_task_into-requires
-do_task_into-requires g c =
-    let rows = rows_of (found_of c.args.matches.now) in
-    let named = ap (map (λ (name : Bor (List ℕ)). name.now)) c.deref.ensures.value ∙ c.in_ok-names.ensures in
-    (
-      has_sources rows (g.R.Source.seen c.args.input.now) c.args.verb c.in_ok-task.task c.in_ok-sources.sources.items c.in_ok-task.ensures.asked
-          (c.in_ok-sources.ensures.opened.named ∙ named),
-      ?,
-    )
-
 pub returns : goal.returns
 returns g c =
     let rows = rows_of (found_of c.args.matches.now) in
@@ -60,3 +40,23 @@ returns g c =
     let opens = subst (λ names. OpensAll names c.args.files.now c.open_files.new.files c.in_ok-sources.sources.items) named c.in_ok-sources.ensures.opened in
     let output = sym c.text_of.ensures ∙ ap (option_map (λ (name : Bor (List ℕ)). name.now)) c.in-Some.is in
     into_ends c.args.verb rows c.in_ok-task.task c.in_ok-task.ensures.asked opens output c.in_ok-task.ensures.lawful c.do_task_into.ensures
+
+pub do_task-requires-after_bounds : goal.do_task-requires-after_bounds
+do_task-requires-after_bounds g c κs within =
+    let rows = rows_of (found_of c.args.matches.now) in
+    let named = ap (map (λ (name : Bor (List ℕ)). name.now)) c.deref.ensures.value ∙ c.in_ok-names.ensures in
+    record {
+      sources = has_sources rows (g.R.Source.seen c.args.input.now) c.args.verb c.in_ok-task.task c.in_ok-sources.sources.items c.in_ok-task.ensures.asked
+          (c.in_ok-sources.ensures.opened.named ∙ named);
+      writable = c.in_ok-task.ensures.writable;
+    }
+
+pub do_task_into-requires-after_bounds : goal.do_task_into-requires-after_bounds
+do_task_into-requires-after_bounds g c κs within =
+    let rows = rows_of (found_of c.args.matches.now) in
+    let named = ap (map (λ (name : Bor (List ℕ)). name.now)) c.deref.ensures.value ∙ c.in_ok-names.ensures in
+    record {
+      sources = has_sources rows (g.R.Source.seen c.args.input.now) c.args.verb c.in_ok-task.task c.in_ok-sources.sources.items c.in_ok-task.ensures.asked
+          (c.in_ok-sources.ensures.opened.named ∙ named);
+      writable = c.in_ok-task.ensures.writable;
+    }
