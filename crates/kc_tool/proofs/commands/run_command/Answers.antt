@@ -41,22 +41,14 @@ returns g c =
     let output = sym c.text_of.ensures ∙ ap (option_map (λ (name : Bor (List ℕ)). name.now)) c.in-Some.is in
     into_ends c.args.verb rows c.in_ok-task.task c.in_ok-task.ensures.asked opens output c.in_ok-task.ensures.lawful c.do_task_into.ensures
 
-pub do_task-requires-after_bounds : goal.do_task-requires-after_bounds
-do_task-requires-after_bounds g c κs within =
-    let rows = rows_of (found_of c.args.matches.now) in
+pub do_task-requires-clause-sources : goal.do_task-requires-clause-sources
+do_task-requires-clause-sources g c =
     let named = ap (map (λ (name : Bor (List ℕ)). name.now)) c.deref.ensures.value ∙ c.in_ok-names.ensures in
-    record {
-      sources = has_sources rows (g.R.Source.seen c.args.input.now) c.args.verb c.in_ok-task.task c.in_ok-sources.sources.items c.in_ok-task.ensures.asked
-          (c.in_ok-sources.ensures.opened.named ∙ named);
-      writable = c.in_ok-task.ensures.writable;
-    }
+    has_sources (rows_of (found_of c.args.matches.now)) (g.R.Source.seen c.args.input.now) c.args.verb c.in_ok-task.task c.in_ok-sources.sources.items
+    c.in_ok-task.ensures.asked (c.in_ok-sources.ensures.opened.named ∙ named)
 
-pub do_task_into-requires-after_bounds : goal.do_task_into-requires-after_bounds
-do_task_into-requires-after_bounds g c κs within =
-    let rows = rows_of (found_of c.args.matches.now) in
+pub do_task_into-requires-clause-sources : goal.do_task_into-requires-clause-sources
+do_task_into-requires-clause-sources g c =
     let named = ap (map (λ (name : Bor (List ℕ)). name.now)) c.deref.ensures.value ∙ c.in_ok-names.ensures in
-    record {
-      sources = has_sources rows (g.R.Source.seen c.args.input.now) c.args.verb c.in_ok-task.task c.in_ok-sources.sources.items c.in_ok-task.ensures.asked
-          (c.in_ok-sources.ensures.opened.named ∙ named);
-      writable = c.in_ok-task.ensures.writable;
-    }
+    has_sources (rows_of (found_of c.args.matches.now)) (g.R.Source.seen c.args.input.now) c.args.verb c.in_ok-task.task c.in_ok-sources.sources.items
+    c.in_ok-task.ensures.asked (c.in_ok-sources.ensures.opened.named ∙ named)
