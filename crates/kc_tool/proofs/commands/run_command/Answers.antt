@@ -42,13 +42,13 @@ returns g c =
     into_ends c.args.verb rows c.in_ok-task.task c.in_ok-task.ensures.asked opens output c.in_ok-task.ensures.lawful c.do_task_into.ensures
 
 pub do_task-requires-clause-sources : goal.do_task-requires-clause-sources
-do_task-requires-clause-sources g c =
+do_task-requires-clause-sources g c κs within =
     let named = ap (map (λ (name : Bor (List ℕ)). name.now)) c.deref.ensures.value ∙ c.in_ok-names.ensures in
     has_sources (rows_of (found_of c.args.matches.now)) (g.R.Source.seen c.args.input.now) c.args.verb c.in_ok-task.task c.in_ok-sources.sources.items
     c.in_ok-task.ensures.asked (c.in_ok-sources.ensures.opened.named ∙ named)
 
 pub do_task_into-requires-clause-sources : goal.do_task_into-requires-clause-sources
-do_task_into-requires-clause-sources g c =
+do_task_into-requires-clause-sources g c κs within =
     let named = ap (map (λ (name : Bor (List ℕ)). name.now)) c.deref.ensures.value ∙ c.in_ok-names.ensures in
     has_sources (rows_of (found_of c.args.matches.now)) (g.R.Source.seen c.args.input.now) c.args.verb c.in_ok-task.task c.in_ok-sources.sources.items
     c.in_ok-task.ensures.asked (c.in_ok-sources.ensures.opened.named ∙ named)
