@@ -110,7 +110,7 @@ command_done {arguments} {old} {new} {outcome} {matches} {name} {rows} {command}
     (taken.command, taken.options, taken.asked, subst (λ v. EndsSo v taken.options old new outcome) command_is (subst (λ v. EndsSo command v old new outcome) rows_are ends))
 
 -- the output alone may have changed
-with_output : Seen → List FileEvent → Written → Surroundings
+abbrev with_output : Seen → List FileEvent → Written → Surroundings
 with_output input asked output = record { input = input; output = output; asked = asked }
 
 -- an answer of `clap` was shown

@@ -217,17 +217,19 @@ module _ (command : Verb) (rows : List Row) where
     refused = subst (λ fault. IsRefused command rows [] fault) (sym fails.0) (inl refl);
   })
 
+  opened_files : {asked mid : List FileEvent} {sources : List (NamedSource Seen)} → OpensAll (files_of command rows) asked mid sources
+      → (files : List FileRead) → AreOf sources files → AreOpened (files_of command rows) files
+  opened_files opens files are = record {
+    named = are.named ∙ opens.named;
+    fresh = subst (All (λ (seen : Seen). seen.history ≡ no_history)) (sym are.before) opens.fresh;
+  }
+
+  opening_log : {asked mid : List FileEvent} {sources : List (NamedSource Seen)} → OpensAll (files_of command rows) asked mid sources
+      → (files : List FileRead) → AreOf sources files → mid ≡ asked ++ openings files
+  opening_log {asked} opens files are = opens.log ∙ ap (λ v. asked ++ map opened v) (sym (are.named ∙ opens.named))
+
   module _ (task : Task) {sources : List (NamedSource Seen)} {outcome : Result (Unit {0}) ToolFault} (asks : AsksForTask command rows task)
       {old : Surroundings} {mid : List FileEvent} (opens : OpensAll (files_of command rows) old.asked mid sources) where
-    opened_files : (files : List FileRead) → AreOf sources files → AreOpened (files_of command rows) files
-    opened_files files are = record {
-      named = are.named ∙ opens.named;
-      fresh = subst (All (λ (seen : Seen). seen.history ≡ no_history)) (sym are.before) opens.fresh;
-    }
-
-    opening_log : (files : List FileRead) → AreOf sources files → mid ≡ old.asked ++ openings files
-    opening_log files are = opens.log ∙ ap (λ v. old.asked ++ map opened v) (sym (are.named ∙ opens.named))
-
     -- The output has the answer.
     pub to_output : {new : Surroundings} → output_of rows ≡ None → DoesTask sources task (record { input = old.input; output = old.output; asked = mid }) new outcome
         → EndsSo command rows old new outcome
@@ -235,10 +237,10 @@ module _ (command : Verb) (rows : List Row) where
       task = task;
       asks = asks;
       files = does.files;
-      opened = opened_files does.files does.are;
+      opened = opened_files opens does.files does.are;
       input = does.input;
       done = rw named (
-        does.log ∙ ap (λ v. v ++ returned does.files) (opening_log does.files does.are) ∙ append_assoc old.asked (openings does.files) (returned does.files),
+        does.log ∙ ap (λ v. v ++ returned does.files) (opening_log opens does.files does.are) ∙ append_assoc old.asked (openings does.files) (returned does.files),
         does.done,
       );
     })
@@ -250,21 +252,22 @@ module _ (command : Verb) (rows : List Row) where
     to_file {name} {input} {log} named does =
         let files = does.files in
         let file = does.file in
-        let behind = created name ∷ returned files ++ wrote name file.after.history ∷ [] in
-        let same : behind ≡ created file.name ∷ returned files ++ wrote file.name file.after.history ∷ [] =
-        ap (λ name. created name ∷ returned files ++ wrote name file.after.history ∷ []) (sym does.is_created.named) in
+        let given = returned files in
+        let end = wrote name file.after.history ∷ [] in
         inl (record {
           task = task;
           asks = asks;
           files = files;
-          opened = opened_files files does.are;
+          opened = opened_files opens files does.are;
           input = does.input_kept;
           done = rw named (
             refl,
             file,
             does.is_created,
-            does.log ∙ ap (λ v. v ++ behind) (opening_log files does.are) ∙ append_assoc old.asked (openings files) behind
-                ∙ ap (λ v. old.asked ++ (openings files ++ v)) same,
+            does.log ∙ ap (λ v. (v ++ created name ∷ given) ++ end) (opening_log opens files does.are)
+                ∙ ap (λ v. v ++ end) (append_assoc old.asked (openings files) (created name ∷ given))
+                ∙ append_assoc old.asked (openings files ++ created name ∷ given) end
+                ∙ ap (λ (v : Text). old.asked ++ ((openings files ++ created v ∷ given) ++ wrote v file.after.history ∷ [])) (sym does.is_created.named),
             does.done,
           );
         })
@@ -343,8 +346,7 @@ done_into {sources} {task} {input} {input_after} {asked} {mid} {back} {asked_aft
       file = record { name = name; before = before; after = after };
       is_created = record { named = refl; fresh = fresh };
       log = gone ∙ ap (λ (v : Text). back ++ wrote v after.history ∷ []) same
-          ∙ ap (λ v. v ++ end) (does.log ∙ ap (λ v. v ++ given) creates ∙ append_assoc asked (created name ∷ []) given)
-          ∙ append_assoc asked (created name ∷ given) end;
+          ∙ ap (λ v. v ++ end) (does.log ∙ ap (λ v. v ++ given) creates ∙ append_assoc asked (created name ∷ []) given);
       done = does.done;
     }
 

@@ -94,3 +94,14 @@ paired (before ∷ old) (after ∷ new) same =
         log = ap₂ (λ name v. read name after.source.history ∷ v) (sym (same_head same)) rest.1.log;
       },
     )
+
+-- A list that was lent as a slice has the slice's items again.
+lent_whole : (later sources : List (NamedSource Seen)) → names_of later ≡ names_of sources → take (length sources) (later ++ drop (length later) sources) ≡ later
+lent_whole [] [] same = refl
+lent_whole [] (source ∷ sources) same = let none : ⊥ = cc in absurd none
+lent_whole (source ∷ later) [] same = let none : ⊥ = cc in absurd none
+lent_whole (other ∷ later) (source ∷ sources) same = ap (λ v. other ∷ v) (lent_whole later sources (same_tail same))
+
+pub lent_back : (later sources : List (NamedSource Seen)) (n : ℕ) → names_of later ≡ names_of sources → n ≡ length sources
+    → take n (later ++ drop (length later) sources) ≡ later
+lent_back later sources n same counted = ap (λ k. take k (later ++ drop (length later) sources)) counted ∙ lent_whole later sources same

@@ -10,7 +10,7 @@ use Rattle.kc_tool.proofs.commands.run_command.Goals as goal
 pub returns-in_err-task : goal.returns-in_err-task
 returns-in_err-task g c =
     let p = err_from_is_err_and c.from_residual.result c.from_residual.ensures.1 in
-    option_left c.args.verb (rows_of (found_of c.args.matches.now)) c.in_err-task.field-0 (p.1 ∙ ap Err p.2) c.in_err-task.ensures.refused
+    option_left c.args.verb (rows_of (found_of c.args.matches.now)) c.in_err-task.field-0.0 (p.1 ∙ ap Err p.2) c.in_err-task.ensures.refused
 
 pub returns-in_err-names : goal.returns-in_err-names
 returns-in_err-names g c =
@@ -21,42 +21,34 @@ pub returns-in_err-sources : goal.returns-in_err-sources
 returns-in_err-sources g c =
     let p = err_from_is_err_and c.from_residual-in_err-sources.result c.from_residual-in_err-sources.ensures.1 in
     let named = ap (map (λ (name : Bor (List ℕ)). name.now)) c.deref.ensures.value ∙ c.in_ok-names.ensures in
-    let fault = c.in_err-sources.field-0 in
-    let fails = subst (λ names. FailsToOpen names c.args.files.now c.open_files-sources.new.files fault) named c.in_err-sources.ensures.fault in
+    let fault = c.in_err-sources.field-0.0 in
+    let fails = subst (λ names. FailsToOpen names c.args.files.now c.open_files.new.files fault) named c.in_err-sources.ensures.fault in
     file_left c.args.verb (rows_of (found_of c.args.matches.now)) fault (p.1 ∙ ap Err p.2) c.in_ok-task.ensures.lawful fails
-
-pub do_task-requires : goal.do_task-requires
-do_task-requires g c =
-    let rows = rows_of (found_of c.args.matches.now) in
-    let named = ap (map (λ (name : Bor (List ℕ)). name.now)) c.deref.ensures.value ∙ c.in_ok-names.ensures in
-    record {
-      sources = has_sources rows (g.R.Source.seen c.args.input.now) c.args.verb c.in_ok-task.task c.in_ok-sources.sources.items c.in_ok-task.ensures.asked
-          (c.in_ok-sources.ensures.opened.named ∙ named);
-      writable = c.in_ok-task.ensures.writable;
-    }
 
 pub returns-in-None : goal.returns-in-None
 returns-in-None g c =
     let rows = rows_of (found_of c.args.matches.now) in
     let named = ap (map (λ (name : Bor (List ℕ)). name.now)) c.deref.ensures.value ∙ c.in_ok-names.ensures in
-    let opens = subst (λ names. OpensAll names c.args.files.now c.open_files-sources.new.files c.in_ok-sources.sources.items) named c.in_ok-sources.ensures.opened in
+    let opens = subst (λ names. OpensAll names c.args.files.now c.open_files.new.files c.in_ok-sources.sources.items) named c.in_ok-sources.ensures.opened in
     let output = sym c.text_of.ensures ∙ ap (option_map (λ (name : Bor (List ℕ)). name.now)) c.in-None.is in
     to_output c.args.verb rows c.in_ok-task.task c.in_ok-task.ensures.asked opens output c.do_task.ensures
-
-pub do_task_into-requires : goal.do_task_into-requires
-do_task_into-requires g c =
-    let rows = rows_of (found_of c.args.matches.now) in
-    let named = ap (map (λ (name : Bor (List ℕ)). name.now)) c.deref.ensures.value ∙ c.in_ok-names.ensures in
-    record {
-      sources = has_sources rows (g.R.Source.seen c.args.input.now) c.args.verb c.in_ok-task.task c.in_ok-sources.sources.items c.in_ok-task.ensures.asked
-          (c.in_ok-sources.ensures.opened.named ∙ named);
-      writable = c.in_ok-task.ensures.writable;
-    }
 
 pub returns : goal.returns
 returns g c =
     let rows = rows_of (found_of c.args.matches.now) in
     let named = ap (map (λ (name : Bor (List ℕ)). name.now)) c.deref.ensures.value ∙ c.in_ok-names.ensures in
-    let opens = subst (λ names. OpensAll names c.args.files.now c.open_files-sources.new.files c.in_ok-sources.sources.items) named c.in_ok-sources.ensures.opened in
+    let opens = subst (λ names. OpensAll names c.args.files.now c.open_files.new.files c.in_ok-sources.sources.items) named c.in_ok-sources.ensures.opened in
     let output = sym c.text_of.ensures ∙ ap (option_map (λ (name : Bor (List ℕ)). name.now)) c.in-Some.is in
     into_ends c.args.verb rows c.in_ok-task.task c.in_ok-task.ensures.asked opens output c.in_ok-task.ensures.lawful c.do_task_into.ensures
+
+pub do_task-requires-clause-sources : goal.do_task-requires-clause-sources
+do_task-requires-clause-sources g c κs within =
+    let named = ap (map (λ (name : Bor (List ℕ)). name.now)) c.deref.ensures.value ∙ c.in_ok-names.ensures in
+    has_sources (rows_of (found_of c.args.matches.now)) (g.R.Source.seen c.args.input.now) c.args.verb c.in_ok-task.task c.in_ok-sources.sources.items
+    c.in_ok-task.ensures.asked (c.in_ok-sources.ensures.opened.named ∙ named)
+
+pub do_task_into-requires-clause-sources : goal.do_task_into-requires-clause-sources
+do_task_into-requires-clause-sources g c κs within =
+    let named = ap (map (λ (name : Bor (List ℕ)). name.now)) c.deref.ensures.value ∙ c.in_ok-names.ensures in
+    has_sources (rows_of (found_of c.args.matches.now)) (g.R.Source.seen c.args.input.now) c.args.verb c.in_ok-task.task c.in_ok-sources.sources.items
+    c.in_ok-task.ensures.asked (c.in_ok-sources.ensures.opened.named ∙ named)
