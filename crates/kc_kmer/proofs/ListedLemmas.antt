@@ -17,7 +17,8 @@ use Rattle.kc_kmer.specs.Occurrences.{is_usable, word_at, form_at, where_listed,
 pub unlisted-same : (rule : CountingRule) → rule.only ≡ None → without_list rule ≡ rule
 unlisted-same rule none = λ i. record { k = rule.k; both = rule.both; floor = rule.floor; only = sym none i }
 
-each_listed : (only : Option (List ℕ)) (o : Option (List ℕ)) → only ≡ None → option_and_then (where_listed only) o ≡ o
+-- without a list no word is left out
+pub each_listed : (only : Option (List ℕ)) (o : Option (List ℕ)) → only ≡ None → option_and_then (where_listed only) o ≡ o
 unfolding is_listed
 each_listed only o none = ap (λ list. option_and_then (where_listed list) o) none ∙ by o
   where
