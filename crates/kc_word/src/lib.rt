@@ -21,6 +21,8 @@ mod batch;
 mod codes;
 mod cutting;
 pub mod cutting_laws;
+mod only;
+pub mod only_laws;
 mod packed_codes;
 mod piece;
 mod pieces;
@@ -34,6 +36,7 @@ pub use cutting::{Cutting, cut};
 pub use kc_kmer::{
     K, Rule, Word, canonical, pack, reverse_complement, slow_count, text, word_laws,
 };
+pub use only::Only;
 pub use piece::{Piece, clean};
 pub use roll::{read_words, words};
 pub use walk::Walk;
