@@ -22,6 +22,8 @@ mod batch;
 mod codes;
 mod cutting;
 pub mod cutting_laws;
+mod only;
+pub mod only_laws;
 mod packed_codes;
 mod piece;
 mod piece_views;
@@ -36,6 +38,7 @@ pub use cutting::{Cutting, cut};
 pub use kc_kmer::{
     K, Rule, Word, canonical, pack, reverse_complement, slow_count, text, word_laws,
 };
+pub use only::Only;
 pub use piece::{Piece, clean};
 pub use piece_views::{PieceView, PieceViews};
 pub use roll::{read_words, words};
