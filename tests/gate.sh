@@ -14,6 +14,9 @@ chmod 755 "$work"
 mkdir -m 1777 "$work/tmp"
 mkdir "$work/kept"
 begun=$SECONDS
+GATE=$work tests/costs.py "$work" > "$work/costs" &
+costs=$!
+export GATE=$work
 minutes() {
     echo "gate: $1 after $(((SECONDS - begun + 30) / 60)) minutes"
 }
@@ -44,7 +47,11 @@ tests/program.sh
 tests/examples.sh
 wait "$edits" || { cat "$work/edits"; exit 1; }
 cat "$work/edits"
+kill "$costs"
+wait "$costs"
 minutes "all"
+echo "gate: minutes of processor time of the checks, crate by crate"
+cat "$work/costs"
 passed=$(tail -n 1 "$work/ci" | sed -n 's/^\([0-9]*\) passed, 0 failed$/\1/p')
 refused=$(tail -n 1 "$work/edits" | sed -n 's/^\([0-9]*\) refused, 0 failed$/\1/p')
 echo "$((passed + refused)) passed, 0 failed"

@@ -1,10 +1,10 @@
 -- Codes divided among stripes, as the loops have them.
-use Rattle.std.proofs.Common.{◌≡◌, ◌≢◌, ℕ, ◌+◌, ◌/◌, ◌%◌, ◌*◌, ◌-◌, ◌^◌, ◌<◌, ◌≤◌, Bool, true, false, cond, eqb, List, [], ◌∷◌, ◌++◌, length, get_or, set, take, map, filter, All, count_by, replicate, bit_and, Vec, Global, append-nil, refl, ap, ap₂, sym, ◌∙◌, arith, ⊎_elim, below_more}
+use Rattle.std.proofs.Common.{vec_capacity, ◌≡◌, ◌≢◌, ℕ, ◌+◌, ◌/◌, ◌%◌, ◌*◌, ◌-◌, ◌^◌, ◌<◌, ◌≤◌, Bool, true, false, cond, eqb, List, [], ◌∷◌, ◌++◌, length, get_or, set, take, map, filter, All, count_by, replicate, bit_and, Vec, Global, append-nil, refl, ap, ap₂, sym, ◌∙◌, arith, ⊎_elim, below_more}
 use Rattle.std.specs.List.{range_with_len}
 use Rattle.std.proofs.lemmas.Nat.{mod_below, pow_pos, one_shl}
 use Rattle.std.proofs.lemmas.Bool.{cases_eq, cases_lt, eq-eqb, ne_eqb}
 use Rattle.std.proofs.lemmas.List.{get_or-replicate, get_or_past, get_or-set_same, get_or-set_other, length-set, length-map, length-replicate, get_or-map, ext_get_or, take_all, map_push}
-use Rattle.std.proofs.lemmas.List.Sums.{count_by_more_yes, count_by_more_no}
+use Rattle.std.proofs.lemmas.List.Sums.{count_by_more_yes, count_by_more_no, length-filter}
 use Rattle.std.proofs.lemmas.List.Elements.{filter_more}
 use Rattle.std.proofs.lemmas.List.FromFn.{length-map-range_with_len, get_or-map-range_with_len}
 use Rattle.kc_lemmas.proofs.Lists.{range_more, map-same, All-range}
@@ -92,6 +92,9 @@ IsCountedTo-more s codes sizes i step so_far = record {
 pub stripes-shifted_64 : (s : ℕ) → s ≤ 6 → 1 * 2 ^ s % 2 ^ 64 ≡ 2 ^ s
 stripes-shifted_64 s few = one_shl s 64 (omega arith)
 
+pub stripes-within_64 : (s : ℕ) → s ≤ 6 → 1 * 2 ^ s % 2 ^ 64 ≤ 64
+stripes-within_64 s few = let whole = stripes-shifted_64 s few in let most = stripes-few s few in omega arith
+
 pub stripe-below_64 : (s stripe : ℕ) → s ≤ 6 → stripe < 1 * 2 ^ s % 2 ^ 64 → stripe < 64
 stripe-below_64 s stripe few below = let whole = stripes-shifted_64 s few in let most = stripes-few s few in omega arith
 
@@ -121,6 +124,20 @@ empty-more s i parts new part is empty so_far =
     ap (map (λ part. part.items)) is ∙ map_push (λ part. part.items) parts part
     ∙ ap₂ (λ xs x. xs ++ x ∷ []) so_far empty
     ∙ sym (ap (map (λ stripe. keys_in s stripe [])) (range_more i) ∙ map_push (λ stripe. keys_in s stripe []) (range_with_len 0 i) i)
+
+-- one vector more, with room for as many keys as fall in its stripe
+pub room-more : (s i : ℕ) (codes : List ℕ) (parts new : List Part) (part : Part) → new ≡ parts ++ part ∷ []
+    → vec_capacity part ≡ count_by (falls_in s i) codes
+    → map (λ part. vec_capacity part) parts ≡ map length (map (λ stripe. keys_in s stripe codes) (range_with_len 0 i))
+    → map (λ part. vec_capacity part) new ≡ map length (map (λ stripe. keys_in s stripe codes) (range_with_len 0 (i + 1)))
+room-more s i codes parts new part is room so_far =
+    let long : length (keys_in s i codes) ≡ count_by (falls_in s i) codes =
+    length-map (filter (falls_in s i) codes) (λ code. code / 2 ^ s) ∙ length-filter (falls_in s i) codes in
+    ap (map (λ part. vec_capacity part)) is ∙ map_push (λ part. vec_capacity part) parts part
+    ∙ ap₂ (λ xs x. xs ++ x ∷ []) so_far (room ∙ sym long)
+    ∙ sym (ap (λ is. map length (map (λ stripe. keys_in s stripe codes) is)) (range_more i)
+    ∙ ap (map length) (map_push (λ stripe. keys_in s stripe codes) (range_with_len 0 i) i)
+    ∙ map_push length (map (λ stripe. keys_in s stripe codes) (range_with_len 0 i)) (keys_in s i codes))
 
 -- the first i codes are divided
 pub record IsDividedTo (s : ℕ) (codes : List ℕ) (parts : List Part) (i : ℕ) : Type 0 where

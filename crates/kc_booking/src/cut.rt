@@ -1,11 +1,13 @@
 //! The words of a batch divided among the stripes.
 ghost use Rattle.std.specs.Prelude.{◌≡◌, ℕ, ◌%◌, ◌^◌, ◌<◌, ◌≤◌, ◌==◌, [], length, map, count_by, slice_index, All};
 ghost use Rattle.std.specs.Prelude.{IfOk};
+ghost use Rattle.std.specs.Vec.{vec_capacity};
 ghost use Rattle.kc_hash.specs.Product.{product};
 ghost use Rattle.kc_booking.specs.Cut.{StripeCut, keys_of, cuts_of, key_parts};
 
 use crate::setup::Setup;
 use kc_hash::MatrixTables;
+use kc_lemmas::room_for_each;
 use kc_word::{Batch, words};
 use std::alloc::{AllocError, Global};
 use std::marker::Model;
@@ -68,7 +70,7 @@ pub fn cut_up(alloc: Global, setup: &Setup, batch: &Arc<Batch>) -> Result<Vec<Cu
     ensures { IfOk result (λ cuts. cuts.items ≡ cuts_of setup.now batch.now.value) }
 {
     let parts = stripe_keys(alloc, setup, batch)?;
-    let mut cuts = Vec::with_capacity(alloc, parts.len())?;
+    let mut cuts = room_for_each(alloc, &parts)?;
     for keys in parts {
         let cut = Cut {
             setup: *setup,
@@ -119,11 +121,13 @@ fn divided(alloc: Global, codes: &[u64], stripe_bits: u32) -> Result<Vec<Vec<u64
 // An empty vector for each stripe, with room for its keys.
 fn empty_parts(alloc: Global, codes: &[u64], stripe_bits: u32) -> Result<Vec<Vec<u64>>, AllocError>
     requires { stripe_bits ≤ 6 }
-    ensures { IfOk result (λ parts. map (λ part. part.items) parts.items ≡ key_parts stripe_bits []) }
+    ensures empty { IfOk result (λ parts. map (λ part. part.items) parts.items ≡ key_parts stripe_bits []) }
+    ensures room { IfOk result (λ parts.
+        map (λ part. vec_capacity part) parts.items ≡ map length (key_parts stripe_bits codes.now)) }
 {
     let sizes = part_sizes(codes, stripe_bits);
     let stripes = 1usize << stripe_bits;
-    let mut parts = Vec::with_capacity(alloc, stripes)?;
+    let mut parts = room_for_each(alloc, &sizes[..stripes])?;
     for stripe in 0..stripes {
         parts.push(Vec::with_capacity(alloc, sizes[stripe])?)?;
     }

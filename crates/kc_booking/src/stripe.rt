@@ -1,6 +1,7 @@
 //! A stripe, which always holds exactly the counts of the batches that its journal names.
 ghost use Rattle.std.specs.Prelude.{◌≡◌, ℕ, ◌+◌, ◌<◌, ◌≤◌, ◌^◌, ◌≢◌, ◌==◌, ◌↔◌, ◌⊎◌, [], ◌∷◌, ◌++◌, length, sum_by};
-ghost use Rattle.std.specs.Prelude.{count_by, IfOk, OnOk, OnErr};
+ghost use Rattle.std.specs.Prelude.{count_by, max, ◌*◌, IfOk, OnOk, OnErr};
+ghost use Rattle.std.specs.Vec.{vec_len, vec_capacity};
 ghost use Rattle.std.specs.FinMap.{empty};
 ghost use Rattle.kc_word.specs.Shared.{values};
 ghost use Rattle.kc_tally.specs.Histogram.{last_bin, bin_of, bin_at};
@@ -14,6 +15,7 @@ use crate::booking_fault::BookFault;
 use crate::counted::CountedTable;
 use crate::cut::Cut;
 use crate::setup::Setup;
+use kc_lemmas::room_for_each;
 use kc_table::Counts;
 use kc_tally::Row;
 use kc_word::{Batch, Word, word_laws};
@@ -159,7 +161,7 @@ impl<C: Counts> Stripe<C> {
         let _bits = self.setup.stripe_bits();
         let counted = self.counted.table().rows(alloc)?;
         let tables = self.setup.hash().back_tables();
-        let mut rows = Vec::with_capacity(alloc, counted.len())?;
+        let mut rows = room_for_each(alloc, &counted)?;
         for (key, count) in &counted {
             let code = self.setup.code_at(self.number, *key);
             rows.push(Row {
@@ -193,13 +195,12 @@ impl<C: Counts> Stripe<C> {
         word_laws::joined_occurrences();
         // what can fail comes first, and changes no count and no name in the journal
         let batch = cut.batch().clone()?;
-        self.journal.reserve(1)?;
-        self.booked.reserve(1)?;
+        make_room(&mut self.journal)?;
         self.counted.ready_all(cut.keys())?;
-        self.counted.add_all(cut.keys());
         let Ok(_) = self.booked.insert(batch.number()) else {
-            unreachable!()
+            return Err(BookFault::Memory);
         };
+        self.counted.add_all(cut.keys());
         self.journal.push_reserved(batch);
         Ok(())
     }
@@ -230,3 +231,15 @@ impl<C: Counts> Stripe<C> {
 
 // The greatest total.
 const MOST_WORDS: u64 = 1 << 62;
+
+// Makes room for one more item, where there is none for as many more as there are and one.
+fn make_room<T>(items: &mut Vec<T>) -> Result<(), AllocError>
+    ensures same { items.new.items ≡ items.old.items }
+    ensures room { OnOk result (vec_len items.new < vec_capacity items.new) }
+    ensures bounded { vec_capacity items.new ≤ max (vec_capacity items.old) (2 * length items.old.items + 1) }
+{
+    if items.len() < items.capacity() {
+        return Ok(());
+    }
+    items.reserve_exact(items.len().saturating_add(1))
+}

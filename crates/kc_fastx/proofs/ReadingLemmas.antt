@@ -15,7 +15,7 @@ use Rattle.kc_fastx.specs.Records.{Records}
 use Rattle.kc_fastx.specs.Fasta.{IsFastaRecord, FastaFails, greater_than}
 use Rattle.kc_fastx.specs.Fastq.{IsFastqRecord, FastqFails}
 use Rattle.kc_fastx.specs.Parsing.{text_lines, IsFastq, HasReads, HasFault, GivesReads, RefusesFor}
-use Rattle.kc_fastx.specs.Faults.{UnlessMemory, is_of_lines, taking_fault}
+use Rattle.kc_fastx.specs.Faults.{UnlessMemory, is_of_lines, kept_fault, taking_fault}
 use Rattle.kc_io.specs.Intakes.{Unread, Filled}
 use Rattle.kc_io.specs.declared.intakes.TakeFault.{TakeFault}
 use Rattle.kc_io.specs.declared.intakes.TakeFault.TheVariants as taking
@@ -526,6 +526,67 @@ given_fault {stand = stand} given whole left ReadFailed h fails sure = absurd
 given_fault {start = start} {now = now} {limit = limit} {stand = stand} given whole left Memory h fails sure =
     memory_refused stand.ended start now limit (given.used ++ stand.unread.bytes) given.taken.taken
 
+-- ---- kept faults
+
+-- the same stand, and what it keeps of a fault
+abbrev pub with_failed : Stand → Option FastxFault → Stand
+with_failed stand failed = record stand { failed = failed }
+
+-- any fault but that of memory is kept
+pub kept_some : (fault : FastxFault) (failed : Option FastxFault) → failed ≡ kept_fault fault
+    → UnlessMemory (λ f. failed ≡ Some f) fault
+kept_some (BadStart number) failed e = e
+kept_some (BadBase number) failed e = e
+kept_some (BadQuality number) failed e = e
+kept_some (LongQuality number) failed e = e
+kept_some (Truncated number) failed e = e
+kept_some TooLong failed e = e
+kept_some ReadFailed failed e = e
+kept_some Memory failed e = tt
+
+pub told_unless : (Is : FastxFault → Type 0) (fault : FastxFault) → Is fault → UnlessMemory Is fault
+told_unless Is (BadStart number) is = is
+told_unless Is (BadBase number) is = is
+told_unless Is (BadQuality number) is = is
+told_unless Is (LongQuality number) is = is
+told_unless Is (Truncated number) is = is
+told_unless Is TooLong is = is
+told_unless Is ReadFailed is = is
+told_unless Is Memory is = tt
+
+met_kept : {start now : Seen} {limit : ℕ} {stand : Stand} {fault : FastxFault} (failed : Option FastxFault)
+    → HasMet start now limit stand fault → HasMet start now limit (with_failed stand failed) fault
+met_kept failed met = record {
+  bytes = met.bytes;
+  taken = record { taken = met.taken.taken; room = met.taken.room };
+  met = met.met;
+}
+
+-- what a fault says of a reader doesn't rest on what is kept of it
+pub meets_kept : (start now : Seen) (limit : ℕ) (stand : Stand) (fault : FastxFault) (failed : Option FastxFault)
+    → MeetsFault start now limit stand fault → MeetsFault start now limit (with_failed stand failed) fault
+meets_kept start now limit stand (BadStart number) failed m = met_kept failed m
+meets_kept start now limit stand (BadBase number) failed m = met_kept failed m
+meets_kept start now limit stand (BadQuality number) failed m = met_kept failed m
+meets_kept start now limit stand (LongQuality number) failed m = met_kept failed m
+meets_kept start now limit stand (Truncated number) failed m = met_kept failed m
+meets_kept start now limit stand TooLong failed m = m
+meets_kept start now limit stand ReadFailed failed m = m
+meets_kept start now limit stand Memory failed m = m
+
+-- a reader that keeps no fault gave the same reads still
+pub given_kept : {start now : Seen} {limit : ℕ} {reads : List Read} {stand : Stand} (failed : Option FastxFault)
+    → HasGiven start now limit reads stand → failed ≡ None
+    → HasGiven start now limit reads (with_failed stand failed)
+given_kept failed given none = record {
+  used = given.used;
+  taken = record { taken = given.taken.taken; room = given.taken.room };
+  counted = given.counted;
+  unfailed = none;
+  said = λ more may_come.
+      let said = given.said more may_come in record { counted = said.counted; says = said.says };
+}
+
 -- ---- more bytes
 
 pub given_none : (start : Seen) (limit : ℕ) → HasGiven start start limit [] (first_stand limit)
@@ -696,7 +757,7 @@ some_came {u = u} whole front more =
     omega (arith, more, ap (λ bytes. length bytes) whole.behind, ap (λ bytes. length bytes) front.behind, length-append u.bytes whole.more, length-append u.bytes front.more)
 
 -- a stand with other unused bytes
-abbrev pub with_unread : Stand → Unread → Bool → Option TakeFault → Stand
+abbrev pub with_unread : Stand → Unread → Bool → Option FastxFault → Stand
 with_unread stand unread ended failed = record {
   unread = unread;
   used = stand.used;

@@ -16,6 +16,7 @@ use Rattle.kc_fastx.specs.declared.record_reader.Next.TheVariants.{Given, End, S
 use Rattle.kc_fastx.specs.Fasta.{IsFastaRecord, FastaFails, greater_than}
 use Rattle.kc_fastx.specs.Fastq.{IsFastqRecord, FastqFails}
 use Rattle.kc_fastx.specs.Parsing.{HasFault, GivesReads, RefusesFor}
+use Rattle.kc_fastx.specs.Faults.{taking_fault}
 
 -- where a reader stands
 pub record Stand : Type 0 where
@@ -28,8 +29,8 @@ pub record Stand : Type 0 where
   pub is_fastq : Bool
   -- the source told its end
   pub ended : Bool
-  -- why no more bytes could be taken, which is what the reader answers from then on
-  pub failed : Option TakeFault
+  -- the fault that it keeps, which is what it answers from then on
+  pub failed : Option FastxFault
 
 -- nothing was taken yet, and so many bytes may be
 abbrev pub first_stand : ℕ → Stand
@@ -150,13 +151,17 @@ TellsNext start now limit reads stand (Ok End) = GivesNext start now limit reads
 TellsNext start now limit reads stand (Ok Short) = HasGiven start now limit reads stand
 TellsNext start now limit reads stand (Err fault) = MeetsFault start now limit stand fault
 
--- a read that was given used some bytes; a reader that wants more stands where it stood, and more may come
+-- A read that was given used some bytes. A reader that wants more stands where it stood, and more may come. One that
+-- met a fault stands where it stood.
 abbrev pub Moves : Stand → Stand → Result Next FastxFault → Type 0
 Moves old new (Ok (Given read)) = old.used < new.used
 Moves old new (Ok Short) = (new ≡ old) × (new.ended ≡ false)
+Moves old new (Err fault) = new ≡ old
 Moves old new answer = ⊤
 
--- More bytes were taken, and stand behind those that were there: some, or all up to the end; else why none could be.
+-- More bytes were taken, and stand behind those that were there: some, or all up to the end; else why none could be,
+-- which is kept.
 abbrev pub Grows : Seen → Seen → Stand → Stand → Result (Unit {0}) TakeFault → Type 0
 Grows old new before after (Ok done) = HasGrown old new before after
-Grows old new before after (Err why) = TakingFails old new before.unread.room why
+Grows old new before after (Err why) =
+    TakingFails old new before.unread.room why × (after.failed ≡ Some (taking_fault why))

@@ -1,8 +1,9 @@
 //! The reads of a source, one after another.
-ghost use Rattle.std.specs.Prelude.{◌≡◌, ◌≤◌, ◌<◌, ℕ, List, [], IfOk, IfSome};
+ghost use Rattle.std.specs.Prelude.{◌≡◌, ◌≤◌, ◌<◌, ℕ, List, [], None, Some, Err, IfOk, IfErr, OnErr, IfSome, OnSome};
 ghost use Rattle.kc_io.specs.Sources.{Seen};
 ghost use Rattle.kc_fastx.specs.Reads.{Read};
 ghost use Rattle.kc_fastx.specs.Parsing.{most_bytes};
+ghost use Rattle.kc_fastx.specs.Faults.{UnlessMemory};
 ghost use Rattle.kc_fastx.specs.Reading.{Reader, first_stand, HasGiven, GivesNext};
 
 use crate::read_faults::FastxFault;
@@ -56,12 +57,20 @@ impl<S: Source + Drop> Reads<S> {
     /// # Errors
     /// The first fault of all bytes, with its line, where the lines that were taken tell it already. `TooLong` where
     /// the source gave more bytes than the limit, and `Read` where it failed, while more were taken for the next read.
-    /// `Memory` where a growth was refused. A reader that couldn't take bytes answers the same from then on.
+    /// `Memory` where a growth was refused. The reader keeps its fault: from then on it answers the same, takes nothing
+    /// of the source and stays as it is. `Memory` for the text of a record is the one that it doesn't keep: it gave the
+    /// same reads still, and may be asked again. `Memory` for bytes that the source had given already is kept.
     pub fn next_read(&mut self) -> Result<Option<SeqRead>, FastxFault>
         ensures given { (start : Seen) (limit : ℕ) (reads : List Read)
             → HasGiven start self.old.source limit reads self.old.stand
             → GivesNext start self.new.source limit reads self.new.stand result }
         ensures used { IfOk result (λ next. IfSome next (λ read. self.old.stand.used < self.new.stand.used)) }
+        ensures again { IfSome self.old.stand.failed (λ fault. result ≡ Err fault) }
+        ensures unchanged { OnSome self.old.stand.failed (self.new ≡ self.old) }
+        ensures kept { IfErr result (UnlessMemory (λ fault. self.new.stand.failed ≡ Some fault)) }
+        ensures resumed { OnErr result (self.new.stand.failed ≡ None → (start : Seen) (limit : ℕ) (reads : List Read)
+            → HasGiven start self.old.source limit reads self.old.stand
+            → HasGiven start self.new.source limit reads self.new.stand) }
     {
         self.reading.next_read(self.alloc, &mut self.source)
     }

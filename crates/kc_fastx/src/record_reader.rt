@@ -1,13 +1,13 @@
 //! The reads that a source says, one after another: of its bytes the reader keeps a block and what a record takes.
-ghost use Rattle.std.specs.Prelude.{◌≡◌, ℕ, List, Bool, true, false, None, [], ◌+◌, ◌≤◌, ◌<◌, ◌^◌, length, drop};
-ghost use Rattle.std.specs.Prelude.{IfOk, IfErr, OnOk, IfSome};
+ghost use Rattle.std.specs.Prelude.{◌≡◌, ℕ, List, Bool, true, false, None, Some, Err, [], ◌+◌, ◌≤◌, ◌<◌, ◌^◌};
+ghost use Rattle.std.specs.Prelude.{length, drop, IfOk, IfErr, OnOk, OnErr, IfSome, OnSome};
 ghost use Rattle.kc_io.specs.Sources.{Seen};
 ghost use Rattle.kc_fastx.specs.Reads.{Read};
 ghost use Rattle.kc_fastx.specs.Lines.{line_count, skip_blanks, Passes, HasWhole};
 ghost use Rattle.kc_fastx.specs.Parsing.{most_bytes, RefusesFor};
 ghost use Rattle.kc_fastx.specs.Reading.{Stand, first_stand, HasGiven, MeetsFault, GivesNext, TellsNext};
 ghost use Rattle.kc_fastx.specs.Reading.{IsNext, NextFails, IsSure, Moves, Grows};
-ghost use Rattle.kc_fastx.specs.Faults.{UnlessMemory};
+ghost use Rattle.kc_fastx.specs.Faults.{UnlessMemory, kept_fault};
 
 use crate::fasta::next_fasta;
 use crate::fastq::next_fastq;
@@ -42,7 +42,7 @@ pub struct Reading {
     lines_used: u64,
     is_fastq: bool,
     ended: bool,
-    failed: Option<TakeFault>,
+    failed: Option<FastxFault>,
 }
 
 impl Model for Reading {
@@ -91,7 +91,9 @@ impl Reading {
     /// # Errors
     /// The first fault of all bytes, with its line, where the lines that were taken tell it already. `TooLong` where
     /// the source gave more bytes than the limit, and `Read` where it failed, before the next record was whole.
-    /// `Memory` where a growth was refused. A reader that couldn't take bytes answers the same from then on.
+    /// `Memory` where a growth was refused. The reader keeps its fault: from then on it answers the same, takes nothing
+    /// of the source and stays as it is. `Memory` for the text of a record is the one that it doesn't keep: it gave the
+    /// same reads still, and may be asked again. `Memory` for bytes that the source had given already is kept.
     pub fn next_read<S: Source>(
         &mut self,
         alloc: Global,
@@ -101,21 +103,31 @@ impl Reading {
             → HasGiven start (S.seen source.old) limit reads self.old
             → GivesNext start (S.seen source.new) limit reads self.new result }
         ensures used { IfOk result (λ next. IfSome next (λ read. self.old.used < self.new.used)) }
+        ensures again { IfSome self.old.failed (λ fault. result ≡ Err fault) }
+        ensures unchanged { OnSome self.old.failed (self.new ≡ self.old) }
+        ensures untaken { OnSome self.old.failed (S.seen source.new ≡ S.seen source.old) }
+        ensures kept { IfErr result (UnlessMemory (λ fault. self.new.failed ≡ Some fault)) }
+        ensures resumed { OnErr result (self.new.failed ≡ None → (start : Seen) (limit : ℕ) (reads : List Read)
+            → HasGiven start (S.seen source.old) limit reads self.old
+            → HasGiven start (S.seen source.new) limit reads self.new) }
     {
-        if let Some(why) = self.failed {
-            return Err(FastxFault::from(why));
+        if let Some(fault) = self.failed {
+            return Err(fault);
         }
         'reading: loop {
-            match self.next_of_whole(alloc)? {
-                Next::Given(read) => return Ok(Some(read)),
-                Next::End => return Ok(None),
-                Next::Short => self.grow(source)?,
+            match self.next_of_whole(alloc) {
+                Ok(Next::Given(read)) => return Ok(Some(read)),
+                Ok(Next::End) => return Ok(None),
+                Ok(Next::Short) => self.grow(source)?,
+                Err(fault) => {
+                    self.keep(fault);
+                    return Err(fault);
+                }
             }
         }
     }
 
-    /// How many bytes were taken. Condition: no taking of bytes has failed, as where `next_read` has answered a read or
-    /// none.
+    /// How many bytes were taken. Condition: no fault was kept, as where `next_read` has answered a read or none.
     pub fn byte_count(&self) -> u64
         requires { self.now.failed ≡ None }
         ensures { result ≡ self.now.used + length self.now.unread.bytes }
@@ -154,13 +166,25 @@ impl Reading {
                     return Ok(());
                 }
                 Err(why) => {
-                    self.failed = Some(why);
+                    // what the source gave in this read is lost
+                    self.failed = Some(FastxFault::from(why));
                     return Err(why);
                 }
             }
             if self.intake.as_slice().len() >= wanted {
                 return Ok(());
             }
+        }
+    }
+
+    // Keeps the fault of a record. Memory may be there when it is asked for again.
+    fn keep(&mut self, fault: FastxFault)
+        requires { self.old.failed ≡ None }
+        ensures { self.new ≡ record self.old { failed = kept_fault fault } }
+    {
+        match fault {
+            FastxFault::Memory => {}
+            _ => self.failed = Some(fault),
         }
     }
 

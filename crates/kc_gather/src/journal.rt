@@ -1,6 +1,7 @@
 //! Whether a stripe's journal holds the batches that were given.
-ghost use Rattle.std.specs.Prelude.{◌≡◌, ◌≢◌, ℕ, ◌<◌, ◌↔◌, length, All, true, false};
+ghost use Rattle.std.specs.Prelude.{◌≡◌, ◌≢◌, ℕ, ◌<◌, ◌↔◌, ◌≤◌, length, replicate, All, true, false};
 ghost use Rattle.std.specs.Prelude.{IsTrue, IfOk, OnOk, IfErr, IfSome, IfNone, slice_index_or};
+ghost use Rattle.std.specs.Vec.{vec_capacity};
 ghost use Rattle.kc_word.specs.Shared.{values};
 ghost use Rattle.kc_booking.specs.Stripe.{IsBooked};
 ghost use Rattle.kc_gather.specs.Gathering.{IsGiven, IsOwn, IsWhole, IsStripeRefusal};
@@ -74,9 +75,21 @@ fn booked_marks(
     ensures marks { IfOk result (λ marks. (n : ℕ) → n < length batches.now
         → (slice_index_or marks.items n false ≡ true) ↔ IsBooked (values journal.now) n) }
 {
-    let mut marks = vec![in alloc; false; batches.len()]?;
+    let mut marks = unset_marks(alloc, batches)?;
     for batch in journal {
         marks[batch.number() as usize] = true;
+    }
+    Ok(marks)
+}
+
+// For each given batch a mark that isn't set, in room for these alone.
+fn unset_marks(alloc: Global, batches: &[Arc<Batch>]) -> Result<Vec<bool>, AllocError>
+    ensures unset { IfOk result (λ marks. marks.items ≡ replicate (length batches.now) false) }
+    ensures bounded { IfOk result (λ marks. vec_capacity marks ≤ length batches.now) }
+{
+    let mut marks = Vec::with_capacity(alloc, batches.len())?;
+    for _ in 0..batches.len() {
+        marks.push_reserved(false);
     }
     Ok(marks)
 }

@@ -1,8 +1,10 @@
 //! Items that are dealt out in piles, one for each thread, and what the threads answer, joined.
-ghost use Rattle.std.specs.Prelude.{◌≡◌, ◌≤◌, ◌^◌, ◌-◌, length, map, min, IfOk, IfErr, Ok};
+ghost use Rattle.std.specs.Prelude.{◌≡◌, ◌≤◌, ◌^◌, ◌-◌, [], length, map, min, IfOk, IfErr, Ok};
 ghost use Rattle.std.specs.List.{flat_map};
+ghost use Rattle.std.specs.Vec.{vec_capacity};
 ghost use Rattle.kc_gather.specs.Piles.{IsFirstFault};
 
+use kc_lemmas::room_for_each;
 use std::alloc::{AllocError, Global};
 use std::mem::replace;
 
@@ -56,7 +58,7 @@ pub(crate) fn all_ok<T: Drop, E: Drop>(
     ensures lists { IfOk result (λ all. IfOk all (λ lists. map (λ list. Ok list) lists.items ≡ answers.items)) }
     ensures fault { IfOk result (λ all. IfErr all (λ fault. IsFirstFault answers.items fault)) }
 {
-    let mut lists = Vec::with_capacity(alloc, answers.len())?;
+    let mut lists = room_for_each(alloc, &answers)?;
     for answer in answers {
         match answer {
             Ok(list) => lists.push(list)?,
@@ -70,11 +72,19 @@ pub(crate) fn all_ok<T: Drop, E: Drop>(
 pub(crate) fn joined<T: Drop>(alloc: Global, lists: Vec<Vec<T>>) -> Result<Vec<T>, AllocError>
     ensures { IfOk result (λ all. all.items ≡ flat_map (λ list. list.items) lists.items) }
 {
-    let mut all = Vec::with_capacity(alloc, item_count(&lists))?;
+    let mut all = room_for_all(alloc, &lists)?;
     for mut list in lists {
         all.append(&mut list)?;
     }
     Ok(all)
+}
+
+// An empty list with room for the items of all lists.
+fn room_for_all<T>(alloc: Global, lists: &[Vec<T>]) -> Result<Vec<T>, AllocError>
+    ensures empty { IfOk result (λ room. room.items ≡ []) }
+    ensures bounded { IfOk result (λ room. vec_capacity room ≤ length (flat_map (λ list. list.items) lists.now)) }
+{
+    Vec::with_capacity(alloc, item_count(lists))
 }
 
 /// How many items the lists have, as far as a `usize` tells.

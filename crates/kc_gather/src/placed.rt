@@ -5,6 +5,7 @@ ghost use Rattle.kc_gather.specs.Gathering.{AreAtPlaces};
 
 use crate::piles::Weighed;
 use kc_booking::{Setup, Stripe};
+use kc_lemmas::room_for_each;
 use kc_table::Counts;
 use std::alloc::{AllocError, Global};
 
@@ -32,7 +33,9 @@ pub(crate) fn at_places<C: Counts + Drop>(
     requires { length stripes.items ≡ stripe_count setup.now }
     ensures { IfOk result (λ placed. AreAtPlaces stripes.items placed.items) }
 {
-    let mut placed = Vec::with_capacity(alloc, setup.stripes() as usize)?;
+    // what is known of the number of stripes
+    setup.stripes();
+    let mut placed = room_for_each(alloc, &stripes)?;
     for stripe in stripes {
         let index = placed.len() as u32;
         placed.push(Placed { index, stripe })?;

@@ -10,6 +10,7 @@ use crate::parts::parted;
 use crate::piles::{all_ok, dealt, joined};
 use crate::placed::Placed;
 use kc_booking::{Setup, Stripe};
+use kc_lemmas::room_for_each;
 use kc_table::Counts;
 use kc_tally::Row;
 use kc_word::Batch;
@@ -31,7 +32,7 @@ pub(crate) fn taken_of_each<C: Counts + Drop>(
     ensures refused { IfErr result (λ fault. fault ≢ Memory
         → IsFirstRefusal setup.now (values batches.now) stripes.items fault) }
 {
-    let mut taken = Vec::with_capacity(alloc, stripes.len())?;
+    let mut taken = room_for_each(alloc, &stripes)?;
     for placed in stripes {
         let Placed { index, stripe } = placed;
         check_stripe(alloc, index, &stripe, batches, setup)?;

@@ -1,6 +1,7 @@
 //! The history of a stream, which exists only in proofs.
 ghost use Rattle.std.specs.Prelude.{◌≡◌};
 ghost use Rattle.kc_io.specs.History.{History, no_history, after, after_flush};
+ghost use Rattle.kc_io.specs.Answers.{Calls, no_calls, and_answer, and_interruption};
 
 use crate::failures::Failed;
 use std::marker::Model;
@@ -38,5 +39,40 @@ impl Heard {
         ensures { result.history ≡ after_flush self.now.history answer.now }
     {
         Heard {}
+    }
+}
+
+/// How a stream of std answered the calls of an adapter. Proofs alone see it. Who calls the stream adds each answer.
+#[derive(Drop)]
+pub struct Asked {
+    pub ghost calls: { Calls },
+}
+
+impl Model for Asked {
+    ghost use Rattle.std.specs.Borrow.{ftrue};
+
+    ghost also_owns = { λ _. ftrue };
+}
+
+impl Asked {
+    /// The stream was not called yet.
+    pub fn nothing() -> Asked
+        ensures { result.calls ≡ no_calls }
+    {
+        Asked {}
+    }
+
+    /// The same, and then a call that was interrupted.
+    pub fn and_interruption(&self) -> Asked
+        ensures { result.calls ≡ and_interruption self.now.calls }
+    {
+        Asked {}
+    }
+
+    /// The same, and then a call that was answered otherwise.
+    pub fn and_answer(&self) -> Asked
+        ensures { result.calls ≡ and_answer self.now.calls }
+    {
+        Asked {}
     }
 }

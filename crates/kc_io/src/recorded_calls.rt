@@ -2,14 +2,14 @@
 //!
 //! What std's streams answer no contract tells. So `read`, `write` and `flush` below are to be read by eye: one call of
 //! the stream, what it came to, and its record. What the layers above do with the answers is proved over the record.
-ghost use Rattle.std.specs.Prelude.{◌≡◌, ◌-◌, ◌^◌, ◌<◌, ◌≤◌, length, IfSome, OnSome, IfNone, IfOk, MatchOption};
+ghost use Rattle.std.specs.Prelude.{◌≡◌, ◌≤◌, length, IfSome, IfOk, MatchOption};
 ghost use Rattle.std.specs.Io.KnownBytes.{ReadConsumes, WriteAppends, Keeps};
 ghost use Rattle.kc_io.specs.History.{no_history, after, after_flush};
-ghost use Rattle.kc_io.specs.Answers.{settled};
+ghost use Rattle.kc_io.specs.Answers.{no_calls, after_call, most_tries, settled, Hears};
 ghost use Rattle.kc_io.specs.Sinks.{write_answer};
 
 use crate::failures::Failed;
-use crate::histories::Heard;
+use crate::histories::{Asked, Heard};
 use std::io;
 use std::io::{ErrorKind, Read, Write};
 
@@ -18,6 +18,7 @@ use std::io::{ErrorKind, Read, Write};
 pub struct Recorded<S> {
     stream: S,
     heard: Heard,
+    asked: Asked,
     // how many more calls in a row may be interrupted before one is a failure
     tries: u64,
 }
@@ -27,11 +28,13 @@ impl<S> Recorded<S> {
     pub fn new(stream: S) -> Recorded<S>
         ensures stream { result.stream ≡ stream }
         ensures heard { result.heard.history ≡ no_history }
-        ensures tries { result.tries ≡ 2 ^ 64 - 1 }
+        ensures asked { result.asked.calls ≡ no_calls }
+        ensures tries { result.tries ≡ most_tries }
     {
         Recorded {
             stream,
             heard: Heard::nothing(),
+            asked: Asked::nothing(),
             tries: u64::MAX,
         }
     }
@@ -43,6 +46,7 @@ impl<S> Recorded<S> {
         let Recorded {
             stream,
             heard: _,
+            asked: _,
             tries: _,
         } = self;
         stream
@@ -57,10 +61,10 @@ impl<R: Read> Recorded<R> {
             (λ answer. ReadConsumes (R.remaining self.old.stream) (R.remaining self.new.stream) answer buffer.new) }
         ensures history { MatchOption result (self.new.heard.history ≡ self.old.heard.history)
             (λ answer. self.new.heard.history ≡ after self.old.heard.history answer buffer.new) }
-        ensures again { IfNone result (self.new.tries < self.old.tries) }
+        ensures hears { Hears self.old.asked.calls self.old.tries self.new.asked.calls self.new.tries result }
     {
         let answer = self.stream.read(buffer);
-        let Some(answer) = settle(&mut self.tries, answer) else {
+        let Some(answer) = settle(&mut self.asked, &mut self.tries, answer) else {
             return None;
         };
         self.heard = self.heard.and(&answer, buffer);
@@ -78,10 +82,10 @@ impl<W: Write> Recorded<W> {
         ensures history { MatchOption result (self.new.heard.history ≡ self.old.heard.history)
             (λ answer. self.new.heard.history ≡ after self.old.heard.history answer bytes.now) }
         ensures some { IfSome result (λ answer. write_answer answer bytes.now ≡ answer) }
-        ensures again { IfNone result (self.new.tries < self.old.tries) }
+        ensures hears { Hears self.old.asked.calls self.old.tries self.new.asked.calls self.new.tries result }
     {
         let answer = self.stream.write(bytes);
-        let Some(answer) = settle(&mut self.tries, answer) else {
+        let Some(answer) = settle(&mut self.asked, &mut self.tries, answer) else {
             return None;
         };
         let answer = match answer {
@@ -98,10 +102,10 @@ impl<W: Write> Recorded<W> {
         ensures bytes { Keeps (W.contents self.old.stream) (W.contents self.new.stream) }
         ensures history { MatchOption result (self.new.heard.history ≡ self.old.heard.history)
             (λ answer. self.new.heard.history ≡ after_flush self.old.heard.history answer) }
-        ensures again { IfNone result (self.new.tries < self.old.tries) }
+        ensures hears { Hears self.old.asked.calls self.old.tries self.new.asked.calls self.new.tries result }
     {
         let answer = self.stream.flush();
-        let Some(answer) = settle(&mut self.tries, answer) else {
+        let Some(answer) = settle(&mut self.asked, &mut self.tries, answer) else {
             return None;
         };
         self.heard = self.heard.and_flush(&answer);
@@ -109,22 +113,33 @@ impl<W: Write> Recorded<W> {
     }
 }
 
-// What an answer of std's came to, where so many more interruptions are borne.
-fn settle<T>(tries: &mut u64, answer: io::Result<T>) -> Option<Result<T, Failed>>
+// What an answer of std's came to, where so many more interruptions are borne. It is counted.
+fn settle<T>(asked: &mut Asked, tries: &mut u64, answer: io::Result<T>) -> Option<Result<T, Failed>>
     ensures settled { result ≡ settled answer tries.old }
-    ensures again { IfNone result (tries.new < tries.old) }
-    ensures anew { OnSome result (tries.new ≡ 2 ^ 64 - 1) }
+    ensures counted { asked.new.calls ≡ after_call asked.old.calls answer }
+    ensures hears { Hears asked.old.calls tries.old asked.new.calls tries.new result }
 {
     let left = *tries;
     *tries = u64::MAX;
     match answer {
-        Ok(value) => Some(Ok(value)),
+        Ok(value) => {
+            *asked = asked.and_answer();
+            Some(Ok(value))
+        }
         Err(error) => match error.kind() {
             ErrorKind::Interrupted if left > 0 => {
+                *asked = asked.and_interruption();
                 *tries = left - 1;
                 None
             }
-            _ => Some(Err(Failed)),
+            ErrorKind::Interrupted => {
+                *asked = asked.and_interruption();
+                Some(Err(Failed))
+            }
+            _ => {
+                *asked = asked.and_answer();
+                Some(Err(Failed))
+            }
         },
     }
 }

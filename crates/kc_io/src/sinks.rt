@@ -1,8 +1,9 @@
 //! Sinks: where the bytes of a text go.
-ghost use Rattle.std.specs.Prelude.{◌≡◌, ◌≤◌, length, IfOk, Some};
+ghost use Rattle.std.specs.Prelude.{◌≡◌, ◌≤◌, length, IfOk, IsOk, Some};
 ghost use Rattle.std.specs.Io.KnownBytes.{WriteAppends, Keeps};
 ghost use Rattle.kc_io.specs.History.{no_history, after, after_flush};
 ghost use Rattle.kc_io.specs.Sinks.{Written, write_answer};
+ghost use Rattle.kc_io.specs.Answers.{no_calls, most_tries, Settles};
 
 use crate::failures::Failed;
 use crate::histories::Heard;
@@ -79,7 +80,16 @@ impl ToVec {
 impl Sink for ToVec {
     ghost seen = { λ s. s };
 
-    fn write(&mut self, bytes: &[u8]) -> Result<usize, Failed> {
+    /// Takes all of the bytes.
+    ///
+    /// # Errors
+    /// `Failed` where the growth was refused. No byte was taken.
+    fn write(&mut self, bytes: &[u8]) -> Result<usize, Failed>
+        ensures within { IfOk result (λ n. n ≤ length bytes.now) }
+        ensures appends { WriteAppends self.old.bytes self.new.bytes result bytes.now }
+        ensures history { self.new.history ≡ after self.old.history (write_answer result bytes.now) bytes.now }
+        ensures whole { IfOk result (λ n. n ≡ length bytes.now) }
+    {
         let answer = match self.bytes.extend_from_slice(bytes) {
             Ok(()) => Ok(bytes.len()),
             Err(_) => Err(Failed),
@@ -88,7 +98,12 @@ impl Sink for ToVec {
         answer
     }
 
-    fn flush(&mut self) -> Result<(), Failed> {
+    /// Never fails.
+    fn flush(&mut self) -> Result<(), Failed>
+        ensures keeps { Keeps self.old.bytes self.new.bytes }
+        ensures history { self.new.history ≡ after_flush self.old.history result }
+        ensures ok { IsOk result }
+    {
         self.heard = self.heard.and_flush(&Ok(()));
         Ok(())
     }
@@ -102,17 +117,26 @@ pub struct ToWrite<W: Write> {
 }
 
 impl<W: Write> Model for ToWrite<W> {
-    ghost use Rattle.kc_io.specs.Sinks.{Written};
+    ghost use Rattle.std.specs.Prelude.{◌≡◌};
+    ghost use Rattle.kc_io.specs.Answers.{WriterSeen, most_tries};
 
-    ghost Value = { Written };
+    ghost Value = { WriterSeen };
 
-    ghost view = { λ s. record { bytes = W.contents s.recorded.stream; history = s.recorded.heard.history } };
+    ghost view = { λ s. record {
+      seen = record { bytes = W.contents s.recorded.stream; history = s.recorded.heard.history };
+      calls = s.recorded.asked.calls;
+    } };
+
+    ghost invariant = { λ s. s.recorded.tries ≡ most_tries };
 }
 
 impl<W: Write> ToWrite<W> {
     /// A sink over this writer.
     pub fn new(writer: W) -> ToWrite<W>
-        ensures { result ≡ record { bytes = W.contents writer; history = no_history } }
+        ensures { result ≡ record {
+          seen = record { bytes = W.contents writer; history = no_history };
+          calls = no_calls;
+        } }
     {
         ToWrite {
             recorded: Recorded::new(writer),
@@ -121,30 +145,51 @@ impl<W: Write> ToWrite<W> {
 
     /// The writer.
     pub fn into_inner(self) -> W
-        ensures { W.contents result ≡ self.bytes }
+        ensures { W.contents result ≡ self.seen.bytes }
     {
         self.recorded.into_inner()
     }
 }
 
 impl<W: Write> Sink for ToWrite<W> {
-    ghost seen = { λ s. s };
+    ghost seen = { λ s. s.seen };
 
-    fn write(&mut self, bytes: &[u8]) -> Result<usize, Failed> {
+    /// Writes until a write isn't interrupted.
+    ///
+    /// # Errors
+    /// `Failed` where the write failed or took no byte of some, or 2^64 of them were interrupted.
+    fn write(&mut self, bytes: &[u8]) -> Result<usize, Failed>
+        ensures within { IfOk result (λ n. n ≤ length bytes.now) }
+        ensures appends { WriteAppends self.old.seen.bytes self.new.seen.bytes result bytes.now }
+        ensures history { self.new.seen.history
+            ≡ after self.old.seen.history (write_answer result bytes.now) bytes.now }
+        ensures settles { Settles self.old.calls self.new.calls result }
+    {
         write_settled(&mut self.recorded, bytes)
     }
 
-    fn flush(&mut self) -> Result<(), Failed> {
+    /// Flushes until a flush isn't interrupted.
+    ///
+    /// # Errors
+    /// `Failed` where the flush failed, or 2^64 of them were interrupted.
+    fn flush(&mut self) -> Result<(), Failed>
+        ensures keeps { Keeps self.old.seen.bytes self.new.seen.bytes }
+        ensures history { self.new.seen.history ≡ after_flush self.old.seen.history result }
+        ensures settles { Settles self.old.calls self.new.calls result }
+    {
         flush_settled(&mut self.recorded)
     }
 }
 
 // Writes until a write isn't interrupted.
 fn write_settled<W: Write>(recorded: &mut Recorded<W>, bytes: &[u8]) -> Result<usize, Failed>
+    requires { recorded.old.tries ≡ most_tries }
     ensures within { IfOk result (λ n. n ≤ length bytes.now) }
     ensures appends { WriteAppends (W.contents recorded.old.stream) (W.contents recorded.new.stream) result bytes.now }
     ensures history { recorded.new.heard.history
         ≡ after recorded.old.heard.history (write_answer result bytes.now) bytes.now }
+    ensures settles { Settles recorded.old.asked.calls recorded.new.asked.calls result }
+    ensures tries { recorded.new.tries ≡ most_tries }
 {
     'writing: loop {
         match recorded.write(bytes) {
@@ -156,8 +201,11 @@ fn write_settled<W: Write>(recorded: &mut Recorded<W>, bytes: &[u8]) -> Result<u
 
 // Flushes until a flush isn't interrupted.
 fn flush_settled<W: Write>(recorded: &mut Recorded<W>) -> Result<(), Failed>
+    requires { recorded.old.tries ≡ most_tries }
     ensures keeps { Keeps (W.contents recorded.old.stream) (W.contents recorded.new.stream) }
     ensures history { recorded.new.heard.history ≡ after_flush recorded.old.heard.history result }
+    ensures settles { Settles recorded.old.asked.calls recorded.new.asked.calls result }
+    ensures tries { recorded.new.tries ≡ most_tries }
 {
     'flushing: loop {
         match recorded.flush() {

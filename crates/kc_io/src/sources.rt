@@ -1,8 +1,9 @@
 //! Sources: where the bytes of an input come from.
-ghost use Rattle.std.specs.Prelude.{◌≡◌, ◌≤◌, Some, length, IfOk};
+ghost use Rattle.std.specs.Prelude.{◌≡◌, ◌≤◌, Some, Ok, length, min, IfOk, IfSome};
 ghost use Rattle.std.specs.Io.KnownBytes.{ReadConsumes};
 ghost use Rattle.kc_io.specs.History.{no_history, after};
 ghost use Rattle.kc_io.specs.Sources.{Seen};
+ghost use Rattle.kc_io.specs.Answers.{no_calls, most_tries, Settles};
 
 use crate::failures::Failed;
 use crate::histories::Heard;
@@ -33,12 +34,14 @@ pub struct FromBytes<'a> {
 }
 
 impl<'a> Model for FromBytes<'a> {
-    ghost use Rattle.std.specs.Prelude.{Some};
+    ghost use Rattle.std.specs.Prelude.{◌≡◌, Some};
     ghost use Rattle.kc_io.specs.Sources.{Seen};
 
     ghost Value = { Seen };
 
     ghost view = { λ s. record { left = Some s.left.now; history = s.heard.history } };
+
+    ghost invariant = { λ s. s.heard.history.failures ≡ 0 };
 }
 
 impl<'a> FromBytes<'a> {
@@ -51,12 +54,26 @@ impl<'a> FromBytes<'a> {
             heard: Heard::nothing(),
         }
     }
+
+    /// The bytes that are left. No read has failed, whoever asked for it.
+    pub fn as_slice(&self) -> &[u8]
+        ensures left { self.now.left ≡ Some result.now }
+        ensures unfailed { self.now.history.failures ≡ 0 }
+    {
+        self.left
+    }
 }
 
 impl Source for FromBytes<'_> {
     ghost seen = { λ s. s };
 
-    fn read(&mut self, buffer: &mut [u8]) -> Result<usize, Failed> {
+    /// Moves all bytes that are left to the front of the buffer, or as many as it has room for. It never fails.
+    fn read(&mut self, buffer: &mut [u8]) -> Result<usize, Failed>
+        ensures bound { IfOk result (λ n. n ≤ length buffer.new) }
+        ensures bytes { ReadConsumes self.old.left self.new.left result buffer.new }
+        ensures history { self.new.history ≡ after self.old.history result buffer.new }
+        ensures most { IfSome self.old.left (λ left. result ≡ Ok (min (length left) (length buffer.old))) }
+    {
         let count = self.left.len().min(buffer.len());
         let (front, rest) = self.left.split_at(count);
         buffer[..count].copy_from_slice(front);
@@ -74,17 +91,26 @@ pub struct FromRead<R: Read> {
 }
 
 impl<R: Read> Model for FromRead<R> {
-    ghost use Rattle.kc_io.specs.Sources.{Seen};
+    ghost use Rattle.std.specs.Prelude.{◌≡◌};
+    ghost use Rattle.kc_io.specs.Answers.{ReaderSeen, most_tries};
 
-    ghost Value = { Seen };
+    ghost Value = { ReaderSeen };
 
-    ghost view = { λ s. record { left = R.remaining s.recorded.stream; history = s.recorded.heard.history } };
+    ghost view = { λ s. record {
+      seen = record { left = R.remaining s.recorded.stream; history = s.recorded.heard.history };
+      calls = s.recorded.asked.calls;
+    } };
+
+    ghost invariant = { λ s. s.recorded.tries ≡ most_tries };
 }
 
 impl<R: Read> FromRead<R> {
     /// A source over this reader.
     pub fn new(reader: R) -> FromRead<R>
-        ensures { result ≡ record { left = R.remaining reader; history = no_history } }
+        ensures { result ≡ record {
+          seen = record { left = R.remaining reader; history = no_history };
+          calls = no_calls;
+        } }
     {
         FromRead {
             recorded: Recorded::new(reader),
@@ -93,18 +119,30 @@ impl<R: Read> FromRead<R> {
 }
 
 impl<R: Read> Source for FromRead<R> {
-    ghost seen = { λ s. s };
+    ghost seen = { λ s. s.seen };
 
-    fn read(&mut self, buffer: &mut [u8]) -> Result<usize, Failed> {
+    /// Reads until a read isn't interrupted.
+    ///
+    /// # Errors
+    /// `Failed` where the read failed, or 2^64 of them were interrupted.
+    fn read(&mut self, buffer: &mut [u8]) -> Result<usize, Failed>
+        ensures bound { IfOk result (λ n. n ≤ length buffer.new) }
+        ensures bytes { ReadConsumes self.old.seen.left self.new.seen.left result buffer.new }
+        ensures history { self.new.seen.history ≡ after self.old.seen.history result buffer.new }
+        ensures settles { Settles self.old.calls self.new.calls result }
+    {
         read_settled(&mut self.recorded, buffer)
     }
 }
 
 // Reads until a read isn't interrupted.
 fn read_settled<R: Read>(recorded: &mut Recorded<R>, buffer: &mut [u8]) -> Result<usize, Failed>
+    requires { recorded.old.tries ≡ most_tries }
     ensures bound { IfOk result (λ n. n ≤ length buffer.new) }
     ensures bytes { ReadConsumes (R.remaining recorded.old.stream) (R.remaining recorded.new.stream) result buffer.new }
     ensures history { recorded.new.heard.history ≡ after recorded.old.heard.history result buffer.new }
+    ensures settles { Settles recorded.old.asked.calls recorded.new.asked.calls result }
+    ensures tries { recorded.new.tries ≡ most_tries }
 {
     'reading: loop {
         match recorded.read(buffer) {

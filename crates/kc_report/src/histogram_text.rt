@@ -1,11 +1,13 @@
 //! The histogram of a tally: how many words have which count.
 ghost use Rattle.std.specs.Prelude.{◌≡◌, ◌≤◌, ◌<◌, ◌+◌, ◌++◌, [], length, IfOk, OnOk, OnErr};
+ghost use Rattle.std.specs.Vec.{vec_capacity};
 ghost use Rattle.kc_io.specs.Sinks.{Writes, HasBegun, Drains};
 ghost use Rattle.kc_tally.specs.Histogram.{last_bin};
 ghost use Rattle.kc_report.specs.Histo.{histo_text, words_by_count, count_line, WritesUnlessMemory};
 
 use crate::report_faults::ReportFault;
 use kc_io::{BLOCK_SIZE, Block, Failed, NUMBER_SIZE, Sink, write_out};
+use kc_lemmas::zeros;
 use kc_tally::Tally;
 use std::alloc::{AllocError, Global};
 
@@ -35,10 +37,11 @@ pub fn write_histo<W: Sink>(
 // The number of the tally's last bin. The bins before it have one count each.
 const LAST_BIN: u64 = 10_001;
 
-// For each count from 1 to high how many words have it.
+// For each count from 1 to high how many words have it, in room for these numbers alone.
 fn words_by_count(alloc: Global, tally: &Tally, high: u64) -> Result<Vec<u64>, AllocError>
     requires { high ≤ GREATEST_HIGH }
-    ensures { IfOk result (λ words. words.items ≡ words_by_count high tally.now.rows) }
+    ensures words { IfOk result (λ words. words.items ≡ words_by_count high tally.now.rows) }
+    ensures bounded { IfOk result (λ words. vec_capacity words ≤ high) }
 {
     if high < LAST_BIN {
         words_of_bins(alloc, tally, high)
@@ -50,11 +53,12 @@ fn words_by_count(alloc: Global, tally: &Tally, high: u64) -> Result<Vec<u64>, A
 // How many words have each count from 1 to high, from the tally's bins, which know the counts up to 10,000.
 fn words_of_bins(alloc: Global, tally: &Tally, high: u64) -> Result<Vec<u64>, AllocError>
     requires { high < last_bin }
-    ensures { IfOk result (λ words. words.items ≡ words_by_count high tally.now.rows) }
+    ensures words { IfOk result (λ words. words.items ≡ words_by_count high tally.now.rows) }
+    ensures bounded { IfOk result (λ words. vec_capacity words ≤ high) }
 {
     let mut words = Vec::with_capacity(alloc, high as usize)?;
     for i in 0..high {
-        words.push(tally.bin(i + 1))?;
+        words.push_reserved(tally.bin(i + 1));
     }
     Ok(words)
 }
@@ -62,9 +66,10 @@ fn words_of_bins(alloc: Global, tally: &Tally, high: u64) -> Result<Vec<u64>, Al
 // How many words have each count from 1 to high, where the bins don't know them all: row by row.
 fn words_of_rows(alloc: Global, tally: &Tally, high: u64) -> Result<Vec<u64>, AllocError>
     requires { high ≤ GREATEST_HIGH }
-    ensures { IfOk result (λ words. words.items ≡ words_by_count high tally.now.rows) }
+    ensures words { IfOk result (λ words. words.items ≡ words_by_count high tally.now.rows) }
+    ensures bounded { IfOk result (λ words. vec_capacity words ≤ high) }
 {
-    let mut words = vec![in alloc; 0u64; high as usize]?;
+    let mut words = zeros(alloc, high as usize)?;
     count_rows(words.as_mut_slice(), tally);
     Ok(words)
 }

@@ -64,6 +64,10 @@ IsMissedAfter table key reads =
     × (reads ≡ i + 1))
     ⊎ (IsShutOut table key × (reads ≡ place_count))
 
+-- So many slots are read by one search for the key, whether it is found or not: at most as many as it has places.
+abbrev pub IsSearchedBy : Table → ℕ → ℕ → Type 0
+IsSearchedBy table key reads = ((slot : ℕ) × IsFoundAfter table key reads slot) ⊎ IsMissedAfter table key reads
+
 -- how many places of a key differ: as many as it has, and in a smaller table one for each slot
 abbrev pub different_places : ℕ → ℕ
 different_places log = min place_count (2 ^ log)

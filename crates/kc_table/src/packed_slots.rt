@@ -5,6 +5,7 @@ ghost use Rattle.kc_table.specs.Sizes.{remainder_bits, count_bits};
 ghost use Rattle.kc_table.specs.Slot.{empty_slot, tag_at, slot_count};
 
 use crate::tag::Tag;
+use kc_lemmas::zeros;
 use std::alloc::{AllocError, Global};
 use std::marker::Model;
 
@@ -37,7 +38,7 @@ impl PackedSlots {
         ensures empty { IfOk result (λ p. p.items ≡ replicate size empty_slot) }
     {
         let high = Vec::with_capacity(alloc, size)?;
-        let words = vec![in alloc; 0; size]?;
+        let words = zeros(alloc, size)?;
         Ok(PackedSlots { low, words, high })
     }
 

@@ -4,6 +4,7 @@ ghost use Rattle.std.specs.Prelude.{IfOk, IfSome, IfNone, IsSome, IsOk, OnOk, On
 ghost use Rattle.std.specs.FinMap.{empty};
 ghost use Rattle.kc_table.specs.Counts.{KeyCounts, IsStored, count_at, readied, added};
 ghost use Rattle.kc_table.specs.QuotientTable.{Table, counts_in, HoldsKey, IsShutOut, IsFoundAfter, IsMissedAfter};
+ghost use Rattle.kc_table.specs.QuotientTable.{IsSearchedBy};
 ghost use Rattle.kc_table.specs.QuotientTable.{IsCrowded, MayBeTooSmall, MayBeFull};
 ghost use Rattle.kc_table.specs.Reprobing.{IsPlaceOf};
 ghost use Rattle.kc_table.specs.Sizes.{place_count, spread_log, most_bits, least_log, most_log, count_bits};
@@ -94,6 +95,38 @@ impl QuotientTable {
             Reprobing::Crowded => None,
         }
     }
+
+    // The key's count, and 0 where the key is not stored. All slots that it reads the tag of are those of one find.
+    #[inline(always)]
+    fn count_by_one_find(&self, key: u64, steps: &mut Counter) -> u64
+        requires { key < 2 ^ self.now.bits }
+        ensures count { result ≡ count_at (counts_in self.now.slots) key }
+        ensures one_find { IsSearchedBy self.now key (steps.new.count - steps.old.count) }
+    {
+        match self.find(key, steps) {
+            Some(place) => self.slots.slots.count(place as usize),
+            None => 0,
+        }
+    }
+
+    // Adds one to the key's count and tells the new count. All slots that it reads the tag of are those of one find.
+    #[inline(always)]
+    fn increment_by_one_find(&mut self, key: u64, steps: &mut Counter) -> u64
+        requires in_range { key < 2 ^ self.old.bits }
+        requires stored { IsStored (counts_in self.old.slots) key }
+        requires room { count_at (counts_in self.old.slots) key < 2 ^ count_bits }
+        ensures told { result ≡ count_at (counts_in self.old.slots) key + 1 }
+        ensures counted { counts_in self.new.slots ≡ added (counts_in self.old.slots) key }
+        ensures same_bits { self.new.bits ≡ self.old.bits }
+        ensures same_log { self.new.log ≡ self.old.log }
+        ensures same_max_log { self.new.max_log ≡ self.old.max_log }
+        ensures one_find { IsSearchedBy self.old key (steps.new.count - steps.old.count) }
+    {
+        match self.find(key, steps) {
+            Some(place) => self.slots.count_key(key, place as usize),
+            None => unreachable!(),
+        }
+    }
 }
 
 impl Counts for QuotientTable {
@@ -171,18 +204,12 @@ impl Counts for QuotientTable {
         ensures same_log { self.new.log ≡ self.old.log }
         ensures same_max_log { self.new.max_log ≡ self.old.max_log }
     {
-        match self.find(key, &mut Counter::zero()) {
-            Some(place) => self.slots.count_key(key, place as usize),
-            None => unreachable!(),
-        }
+        self.increment_by_one_find(key, &mut Counter::zero())
     }
 
     #[inline]
     fn get(&self, key: u64) -> u64 {
-        match self.find(key, &mut Counter::zero()) {
-            Some(place) => self.slots.slots.count(place as usize),
-            None => 0,
-        }
+        self.count_by_one_find(key, &mut Counter::zero())
     }
 
     fn rows(&self, alloc: Global) -> Result<Vec<(u64, u64)>, AllocError> {

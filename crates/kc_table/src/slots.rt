@@ -2,6 +2,7 @@
 ghost use Rattle.std.specs.Prelude.{◌≡◌, ◌≢◌, ℕ, ◌+◌, ◌-◌, ◌<◌, ◌≤◌, ◌^◌, length, true, false, None};
 ghost use Rattle.std.specs.Prelude.{IfOk, IfSome, IfNone};
 ghost use Rattle.std.specs.FinMap.{empty, insert, get};
+ghost use Rattle.std.specs.Vec.{vec_capacity};
 ghost use Rattle.kc_table.specs.QuotientTable.{Holds, HasStoredCrowd, MayBeTooSmall};
 ghost use Rattle.kc_table.specs.Reprobing.{IsFound, IsFree, IsOut, IsReprobing};
 ghost use Rattle.kc_table.specs.Sizes.{most_bits, most_log, remainder_bits, count_bits};
@@ -198,7 +199,8 @@ impl Slots {
 
     /// Each key whose count is at least 1, with its count. The room for them is asked for once.
     pub fn entries(&self, alloc: Global) -> Result<Vec<(u64, u64)>, AllocError>
-        ensures { IfOk result (λ v. v.items ≡ counted_entries self.now) }
+        ensures entries { IfOk result (λ v. v.items ≡ counted_entries self.now) }
+        ensures bounded { IfOk result (λ v. vec_capacity v ≤ length (counted_entries self.now)) }
     {
         let mut entries = Vec::with_capacity(alloc, self.counted())?;
         for index in 0..self.slots.len() {

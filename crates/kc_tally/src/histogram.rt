@@ -6,6 +6,7 @@ ghost use Rattle.kc_tally.specs.Histogram.{joined_bins, counts_of};
 ghost use Rattle.kc_tally.specs.Tally.{total_of};
 
 use crate::row::Row;
+use kc_lemmas::zeros;
 use std::alloc::{AllocError, Global};
 use std::marker::Model;
 
@@ -35,7 +36,7 @@ impl Histogram {
     pub fn new(alloc: Global) -> Result<Histogram, AllocError>
         ensures { IfOk result (λ bins. bins ≡ bins_of []) }
     {
-        let bins = vec![in alloc; 0; LAST_BIN as usize]?;
+        let bins = zeros(alloc, LAST_BIN as usize)?;
         Ok(Histogram { bins })
     }
 

@@ -1,6 +1,7 @@
 //! A tally: the words that occur, in rising order, each with its count.
 ghost use Rattle.std.specs.Prelude.{◌≡◌, ◌≤◌, ◌^◌, All, IfOk, length};
 ghost use Rattle.std.specs.List.{flat_map};
+ghost use Rattle.std.specs.Vec.{vec_capacity};
 ghost use Rattle.kc_tally.specs.Tally.{AreRows, count_of, total_of};
 ghost use Rattle.kc_tally.specs.Histogram.{last_bin, bin_count};
 
@@ -49,7 +50,7 @@ impl Tally {
         requires { AreRows k both rows.items }
         ensures { IfOk result (λ tally. tally ≡ record { k = k; both = both; rows = rows.items }) }
     {
-        Tally::of_parts(alloc, k, both, vec![in alloc; rows]?)
+        Tally::of_parts(alloc, k, both, as_one_part(alloc, rows)?)
     }
 
     /// The tally of the rows of all parts, one part after another, which may be empty. No row is copied. Condition: all
@@ -134,6 +135,16 @@ impl Tally {
     {
         self.total
     }
+}
+
+// The rows as the only part, in room for that alone.
+fn as_one_part(alloc: Global, rows: Vec<Row>) -> Result<Vec<Vec<Row>>, AllocError>
+    ensures same { IfOk result (λ parts. flat_map (λ part. part.items) parts.items ≡ rows.items) }
+    ensures bounded { IfOk result (λ parts. vec_capacity parts ≤ 1) }
+{
+    let mut parts = Vec::with_capacity(alloc, 1)?;
+    parts.push_reserved(rows);
+    Ok(parts)
 }
 
 // The parts that have rows.

@@ -26,7 +26,7 @@ impl<'a, F: Read> Model for OpenedFile<'a, F> {
 
     ghost Value = { NamedSource };
 
-    ghost view = { λ f. record { name = f.name.now; seen = f.stream } };
+    ghost view = { λ f. record { name = f.name.now; seen = f.stream.seen } };
 }
 
 impl<F: Read> Source for OpenedFile<'_, F> {
@@ -49,7 +49,7 @@ impl<'a, F: Write> Model for CreatedFile<'a, F> {
 
     ghost Value = { NamedSink };
 
-    ghost view = { λ f. record { name = f.name.now; seen = f.stream } };
+    ghost view = { λ f. record { name = f.name.now; seen = f.stream.seen } };
 }
 
 impl<F: Write> Sink for CreatedFile<'_, F> {

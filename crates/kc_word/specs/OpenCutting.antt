@@ -1,6 +1,7 @@
 -- A cutting of pieces that come one at a time: the batches that are whole, and the one that is begun.
-use Rattle.std.specs.Prelude.{◌≡◌, ℕ, ◌+◌, ◌*◌, nat_lt, List, [], ◌∷◌, ◌++◌, length, map, if◌then◌else◌}
+use Rattle.std.specs.Prelude.{◌≡◌, ℕ, ◌+◌, ◌*◌, ◌≤◌, nat_lt, List, [], ◌∷◌, ◌++◌, length, map, if◌then◌else◌}
 use Rattle.std.specs.List.{range_with_len}
+use Rattle.kc_kmer.specs.Occurrences.{position_count}
 use Rattle.kc_word.specs.Cutting.{NumberedPieces, position_total, stretches, batch_of}
 
 -- the length of the words, how many positions a batch has, the whole batches, and the pieces and the number of
@@ -23,6 +24,12 @@ pub record HasCut (cutting : OpenCutting) (pieces : List (List ℕ)) (count : �
 -- the cutting has taken these pieces: it has cut all their positions
 abbrev pub HasTaken : OpenCutting → List (List ℕ) → Type 0
 HasTaken cutting pieces = HasCut cutting pieces (position_total cutting.k pieces)
+
+-- the cutting has taken these pieces, and of one piece more the first positions, so many as it has cut of it
+abbrev pub HasTakenFront : OpenCutting → List (List ℕ) → List ℕ → Type 0
+HasTakenFront cutting pieces piece =
+    (count : ℕ) × (count ≤ position_count cutting.k (length piece))
+    × HasCut cutting (pieces ++ piece ∷ []) (position_total cutting.k pieces + count)
 
 -- the cutting with one part more, of so many positions, in the batch that is begun, which is whole then where it has
 -- `size` positions

@@ -3,6 +3,7 @@ ghost use Rattle.std.specs.Prelude.{◌≡◌, ◌≤◌, length};
 ghost use Rattle.kc_word.specs.Cutting.{position_total, as_reads};
 ghost use Rattle.kc_kmer.specs.Occurrences.{words_of};
 
+use crate::piece_views::PieceViews;
 use crate::pieces::Pieces;
 use crate::walk::Walk;
 use kc_kmer::{K, Rule};
@@ -49,11 +50,18 @@ impl Batch {
         self.pieces.position_count(k)
     }
 
-    /// The pieces of the batch, in order.
-    pub(crate) fn pieces(&self) -> &Pieces
+    /// The pieces of the batch, in order, as they are kept.
+    pub(crate) fn packed(&self) -> &Pieces
         ensures { result.now ≡ self.now.pieces }
     {
         &self.pieces
+    }
+
+    /// The pieces of the batch, in order, each seen as its bytes. It takes no memory.
+    pub fn pieces(&self) -> PieceViews<'_>
+        ensures { result ≡ self.now.pieces }
+    {
+        PieceViews::new(&self.pieces)
     }
 
     /// The words at the positions of the batch, without those that hold N, as numbers, in the forms under which

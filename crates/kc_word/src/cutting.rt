@@ -1,9 +1,9 @@
 //! The cutting of pieces into batches, one piece after another.
 ghost use Rattle.std.specs.Prelude.{◌≡◌, ◌+◌, ◌-◌, ◌^◌, ◌<◌, ◌≤◌, ◌++◌, ◌∷◌, [], List, ℕ, length, min};
-ghost use Rattle.std.specs.Prelude.{slice_range, IfOk, OnOk};
+ghost use Rattle.std.specs.Prelude.{slice_range, IfOk, OnOk, OnErr};
 ghost use Rattle.kc_word.specs.Cutting.{cutting, KeepsOccurrences, KeepsWords};
 ghost use Rattle.kc_kmer.specs.Occurrences.{position_count};
-ghost use Rattle.kc_word.specs.OpenCutting.{HasTaken, with_part};
+ghost use Rattle.kc_word.specs.OpenCutting.{HasTaken, HasTakenFront, with_part};
 ghost use Rattle.kc_word.specs.Shared.{values};
 
 use crate::batch::Batch;
@@ -12,11 +12,11 @@ use crate::pieces::Pieces;
 use kc_kmer::K;
 use std::alloc::{AllocError, Global};
 use std::marker::Model;
-use std::mem;
 use std::sync::Arc;
 
 /// Cuts pieces that come one at a time into batches, as `cut` does: the batches that are whole, and the one that is
-/// begun. It keeps the bytes of the pieces that it has taken, and not the pieces.
+/// begun. It keeps the bytes of the pieces that it has taken, and not the pieces. The parts of the batch that is begun
+/// are packed one behind another only where it is whole, so that a refusal leaves them as they were.
 ///
 /// Contracts say of it which pieces it `HasTaken`.
 #[derive(Drop)]
@@ -24,7 +24,7 @@ pub struct Cutting {
     k: K,
     size: u64,
     batches: Vec<Arc<Batch>>,
-    begun: Pieces,
+    begun: Vec<Piece>,
     filled: u64,
 }
 
@@ -39,7 +39,7 @@ impl Model for Cutting {
       k = c.k;
       size = c.size;
       batches = values c.batches.items;
-      begun = c.begun;
+      begun = c.begun.items;
       filled = c.filled;
     } };
 
@@ -59,17 +59,20 @@ impl Cutting {
             k,
             size,
             batches: Vec::new(alloc),
-            begun: Pieces::new(alloc),
+            begun: Vec::new(alloc),
             filled: 0,
         }
     }
 
-    /// Takes the next piece. After a refusal nothing is known of what was taken.
+    /// Takes the next piece. After a refusal a front of its positions is cut, maybe none, behind the pieces that were
+    /// taken before.
     pub fn push(&mut self, alloc: Global, piece: &Piece) -> Result<(), AllocError>
         ensures k { self.new.k ≡ self.old.k }
         ensures size { self.new.size ≡ self.old.size }
         ensures more { OnOk result ((pieces : List (List ℕ))
             → HasTaken self.old pieces → HasTaken self.new (pieces ++ piece.now ∷ [])) }
+        ensures refused { OnErr result ((pieces : List (List ℕ))
+            → HasTaken self.old pieces → HasTakenFront self.new pieces piece.now) }
     {
         let count = piece.position_count(self.k);
         let mut position = 0;
@@ -93,13 +96,14 @@ impl Cutting {
         if self.begun.len() == 0 {
             return Ok(batches);
         }
-        let last = shared(alloc, batches.len() as u64, self.begun)?;
+        let begun = packed(alloc, &self.begun)?;
+        let last = shared(alloc, batches.len() as u64, begun)?;
         batches.push(last)?;
         Ok(batches)
     }
 
     // Takes `left` positions of the piece from `position` on, or as many as the batch that is begun has room for, and
-    // answers how many. Conditions: there is one, and the piece has them.
+    // answers how many. After a refusal the cutting is as it was. Conditions: there is one, and the piece has them.
     fn take(
         &mut self,
         alloc: Global,
@@ -116,20 +120,22 @@ impl Cutting {
         ensures count { IfOk result (λ taken. taken ≡ min left (self.old.size - self.old.filled)) }
         ensures taken { IfOk result (λ taken. self.new
             ≡ with_part self.old (slice_range piece.now position (position + taken + self.old.k - 1)) taken) }
+        ensures refused { OnErr result (self.new ≡ self.old) }
     {
         let taken = (left as u64).min(self.size - self.filled) as usize;
         let bases = self.k.get() as usize;
         let end = position + taken + (bases - 1);
-        let begun = mem::replace(&mut self.begun, Pieces::new(alloc));
-        let begun = begun.and_part(alloc, piece, position, end)?;
         let filled = self.filled + taken as u64;
         if filled < self.size {
-            self.begun = begun;
+            self.begun.push(piece.part(alloc, position, end)?)?;
             self.filled = filled;
         } else {
-            self.filled = 0;
+            let begun = packed(alloc, &self.begun)?;
+            let begun = begun.and_part(alloc, piece, position, end)?;
             let batch = shared(alloc, self.batches.len() as u64, begun)?;
             self.batches.push(batch)?;
+            self.begun.clear();
+            self.filled = 0;
         }
         Ok(taken)
     }
@@ -155,6 +161,17 @@ pub fn cut(
         cutting.push(alloc, piece)?;
     }
     cutting.finish(alloc)
+}
+
+// The pieces, kept as one behind another.
+fn packed(alloc: Global, pieces: &[Piece]) -> Result<Pieces, AllocError>
+    ensures { IfOk result (λ packed. packed ≡ pieces.now) }
+{
+    let mut packed = Pieces::new(alloc);
+    for piece in pieces {
+        packed = packed.and_part(alloc, piece, 0, piece.len() as usize)?;
+    }
+    Ok(packed)
 }
 
 // A batch of these pieces, without spare room. Condition: there is a piece.

@@ -1,7 +1,8 @@
 //! Reads made ready to be counted in parts, and the words (k-mers) of the parts.
 //!
 //! `clean` makes a `Piece` of a read, `cut` makes numbered batches of pieces, of as many positions each, and `words`
-//! gives the words of a batch; `Walk` gives them one by one. `cutting_laws` says what holds of pieces and cuttings.
+//! gives the words of a batch; `Walk` gives them one by one, and `PieceViews` the batch's pieces. `cutting_laws` says
+//! what holds of pieces and cuttings.
 //! What a word is and how words are counted stands in `kc_kmer`, whose names are here too.
 //!
 //! ```ignore
@@ -25,6 +26,7 @@ mod only;
 pub mod only_laws;
 mod packed_codes;
 mod piece;
+mod piece_views;
 mod pieces;
 mod roll;
 mod runs;
@@ -38,5 +40,6 @@ pub use kc_kmer::{
 };
 pub use only::Only;
 pub use piece::{Piece, clean};
+pub use piece_views::{PieceView, PieceViews};
 pub use roll::{read_words, words};
 pub use walk::Walk;

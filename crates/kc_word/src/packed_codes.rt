@@ -1,8 +1,7 @@
 //! Codes of bases packed into words of 64 bits, 32 in each.
-ghost use Rattle.std.specs.Prelude.{◌≡◌, ℕ, ◌+◌, ◌-◌, ◌%◌, ◌^◌, ◌<◌, ◌≤◌, ◌++◌, [], IfOk, OnOk, length};
+ghost use Rattle.std.specs.Prelude.{◌≡◌, ℕ, ◌+◌, ◌-◌, ◌%◌, ◌^◌, ◌<◌, ◌≤◌, ◌++◌, [], OnOk, length};
 ghost use Rattle.std.specs.Prelude.{slice_index, slice_range};
-ghost use Rattle.std.specs.Vec.{vec_capacity};
-ghost use Rattle.kc_word.specs.Packed.{word_count, code_in, codes_in};
+ghost use Rattle.kc_word.specs.Packed.{code_in, codes_in};
 
 use std::alloc::{AllocError, Global};
 use std::marker::Model;
@@ -40,12 +39,12 @@ impl Packed {
         }
     }
 
-    /// No codes, with room for `count`.
-    pub(crate) fn with_capacity(alloc: Global, count: usize) -> Result<Packed, AllocError>
-        ensures { IfOk result (λ packed. packed ≡ []) }
+    /// No codes, to be kept in the room of a vector. Condition: the vector is empty.
+    pub(crate) fn in_room(words: Vec<u64>) -> Packed
+        requires { words.items ≡ [] }
+        ensures { result ≡ [] }
     {
-        let words = room_for(alloc, count)?;
-        Ok(Packed { words, len: 0 })
+        Packed { words, len: 0 }
     }
 
     /// The number of codes.
@@ -191,12 +190,4 @@ impl Eq for Packed {
     ghost use Rattle.std.specs.Cmp.Lexicographic.{nat_list_eq_equiv};
 
     ghost laws = { nat_list_eq_equiv };
-}
-
-// an empty vector with room for the words of 64 bits that so many codes take
-fn room_for(alloc: Global, codes: usize) -> Result<Vec<u64>, AllocError>
-    ensures empty { IfOk result (λ room. room.items ≡ []) }
-    ensures bounded { IfOk result (λ room. vec_capacity room ≤ word_count codes) }
-{
-    Vec::with_capacity(alloc, codes.div_ceil(BASES))
 }

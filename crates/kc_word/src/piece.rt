@@ -1,7 +1,9 @@
 //! Reads cleaned into pieces.
 ghost use Rattle.std.specs.Prelude.{◌≡◌, ◌^◌, ◌<◌, ◌↔◌, ◌++◌, [], length, slice_index, slice_range, ◌≤◌, IfOk, IsTrue};
 ghost use Rattle.kc_kmer.specs.Occurrences.{position_count};
+ghost use Rattle.std.specs.Vec.{vec_capacity};
 ghost use Rattle.kc_word.specs.Cutting.{cleaned, is_piece_byte};
+ghost use Rattle.kc_word.specs.Packed.{word_count};
 
 use crate::codes::Codes;
 use crate::packed_codes::{BASES, Packed};
@@ -109,6 +111,15 @@ impl Piece {
         Ok(Piece { bases, runs })
     }
 
+    /// The bytes from index `from` to before `to`, as a piece. Conditions: these are in order, and at most the length.
+    pub(crate) fn part(&self, alloc: Global, from: usize, to: usize) -> Result<Piece, AllocError>
+        requires ordered { from ≤ to }
+        requires within { to ≤ length self.now }
+        ensures { IfOk result (λ part. part ≡ slice_range self.now from to) }
+    {
+        Piece::new(alloc).and_part(alloc, self, from, to)
+    }
+
     /// The same piece, with the spare room of its vectors given back.
     pub(crate) fn fitted(self) -> Piece
         ensures { result ≡ self }
@@ -160,7 +171,8 @@ pub fn clean(alloc: Global, read: &SeqRead, rule: &Rule) -> Result<Piece, AllocE
     ensures long { IfOk result (λ piece. length piece ≡ length read.now.bases) }
 {
     let count = read.bases().len();
-    let mut bases = Packed::with_capacity(alloc, count)?;
+    let room = room_for_bases(alloc, read)?;
+    let mut bases = Packed::in_room(room);
     let mut runs = Vec::new(alloc);
     for j in 0..count.div_ceil(BASES) {
         let from = j * BASES;
@@ -172,4 +184,12 @@ pub fn clean(alloc: Global, read: &SeqRead, rule: &Rule) -> Result<Piece, AllocE
         }
     }
     Ok(Piece { bases, runs })
+}
+
+// An empty vector with room for the words of 64 bits that the bases of a read take.
+fn room_for_bases(alloc: Global, read: &SeqRead) -> Result<Vec<u64>, AllocError>
+    ensures empty { IfOk result (λ room. room.items ≡ []) }
+    ensures bounded { IfOk result (λ room. vec_capacity room ≤ word_count (length read.now.bases)) }
+{
+    Vec::with_capacity(alloc, read.bases().len().div_ceil(BASES))
 }

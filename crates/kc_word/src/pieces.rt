@@ -5,6 +5,7 @@ ghost use Rattle.kc_word.specs.PackedBatch.{start_of};
 
 use crate::codes::Codes;
 use crate::piece::Piece;
+use crate::piece_views::PieceView;
 use kc_kmer::K;
 use std::alloc::{AllocError, Global};
 use std::marker::Model;
@@ -54,6 +55,14 @@ impl Pieces {
         ensures fits { length (slice_index_or self.now i []) < 2 ^ 64 }
     {
         self.bytes.codes(start_of(&self.ends, i), self.ends[i])
+    }
+
+    /// Piece `i`. Condition: there is such a piece.
+    pub(crate) fn piece(&self, i: usize) -> PieceView<'_>
+        requires { i < length self.now }
+        ensures { result ≡ slice_index_or self.now i [] }
+    {
+        PieceView::new(&self.bytes, start_of(&self.ends, i), self.ends[i])
     }
 
     /// How many positions the pieces have.

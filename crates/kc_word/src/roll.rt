@@ -3,13 +3,13 @@ ghost use Rattle.std.specs.Prelude.{◌≡◌, ◌^◌, ◌<◌, ◌≤◌, ◌+
 ghost use Rattle.std.specs.Prelude.{IfSome, IfNone, IfOk, OnOk, All};
 ghost use Rattle.std.specs.Vec.{vec_capacity};
 ghost use Rattle.kc_fastx.specs.Reads.{read_of};
-ghost use Rattle.kc_kmer.specs.Occurrences.{words_in, words_of};
+ghost use Rattle.kc_kmer.specs.Occurrences.{position_count, words_in, words_of};
 ghost use Rattle.kc_word.specs.Cutting.{as_reads, position_total};
 ghost use Rattle.kc_word.specs.Walking.{words_left};
 
 use crate::batch::Batch;
 use crate::codes::Codes;
-use crate::piece::clean;
+use crate::piece::{Piece, clean};
 use crate::pieces::Pieces;
 use kc_fastx::SeqRead;
 use kc_kmer::letter::NO_BASE;
@@ -25,7 +25,7 @@ pub fn read_words(alloc: Global, read: &SeqRead, rule: &Rule) -> Result<Vec<u64>
 {
     let piece = clean(alloc, read, rule)?;
     let count = piece.len() as usize;
-    let mut words = Vec::with_capacity(alloc, count)?;
+    let mut words = room_for_piece(alloc, &piece, rule.k())?;
     push_words(piece.codes(0, count), *rule, &mut words)?;
     Ok(words)
 }
@@ -37,12 +37,20 @@ pub fn words(alloc: Global, batch: &Batch, rule: &Rule) -> Result<Vec<u64>, Allo
     ensures below { IfOk result (λ words. All (λ word. word < 4 ^ rule.now.k) words.items) }
     ensures short { IfOk result (λ words. length words.items ≤ position_total rule.now.k batch.now.pieces) }
 {
-    let pieces = batch.pieces();
+    let pieces = batch.packed();
     let mut words = room_for_words(alloc, pieces, rule.k())?;
     for i in 0..pieces.len() {
         push_words(pieces.codes(i), *rule, &mut words)?;
     }
     Ok(words)
+}
+
+// No words yet, with room for as many as the piece has positions.
+fn room_for_piece(alloc: Global, piece: &Piece, k: K) -> Result<Vec<u64>, AllocError>
+    ensures empty { IfOk result (λ room. room.items ≡ []) }
+    ensures bounded { IfOk result (λ room. vec_capacity room ≤ position_count k (length piece.now)) }
+{
+    Vec::with_capacity(alloc, piece.position_count(k))
 }
 
 // No words yet, with room for as many as the pieces have positions.

@@ -4,7 +4,7 @@ use Rattle.kc_booking.proofs.Parts.{IsDividedTo-none, IsDividedTo-more, IsDivide
 use Rattle.kc_booking.proofs.cut.divided.Goals as goal
 
 pub loop-code-init : goal.loop-code-init
-loop-code-init c = IsDividedTo-none _ _ _ c.in_ok-parts.ensures
+loop-code-init c = IsDividedTo-none _ _ _ c.in_ok-parts.ensures.empty
 
 pub loop-code-preserved : goal.loop-code-preserved
 loop-code-preserved c =

@@ -9,8 +9,8 @@ use Rattle.kc_word.proofs.piece.clean.Goals.{then-block+in_ok-mark_gaps, else-bl
 pub loop-j-init : goal.loop-j-init
 loop-j-init c =
     let none : 0 ≡ min 0 (length c.bases-count.result.now) = omega arith in
-    subst (λ n. IsGathering c.args.rule.now c.args.read.now n c.in_ok-bases.bases c.new-runs.result.items) none
-    (gathering-none c.args.rule.now c.args.read.now c.in_ok-bases.bases c.new-runs.result.items c.in_ok-bases.ensures c.new-runs.ensures.items)
+    subst (λ n. IsGathering c.args.rule.now c.args.read.now n c.in_room-bases.result c.new-runs.result.items) none
+    (gathering-none c.args.rule.now c.args.read.now c.in_room-bases.result c.new-runs.result.items c.in_room-bases.ensures c.new-runs.ensures.items)
 
 pub push_word-requires-clause-whole : goal.push_word-requires-clause-whole
 push_word-requires-clause-whole c =

@@ -11,7 +11,7 @@ returns-clause-words c =
     c.in_ok-push_words.ensures.words
     ∙ ap (λ bytes. c.in_ok-words.words.items ++ words_in c.args.rule.now (read_of bytes None))
     (ap (λ r. r.bytes) c.codes.ensures.place ∙ take_all (c.len-count.result - 0) c.in_ok-piece.piece (let long = c.len-count.ensures in omega (arith, long)))
-    ∙ ap (λ xs. xs ++ words_in c.args.rule.now (read_of c.in_ok-piece.piece None)) c.in_ok-words.ensures.items
+    ∙ ap (λ xs. xs ++ words_in c.args.rule.now (read_of c.in_ok-piece.piece None)) c.in_ok-words.ensures.empty
     ∙ ap (λ xs. words_in c.args.rule.now (read_of xs None)) c.in_ok-piece.ensures.cleaned
     ∙ words_in-cleaned c.args.rule.now c.args.read.now
 
@@ -21,7 +21,7 @@ returns-clause-below c =
     (sym (c.in_ok-push_words.ensures.words
     ∙ ap (λ bytes. c.in_ok-words.words.items ++ words_in c.args.rule.now (read_of bytes None))
     (ap (λ r. r.bytes) c.codes.ensures.place ∙ take_all (c.len-count.result - 0) c.in_ok-piece.piece (let long = c.len-count.ensures in omega (arith, long)))
-    ∙ ap (λ xs. xs ++ words_in c.args.rule.now (read_of c.in_ok-piece.piece None)) c.in_ok-words.ensures.items
+    ∙ ap (λ xs. xs ++ words_in c.args.rule.now (read_of c.in_ok-piece.piece None)) c.in_ok-words.ensures.empty
     ∙ ap (λ xs. words_in c.args.rule.now (read_of xs None)) c.in_ok-piece.ensures.cleaned
     ∙ words_in-cleaned c.args.rule.now c.args.read.now))
     (All-words_in c.args.rule.now c.args.read.now)

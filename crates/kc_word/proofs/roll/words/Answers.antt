@@ -15,14 +15,14 @@ pub loop-i-preserved : goal.loop-i-preserved
 loop-i-preserved c =
     let count = c.len-i-end.ensures in
     let test = c.loop-i-test.true in
-    let inside : c.loop-i.i < length c.pieces-pieces.result.now = omega (arith, count, test) in
-    words_of-more c.args.rule.now c.pieces-pieces.result.now (record {
+    let inside : c.loop-i.i < length c.packed-pieces.result.now = omega (arith, count, test) in
+    words_of-more c.args.rule.now c.packed-pieces.result.now (record {
       index = c.loop-i.i;
-      piece = get_or c.pieces-pieces.result.now c.loop-i.i [];
+      piece = get_or c.packed-pieces.result.now c.loop-i.i [];
       words = c.loop-i.words.items;
       next_words = c.push_words.new.words.items;
       within = inside;
-      piece_is = get_or_default c.pieces-pieces.result.now c.loop-i.i [] (get_or c.pieces-pieces.result.now c.loop-i.i []) inside;
+      piece_is = get_or_default c.packed-pieces.result.now c.loop-i.i [] (get_or c.packed-pieces.result.now c.loop-i.i []) inside;
       pushed = c.in_ok-push_words.ensures.words
           ∙ ap (λ r. c.loop-i.words.items ++ words_in c.args.rule.now (read_of r.bytes None)) c.codes.ensures.place;
     }) c.loop-i.invariant
@@ -33,12 +33,12 @@ returns-clause-words c =
     let test = c.loop-i-test.false in
     c.loop-i.invariant
     ∙ ap (λ pieces. words_of c.args.rule.now (as_reads pieces))
-    (take_all c.loop-i.i c.pieces-pieces.result.now (omega (arith, count, test)) ∙ c.pieces-pieces.ensures)
+    (take_all c.loop-i.i c.packed-pieces.result.now (omega (arith, count, test)) ∙ c.packed-pieces.ensures)
 
 pub returns-clause-below : goal.returns-clause-below
 returns-clause-below c =
     subst (λ (xs : List ℕ). All (λ n. n < 4 ^ c.args.rule.now.k) xs) (sym c.loop-i.invariant)
-    (All-words_of c.args.rule.now (as_reads (take c.loop-i.i c.pieces-pieces.result.now)))
+    (All-words_of c.args.rule.now (as_reads (take c.loop-i.i c.packed-pieces.result.now)))
 
 pub returns-clause-short : goal.returns-clause-short
 returns-clause-short c =

@@ -1,4 +1,4 @@
-use Rattle.std.proofs.Common.{◌≡◌, ◌∙◌, ◌+◌, ◌++◌, [], ◌∷◌, ℕ, List, Bool, true, cond, eqb, nat_eq, count_by, Err, inr, refl, ap, ap₂, sym, subst}
+use Rattle.std.proofs.Common.{◌≡◌, ◌∙◌, ◌+◌, ◌++◌, [], ◌∷◌, ℕ, List, true, cond, eqb, nat_eq, count_by, Err, inr, refl, ap, ap₂, sym, subst}
 use Rattle.std.proofs.lemmas.List.{map_push}
 use Rattle.std.proofs.lemmas.Result.{err_from_is_err_and}
 use Rattle.std.specs.HashSet.{contains}
@@ -48,7 +48,7 @@ invariant_of-self-2 g c =
     let batch : NumberedPieces = c.in_ok-batch.batch.value in
     let named : batch ≡ c.args.cut.now.batch = c.in_ok-batch.ensures.cases ∙ c.batch.ensures in
     let journal : values c.push_reserved.new.self.items ≡ old ++ batch ∷ [] =
-    ap values c.push_reserved.ensures.items ∙ map_push _ c.reserve.new.self.items c.in_ok-batch.batch ∙ ap (λ (xs : List NumberedPieces). xs ++ batch ∷ []) (ap values c.in_ok-reserve.ensures.items) in
+    ap values c.push_reserved.ensures.items ∙ map_push _ c.make_room.new.items.items c.in_ok-batch.batch ∙ ap (λ (xs : List NumberedPieces). xs ++ batch ∷ []) (ap values c.in_ok-make_room.ensures.same) in
     let number : c.number.result ≡ batch.number = c.number.ensures ∙ ap (λ (b : NumberedPieces). b.number) c.deref.ensures in
     let own = rw (← c.self.view_is) at c.in_ok-check.ensures.own in
     let new : ¬ IsBooked old batch.number = λ stands. c.in_ok-check.ensures.new
@@ -61,7 +61,7 @@ invariant_of-self-2 g c =
       divided = held.divided;
       bits_are = c.add_all.ensures.limits.same_bits ∙ c.in_ok-ready_all.ensures.limits.same_bits ∙ held.bits_are;
       known_are = known-more old batch (contains nat_eq c.self.inside.booked) (contains nat_eq c.insert.new.self) held.known_are
-          (λ n. c.in-Ok.ensures.updates.0 n ∙ ap₂ (λ (m : ℕ) (b : Bool). cond (nat_eq m n) true b) number (c.in_ok-reserve-2.ensures.keys.2 n));
+          (λ n. c.in-Ok.ensures.updates.0 n ∙ ap (λ (m : ℕ). cond (nat_eq m n) true (contains nat_eq c.self.inside.booked n)) number);
     } in
     let lawful = IsLawful-from kept c.add_all.ensures.counted (numbers_differ-more old batch before.numbers_differ new)
     (CountsWords-more setup c.self.inside.number old (g.C.Counts.counts c.self.inside.counted.table) (g.C.Counts.counts c.add_all.new.self.table) batch

@@ -1,4 +1,4 @@
-use Rattle.std.proofs.Common.{◌∙◌, ◌+◌, ap, sym, length}
+use Rattle.std.proofs.Common.{◌∙◌, ◌+◌, ap, sym, length, Some}
 use Rattle.kc_io.proofs.IntakesLemmas.{filled_both, filled_end, filled_fails}
 use Rattle.kc_fastx.proofs.ReadingLemmas.{filling_none, some_came}
 use Rattle.kc_fastx.proofs.record_reader.Reading.grow.Goals as goal
@@ -14,8 +14,11 @@ filling-init g c =
     })
 
 pub returns-in-Err : goal.returns-in-Err
-returns-in-Err g c = filled_fails (g.S.Source.seen c.fill.new.source) c.in-Err.why c.filling.invariant.filling.filled
-    c.in-Err.ensures.filled
+returns-in-Err g c = (
+  filled_fails (g.S.Source.seen c.fill.new.source) c.in-Err.why c.filling.invariant.filling.filled
+      c.in-Err.ensures.filled,
+  ap Some c.from.ensures,
+)
 
 pub returns-in-Ok-false : goal.returns-in-Ok-false
 returns-in-Ok-false g c =

@@ -11,7 +11,7 @@ returns-clause-told c =
     IfOk-weaker _ _ _ (λ (v : Vec (ℕ × ℕ) Global) is.
     rows_of_entries _ _ (ap (λ t. counts_in t.slots) c.self.view_is)
     (keys_apart _ (slots_apart c.self.inside.slots.slots.items c.self.inside.slots.sound)) v.items is)
-    c.entries.ensures
+    c.entries.ensures.entries
 
 pub returns-clause-in_range : goal.returns-clause-in_range
 returns-clause-in_range c =
@@ -20,4 +20,4 @@ returns-clause-in_range c =
     (rows_of_entries _ _ (ap (λ t. counts_in t.slots) c.self.view_is)
     (keys_apart _ (slots_apart c.self.inside.slots.slots.items c.self.inside.slots.sound)) v.items is)
     (subst (λ t. IsWithin t.bits (counts_in t.slots)) c.self.view_is
-    (IsWithin-slots c.self.inside.slots.slots.items c.self.inside.slots.sound))) c.entries.ensures
+    (IsWithin-slots c.self.inside.slots.slots.items c.self.inside.slots.sound))) c.entries.ensures.entries

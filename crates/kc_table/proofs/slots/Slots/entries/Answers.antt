@@ -41,8 +41,8 @@ loop-index-preserved c = record {
   room = c.push_reserved.ensures.capacity ∙ c.loop-index.invariant.room;
 }
 
-pub returns : goal.returns
-returns c =
+pub returns-clause-entries : goal.returns-clause-entries
+returns-clause-entries c =
     let all : length c.args.self.now.slots.items ≤ c.loop-index.index = search rules in
     let same : length (slot_list c.args.self.now) ≡ length c.args.self.now.slots.items =
     length-contents_from c.args.self.now.log 0 c.args.self.now.slots.items in

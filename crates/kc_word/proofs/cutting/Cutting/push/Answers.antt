@@ -1,8 +1,9 @@
 use Rattle.std.proofs.Common.{◌≡◌, ◌+◌, ◌-◌, ◌≤◌, ◌++◌, ◌∷◌, [], ◌⊎◌, inl, inr, ⊎_elim, slice_range, length, refl, ap, sym, ◌∙◌, subst, arith}
 use Rattle.std.proofs.lemmas.Bool.{cases_lt}
+use Rattle.std.proofs.lemmas.Result.{err_from_is_err_and}
 use Rattle.kc_kmer.specs.Occurrences.{position_count}
 use Rattle.kc_word.specs.Cutting.{position_total}
-use Rattle.kc_word.specs.OpenCutting.{OpenCutting, HasCut, with_part}
+use Rattle.kc_word.specs.OpenCutting.{OpenCutting, HasCut, HasTakenFront, with_part}
 use Rattle.kc_word.proofs.Batching.{HasCut-next, HasCut-more, filled-up}
 use Rattle.kc_word.proofs.cutting.Cutting.push.Goals as goal
 
@@ -20,6 +21,22 @@ returns-in_err-position-clause-k c = c.take.ensures.k ∙ c.loop-position.invari
 
 pub returns-in_err-position-clause-size : goal.returns-in_err-position-clause-size
 returns-in_err-position-clause-size c = c.take.ensures.size ∙ c.loop-position.invariant.size
+
+pub returns-in_err-position-clause-refused : goal.returns-in_err-position-clause-refused
+returns-in_err-position-clause-refused c =
+    let before = c.loop-position.invariant in
+    let value = c.position_count-count.ensures.value in
+    let same = ap (λ (w : OpenCutting). w.k) c.self.view_is in
+    let most = before.within in
+    let within : c.loop-position.position ≤ position_count c.args.self.now.k (length c.args.piece.now) = omega (arith, most, value, same) in
+    let p = err_from_is_err_and c.from_residual.result c.from_residual.ensures.1 in
+    rw p.1 (λ pieces taken.
+    subst (λ s. HasTakenFront s pieces c.args.piece.now) (sym c.in_err-position.ensures.refused) (
+      c.loop-position.position,
+      subst (λ k. c.loop-position.position ≤ position_count k (length c.args.piece.now)) (sym before.k) within,
+      subst (λ k. HasCut c.loop-position.self (pieces ++ c.args.piece.now ∷ []) (position_total k pieces + c.loop-position.position))
+          (sym before.k) (before.cut pieces taken),
+    ))
 
 pub loop-position-smaller : goal.loop-position-smaller
 loop-position-smaller c =

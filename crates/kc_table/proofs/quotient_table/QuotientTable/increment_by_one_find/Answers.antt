@@ -1,11 +1,11 @@
-use Rattle.std.proofs.Common.{◌<◌, ◌^◌, ◌+◌, ◌∙◌, sym, ap, subst}
+use Rattle.std.proofs.Common.{◌<◌, ◌^◌, ◌+◌, ◌∙◌, sym, ap, subst, inl}
 use Rattle.std.specs.FinMap.{insert}
 use Rattle.kc_table.specs.Counts.{count_at}
 use Rattle.kc_table.specs.QuotientTable.{counts_in, HoldsKey}
 use Rattle.kc_table.specs.Slot.{counts_of}
 use Rattle.kc_table.proofs.KeyCounts.{count_at-some}
 use Rattle.kc_table.proofs.SlotSteps.{get_found, found_at}
-use Rattle.kc_table.proofs.quotient_table.QuotientTableCounts.increment.Goals as goal
+use Rattle.kc_table.proofs.quotient_table.QuotientTable.increment_by_one_find.Goals as goal
 
 pub count_key-requires-clause-found : goal.count_key-requires-clause-found
 count_key-requires-clause-found c =
@@ -42,3 +42,6 @@ returns-clause-told c =
     rw (← c.self.view_is) (c.count_key.ensures.told ∙ ap (λ n. n + 1)
     (sym (count_at-some _ c.args.key _
     (get_found c.self.inside.slots.slots.items c.self.inside.slots.sound c.args.key c.in-Some.place found))))
+
+pub returns-clause-one_find : goal.returns-clause-one_find
+returns-clause-one_find c = inl (c.in-Some.place, c.in-Some.ensures.found_after)
