@@ -209,6 +209,7 @@ fn bytes_of_a_slice(rt: HostRuntime) -> Result<(), Fail> {
     let mut source = FromBytes::new(b"ACGTA");
     assert_reads(&rt, &mut source, b"AC");
     assert_same(&rt, "read", &source.read(&mut []), &Ok(0));
+    assert_bytes(&rt, "left", source.as_slice(), b"GTA");
     let mut rest = Intake::new(rt.alloc(), 3)?;
     assert_fills(&rt, &mut rest, &mut source, b"GTA");
     assert_same(&rt, "end", &rest.fill(&mut source), &Ok(false));
@@ -268,6 +269,7 @@ fn text_written_three_bytes_at_a_time(rt: HostRuntime) {
 #[test]
 fn text_written_to_a_vector(rt: HostRuntime) -> Result<(), Fail> {
     let mut sink = ToVec::new(b">".to_vec(rt.alloc())?);
+    assert_same(&rt, "nothing flushed", &sink.flush(), &Ok(()));
     assert_same(&rt, "part", &write_all(&mut sink, b"AC"), &Ok(()));
     assert_same(&rt, "nothing", &write_out(&mut sink, b""), &Ok(()));
     assert_same(&rt, "whole", &write_out(&mut sink, b"GT"), &Ok(()));

@@ -1,6 +1,6 @@
 //! Worked rows of both formats, and sources that give their bytes slowly or fail.
 use crate::assertions::{assert_bytes, assert_numbers, assert_same};
-use kc_fastx::{FastxFault, FromBytes, FromRead, Reads, SeqRead, Source, parse, read_all};
+use kc_fastx::{FastxFault, FromBytes, FromRead, Reading, Reads, SeqRead, Source, parse, read_all};
 use std::alloc::{AllocError, Global};
 use std::io;
 use std::io::Read;
@@ -315,12 +315,70 @@ fn asked_again(rt: HostRuntime) -> Result<(), AllocError> {
 }
 
 fn asked_again_after_a_failure<H: AllocGlobal + Abort>(rt: &H) -> Result<(), AllocError> {
-    let source = slow_source(b"@q\nAC\n+\nII\n@r\nACGTACGT\n", 20);
+    let source = slow_source(READ_AND_FRONT, 20);
     let mut reads = Reads::new(rt.alloc(), source, 100)?;
     assert_same(rt, "first", &has_more(&mut reads), &Ok(true));
     for _ in 0..2 {
         assert_same(rt, "failure", &has_more(&mut reads), &Err(FastxFault::Read));
     }
+    Ok(())
+}
+
+// A read, and the beginning of another.
+const READ_AND_FRONT: &[u8] = b"@q\nAC\n+\nII\n@r\nACGTACGT\n";
+
+// Texts, and the faults of their lines or, of more than 40 bytes, of the source.
+const FAULTS: &[(&[u8], FastxFault)] = &[
+    (b"x\n>q\nAC\n", FastxFault::BadStart(1)),
+    (b">q\nA1\n>r\nAC\n", FastxFault::BadBase(2)),
+    (b"@q\nAC\n+\nI\x7f\n@r\n", FastxFault::BadQuality(4)),
+    (b"@q\nAC\n+\nIII\n@r\n", FastxFault::LongQuality(4)),
+    (b"@q\nAC\n", FastxFault::Truncated(2)),
+    (
+        b">q\nACGTACGTACGTACGTACGT\nACGTACGTACGTACGTACGT\n",
+        FastxFault::TooLong,
+    ),
+];
+
+// A reader that answered a fault answers it again.
+#[test]
+fn asked_again_after_a_fault(rt: HostRuntime) -> Result<(), AllocError> {
+    for (bytes, fault) in FAULTS {
+        let mut reads = Reads::new(rt.alloc(), FromBytes::new(*bytes), 40)?;
+        for _ in 0..3 {
+            assert_same(&rt, "fault", &has_more(&mut reads), &Err(*fault));
+        }
+    }
+    Ok(())
+}
+
+// Whether one more read of this source comes.
+fn gives_more<S: Source>(
+    alloc: Global,
+    reading: &mut Reading,
+    source: &mut S,
+) -> Result<bool, FastxFault> {
+    match reading.next_read(alloc, source) {
+        Ok(Some(_)) => Ok(true),
+        Ok(None) => Ok(false),
+        Err(fault) => Err(fault),
+    }
+}
+
+// A reader takes nothing of its source behind a failed read: the byte that would have come is the next one still.
+#[test]
+fn a_source_that_failed_is_left(rt: HostRuntime) -> Result<(), AllocError> {
+    let mut source = slow_source(READ_AND_FRONT, 20);
+    let mut reading = Reading::new(rt.alloc(), 100)?;
+    let first = gives_more(rt.alloc(), &mut reading, &mut source);
+    assert_same(&rt, "first", &first, &Ok(true));
+    for _ in 0..3 {
+        let next = gives_more(rt.alloc(), &mut reading, &mut source);
+        assert_same(&rt, "failure", &next, &Err(FastxFault::Read));
+    }
+    let mut next = [0u8; 1];
+    assert_same(&rt, "read", &source.read(&mut next), &Ok(1));
+    assert_bytes(&rt, "next", &next, &READ_AND_FRONT[20..21]);
     Ok(())
 }
 
