@@ -1,8 +1,8 @@
 //! The cutting of pieces into batches, and the words of these.
-use crate::assertions::{assert_numbers, assert_same};
+use crate::assertions::{assert_bytes, assert_numbers, assert_same};
 use crate::sample_reads::{cleaned, k_of, pieces_of, rule_of, words_of_all};
 use kc_fastx::SeqRead;
-use kc_word::{Batch, Cutting, K, Rule, clean, cut, read_words, words};
+use kc_word::{Batch, Cutting, K, PieceView, Rule, clean, cut, read_words, words};
 use std::alloc::{AllocError, Global};
 use std::process::Abort;
 use std::sync::Arc;
@@ -42,6 +42,38 @@ fn assert_words<H: AllocGlobal + Abort>(
     Ok(())
 }
 
+// The letters of a piece.
+fn letters(alloc: Global, piece: &PieceView<'_>) -> Result<Vec<u8>, AllocError> {
+    let mut found = Vec::new(alloc);
+    for i in 0..piece.len() {
+        found.push(piece.base(i))?;
+    }
+    Ok(found)
+}
+
+// The letters of each piece of a batch.
+fn shown(alloc: Global, batch: &Batch) -> Result<Vec<Vec<u8>>, AllocError> {
+    let mut pieces = Vec::new(alloc);
+    for piece in batch.pieces() {
+        pieces.push(letters(alloc, &piece)?)?;
+    }
+    Ok(pieces)
+}
+
+// Asserts that a batch shows these pieces.
+fn assert_pieces<H: AllocGlobal + Abort>(
+    rt: &H,
+    batch: &Batch,
+    want: &[&[u8]],
+) -> Result<(), AllocError> {
+    let pieces = shown(rt.alloc(), batch)?;
+    assert_same(rt, "pieces", &pieces.len(), &want.len());
+    for (piece, letters) in pieces.iter().zip(want) {
+        assert_bytes(rt, batch.number(), piece.as_slice(), *letters);
+    }
+    Ok(())
+}
+
 // A batch: how many bytes and how many positions for words of three it has, the codes of its bases, and its words of
 // three, of one strand and of both.
 type Row = (usize, usize, &'static [u64], &'static [u64], &'static [u64]);
@@ -52,6 +84,9 @@ const BATCHES: &[Row] = &[
     (6, 2, &[2, 3, 0, 2, 3], &[44], &[44]),
     (3, 1, &[2, 3], &[], &[]),
 ];
+
+// Their pieces.
+const BATCH_PIECES: &[&[&[u8]]] = &[&[b"ACGT"], &[b"GTA", b"NGT"], &[b"GTN"]];
 
 // Asserts what a batch has.
 fn assert_batch<H: AllocGlobal + Abort>(rt: &H, batch: &Batch, row: &Row) -> Result<(), Fail> {
@@ -98,6 +133,9 @@ fn batches(rt: HostRuntime) -> Result<(), Fail> {
     assert_same(&rt, "batches", &batches.len(), &BATCHES.len());
     for (batch, row) in batches.iter().zip(BATCHES) {
         assert_batch(&rt, batch, row)?;
+    }
+    for (batch, want) in batches.iter().zip(BATCH_PIECES) {
+        assert_pieces(&rt, batch, *want)?;
     }
     Ok(())
 }
