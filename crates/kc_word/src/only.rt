@@ -83,6 +83,14 @@ impl Only {
         self.both
     }
 
+    /// The numbers of the words, in rising order.
+    pub fn words(&self) -> &[u64]
+        ensures words { result.now ≡ self.now.words }
+        ensures listed { AreListed self.now.k self.now.words }
+    {
+        &self.words
+    }
+
     /// Whether the word is one of the list. Condition: it is below 4^k.
     #[inline(always)]
     pub fn holds(&self, word: Word) -> bool
