@@ -15,8 +15,10 @@
 
 mod dump;
 mod fields;
+mod header_fields;
 mod histogram_text;
 mod letters;
+mod origin;
 mod queries;
 mod report_faults;
 mod statistics;
@@ -29,6 +31,7 @@ mod table_rows;
 pub use dump::{Dump, GREATEST_COUNT, write_dump};
 pub use histogram_text::{GREATEST_HIGH, write_histo};
 pub use kc_io::{BLOCK_SIZE, Block, NUMBER_SIZE};
+pub use origin::Origin;
 pub use queries::query;
 pub use report_faults::ReportFault;
 pub use statistics::write_stats;
