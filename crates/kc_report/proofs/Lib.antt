@@ -13,3 +13,4 @@ pub mod NextRowLemmas
 pub mod TableReadingLemmas
 pub mod QueryLemmas
 pub mod HistoLemmas
+pub mod MergingLemmas
