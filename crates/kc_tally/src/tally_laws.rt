@@ -4,7 +4,8 @@ ghost use Rattle.kc_fastx.specs.Reads.{read_of};
 ghost use Rattle.kc_kmer.specs.Rule.{counting_all, with_list};
 ghost use Rattle.kc_tally.specs.Tally.{row_of, count_of, total_of, IsTally};
 ghost use Rattle.kc_tally.specs.Histogram.{bin_of, bin_count};
-ghost use Rattle.kc_tally.specs.Laws.{OneTally, OneValue, JoinedTally, TallyTotal, BoundedTally, RowsOfTally};
+ghost use Rattle.kc_tally.specs.Laws.{OneTally, OneValue, JoinedTally, SummedTally, OneSum};
+ghost use Rattle.kc_tally.specs.Laws.{TallyTotal, BoundedTally, RowsOfTally};
 
 /// The tally of given reads is one finite map, and one value.
 pub fn one_tally()
@@ -12,9 +13,15 @@ pub fn one_tally()
     ensures value { OneValue }
 {}
 
-/// The tally of reads that are joined is the sum of the tallies of both parts.
+/// The tally of reads that are joined is the sum of the tallies of both parts, and this sum is that tally.
 pub fn joined_tally()
-    ensures { JoinedTally }
+    ensures joined { JoinedTally }
+    ensures summed { SummedTally }
+{}
+
+/// The sum of two lists of rows is one finite map.
+pub fn one_sum()
+    ensures { OneSum }
 {}
 
 /// The counts of a tally add up to the number of all words.
