@@ -300,7 +300,8 @@ const RUNS: &[(&str, &str, &str, &str, u64, u64, u64)] = &[
         ">r\nA@C\n",
         "",
         "kcount: 2: bad base, source 1, line 2\n",
-        7,
+        // bytes are told with the reads that they say
+        0,
         0,
         1,
     ),

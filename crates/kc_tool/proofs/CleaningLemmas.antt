@@ -1,8 +1,8 @@
 -- Cleaning the reads of source after source.
-use Rattle.std.proofs.Common.{◌≡◌, ◌≤◌, ◌+◌, ◌-◌, ◌++◌, ℕ, List, [], ◌∷◌, length, refl, sym, ◌∙◌, ap, subst}
-use Rattle.std.proofs.Common.{arith, append_assoc, append-nil}
+use Rattle.std.proofs.Common.{◌≡◌, ◌≤◌, ◌<◌, ◌+◌, ◌-◌, ◌++◌, ℕ, List, [], ◌∷◌, length, get_or, set, refl, sym, ◌∙◌, ap, subst}
+use Rattle.std.proofs.Common.{arith, append_assoc, append-nil, map}
 use Rattle.std.specs.Prelude.{sum_by}
-use Rattle.std.proofs.lemmas.List.{map-append}
+use Rattle.std.proofs.lemmas.List.{get_or-map, length-map, map-append, map-set}
 use Rattle.std.proofs.lemmas.List.Sums.{sum_by-cons}
 use Rattle.kc_io.specs.Sources.{Seen}
 use Rattle.kc_fastx.specs.Parsing.{most_bytes}
@@ -32,38 +32,38 @@ letters rule (read ∷ reads) =
     let bases = sum_by-cons (λ (read : Read). length read.bases) read reads in
     pieces ∙ omega (arith, length-cleaned rule read, letters rule reads, bases)
 
--- Some of the sources were read, and their reads cleaned and cut.
-pub record CutSoFar {S : Type 0} (seen : S → Seen) (sources rest : List S) (rule : CountingRule) (batch : ℕ)
-    (cutting : OpenCutting) (left number : ℕ) : Type 0 where
+-- The sources before this one were read, and their reads cleaned and cut.
+pub record CutSoFar (old new : List Seen) (rule : CountingRule) (batch : ℕ) (cutting : OpenCutting) (left number : ℕ)
+    : Type 0 where
   pub reads : List Read
-  pub so_far : ReadSoFar seen sources rest reads left number
+  pub so_far : ReadSoFar old new reads left number
   pub length_of_words : cutting.k ≡ rule.k
   pub size : cutting.size ≡ batch
   pub taken : HasTaken cutting (pieces_of rule reads)
 
-pub cutting_begun : {S : Type 0} (seen : S → Seen) (sources : List S) (rule : CountingRule) (batch : ℕ)
-    (cutting : OpenCutting) → cutting.k ≡ rule.k → cutting.size ≡ batch → HasTaken cutting []
-    → CutSoFar seen sources sources rule batch cutting most_bytes 0
-cutting_begun seen sources rule batch cutting length_of_words size none = record {
+pub cutting_begun : (sources : List Seen) (rule : CountingRule) (batch : ℕ) (cutting : OpenCutting)
+    → cutting.k ≡ rule.k → cutting.size ≡ batch → HasTaken cutting []
+    → CutSoFar sources sources rule batch cutting most_bytes 0
+cutting_begun sources rule batch cutting length_of_words size none = record {
   reads = [];
-  so_far = begun seen sources;
+  so_far = begun sources;
   length_of_words = length_of_words;
   size = size;
   taken = none;
 }
 
 -- The next source's pieces were cut.
-pub one_more_cut : {S : Type 0} (seen : S → Seen) {sources rest : List S} {rule : CountingRule} {batch : ℕ}
-    (source later : S) {cutting after : OpenCutting} {left number : ℕ} (count : ℕ)
-    → CutSoFar seen sources (source ∷ rest) rule batch cutting left number
-    → CutsPieces (seen source) (seen later) left rule count cutting after
-    → CutSoFar seen sources rest rule batch after (left - count) (number + 1)
-one_more_cut seen {rule = rule} source later {after = after} {left = left} count r gives =
+pub one_more_cut : {old new : List Seen} {rule : CountingRule} {batch : ℕ} (d later : Seen)
+    {cutting after : OpenCutting} {left number : ℕ} (count : ℕ)
+    → CutSoFar old new rule batch cutting left number → number < length new
+    → CutsPieces (get_or new number d) later left rule count cutting after
+    → CutSoFar old (set new number later) rule batch after (left - count) (number + 1)
+one_more_cut {new = new} {rule = rule} d later {after = after} {left = left} {number = number} count r within gives =
     let more = gives.reads in
-    let few = base_count-gives (seen source) (seen later) left more count gives.given in
+    let few = base_count-gives (get_or new number d) later left more count gives.given in
     record {
       reads = r.reads ++ more;
-      so_far = one_more seen source later more count r.so_far gives.given few;
+      so_far = one_more d later more count r.so_far within gives.given few;
       length_of_words = gives.length_of_words ∙ r.length_of_words;
       size = gives.size ∙ r.size;
       taken = subst (HasTaken after) (sym (pieces_of-append rule r.reads more))
@@ -76,37 +76,78 @@ pub gives_within : {old new : Seen} {limit : ℕ} {rule : CountingRule} {count :
 gives_within gives = omega (arith, gives.given.counted, gives.given.taken.within)
 
 -- The next source was refused.
-pub refused_cleaning : {S : Type 0} (seen : S → Seen) {sources rest : List S} {rule : CountingRule} {batch : ℕ}
-    (source later : S) {cutting : OpenCutting} {left number : ℕ} (fault : ToolFault)
-    → CutSoFar seen sources (source ∷ rest) rule batch cutting left number
-    → RefusesSource (seen source) (seen later) (number + 1) left fault → RefusesSources seen sources fault
-refused_cleaning seen {sources = sources} source later (Fastx at fault) r h =
-    subst (λ v. FailsAt seen sources v fault) (sym h.0) (refused seen source later fault r.so_far h.1)
-refused_cleaning seen source later Memory r h = tt
-refused_cleaning seen source later (Run fault) r h = absurd h
-refused_cleaning seen source later BadHeader r h = absurd h
-refused_cleaning seen source later (BadRow line) r h = absurd h
-refused_cleaning seen source later BadEnd r h = absurd h
-refused_cleaning seen source later TableTooLong r h = absurd h
-refused_cleaning seen source later TableRead r h = absurd h
-refused_cleaning seen source later (BadOption name) r h = absurd h
-refused_cleaning seen source later (BadWord at) r h = absurd h
-refused_cleaning seen source later Write r h = absurd h
-refused_cleaning seen source later (OpenFailed name) r h = absurd h
+pub refused_cleaning : {old new : List Seen} {rule : CountingRule} {batch : ℕ} (d later : Seen)
+    {cutting : OpenCutting} {left number : ℕ} (fault : ToolFault)
+    → CutSoFar old new rule batch cutting left number → number < length new
+    → RefusesSource (get_or new number d) later (number + 1) left fault
+    → RefusesSources old (set new number later) fault
+refused_cleaning {old = old} {new = new} d later {number = number} (Fastx at fault) r within h =
+    subst (λ v. FailsAt old (set new number later) v fault) (sym h.0) (refused d later fault r.so_far within h.1)
+refused_cleaning d later Memory r within h = tt
+refused_cleaning d later (Run fault) r within h = absurd h
+refused_cleaning d later BadHeader r within h = absurd h
+refused_cleaning d later (BadRow line) r within h = absurd h
+refused_cleaning d later BadEnd r within h = absurd h
+refused_cleaning d later TableTooLong r within h = absurd h
+refused_cleaning d later TableRead r within h = absurd h
+refused_cleaning d later (BadOption name) r within h = absurd h
+refused_cleaning d later (BadWord at) r within h = absurd h
+refused_cleaning d later Write r within h = absurd h
+refused_cleaning d later (OpenFailed name) r within h = absurd h
+
+-- The same, where the sources are seen by `see`, and this one is replaced in their list.
+module _ {X : Type 0} (see : X → Seen) (xs : List X) {i : ℕ} (x y : X) (is : x ≡ get_or xs i x) (within : i < length xs)
+    {old : List Seen} {rule : CountingRule} {batch : ℕ} {cutting : OpenCutting} {left number : ℕ} (counted : number ≡ i)
+    (r : CutSoFar old (map see xs) rule batch cutting left number) where
+  here : see x ≡ get_or (map see xs) number (see x)
+  here = ap see is ∙ sym (get_or-map see xs i x (see x) within) ∙ ap (λ n. get_or (map see xs) n (see x)) (sym counted)
+
+  below : number < length (map see xs)
+  below = rw (length-map xs see, counted) within
+
+  replaced : set (map see xs) number (see y) ≡ map see (set xs i y)
+  replaced = ap (λ n. set (map see xs) n (see y)) counted ∙ sym (map-set see xs i y)
+
+  pub one_more_kept : {after : OpenCutting} (count : ℕ) → CutsPieces (see x) (see y) left rule count cutting after
+      → CutSoFar old (map see (set xs i y)) rule batch after (left - count) (number + 1)
+  one_more_kept {after} count gives =
+      subst (λ v. CutSoFar old v rule batch after (left - count) (number + 1)) replaced
+      (one_more_cut (see x) (see y) count r below (subst (λ v. CutsPieces v (see y) left rule count cutting after) here gives))
+
+  pub refused_kept : (fault : ToolFault) → RefusesSource (see x) (see y) (number + 1) left fault
+      → RefusesSources old (map see (set xs i y)) fault
+  refused_kept fault h =
+      subst (λ v. RefusesSources old v fault) replaced
+      (refused_cleaning (see x) (see y) fault r below (subst (λ v. RefusesSource v (see y) (number + 1) left fault) here h))
 
 -- All sources were read.
-pub all_cut : {S : Type 0} (seen : S → Seen) (sources : List S) {rest : List S} {rule : CountingRule} {batch : ℕ}
-    {cutting : OpenCutting} {left number : ℕ} → rest ≡ [] → CutSoFar seen sources rest rule batch cutting left number
-    → CutsSources seen sources rule batch cutting
-all_cut seen sources {rule = rule} {left = left} {number = number} none r = record {
+pub all_cut : {old new : List Seen} {rule : CountingRule} {batch : ℕ} {cutting : OpenCutting} {left number : ℕ}
+    → CutSoFar old new rule batch cutting left number → length new ≤ number
+    → CutsSources old new rule batch cutting
+all_cut {old} {new} {rule = rule} {left = left} {number = number} r all = record {
   reads = r.reads;
-  are = ended seen sources r.reads left number
-      (subst (λ v. ReadSoFar seen sources v r.reads left number) none r.so_far);
-  length_of_words = r.length_of_words;
-  size = r.size;
-  taken = r.taken;
-  few = omega (arith, letters rule r.reads, r.so_far.bases);
+  are = ended old new r.reads left number r.so_far all;
+  cut = record {
+    length_of_words = r.length_of_words;
+    size = r.size;
+    taken = r.taken;
+    few = omega (arith, letters rule r.reads, r.so_far.bases);
+  };
 }
+
+-- One source alone was read, and its pieces were cut.
+pub one_cut : {old new : Seen} {rule : CountingRule} {batch count : ℕ} {cutting after : OpenCutting}
+    → cutting.k ≡ rule.k → cutting.size ≡ batch → HasTaken cutting []
+    → CutsPieces old new most_bytes rule count cutting after → CutsSources (old ∷ []) (new ∷ []) rule batch after
+one_cut {old} {new} {rule} {batch} {count} {cutting} length_of_words size none gives =
+    let begun = cutting_begun (old ∷ []) rule batch cutting length_of_words size none in
+    all_cut (one_more_cut old new count begun (omega arith) gives) (omega arith)
+
+-- It was refused.
+pub one_refused : (old new : Seen) {rule : CountingRule} {batch : ℕ} {cutting : OpenCutting} (fault : ToolFault)
+    → CutSoFar (old ∷ []) (old ∷ []) rule batch cutting most_bytes 0
+    → RefusesSource old new 1 most_bytes fault → RefusesSources (old ∷ []) (new ∷ []) fault
+one_refused old new fault begun refuses = refused_cleaning old new fault begun (omega arith) refuses
 
 -- A source was read so far: the pieces of its reads were cut behind those that were cut before.
 pub record PiecesSoFar (start now : Seen) (limit : ℕ) (rule : CountingRule) (before cutting : OpenCutting)

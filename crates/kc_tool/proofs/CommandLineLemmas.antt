@@ -1,5 +1,5 @@
 -- How a command line ends.
-use Rattle.std.proofs.Common.{◌≡◌, ◌∙◌, ℕ, refl, sym, ap, subst, List, [], inl, inr, Option, Some, None, Result, Ok, Err, IfOk, IfErr, true}
+use Rattle.std.proofs.Common.{◌≡◌, ◌≤◌, ◌∙◌, arith, ℕ, refl, sym, ap, subst, List, [], inl, inr, Option, Some, None, Result, Ok, Err, IfOk, IfErr, true}
 use Rattle.std.specs.Prelude.{option_map, Box}
 use Rattle.std.specs.Box.{box_value}
 use Rattle.clap.specs.declared.parser.matches.ArgMatches.TheViews.{out-ArgMatches, out-SubCommand}
@@ -13,8 +13,9 @@ use Rattle.clap.specs.declared.error.kind.ErrorKind.{ErrorKind}
 use Rattle.clap.specs.declared.error.kind.ErrorKind.TheVariants.{DisplayHelp, DisplayVersion, OutOfMemory}
 use Rattle.kc_io.specs.Sources.{Seen}
 use Rattle.kc_command.specs.Command.{IsCommand, kcount_app}
-use Rattle.kc_tool.specs.CommandLine.{AskForHelp, AreTaken, CarriesOut, DoesCommand, IsHelp, IsTold, ShowsSo}
-use Rattle.kc_tool.specs.Commands.{EndsSo, name_of, verb_named}
+use Rattle.kc_tool.specs.CommandLine.{AskForHelp, AreTaken, CarriesOut, DoesCommand, IsHelp, IsTold, ShowsSo, status_of}
+use Rattle.kc_tool.specs.Commands.{EndsSo, Surroundings, name_of, verb_named}
+use Rattle.kc_tool.specs.FileEvents.{FileEvent}
 use Rattle.kc_tool.specs.declared.commands.Verb.{Verb}
 use Rattle.kc_tool.specs.declared.commands.Verb.TheVariants as verb
 use Rattle.kc_io.specs.Sinks.{Written, Writes}
@@ -98,43 +99,79 @@ same_verb : {found command : Verb} → Some found ≡ Some command → found ≡
 same_verb e = cc
 
 -- a command was carried out
-pub command_done : {input : Seen} {arguments : List Text} {old new : Written} {outcome : Result (Unit {0}) ToolFault} {matches : ArgMatches}
+pub command_done : {arguments : List Text} {old new : Surroundings} {outcome : Result (Unit {0}) ToolFault} {matches : ArgMatches}
     {name : Text} {rows : List Row} {command : Verb} → AreTaken arguments matches → Some name ≡ subcommand_name_of matches
-    → Some rows ≡ option_map (λ p. p.1) (subcommand_rows_of matches) → Some command ≡ verb_named name → EndsSo command rows input old new outcome
-    → DoesCommand input arguments old new outcome
-command_done {input} {arguments} {old} {new} {outcome} {matches} {name} {rows} {command} taken named found is ends =
+    → Some rows ≡ option_map (λ p. p.1) (subcommand_rows_of matches) → Some command ≡ verb_named name → EndsSo command rows old new outcome
+    → DoesCommand arguments old new outcome
+command_done {arguments} {old} {new} {outcome} {matches} {name} {rows} {command} taken named found is ends =
     let name_is : name ≡ name_of taken.command = same_name (name_of taken.command, taken.options) (named ∙ name_with_rows (out-ArgMatches matches).subcommand ∙ ap (option_map (λ p. p.0)) taken.entered) in
     let rows_are : rows ≡ taken.options = same_rows (name_of taken.command, taken.options) (found ∙ ap (option_map (λ p. p.1)) taken.entered) in
     let command_is : command ≡ taken.command = same_verb (is ∙ ap verb_named name_is ∙ verb_found taken.command) in
-    (taken.command, taken.options, taken.asked, subst (λ v. EndsSo v taken.options input old new outcome) command_is (subst (λ v. EndsSo command v input old new outcome) rows_are ends))
+    (taken.command, taken.options, taken.asked, subst (λ v. EndsSo v taken.options old new outcome) command_is (subst (λ v. EndsSo command v old new outcome) rows_are ends))
+
+-- the output alone may have changed
+abbrev with_output : Seen → List FileEvent → Written → Surroundings
+with_output input asked output = record { input = input; output = output; asked = asked }
 
 -- an answer of `clap` was shown
-pub shown : (input : Seen) (arguments : List Text) (error : Error) (old new : Written) (r : Result (Unit {0}) Ending)
-    → HasKind (fault_of kcount_app arguments) error → ShowsSo error old new r → CarriesOut input arguments old new r
-shown input arguments error old new (Ok done) h s = inr (s.0, asks_for_help arguments error h s.1, s.2)
-shown input arguments error old new (Err (Fault Write)) h s = inr (inl (s.0, asks_for_help arguments error h s.1, refl, s.2))
-shown input arguments error old new (Err (Fault Memory)) h s = inr (inr (refl, s))
-shown input arguments error old new (Err (Fault (Fastx number fault))) h s = absurd s
-shown input arguments error old new (Err (Fault BadHeader)) h s = absurd s
-shown input arguments error old new (Err (Fault (BadRow line))) h s = absurd s
-shown input arguments error old new (Err (Fault BadEnd)) h s = absurd s
-shown input arguments error old new (Err (Fault TableTooLong)) h s = absurd s
-shown input arguments error old new (Err (Fault TableRead)) h s = absurd s
-shown input arguments error old new (Err (Fault (BadOption name))) h s = absurd s
-shown input arguments error old new (Err (Fault (BadWord number))) h s = absurd s
-shown input arguments error old new (Err (Fault (Run fault))) h s = absurd s
-shown input arguments error old new (Err (Fault (OpenFailed name))) h s = absurd s
-shown input arguments error old new (Err (Refused text)) h s = (
+pub shown : (input : Seen) (asked : List FileEvent) (arguments : List Text) (error : Error) (old new : Written) (r : Result (Unit {0}) Ending)
+    → HasKind (fault_of kcount_app arguments) error → ShowsSo error old new r
+    → CarriesOut arguments (record { input = input; output = old; asked = asked }) (record { input = input; output = new; asked = asked }) r
+shown input asked arguments error old new (Ok done) h s =
+    inr (s.0, asks_for_help arguments error h s.1, record { unread = refl; unasked = refl; happens = s.2 })
+shown input asked arguments error old new (Err (Fault Write)) h s =
+    inr (inl (s.0, asks_for_help arguments error h s.1, refl, record { unread = refl; unasked = refl; happens = s.2 }))
+shown input asked arguments error old new (Err (Fault Memory)) h s = inr (inr (refl, ap (with_output input asked) s))
+shown input asked arguments error old new (Err (Fault (Fastx number fault))) h s = absurd s
+shown input asked arguments error old new (Err (Fault BadHeader)) h s = absurd s
+shown input asked arguments error old new (Err (Fault (BadRow line))) h s = absurd s
+shown input asked arguments error old new (Err (Fault BadEnd)) h s = absurd s
+shown input asked arguments error old new (Err (Fault TableTooLong)) h s = absurd s
+shown input asked arguments error old new (Err (Fault TableRead)) h s = absurd s
+shown input asked arguments error old new (Err (Fault (BadOption name))) h s = absurd s
+shown input asked arguments error old new (Err (Fault (BadWord number))) h s = absurd s
+shown input asked arguments error old new (Err (Fault (Run fault))) h s = absurd s
+shown input asked arguments error old new (Err (Fault (OpenFailed name))) h s = absurd s
+shown input asked arguments error old new (Err (Refused text)) h s = (
   record {
     reason = kind_of error;
     among = among (fault_of kcount_app arguments) error (kind_of error) h refl s.1;
     no_help = s.2;
     no_version = s.3;
   },
-  s.0,
+  ap (with_output input asked) s.0,
 )
 
 -- a text went to the errors, whether all of it could be written or not
 pub told : {A E : Type 0} (old new : Written) (r : Result A E) (text : List ℕ) → Writes old new r text → IsTold old new text
 told old new (Ok done) text w = inl w
 told old new (Err fault) text w = inr w
+
+-- a fault ends with status 1, or with status 2
+pub some_status : (fault : ToolFault) → 1 ≤ status_of fault
+some_status (BadOption name) = omega arith
+some_status (Fastx number fault) = omega arith
+some_status BadHeader = omega arith
+some_status (BadRow line) = omega arith
+some_status BadEnd = omega arith
+some_status TableTooLong = omega arith
+some_status TableRead = omega arith
+some_status Memory = omega arith
+some_status (BadWord number) = omega arith
+some_status Write = omega arith
+some_status (Run fault) = omega arith
+some_status (OpenFailed name) = omega arith
+
+pub small_status : (fault : ToolFault) → status_of fault ≤ 2
+small_status (BadOption name) = omega arith
+small_status (Fastx number fault) = omega arith
+small_status BadHeader = omega arith
+small_status (BadRow line) = omega arith
+small_status BadEnd = omega arith
+small_status TableTooLong = omega arith
+small_status TableRead = omega arith
+small_status Memory = omega arith
+small_status (BadWord number) = omega arith
+small_status Write = omega arith
+small_status (Run fault) = omega arith
+small_status (OpenFailed name) = omega arith

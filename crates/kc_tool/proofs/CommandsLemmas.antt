@@ -1,9 +1,11 @@
 -- The commands and their tasks.
-use Rattle.std.proofs.Common.{suc, ◌≡◌, ◌∙◌, ◌++◌, List, [], ◌∷◌, Option, Some, None, length, map, take, refl, sym, ap, inl, inr, Result, Ok, Err, IfOk, IfErr, ℕ, true, false, arith, length-append}
-use Rattle.std.specs.Prelude.{◌==◌, unwrap_or}
-use Rattle.std.proofs.lemmas.List.{length-map, nil_from_length}
+use Rattle.std.proofs.Common.{suc, ◌≡◌, ◌∙◌, ◌++◌, List, [], ◌∷◌, Option, Some, None, length, map, take, refl, sym, ap, ap₂, subst, inl, inr, Result, Ok, Err, IfOk, IfErr, ℕ, true, false, arith}
+use Rattle.std.proofs.Common.{append_assoc, append-nil}
+use Rattle.std.specs.Prelude.{◌==◌, ◌⊎◌, unwrap_or, All, string_bytes}
+use Rattle.std.proofs.lemmas.List.{nil_from_length, map-append}
 use Rattle.std.proofs.lemmas.Bool.Decides.{nat_tests}
 use Rattle.clap.specs.Words.{Row, Text}
+use Rattle.kc_io.specs.History.{no_history}
 use Rattle.kc_io.specs.Sinks.{Written}
 use Rattle.kc_io.specs.Sources.{Seen}
 use Rattle.kc_tally.specs.Tally.{TallySeen}
@@ -13,16 +15,21 @@ use Rattle.kc_report.specs.declared.report_faults.ReportFault.TheVariants as rep
 use Rattle.kc_command.specs.Settings.{Settings}
 use Rattle.kc_tool.specs.Faults.{report_fault}
 use Rattle.kc_tool.specs.Tallies.{RefusesSources, TalliesSources}
-use Rattle.kc_tool.proofs.SourcesLemmas.{refuses_seen, tally_seen}
-use Rattle.kc_tool.specs.Files.{AreOpened, AreSources, FailsToOpen, HappensTo, IsCreated, NamedSink, NamedSource, files_named, output_of}
-use Rattle.kc_tool.specs.Commands.{Answers, Does, HasNoTallyFor, HasSourcesFor, IsTallyFor, TellNoTable, most_table_bytes, sources_from}
-use Rattle.kc_tool.specs.Commands.{AsksForTask, EndsSo, IsLeft, IsRefused, files_of}
+use Rattle.kc_tool.specs.FileEvents.{FileEvent, created, not_created, opened, wrote}
+use Rattle.kc_tool.specs.NamedSources.{names_of, seen_of}
+use Rattle.kc_tool.specs.Files.{AreOf, AreOpened, FailsToOpen, FileRead, FileWritten, LacksFile, OpensAll, OpensNotAll, TellsName}
+use Rattle.kc_tool.specs.Files.{files_named, given_back, openings, output_of, returned, unread}
+use Rattle.kc_tool.specs.Commands.{Answers, Does, HasNoTallyFor, HasSourcesFor, IsTallyFor, Stage, TellNoTable, most_table_bytes, sources_from}
+use Rattle.kc_tool.specs.Commands.{AsksForTask, DoesTask, DoesTaskInto, EndsSo, IsLeft, IsRefused, IsRefusedOption, KeepsInput, LacksOutput}
+use Rattle.kc_tool.specs.Commands.{Surroundings, files_of, first_refused, stage_after, stage_before}
+use Rattle.kc_tool.specs.declared.named_sources.NamedSource.{NamedSource}
 use Rattle.kc_tool.specs.declared.tool_faults.ToolFault.{ToolFault}
 use Rattle.kc_tool.specs.declared.tool_faults.ToolFault.TheVariants.{Fastx, BadHeader, BadRow, BadEnd, TableTooLong, TableRead, Memory, BadOption, BadWord, Write, Run, OpenFailed}
 use Rattle.kc_tool.specs.declared.commands.Task.{Task}
 use Rattle.kc_tool.specs.declared.commands.Task.TheVariants.{Count, Report, Query}
 use Rattle.kc_tool.specs.declared.commands.Verb.{Verb}
 use Rattle.kc_tool.specs.declared.commands.Verb.TheVariants as verb
+use Rattle.kc_tool.proofs.FilesLemmas.{PairedTo, unread_back}
 
 -- The texts that were found.
 pub texts_found : {found : Option (List Text)} {texts : List Text} → Some texts ≡ found → texts ≡ unwrap_or found []
@@ -34,15 +41,15 @@ none_found e = ap (λ found. unwrap_or found []) e
 
 module _ (rows : List Row) (input : Seen) where
   -- Not more than one file is read.
-  one_of : (names : List Text) (sources : List Seen) → AreSources input (take 1 names) sources → length sources ≡ 1
-  one_of [] sources are = ap length are
-  one_of (name ∷ names) sources are =
-      let opened : length (map (λ (file : NamedSource). file.name) are.0) ≡ length (name ∷ []) = ap length are.1.named in
-      ap length are.2 ∙ length-map are.0 (λ file. file.seen) ∙ sym (length-map are.0 (λ file. file.name)) ∙ opened
+  one_of : (names : List Text) (sources : List (NamedSource Seen)) → names_of sources ≡ take 1 names → length (sources_from input (seen_of (λ seen. seen) sources)) ≡ 1
+  one_of names [] are = refl
+  one_of names (source ∷ []) are = refl
+  one_of [] (source ∷ other ∷ sources) are = let none : ⊥ = cc in absurd none
+  one_of (name ∷ names) (source ∷ other ∷ sources) are = let none : ⊥ = cc in absurd none
 
   -- A command has the sources that its task wants.
-  pub has_sources : (command : Verb) (task : Task) (sources : List Seen) → AsksForTask command rows task
-      → AreSources input (files_of command rows) sources → HasSourcesFor task sources
+  pub has_sources : (command : Verb) (task : Task) (sources : List (NamedSource Seen)) → AsksForTask command rows task
+      → names_of sources ≡ files_of command rows → HasSourcesFor task (sources_from input (seen_of (λ seen. seen) sources))
   has_sources verb.Count (Count settings) sources asks are = tt
   has_sources verb.Count (Report report) sources asks are = absurd asks
   has_sources verb.Count (Query words) sources asks are = absurd asks
@@ -59,45 +66,16 @@ module _ (rows : List Row) (input : Seen) where
   has_sources verb.Query (Report report) sources asks are = absurd asks
   has_sources verb.Query (Query words) sources asks are = one_of (files_named rows) sources are
 
--- The files that were opened are the sources of a command, or where it names none, the given input is.
-pub opened_sources : (input : Seen) (names : List Text) (files : List NamedSource) → AreOpened names files
-    → AreSources input names (sources_from input (map (λ file. file.seen) files))
-opened_sources input [] [] opened = refl
-opened_sources input [] (file ∷ files) opened = let named = opened.named in cc
-opened_sources input (name ∷ names) [] opened = let named = opened.named in cc
-opened_sources input (name ∷ names) (file ∷ files) opened = (file ∷ files, opened, refl)
-
--- The sources where no file was opened.
-pub from_input : {S F : Type 0} (seen : S → Seen) (seen_file : F → Seen) (input : S) {sources : List S} {files : List F} → files ≡ [] → sources ≡ input ∷ []
-    → sources_from (seen input) (map seen_file files) ≡ map seen sources
-from_input seen seen_file input none one = rw (none, one) refl
-
--- The sources where a file was.
-pub from_files : {F : Type 0} (seen_file : F → Seen) (input : Seen) (files : List F) → (files ≡ [] → ⊥) → sources_from input (map seen_file files) ≡ map seen_file files
-from_files seen_file input [] some = absurd (some refl)
-from_files seen_file input (file ∷ files) some = refl
-
--- The last file is the one source of a task over a table.
-pub last_alone : {F : Type 0} (seen_file : F → Seen) (input : Seen) {files : List F} (rest : List F) (file : F) → files ≡ rest ++ file ∷ []
-    → length (sources_from input (map seen_file files)) ≡ 1 → sources_from input (map seen_file files) ≡ seen_file file ∷ []
-last_alone seen_file input [] file is one = rw is refl
-last_alone seen_file input (other ∷ rest) file is one =
-    let counted : suc (length (map seen_file (rest ++ file ∷ []))) ≡ 1 = rw is at one in
-    let more = length-map (rest ++ file ∷ []) seen_file in
-    let behind = length-append rest (file ∷ []) in
-    absurd (omega (arith, counted, more, behind))
-
-module _ {S : Type 0} (seen : S → Seen) (sources : List S) {all : List Seen} (same : all ≡ map seen sources) {task : Task} (settings : Settings)
-    (is : task ≡ Count settings) where
+module _ (old new : List Seen) {task : Task} (settings : Settings) (is : task ≡ Count settings) where
   -- The tally of a count.
-  pub is_counted : (r : Result TallySeen ToolFault) → IfOk r (TalliesSources seen sources settings) → IfOk r (IsTallyFor all task)
-  is_counted (Ok tally) h = rw (same, is) (tally_seen seen sources settings tally h)
+  pub is_counted : (r : Result TallySeen ToolFault) → IfOk r (TalliesSources old new settings) → IfOk r (IsTallyFor old new task)
+  is_counted (Ok tally) h = rw is h
   is_counted (Err fault) h = tt
 
   -- Why a count has none.
-  pub is_uncounted : (r : Result TallySeen ToolFault) → IfErr r (RefusesSources seen sources) → IfErr r (HasNoTallyFor all task)
+  pub is_uncounted : (r : Result TallySeen ToolFault) → IfErr r (RefusesSources old new) → IfErr r (HasNoTallyFor old new task)
   is_uncounted (Ok tally) h = tt
-  is_uncounted (Err fault) h = rw (same, is) (refuses_seen seen sources fault h)
+  is_uncounted (Err fault) h = rw is h
 
 -- No table is refused since a writer failed.
 no_write : (why : ReportFault) (source later : Seen) → RefusesTable source later most_table_bytes why → Write ≡ report_fault why → ⊥
@@ -110,85 +88,214 @@ no_write report.Memory source later h e = cc
 no_write (report.BadWord number) source later h e = cc
 no_write report.Write source later h e = h.2
 
-told_table : (sources : List Seen) → TellNoTable sources Write → ⊥
-told_table [] h = h
-told_table (source ∷ []) h = no_write h.1 source h.0 h.2 h.3
-told_table (source ∷ other ∷ sources) h = h
+told_table : (old new : List Seen) → TellNoTable old new Write → ⊥
+told_table (old ∷ []) (new ∷ []) h = no_write h.0 old new h.1 h.2
+told_table [] new h = h
+told_table (old ∷ other ∷ olds) new h = h
+told_table (old ∷ []) [] h = h
+told_table (old ∷ []) (new ∷ other ∷ news) h = h
 
-read_before : (task : Task) (sources : List Seen) → HasNoTallyFor sources task Write → ⊥
-read_before (Count settings) sources h = h
-read_before (Report report) sources h = told_table sources h
-read_before (Query words) sources h = told_table sources h
+read_before : (task : Task) (old new : List Seen) → HasNoTallyFor old new task Write → ⊥
+read_before (Count settings) old new h = h
+read_before (Report report) old new h = told_table old new h
+read_before (Query words) old new h = told_table old new h
 
-module _ (sources : List Seen) (task : Task) where
-  unanswered : (old : Written) (fault : ToolFault) → HasNoTallyFor sources task fault → Does sources task old old (Err fault)
-  unanswered old Write h = absurd (read_before task sources h)
-  unanswered old (Fastx number fault) h = (refl, inl h)
-  unanswered old BadHeader h = (refl, inl h)
-  unanswered old (BadRow line) h = (refl, inl h)
-  unanswered old BadEnd h = (refl, inl h)
-  unanswered old TableTooLong h = (refl, inl h)
-  unanswered old TableRead h = (refl, inl h)
-  unanswered old Memory h = (refl, inl h)
-  unanswered old (BadOption name) h = (refl, inl h)
-  unanswered old (BadWord number) h = (refl, inl h)
-  unanswered old (Run fault) h = (refl, inl h)
-  unanswered old (OpenFailed name) h = (refl, inl h)
-
+module _ (old new : List Seen) (task : Task) where
   -- Without a tally nothing is written.
-  pub has_no_tally : (old : Written) {outcome : Result (Unit {0}) ToolFault} (fault : ToolFault) → outcome ≡ Err fault → HasNoTallyFor sources task fault
-      → Does sources task old old outcome
-  has_no_tally old fault is h = rw is (unanswered old fault h)
+  pub unanswered : (output : Written) (fault : ToolFault) → HasNoTallyFor old new task fault
+      → Does task (record { sources = old; output = output }) (record { sources = new; output = output }) (Err fault)
+  unanswered output Write h = absurd (read_before task old new h)
+  unanswered output (Fastx number fault) h = (refl, inl h)
+  unanswered output BadHeader h = (refl, inl h)
+  unanswered output (BadRow line) h = (refl, inl h)
+  unanswered output BadEnd h = (refl, inl h)
+  unanswered output TableTooLong h = (refl, inl h)
+  unanswered output TableRead h = (refl, inl h)
+  unanswered output Memory h = (refl, inl h)
+  unanswered output (BadOption name) h = (refl, inl h)
+  unanswered output (BadWord number) h = (refl, inl h)
+  unanswered output (Run fault) h = (refl, inl h)
+  unanswered output (OpenFailed name) h = (refl, inl h)
 
-  -- What a task does about the tally of its sources.
-  pub answered : (old new : Written) (tally : TallySeen) (outcome : Result (Unit {0}) ToolFault) → IsTallyFor sources task tally
-      → Answers task tally old new outcome → Does sources task old new outcome
-  answered old new tally (Ok done) is h = (h.0, (tally, is, h.1), h.2)
-  answered old new tally (Err Write) is h = (h.0, (tally, is, h.1), h.2)
-  answered old new tally (Err (Fastx number fault)) is h = (h.0, inr (tally, is, h.1))
-  answered old new tally (Err BadHeader) is h = (h.0, inr (tally, is, h.1))
-  answered old new tally (Err (BadRow line)) is h = (h.0, inr (tally, is, h.1))
-  answered old new tally (Err BadEnd) is h = (h.0, inr (tally, is, h.1))
-  answered old new tally (Err TableTooLong) is h = (h.0, inr (tally, is, h.1))
-  answered old new tally (Err TableRead) is h = (h.0, inr (tally, is, h.1))
-  answered old new tally (Err Memory) is h = (h.0, inr (tally, is, h.1))
-  answered old new tally (Err (BadOption name)) is h = (h.0, inr (tally, is, h.1))
-  answered old new tally (Err (BadWord number)) is h = (h.0, inr (tally, is, h.1))
-  answered old new tally (Err (Run fault)) is h = (h.0, inr (tally, is, h.1))
-  answered old new tally (Err (OpenFailed name)) is h = (h.0, inr (tally, is, h.1))
+  -- The answer about the tally was written, or a beginning of it, or nothing.
+  pub answered : (before after : Written) (tally : TallySeen) (outcome : Result (Unit {0}) ToolFault) → IsTallyFor old new task tally
+      → Answers task tally before after outcome → Does task (record { sources = old; output = before }) (record { sources = new; output = after }) outcome
+  answered before after tally (Ok done) is h = (h.0, (tally, is, h.1), h.2)
+  answered before after tally (Err Write) is h = (h.0, (tally, is, h.1), h.2)
+  answered before after tally (Err (Fastx number fault)) is h = (h.0, inr (tally, is, h.1))
+  answered before after tally (Err BadHeader) is h = (h.0, inr (tally, is, h.1))
+  answered before after tally (Err (BadRow line)) is h = (h.0, inr (tally, is, h.1))
+  answered before after tally (Err BadEnd) is h = (h.0, inr (tally, is, h.1))
+  answered before after tally (Err TableTooLong) is h = (h.0, inr (tally, is, h.1))
+  answered before after tally (Err TableRead) is h = (h.0, inr (tally, is, h.1))
+  answered before after tally (Err Memory) is h = (h.0, inr (tally, is, h.1))
+  answered before after tally (Err (BadOption name)) is h = (h.0, inr (tally, is, h.1))
+  answered before after tally (Err (BadWord number)) is h = (h.0, inr (tally, is, h.1))
+  answered before after tally (Err (Run fault)) is h = (h.0, inr (tally, is, h.1))
+  answered before after tally (Err (OpenFailed name)) is h = (h.0, inr (tally, is, h.1))
 
-module _ (command : Verb) (rows : List Row) (old new : Written) where
-  -- A file that is named for the output can't be created.
-  pub uncreated_left : {file : Text} {outcome : Result (Unit {0}) ToolFault} (fault : ToolFault) → output_of rows ≡ Some file → outcome ≡ Err fault → new ≡ old
-      → FailsToOpen file fault → IsLeft command rows old new outcome
-  uncreated_left {file} {outcome} fault named is same fails = record { fault = fault; is = is; unwritten = same; refused = refused fault fails } where
-    refused : (fault : ToolFault) → FailsToOpen file fault → IsRefused command rows fault
-    refused (OpenFailed told) fails = inr (named ∙ ap Some (sym fails))
-    refused Memory fails = tt
-    refused (Fastx number fault) fails = absurd fails
-    refused BadHeader fails = absurd fails
-    refused (BadRow line) fails = absurd fails
-    refused BadEnd fails = absurd fails
-    refused TableTooLong fails = absurd fails
-    refused TableRead fails = absurd fails
-    refused (BadOption name) fails = absurd fails
-    refused (BadWord number) fails = absurd fails
-    refused Write fails = absurd fails
-    refused (Run fault) fails = absurd fails
+-- The sources of a task were read, and are given back.
+pub task_done : {sources later : List (NamedSource Seen)} {task : Task} {old new : Surroundings} {outcome : Result (Unit {0}) ToolFault} (files : List FileRead)
+    → PairedTo sources later files → KeepsInput (seen_of (λ seen. seen) sources) old.input new.input → new.asked ≡ old.asked ++ given_back later
+    → Does task (record { sources = sources_from old.input (seen_of (λ seen. seen) sources); output = old.output })
+    (record { sources = sources_from new.input (seen_of (λ seen. seen) later); output = new.output }) outcome
+    → DoesTask sources task old new outcome
+task_done {sources} {later} {task} {old} {new} {outcome} files paired kept log done = record {
+  files = files;
+  are = paired.are;
+  input = subst (λ v. KeepsInput v old.input new.input) (sym paired.are.before) kept;
+  log = log ∙ ap (λ v. old.asked ++ v) (sym paired.log);
+  done = subst (λ v. Does task v (stage_after new.input files new.output) outcome)
+      (ap (λ (v : List Seen). record { sources = sources_from old.input v; output = old.output }) (sym paired.are.before))
+      (subst (λ v. Does task (record { sources = sources_from old.input (seen_of (λ seen. seen) sources); output = old.output }) v outcome)
+      (ap (λ (v : List Seen). record { sources = sources_from new.input v; output = new.output }) (sym paired.after)) done);
+}
 
-  module _ {input : Seen} (task : Task) (sources : List Seen) {outcome : Result (Unit {0}) ToolFault} (asks : AsksForTask command rows task)
-      (are : AreSources input (files_of command rows) sources) where
-    comes : HappensTo (output_of rows) old new (λ before after. Does sources task before after outcome) → EndsSo command rows input old new outcome
-    comes done = inl (record { task = task; asked = asks; sources = sources; are_sources = are; done = done })
+module _ (command : Verb) (rows : List Row) where
+  -- An option was refused, or there was no memory, before anything was asked of files.
+  pub option_left : {old : Surroundings} {outcome : Result (Unit {0}) ToolFault} (fault : ToolFault) → outcome ≡ Err fault → IsRefusedOption command rows fault
+      → EndsSo command rows old old outcome
+  option_left {old} fault is refused = inr (record {
+    fault = fault;
+    is = is;
+    unread = refl;
+    unwritten = refl;
+    asked = [];
+    log = sym (append-nil old.asked);
+    refused = unasked fault refused;
+  }) where
+    unasked : (fault : ToolFault) → IsRefusedOption command rows fault → IsRefused command rows [] fault
+    unasked (BadOption name) refused = (refused, refl)
+    unasked Memory refused = inl refl
+    unasked (Fastx number fault) refused = absurd refused
+    unasked BadHeader refused = absurd refused
+    unasked (BadRow line) refused = absurd refused
+    unasked BadEnd refused = absurd refused
+    unasked TableTooLong refused = absurd refused
+    unasked TableRead refused = absurd refused
+    unasked (BadWord number) refused = absurd refused
+    unasked Write refused = absurd refused
+    unasked (Run fault) refused = absurd refused
+    unasked (OpenFailed name) refused = absurd refused
 
+  told_so : (name : Text) (asked : List FileEvent) (fault : ToolFault) → first_refused command rows ≡ None → LacksFile (files_of command rows) (output_of rows) name asked
+      → TellsName name fault → IsRefused command rows asked fault
+  told_so name asked (OpenFailed told) lawful lacks tells =
+      (lawful, subst (λ v. LacksFile (files_of command rows) (output_of rows) v asked) (sym tells) lacks)
+  told_so name asked Memory lawful lacks tells = inr (name, lacks)
+  told_so name asked (Fastx number fault) lawful lacks tells = absurd tells
+  told_so name asked BadHeader lawful lacks tells = absurd tells
+  told_so name asked (BadRow line) lawful lacks tells = absurd tells
+  told_so name asked BadEnd lawful lacks tells = absurd tells
+  told_so name asked TableTooLong lawful lacks tells = absurd tells
+  told_so name asked TableRead lawful lacks tells = absurd tells
+  told_so name asked (BadOption option) lawful lacks tells = absurd tells
+  told_so name asked (BadWord number) lawful lacks tells = absurd tells
+  told_so name asked Write lawful lacks tells = absurd tells
+  told_so name asked (Run fault) lawful lacks tells = absurd tells
+
+  -- A file that is to be read can't be opened.
+  pub file_left : {old : Surroundings} {log : List FileEvent} {outcome : Result (Unit {0}) ToolFault} (fault : ToolFault) → outcome ≡ Err fault
+      → first_refused command rows ≡ None → FailsToOpen (files_of command rows) old.asked log fault
+      → EndsSo command rows old (record { input = old.input; output = old.output; asked = log }) outcome
+  file_left {old} {log} fault is lawful (inl fails) = inr (record {
+    fault = fault;
+    is = is;
+    unread = refl;
+    unwritten = refl;
+    asked = fails.1;
+    log = fails.3;
+    refused = told_so fails.0 fails.1 fault lawful (inl fails.2) fails.4;
+  })
+  file_left {old} {log} fault is lawful (inr fails) = inr (record {
+    fault = fault;
+    is = is;
+    unread = refl;
+    unwritten = refl;
+    asked = [];
+    log = fails.1 ∙ sym (append-nil old.asked);
+    refused = subst (λ fault. IsRefused command rows [] fault) (sym fails.0) (inl refl);
+  })
+
+  opened_files : {asked mid : List FileEvent} {sources : List (NamedSource Seen)} → OpensAll (files_of command rows) asked mid sources
+      → (files : List FileRead) → AreOf sources files → AreOpened (files_of command rows) files
+  opened_files opens files are = record {
+    named = are.named ∙ opens.named;
+    fresh = subst (All (λ (seen : Seen). seen.history ≡ no_history)) (sym are.before) opens.fresh;
+  }
+
+  opening_log : {asked mid : List FileEvent} {sources : List (NamedSource Seen)} → OpensAll (files_of command rows) asked mid sources
+      → (files : List FileRead) → AreOf sources files → mid ≡ asked ++ openings files
+  opening_log {asked} opens files are = opens.log ∙ ap (λ v. asked ++ map opened v) (sym (are.named ∙ opens.named))
+
+  module _ (task : Task) {sources : List (NamedSource Seen)} {outcome : Result (Unit {0}) ToolFault} (asks : AsksForTask command rows task)
+      {old : Surroundings} {mid : List FileEvent} (opens : OpensAll (files_of command rows) old.asked mid sources) where
     -- The output has the answer.
-    pub to_output : output_of rows ≡ None → Does sources task old new outcome → EndsSo command rows input old new outcome
-    to_output named done = comes (rw named done)
+    pub to_output : {new : Surroundings} → output_of rows ≡ None → DoesTask sources task (record { input = old.input; output = old.output; asked = mid }) new outcome
+        → EndsSo command rows old new outcome
+    to_output {new} named does = inl (record {
+      task = task;
+      asks = asks;
+      files = does.files;
+      opened = opened_files opens does.files does.are;
+      input = does.input;
+      done = rw named (
+        does.log ∙ ap (λ v. v ++ returned does.files) (opening_log opens does.files does.are) ∙ append_assoc old.asked (openings does.files) (returned does.files),
+        does.done,
+      );
+    })
 
     -- The file that is named for the output has it.
-    pub to_file : {name : Text} → output_of rows ≡ Some name → new ≡ old → (file : NamedSink) → IsCreated name file → (after : Written)
-        → Does sources task file.seen after outcome → EndsSo command rows input old new outcome
-    to_file named same file created after done = comes (rw named (same, file, created, after, done))
+    pub to_file : {name : Text} {input : Seen} {log : List FileEvent} → output_of rows ≡ Some name
+        → DoesTaskInto name sources task old.input input mid log outcome
+        → EndsSo command rows old (record { input = input; output = old.output; asked = log }) outcome
+    to_file {name} {input} {log} named does =
+        let files = does.files in
+        let file = does.file in
+        let given = returned files in
+        let end = wrote name file.after.history ∷ [] in
+        inl (record {
+          task = task;
+          asks = asks;
+          files = files;
+          opened = opened_files opens files does.are;
+          input = does.input_kept;
+          done = rw named (
+            refl,
+            file,
+            does.is_created,
+            does.log ∙ ap (λ v. (v ++ created name ∷ given) ++ end) (opening_log opens files does.are)
+                ∙ ap (λ v. v ++ end) (append_assoc old.asked (openings files) (created name ∷ given))
+                ∙ append_assoc old.asked (openings files ++ created name ∷ given) end
+                ∙ ap (λ (v : Text). old.asked ++ ((openings files ++ created v ∷ given) ++ wrote v file.after.history ∷ [])) (sym does.is_created.named),
+            does.done,
+          );
+        })
+
+    -- That file can't be created.
+    pub output_left : {name : Text} {input : Seen} {log : List FileEvent} → output_of rows ≡ Some name → first_refused command rows ≡ None
+        → LacksOutput name sources old.input input mid log outcome
+        → EndsSo command rows old (record { input = input; output = old.output; asked = log }) outcome
+    output_left {name} {input} {log} named lawful lacks =
+        let names = files_of command rows in
+        let asked = map opened names ++ not_created name ∷ unread names in
+        let back : given_back sources ≡ unread names = unread_back sources opens.fresh ∙ ap unread opens.named in
+        inr (record {
+          fault = lacks.fault;
+          is = lacks.is;
+          unread = lacks.unread;
+          unwritten = refl;
+          asked = asked;
+          log = lacks.log ∙ ap₂ (λ v w. v ++ not_created name ∷ w) opens.log back ∙ append_assoc old.asked (map opened names) (not_created name ∷ unread names);
+          refused = told_so name asked lacks.fault lawful (inr (named, refl)) lacks.told;
+        })
+
+    -- The file that is named for the output has it, or can't be created.
+    pub into_ends : {name : Text} {input : Seen} {log : List FileEvent} → output_of rows ≡ Some name → first_refused command rows ≡ None
+        → DoesTaskInto name sources task old.input input mid log outcome ⊎ LacksOutput name sources old.input input mid log outcome
+        → EndsSo command rows old (record { input = input; output = old.output; asked = log }) outcome
+    into_ends named lawful (inl does) = to_file named does
+    into_ends named lawful (inr lacks) = output_left named lawful lacks
 
 -- Whether a list is empty, by its length.
 pub nothing_named : {X : Type 0} (names : List X) (n : ℕ) → (n == 0) ≡ true → n ≡ length names → names ≡ []
@@ -199,3 +306,58 @@ something_named names n not counted none =
     let zero : n ≡ 0 = counted ∙ ap length none in
     let same : (n == 0) ≡ true = rw zero refl in
     cc
+
+module _ {S : Type 0} (seen : S → Seen) (input input_after : Seen) where
+  -- Where there are no files, what holds of the given input holds of the sources.
+  pub from_input : (files later : List (NamedSource S)) (Holds : List Seen → List Seen → Type 0) → files ≡ [] → later ≡ files
+      → Holds (input ∷ []) (input_after ∷ []) → Holds (sources_from input (seen_of seen files)) (sources_from input_after (seen_of seen later))
+  from_input [] [] Holds none same h = h
+  from_input [] (source ∷ later) Holds none same h = let no : ⊥ = cc in absurd no
+  from_input (source ∷ files) later Holds none same h = let no : ⊥ = cc in absurd no
+
+  -- Where there are files, what holds of them holds of the sources.
+  pub from_files : (files later : List (NamedSource S)) (Holds : List Seen → List Seen → Type 0) → (files ≡ [] → ⊥) → names_of later ≡ names_of files
+      → Holds (seen_of seen files) (seen_of seen later) → Holds (sources_from input (seen_of seen files)) (sources_from input_after (seen_of seen later))
+  from_files [] later Holds some same h = absurd (some refl)
+  from_files (source ∷ files) [] Holds some same h = let no : ⊥ = cc in absurd no
+  from_files (source ∷ files) (other ∷ later) Holds some same h = h
+
+  -- The given input may be read where there are no files, and else it is as it was.
+  pub input_used : (files : List (NamedSource S)) → files ≡ [] → KeepsInput (seen_of seen files) input input_after
+  input_used [] none = tt
+  input_used (source ∷ files) none = let no : ⊥ = cc in absurd no
+
+  pub input_kept : (files : List (NamedSource S)) → input_after ≡ input → KeepsInput (seen_of seen files) input input_after
+  input_kept [] same = tt
+  input_kept (source ∷ files) same = same
+
+-- A task was done with a file that was created for it.
+pub done_into : {sources : List (NamedSource Seen)} {task : Task} {input input_after : Seen} {asked mid back asked_after : List FileEvent} {name told : Text}
+    {before after : Written} {outcome : Result (Unit {0}) ToolFault} → mid ≡ asked ++ created name ∷ [] → before.history ≡ no_history → told ≡ name
+    → DoesTask sources task (record { input = input; output = before; asked = mid }) (record { input = input_after; output = after; asked = back }) outcome
+    → asked_after ≡ back ++ wrote told after.history ∷ [] → DoesTaskInto name sources task input input_after asked asked_after outcome
+done_into {sources} {task} {input} {input_after} {asked} {mid} {back} {asked_after} {name} {told} {before} {after} {outcome} creates fresh same does gone =
+    let given = returned does.files in
+    let end = wrote name after.history ∷ [] in
+    record {
+      files = does.files;
+      are = does.are;
+      input_kept = does.input;
+      file = record { name = name; before = before; after = after };
+      is_created = record { named = refl; fresh = fresh };
+      log = gone ∙ ap (λ (v : Text). back ++ wrote v after.history ∷ []) same
+          ∙ ap (λ v. v ++ end) (does.log ∙ ap (λ v. v ++ given) creates ∙ append_assoc asked (created name ∷ []) given);
+      done = does.done;
+    }
+
+-- The file for the output could not be created.
+pub not_into : {sources : List (NamedSource Seen)} {input : Seen} {asked mid asked_after : List FileEvent} {name : Text} (fault : ToolFault)
+    → mid ≡ asked ++ not_created name ∷ [] → asked_after ≡ mid ++ given_back sources → TellsName name fault
+    → LacksOutput name sources input input asked asked_after (Err fault)
+not_into {sources} {input} {asked} {mid} {asked_after} {name} fault lacks back told = record {
+  fault = fault;
+  is = refl;
+  told = told;
+  unread = refl;
+  log = back ∙ ap (λ v. v ++ given_back sources) lacks ∙ append_assoc asked (not_created name ∷ []) (given_back sources);
+}

@@ -8,10 +8,9 @@ use Rattle.clap.specs.declared.error.Error.{Error}
 use Rattle.clap.specs.declared.error.kind.ErrorKind.{ErrorKind}
 use Rattle.clap.specs.declared.error.kind.ErrorKind.TheVariants.{DisplayHelp, DisplayVersion, OutOfMemory}
 use Rattle.kc_io.specs.Sinks.{Written, HasWritten, HasBegun}
-use Rattle.kc_io.specs.Sources.{Seen}
 use Rattle.kc_command.specs.Command.{kcount_app}
 use Rattle.kc_tool.specs.FaultLines.{fault_line}
-use Rattle.kc_tool.specs.Commands.{EndsSo, name_of}
+use Rattle.kc_tool.specs.Commands.{EndsSo, Surroundings, name_of}
 use Rattle.kc_tool.specs.declared.commands.Verb.{Verb}
 use Rattle.kc_tool.specs.declared.tool_faults.ToolFault.{ToolFault}
 use Rattle.kc_tool.specs.declared.tool_faults.ToolFault.TheVariants.{Memory, BadOption, Write}
@@ -48,25 +47,33 @@ pub record AreTaken (arguments : List Text) (matches : ArgMatches) : Type 0 wher
   pub entered : subcommand_rows_of matches ≡ Some (name_of command, options)
 
 -- the arguments ask for a command, and this is what comes of it
-abbrev pub DoesCommand : Seen → List Text → Written → Written → Result (Unit {0}) ToolFault → Type 0
-DoesCommand input arguments old new outcome = (command : Verb) × (options : List Row)
-    × AskFor arguments command options × EndsSo command options input old new outcome
+abbrev pub DoesCommand : List Text → Surroundings → Surroundings → Result (Unit {0}) ToolFault → Type 0
+DoesCommand arguments old new outcome = (command : Verb) × (options : List Row)
+    × AskFor arguments command options × EndsSo command options old new outcome
+
+-- something happens to the output alone: the input is as it was, and nothing was asked of files
+pub record ToOutputAlone (old new : Surroundings) (Happens : Written → Written → Type 0) : Type 0 where
+  pub unread : new.input ≡ old.input
+  pub unasked : new.asked ≡ old.asked
+  pub happens : Happens old.output new.output
 
 -- the help or the version was written
-abbrev pub ShowsHelp : List Text → Written → Written → Type 0
-ShowsHelp arguments old new = (text : List ℕ) × AskForHelp arguments × HasWritten old new text
+abbrev pub ShowsHelp : List Text → Surroundings → Surroundings → Type 0
+ShowsHelp arguments old new = (text : List ℕ) × AskForHelp arguments
+    × ToOutputAlone old new (λ before after. HasWritten before after text)
 
 -- the output failed while the help or the version was written
-abbrev pub FailsInHelp : List Text → Written → Written → ToolFault → Type 0
-FailsInHelp arguments old new fault = (text : List ℕ) × AskForHelp arguments × (fault ≡ Write) × HasBegun old new text
+abbrev pub FailsInHelp : List Text → Surroundings → Surroundings → ToolFault → Type 0
+FailsInHelp arguments old new fault = (text : List ℕ) × AskForHelp arguments × (fault ≡ Write)
+    × ToOutputAlone old new (λ before after. HasBegun before after text)
 
--- memory was refused before the arguments were understood, and nothing was written
-abbrev pub LacksMemory : Written → Written → ToolFault → Type 0
+-- memory was refused before the arguments were understood; nothing was read, written or asked of files
+abbrev pub LacksMemory : Surroundings → Surroundings → ToolFault → Type 0
 LacksMemory old new fault = (fault ≡ Memory) × (new ≡ old)
 
 -- a fault of the program: of a command, of the help, or of memory
-abbrev pub FailsSo : Seen → List Text → Written → Written → ToolFault → Type 0
-FailsSo input arguments old new fault = DoesCommand input arguments old new (Err fault)
+abbrev pub FailsSo : List Text → Surroundings → Surroundings → ToolFault → Type 0
+FailsSo arguments old new fault = DoesCommand arguments old new (Err fault)
     ⊎ FailsInHelp arguments old new fault ⊎ LacksMemory old new fault
 
 -- `clap` answers with help or with the version
@@ -83,34 +90,33 @@ ShowsSo error old new (Err (Fault fault)) = ⊥
 ShowsSo error old new (Err (Refused text)) = (new ≡ old) × (kind_of error ≢ OutOfMemory)
     × (kind_of error ≢ DisplayHelp) × (kind_of error ≢ DisplayVersion)
 
--- what is done with the arguments: the command or the help; or there was a fault; or they are refused
-abbrev pub CarriesOut : Seen → List Text → Written → Written → Result (Unit {0}) Ending → Type 0
-CarriesOut input arguments old new (Ok done) =
-    DoesCommand input arguments old new (Ok done) ⊎ ShowsHelp arguments old new
-CarriesOut input arguments old new (Err (Fault fault)) = FailsSo input arguments old new fault
-CarriesOut input arguments old new (Err (Refused text)) = AreRefused arguments × (new ≡ old)
+-- what is done with the arguments: the command or the help; or there was a fault; or they are refused, and nothing was
+-- read, written or asked of files
+abbrev pub CarriesOut : List Text → Surroundings → Surroundings → Result (Unit {0}) Ending → Type 0
+CarriesOut arguments old new (Ok done) = DoesCommand arguments old new (Ok done) ⊎ ShowsHelp arguments old new
+CarriesOut arguments old new (Err (Fault fault)) = FailsSo arguments old new fault
+CarriesOut arguments old new (Err (Refused text)) = AreRefused arguments × (new ≡ old)
 
 -- the text was written, or a beginning of it before the sink failed
 abbrev pub IsTold : Written → Written → List ℕ → Type 0
 IsTold old new text = HasWritten old new text ⊎ HasBegun old new text
 
 -- status 0: the command or the help was carried out, and nothing was written to the errors
-pub record EndsWell (input : Seen) (arguments : List Text) (output output_after errors errors_after : Written)
-    : Type 0 where
-  pub done : DoesCommand input arguments output output_after (Ok tt) ⊎ ShowsHelp arguments output output_after
+pub record EndsWell (arguments : List Text) (old new : Surroundings) (errors errors_after : Written) : Type 0 where
+  pub done : DoesCommand arguments old new (Ok tt) ⊎ ShowsHelp arguments old new
   pub silent : errors_after ≡ errors
 
 -- a fault with this status, whose line went to the errors
-pub record EndsInFault (input : Seen) (arguments : List Text) (output output_after errors errors_after : Written)
-    (status : ℕ) : Type 0 where
+pub record EndsInFault (arguments : List Text) (old new : Surroundings) (errors errors_after : Written) (status : ℕ)
+    : Type 0 where
   pub fault : ToolFault
   pub exit : status ≡ status_of fault
-  pub failed : FailsSo input arguments output output_after fault
+  pub failed : FailsSo arguments old new fault
   pub told : IsTold errors errors_after (fault_line fault)
 
--- arguments that are no command line: the output stays, and a text went to the errors
-pub record EndsRefused (arguments : List Text) (output output_after errors errors_after : Written) : Type 0 where
+-- arguments that are no command line: nothing was read, written or asked of files, and a text went to the errors
+pub record EndsRefused (arguments : List Text) (old new : Surroundings) (errors errors_after : Written) : Type 0 where
   pub refused : AreRefused arguments
-  pub unwritten : output_after ≡ output
+  pub kept : new ≡ old
   pub text : List ℕ
   pub told : IsTold errors errors_after text

@@ -1,6 +1,6 @@
 -- What a command comes to: its task, its sources, and what is written.
 -- Source: the README ("The commands") and our formats page.
-use Rattle.std.specs.Prelude.{◌≡◌, ◌⊎◌, ◌^◌, ℕ, List, [], ◌∷◌, Option, Some, None, All, Contains, map, length, take}
+use Rattle.std.specs.Prelude.{◌≡◌, ◌⊎◌, ◌^◌, ℕ, List, [], ◌∷◌, ◌++◌, Option, Some, None, All, map, length, take}
 use Rattle.std.specs.Prelude.{Result, Ok, Err, if◌then◌else◌, codes, string_bytes, ⊤}
 use Rattle.std.specs.Str.{bytes_eq}
 use Rattle.clap.specs.Words.{Row, Text}
@@ -14,7 +14,11 @@ use Rattle.kc_command.specs.Arguments.{AsksFor, AsksForDump, first_bad, first_ba
 use Rattle.kc_command.specs.declared.option_name.OptionName.{OptionName}
 use Rattle.kc_command.specs.declared.settings.Print.TheVariants as print
 use Rattle.kc_tool.specs.Faults.{report_fault}
-use Rattle.kc_tool.specs.Files.{AreSources, HappensTo, files_named, output_of, words_asked}
+use Rattle.kc_tool.specs.FileEvents.{FileEvent, created, not_created, wrote}
+use Rattle.kc_tool.specs.Files.{AreOf, AreOpened, FileRead, FileWritten, IsCreated, LacksFile, TellsName}
+use Rattle.kc_tool.specs.Files.{files_named, given_back, log_with_output, log_without_output, output_of, returned}
+use Rattle.kc_tool.specs.Files.{words_asked}
+use Rattle.kc_tool.specs.declared.named_sources.NamedSource.{NamedSource}
 use Rattle.kc_tool.specs.Reports.{IsWritable, report_of, report_text}
 use Rattle.kc_tool.specs.Tallies.{RefusesSources, TalliesSources}
 use Rattle.kc_tool.specs.declared.tool_faults.ToolFault.{ToolFault}
@@ -28,28 +32,27 @@ use Rattle.kc_tool.specs.declared.commands.Verb.TheVariants as verb
 abbrev pub most_table_bytes : ℕ
 most_table_bytes = 2 ^ 42
 
--- the source gave the table text of this tally, up to the end that it told
-abbrev pub TellsTable : Seen → TallySeen → Type 0
-TellsTable source tally = (later : Seen) × GivesTable source later most_table_bytes tally
+-- the one source of a task gave the table text of this tally in this call, up to the end that it told. Of each source
+-- the first list has what is seen before the call, the second what is seen after it
+abbrev pub TellOneTable : List Seen → List Seen → TallySeen → Type 0
+TellOneTable (old ∷ []) (new ∷ []) tally = GivesTable old new most_table_bytes tally
+TellOneTable old new tally = ⊥
 
--- the source gave no table, for this reason
-abbrev pub TellsNoTable : Seen → ToolFault → Type 0
-TellsNoTable source fault = (later : Seen) × (why : ReportFault)
-    × RefusesTable source later most_table_bytes why × (fault ≡ report_fault why)
-
--- the same of the one source of a task
-abbrev pub TellOneTable : List Seen → TallySeen → Type 0
-TellOneTable (source ∷ []) tally = TellsTable source tally
-TellOneTable sources tally = ⊥
-
-abbrev pub TellNoTable : List Seen → ToolFault → Type 0
-TellNoTable (source ∷ []) fault = TellsNoTable source fault
-TellNoTable sources fault = ⊥
+-- it gave no table, for this reason
+abbrev pub TellNoTable : List Seen → List Seen → ToolFault → Type 0
+TellNoTable (old ∷ []) (new ∷ []) fault =
+    (why : ReportFault) × RefusesTable old new most_table_bytes why × (fault ≡ report_fault why)
+TellNoTable old new fault = ⊥
 
 -- the sources of a command: the files that were opened, or the given input where there are none
 abbrev pub sources_from : Seen → List Seen → List Seen
 sources_from input [] = input ∷ []
 sources_from input (file ∷ files) = file ∷ files
+
+-- where there are files, the given input is as it was
+abbrev pub KeepsInput : List Seen → Seen → Seen → Type 0
+KeepsInput [] old new = ⊤
+KeepsInput (file ∷ files) old new = new ≡ old
 
 -- a histogram, where that is the report, can be written
 abbrev pub HasWritableReport : Task → Type 0
@@ -62,17 +65,17 @@ HasSourcesFor (Count settings) sources = ⊤
 HasSourcesFor (Report report) sources = length sources ≡ 1
 HasSourcesFor (Query words) sources = length sources ≡ 1
 
--- the tally that a task is about: that of the reads of its sources, or that of the table that its source tells
-abbrev pub IsTallyFor : List Seen → Task → TallySeen → Type 0
-IsTallyFor sources (Count settings) tally = TalliesSources (λ source. source) sources settings tally
-IsTallyFor sources (Report report) tally = TellOneTable sources tally
-IsTallyFor sources (Query words) tally = TellOneTable sources tally
+-- the tally that a task is about: that of the reads that its sources gave, or that of the table that its source told
+abbrev pub IsTallyFor : List Seen → List Seen → Task → TallySeen → Type 0
+IsTallyFor old new (Count settings) tally = TalliesSources old new settings tally
+IsTallyFor old new (Report report) tally = TellOneTable old new tally
+IsTallyFor old new (Query words) tally = TellOneTable old new tally
 
 -- why its sources have no tally for a task; of want of memory outside the readers of reads nothing is said
-abbrev pub HasNoTallyFor : List Seen → Task → ToolFault → Type 0
-HasNoTallyFor sources (Count settings) fault = RefusesSources (λ source. source) sources fault
-HasNoTallyFor sources (Report report) fault = TellNoTable sources fault
-HasNoTallyFor sources (Query words) fault = TellNoTable sources fault
+abbrev pub HasNoTallyFor : List Seen → List Seen → Task → ToolFault → Type 0
+HasNoTallyFor old new (Count settings) fault = RefusesSources old new fault
+HasNoTallyFor old new (Report report) fault = TellNoTable old new fault
+HasNoTallyFor old new (Query words) fault = TellNoTable old new fault
 
 -- the text is what a task writes about a tally
 abbrev pub IsAnswer : Task → TallySeen → List ℕ → Type 0
@@ -94,20 +97,36 @@ Answers task tally old new (Ok done) = (text : List ℕ) × IsAnswer task tally 
 Answers task tally old new (Err Write) = (text : List ℕ) × IsAnswer task tally text × HasBegun old new text
 Answers task tally old new (Err fault) = (new ≡ old) × HasNoAnswer task tally fault
 
--- the text is what the task writes, from these sources
-abbrev pub IsTextFor : List Seen → Task → List ℕ → Type 0
-IsTextFor sources task text = (tally : TallySeen) × IsTallyFor sources task tally × IsAnswer task tally text
+-- the sources of a task, before it and after it, and where it writes
+pub record Stage : Type 0 where
+  pub sources : List Seen
+  pub output : Written
+
+-- with these files, or with the given input where there are none
+abbrev pub stage_before : Seen → List FileRead → Written → Stage
+stage_before input files output =
+    record { sources = sources_from input (map (λ file. file.before) files); output = output }
+
+abbrev pub stage_after : Seen → List FileRead → Written → Stage
+stage_after input files output =
+    record { sources = sources_from input (map (λ file. file.after) files); output = output }
+
+-- the text is what the task writes, from what its sources gave
+abbrev pub IsTextFor : List Seen → List Seen → Task → List ℕ → Type 0
+IsTextFor old new task text = (tally : TallySeen) × IsTallyFor old new task tally × IsAnswer task tally text
 
 -- why the task writes nothing, with these sources: they have no tally, or it has no answer about their tally
-abbrev pub HasFaultFor : List Seen → Task → ToolFault → Type 0
-HasFaultFor sources task fault = HasNoTallyFor sources task fault
-    ⊎ ((tally : TallySeen) × IsTallyFor sources task tally × HasNoAnswer task tally fault)
+abbrev pub HasFaultFor : List Seen → List Seen → Task → ToolFault → Type 0
+HasFaultFor old new task fault = HasNoTallyFor old new task fault
+    ⊎ ((tally : TallySeen) × IsTallyFor old new task tally × HasNoAnswer task tally fault)
 
 -- what a task does: its text was written; or a beginning of it, where writing failed; or nothing
-abbrev pub Does : List Seen → Task → Written → Written → Result (Unit {0}) ToolFault → Type 0
-Does sources task old new (Ok done) = (text : List ℕ) × IsTextFor sources task text × HasWritten old new text
-Does sources task old new (Err Write) = (text : List ℕ) × IsTextFor sources task text × HasBegun old new text
-Does sources task old new (Err fault) = (new ≡ old) × HasFaultFor sources task fault
+abbrev pub Does : Task → Stage → Stage → Result (Unit {0}) ToolFault → Type 0
+Does task old new (Ok done) =
+    (text : List ℕ) × IsTextFor old.sources new.sources task text × HasWritten old.output new.output text
+Does task old new (Err Write) =
+    (text : List ℕ) × IsTextFor old.sources new.sources task text × HasBegun old.output new.output text
+Does task old new (Err fault) = (new.output ≡ old.output) × HasFaultFor old.sources new.sources task fault
 
 -- the name of a command
 abbrev pub name_of : Verb → Text
@@ -147,33 +166,89 @@ abbrev pub files_of : Verb → List Row → List Text
 files_of verb.Count rows = files_named rows
 files_of verb rows = take 1 (files_named rows)
 
--- a command comes to its task, with its sources, and this is the outcome
-pub record ComesToTask (command : Verb) (rows : List Row) (input : Seen) (old new : Written)
+-- what a command has: the given input, the given output, and what was asked of the files so far
+pub record Surroundings : Type 0 where
+  pub input : Seen
+  pub output : Written
+  pub asked : List FileEvent
+
+-- a task is done with sources that were opened, and they are given back
+pub record DoesTask (sources : List (NamedSource Seen)) (task : Task) (old new : Surroundings)
     (outcome : Result (Unit {0}) ToolFault) : Type 0 where
-  pub task : Task
-  pub asked : AsksForTask command rows task
-  pub sources : List Seen
-  pub are_sources : AreSources input (files_of command rows) sources
-  pub done : HappensTo (output_of rows) old new (λ before after. Does sources task before after outcome)
+  pub files : List FileRead
+  pub are : AreOf sources files
+  pub input : KeepsInput (map (λ file. file.before) files) old.input new.input
+  pub log : new.asked ≡ old.asked ++ returned files
+  pub done : Does task (stage_before old.input files old.output) (stage_after new.input files new.output) outcome
 
--- why a command does not come to its task: an option is refused, or a file can't be opened or created; of want of
--- memory nothing is said
-abbrev pub IsRefused : Verb → List Row → ToolFault → Type 0
-IsRefused command rows (BadOption name) = first_refused command rows ≡ Some name
-IsRefused command rows (OpenFailed name) =
-    Contains (files_of command rows) (string_bytes name) ⊎ (output_of rows ≡ Some (string_bytes name))
-IsRefused command rows Memory = ⊤
-IsRefused command rows fault = ⊥
+-- the same, and it writes to a file of this name, which is created before and given back too
+pub record DoesTaskInto (name : Text) (sources : List (NamedSource Seen)) (task : Task) (input input_after : Seen)
+    (asked asked_after : List FileEvent) (outcome : Result (Unit {0}) ToolFault) : Type 0 where
+  pub files : List FileRead
+  pub are : AreOf sources files
+  pub input_kept : KeepsInput (map (λ file. file.before) files) input input_after
+  pub file : FileWritten
+  pub is_created : IsCreated name file
+  pub log : asked_after ≡ asked ++ created name ∷ returned files ++ wrote name file.after.history ∷ []
+  pub done : Does task (stage_before input files file.before) (stage_after input_after files file.after) outcome
 
--- a command does not come to its task, and nothing was written
-pub record IsLeft (command : Verb) (rows : List Row) (old new : Written) (outcome : Result (Unit {0}) ToolFault)
-    : Type 0 where
+-- the file of this name can't be created, which is told, and the sources are given back as they were
+pub record LacksOutput (name : Text) (sources : List (NamedSource Seen)) (input input_after : Seen)
+    (asked asked_after : List FileEvent) (outcome : Result (Unit {0}) ToolFault) : Type 0 where
   pub fault : ToolFault
   pub is : outcome ≡ Err fault
-  pub unwritten : new ≡ old
-  pub refused : IsRefused command rows fault
+  pub told : TellsName name fault
+  pub unread : input_after ≡ input
+  pub log : asked_after ≡ asked ++ not_created name ∷ given_back sources
+
+-- a task is done with these files, which were opened for it, or with the given input where there are none. It writes to
+-- the given output; or, where a file is named for the output, to that file, which was created behind the opening, and
+-- the given output is as it was. That is all that is asked of files
+abbrev pub DoesWith : Option Text → Surroundings → Surroundings → List FileRead → (Stage → Stage → Type 0) → Type 0
+DoesWith None old new files DoesTask = (new.asked ≡ old.asked ++ log_without_output files)
+    × DoesTask (stage_before old.input files old.output) (stage_after new.input files new.output)
+DoesWith (Some name) old new files DoesTask = (new.output ≡ old.output)
+    × (file : FileWritten) × IsCreated name file × (new.asked ≡ old.asked ++ log_with_output files file)
+    × DoesTask (stage_before old.input files file.before) (stage_after new.input files file.after)
+
+-- a command comes to its task, with its files, and this is the outcome
+pub record ComesToTask (command : Verb) (rows : List Row) (old new : Surroundings)
+    (outcome : Result (Unit {0}) ToolFault) : Type 0 where
+  pub task : Task
+  pub asks : AsksForTask command rows task
+  pub files : List FileRead
+  pub opened : AreOpened (files_of command rows) files
+  pub input : KeepsInput (map (λ file. file.before) files) old.input new.input
+  pub done : DoesWith (output_of rows) old new files (λ before after. Does task before after outcome)
+
+-- an option is refused, or there was no memory for what the options say
+abbrev pub IsRefusedOption : Verb → List Row → ToolFault → Type 0
+IsRefusedOption command rows (BadOption name) = first_refused command rows ≡ Some name
+IsRefusedOption command rows Memory = ⊤
+IsRefusedOption command rows fault = ⊥
+
+-- why a command does not come to its task, and what it asked of files: an option is refused, before all; or a file can't
+-- be opened or created; or there was no memory, which may show in any of these places
+abbrev pub IsRefused : Verb → List Row → List FileEvent → ToolFault → Type 0
+IsRefused command rows asked (BadOption name) = (first_refused command rows ≡ Some name) × (asked ≡ [])
+IsRefused command rows asked (OpenFailed name) = (first_refused command rows ≡ None)
+    × LacksFile (files_of command rows) (output_of rows) (string_bytes name) asked
+IsRefused command rows asked Memory =
+    (asked ≡ []) ⊎ ((name : Text) × LacksFile (files_of command rows) (output_of rows) name asked)
+IsRefused command rows asked fault = ⊥
+
+-- a command does not come to its task: nothing was read, and nothing written
+pub record IsLeft (command : Verb) (rows : List Row) (old new : Surroundings)
+    (outcome : Result (Unit {0}) ToolFault) : Type 0 where
+  pub fault : ToolFault
+  pub is : outcome ≡ Err fault
+  pub unread : new.input ≡ old.input
+  pub unwritten : new.output ≡ old.output
+  pub asked : List FileEvent
+  pub log : new.asked ≡ old.asked ++ asked
+  pub refused : IsRefused command rows asked fault
 
 -- what a command does
-abbrev pub EndsSo : Verb → List Row → Seen → Written → Written → Result (Unit {0}) ToolFault → Type 0
-EndsSo command rows input old new outcome =
-    ComesToTask command rows input old new outcome ⊎ IsLeft command rows old new outcome
+abbrev pub EndsSo : Verb → List Row → Surroundings → Surroundings → Result (Unit {0}) ToolFault → Type 0
+EndsSo command rows old new outcome =
+    ComesToTask command rows old new outcome ⊎ IsLeft command rows old new outcome

@@ -2,7 +2,9 @@ pub mod CommandLine
 pub mod Commands
 pub mod FaultLines
 pub mod Faults
+pub mod FileEvents
 pub mod Files
+pub mod NamedSources
 pub mod Process
 pub mod Progress
 pub mod Reports

@@ -1,5 +1,5 @@
 -- How the program ends as a process runs it: source, the README ("The exit status").
-use Rattle.std.specs.Prelude.{◌≡◌, ◌≢◌, ◌≤◌, ◌⊎◌, ℕ, List, codes, Option}
+use Rattle.std.specs.Prelude.{◌≡◌, ◌≢◌, ◌≤◌, ◌⊎◌, ℕ, List, [], codes, Option}
 use Rattle.std.specs.IoError.{error_kind}
 use Rattle.std.specs.declared.io.Error.{Error}
 use Rattle.std.specs.declared.io.ErrorKind.TheVariants.{InvalidData}
@@ -8,16 +8,17 @@ use Rattle.kc_io.specs.History.{no_history}
 use Rattle.kc_io.specs.Sinks.{Written}
 use Rattle.kc_io.specs.Sources.{Seen}
 use Rattle.kc_tool.specs.CommandLine.{EndsInFault, EndsRefused, EndsWell, IsTold}
+use Rattle.kc_tool.specs.Commands.{Surroundings}
 use Rattle.kc_tool.specs.FaultLines.{fault_line}
 use Rattle.kc_tool.specs.declared.tool_faults.ToolFault.TheVariants.{Memory}
 
 -- how the program ends, by its status
-pub record Ends (input : Seen) (arguments : List Text) (output output_after errors errors_after : Written) (status : ℕ)
+pub record Ends (arguments : List Text) (old new : Surroundings) (errors errors_after : Written) (status : ℕ)
     : Type 0 where
-  pub done : status ≡ 0 → EndsWell input arguments output output_after errors errors_after
-  pub fault : status ≡ 1 → EndsInFault input arguments output output_after errors errors_after 1
-  pub refused : status ≡ 2 → EndsInFault input arguments output output_after errors errors_after 2
-      ⊎ EndsRefused arguments output output_after errors errors_after
+  pub done : status ≡ 0 → EndsWell arguments old new errors errors_after
+  pub fault : status ≡ 1 → EndsInFault arguments old new errors errors_after 1
+  pub refused : status ≡ 2 → EndsInFault arguments old new errors errors_after 2
+      ⊎ EndsRefused arguments old new errors errors_after
   pub within : status ≤ 2
 
 -- what is told of arguments that std can't give, and the status: one of them is no text, or there was no memory
@@ -27,9 +28,10 @@ TellsUnread error errors errors_after status =
     × IsTold errors errors_after (codes "kcount: an argument is not UTF-8\n"))
     ⊎ ((error_kind error ≢ InvalidData) × (status ≡ 1) × IsTold errors errors_after (fault_line Memory))
 
--- the same, and the output stays
-pub record EndsUnread (error : Error) (output output_after errors errors_after : Written) (status : ℕ) : Type 0 where
-  pub unwritten : output_after ≡ output
+-- the same, and nothing was read, written or asked of files
+pub record EndsUnread (error : Error) (old new : Surroundings) (errors errors_after : Written) (status : ℕ)
+    : Type 0 where
+  pub kept : new ≡ old
   pub told : TellsUnread error errors errors_after status
 
 -- a stream from which nothing was taken yet, and one to which nothing was written
@@ -39,13 +41,17 @@ untouched left = record { left = left; history = no_history }
 abbrev pub unwritten : Option (List ℕ) → Written
 unwritten bytes = record { bytes = bytes; history = no_history }
 
--- there are later states of the output and of the errors in which the program ends so
-pub record EndsOver (input : Seen) (arguments : List Text) (output errors : Written) (status : ℕ) : Type 0 where
-  pub output_after : Written
-  pub errors_after : Written
-  pub ends : Ends input arguments output output_after errors errors_after status
+-- both, where nothing was asked of files yet
+abbrev pub at_first : Option (List ℕ) → Option (List ℕ) → Surroundings
+at_first left bytes = record { input = untouched left; output = unwritten bytes; asked = [] }
 
-pub record EndsUnreadOver (error : Error) (output errors : Written) (status : ℕ) : Type 0 where
-  pub output_after : Written
+-- there are later states of the streams, and a log of what was asked of files, in which the program ends so
+pub record EndsOver (arguments : List Text) (old : Surroundings) (errors : Written) (status : ℕ) : Type 0 where
+  pub new : Surroundings
   pub errors_after : Written
-  pub ends : EndsUnread error output output_after errors errors_after status
+  pub ends : Ends arguments old new errors errors_after status
+
+pub record EndsUnreadOver (error : Error) (old : Surroundings) (errors : Written) (status : ℕ) : Type 0 where
+  pub new : Surroundings
+  pub errors_after : Written
+  pub ends : EndsUnread error old new errors errors_after status

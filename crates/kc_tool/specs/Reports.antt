@@ -43,25 +43,26 @@ WritesText text old new (Err Write) = HasBegun old new text
 WritesText text old new (Err Memory) = new ≡ old
 WritesText text old new (Err fault) = ⊥
 
--- the text is the report that is set, of the tally of all reads of the sources
-pub record IsReportOf {S : Type 0} (seen : S → Seen) (sources : List S) (settings : Settings) (text : List ℕ)
-    : Type 0 where
+-- the text is the report that is set, of the tally of all reads that the sources gave, up to later states of theirs
+pub record IsReportOf (sources : List Seen) (settings : Settings) (text : List ℕ) : Type 0 where
+  pub later : List Seen
   pub reads : List Read
-  pub are_reads : ReadsSources seen sources reads
+  pub are_reads : ReadsSources sources later reads
   pub tally : TallySeen
   pub is_tally : IsTallyOf (rule_of settings) reads tally
   pub is_text : text ≡ report_text (report_of settings) tally
 
 -- that text was written, and nothing else
-abbrev pub WritesReport : {S : Type 0} → (S → Seen) → List S → Settings → Written → Written → Type 0
-WritesReport seen sources settings old new =
-    (text : List ℕ) × IsReportOf seen sources settings text × HasWritten old new text
+abbrev pub WritesReport : List Seen → Settings → Written → Written → Type 0
+WritesReport sources settings old new =
+    (text : List ℕ) × IsReportOf sources settings text × HasWritten old new text
 
 -- the writer failed, and a beginning of that text was written
-abbrev pub BeginsReport : {S : Type 0} → (S → Seen) → List S → Settings → Written → Written → Type 0
-BeginsReport seen sources settings old new =
-    (text : List ℕ) × IsReportOf seen sources settings text × HasBegun old new text
+abbrev pub BeginsReport : List Seen → Settings → Written → Written → Type 0
+BeginsReport sources settings old new =
+    (text : List ℕ) × IsReportOf sources settings text × HasBegun old new text
 
--- nothing was written, and the sources have no reads for this reason
-abbrev pub LeavesUnwritten : {S : Type 0} → (S → Seen) → List S → Written → Written → ToolFault → Type 0
-LeavesUnwritten seen sources old new fault = (new ≡ old) × RefusesSources seen sources fault
+-- nothing was written, and the sources were not counted for this reason, which later states of theirs show
+abbrev pub LeavesUnwritten : List Seen → Written → Written → ToolFault → Type 0
+LeavesUnwritten sources old new fault =
+    (new ≡ old) × ((later : List Seen) × RefusesSources sources later fault)

@@ -1,23 +1,22 @@
 //! The command line: what its arguments ask for is carried out, over streams that the caller keeps.
-ghost use Rattle.std.specs.Prelude.{◌≡◌, ◌≤◌, ◌⊎◌, IfErr, IfOk, map, string_bytes};
+ghost use Rattle.std.specs.Prelude.{◌≡◌, IfErr, IfOk, map, string_bytes};
 ghost use Rattle.clap.specs.Faults.{fault_of};
 ghost use Rattle.clap.specs.Kinds.{HasKind};
 ghost use Rattle.kc_command.specs.Command.{kcount_app};
 ghost use Rattle.kc_tool.specs.CommandLine.{
   AreTaken,
   CarriesOut,
-  EndsInFault,
-  EndsRefused,
-  EndsWell,
   ShowsSo,
   status_of,
 };
+ghost use Rattle.kc_tool.specs.Process.{Ends};
 ghost use Rattle.kc_tool.specs.declared.tool_faults.ToolFault.TheVariants.{Memory, Write};
 ghost use Rattle.kc_tool.specs.declared.command_line.Ending.TheVariants.{Fault};
 
 use crate::commands::{run_command, verb_named};
 use crate::count_progress::Progress;
 use crate::fault_lines::write_fault;
+use crate::files::NamedFiles;
 use crate::tool_faults::ToolFault;
 use clap::ArgMatches;
 use clap::error::ErrorKind;
@@ -36,40 +35,30 @@ pub(crate) const FAULT: u8 = 1;
 pub(crate) const REFUSED: u8 = 2;
 
 /// Carries out the command line `arguments`, which begins with the program's name, and answers the exit status. Files
-/// are opened and created by `rt`, and how far a count has come is told to `progress`: the end before the report or the
-/// line of a fault is written.
+/// are opened and created by their names, and how far a count has come is told to `progress`: the end before the report
+/// or the line of a fault is written.
 ///
 /// Status 0: the output, or the file that the arguments name for it, has what the arguments ask for: a report, the
 /// answer to a query, help or the version. Status 1: the line of a fault went to the errors, and the output is as it
 /// was, or has a beginning of the answer where writing failed. Status 2: the output is as it was, and why the arguments
-/// are refused went to the errors.
-pub fn run<
-    H: Files + Threads + Wait + Sync,
-    R: Source + Drop,
-    W: Sink,
-    E: Sink,
-    P: Progress + Sync,
->(
+/// are refused went to the errors. The input is read where a command reads no file, and else it is as it was; and
+/// nothing is asked of files but what the command asks for.
+pub fn run<H: Threads + Wait + Sync, S: Files, R: Source, W: Sink, E: Sink, P: Progress + Sync>(
     rt: &H,
     alloc: Global,
     arguments: &[String],
-    input: R,
+    files: &mut NamedFiles<'_, S>,
+    input: &mut R,
     output: &mut W,
     errors: &mut E,
     progress: &P,
 ) -> u8
-    ensures done { result ≡ 0 → EndsWell (R.seen input) (map string_bytes arguments.now)
-        (W.seen output.old) (W.seen output.new) (E.seen errors.old) (E.seen errors.new) }
-    ensures fault { result ≡ 1 → EndsInFault (R.seen input) (map string_bytes arguments.now)
-        (W.seen output.old) (W.seen output.new) (E.seen errors.old) (E.seen errors.new) 1 }
-    ensures refused { result ≡ 2 →
-        EndsInFault (R.seen input) (map string_bytes arguments.now)
-        (W.seen output.old) (W.seen output.new) (E.seen errors.old) (E.seen errors.new) 2
-        ⊎ EndsRefused (map string_bytes arguments.now)
-        (W.seen output.old) (W.seen output.new) (E.seen errors.old) (E.seen errors.new) }
-    ensures status { result ≤ 2 }
+    ensures { Ends (map string_bytes arguments.now)
+        (record { input = R.seen input.old; output = W.seen output.old; asked = files.old })
+        (record { input = R.seen input.new; output = W.seen output.new; asked = files.new })
+        (E.seen errors.old) (E.seen errors.new) result }
 {
-    match run_arguments(rt, alloc, arguments, input, output, progress) {
+    match run_arguments(rt, alloc, arguments, files, input, output, progress) {
         Ok(()) => DONE,
         Err(Ending::Fault(fault)) => {
             let _ = write_fault(errors, &fault);
@@ -126,16 +115,19 @@ fn status_of(fault: &ToolFault) -> u8
 }
 
 // Reads the command line and runs the command that it names, or shows the help or the version that it asks for.
-fn run_arguments<H: Files + Threads + Wait + Sync, R: Source + Drop, W: Sink, P: Progress + Sync>(
+fn run_arguments<H: Threads + Wait + Sync, S: Files, R: Source, W: Sink, P: Progress + Sync>(
     rt: &H,
     alloc: Global,
     arguments: &[String],
-    input: R,
+    files: &mut NamedFiles<'_, S>,
+    input: &mut R,
     output: &mut W,
     progress: &P,
 ) -> Result<(), Ending>
-    ensures { CarriesOut (R.seen input) (map string_bytes arguments.now)
-        (W.seen output.old) (W.seen output.new) result }
+    ensures { CarriesOut (map string_bytes arguments.now)
+        (record { input = R.seen input.old; output = W.seen output.old; asked = files.old })
+        (record { input = R.seen input.new; output = W.seen output.new; asked = files.new })
+        result }
 {
     let matches = match parsed(alloc, arguments) {
         Ok(matches) => matches,
@@ -148,7 +140,7 @@ fn run_arguments<H: Files + Threads + Wait + Sync, R: Source + Drop, W: Sink, P:
     let Some(verb) = verb_named(name) else {
         unreachable!()
     };
-    Ok(run_command(rt, alloc, verb, matches, input, output, progress)?)
+    Ok(run_command(rt, alloc, verb, matches, files, input, output, progress)?)
 }
 
 // What `clap` makes of the command line.

@@ -3,7 +3,6 @@
 ghost use Rattle.std.specs.Prelude.{◌≡◌, ◌≤◌, ◌+◌, ◌++◌, length};
 ghost use Rattle.kc_tool.specs.Progress.{batches_text, progress_text};
 
-use kc_io::{Failed, Source};
 use kc_report::Block;
 use kc_run::Gate;
 use std::io::{IsTerminal, Print};
@@ -42,29 +41,6 @@ impl Progress for NoProgress {
     fn batch_counted(&self) {}
 
     fn ends(&self) {}
-}
-
-/// A source that tells how many bytes each read gave. It gives what the source inside gives.
-#[derive(Drop)]
-pub(crate) struct ToldSource<'a, R: Source, P: Progress> {
-    /// The source inside.
-    pub source: R,
-    /// What is told.
-    pub progress: &'a P,
-}
-
-impl<R: Source, P: Progress> Source for ToldSource<'_, R, P> {
-    ghost seen = { λ told. R.seen told.source };
-
-    fn read(&mut self, buffer: &mut [u8]) -> Result<usize, Failed> {
-        match self.source.read(buffer) {
-            Ok(count) => {
-                self.progress.bytes_read(count as u64);
-                Ok(count)
-            }
-            Err(failed) => Err(failed),
-        }
-    }
 }
 
 /// The gate that tells of each batch, before it is booked and after.

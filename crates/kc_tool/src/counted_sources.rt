@@ -1,12 +1,24 @@
 //! The tally of the reads of all sources: they are read, cleaned and cut into batches, and the words of the batches are
 //! counted by as many threads as are asked for.
-ghost use Rattle.std.specs.Prelude.{◌≡◌, ◌≤◌, IfOk, IfErr};
+ghost use Rattle.std.specs.Prelude.{◌≡◌, ◌≤◌, List, [], ◌∷◌, IfOk, IfErr};
 ghost use Rattle.kc_fastx.specs.Parsing.{most_bytes};
 ghost use Rattle.kc_booking.specs.Setup.{stripe_count};
-ghost use Rattle.kc_tool.specs.Tallies.{CutsSources, RefusesSources, CutsPieces, RefusesSource, TalliesSources};
+ghost use Rattle.kc_tool.specs.NamedSources.{names_of, seen_of};
+ghost use Rattle.kc_fastx.specs.Reads.{Read};
+ghost use Rattle.kc_tally.specs.Tally.{IsTallyOf};
+ghost use Rattle.kc_tool.specs.Tallies.{
+  CutsPieces,
+  CutsSources,
+  IsCuttingOf,
+  IsUncounted,
+  RefusesSource,
+  RefusesSources,
+  TalliesSources,
+};
 ghost use Rattle.kc_command.specs.Settings.{rule_of};
 
-use crate::count_progress::{Progress, ToldGate, ToldSource};
+use crate::count_progress::{Progress, ToldGate};
+use crate::named_sources::NamedSource;
 use crate::tool_faults::ToolFault;
 use kc_command::Options;
 use kc_fastx::{FastxFault, Reading, Source};
@@ -27,22 +39,61 @@ pub const MOST_BYTES: u64 = 1 << 36;
 const SEED: u64 = 1;
 
 /// The tally of the reads of all sources, in order, counted as the options say. How many bytes each read gave is told,
-/// how many batches there are, and each that was booked.
+/// how many batches there are, and each that was booked. The sources keep their names.
 ///
 /// # Errors
-/// `Fastx` with the fault of the first source that has one, and its number from 1. `Run` where a thread, a place in a
-/// table or memory for them was refused. `Memory` where a growth was refused elsewhere.
-pub(crate) fn count_sources<H: Threads + Wait + Sync, R: Source + Drop, P: Progress + Sync>(
+/// `Fastx` with the fault of the first source that has one, and its number from 1; the sources behind it are as they
+/// were. `Run` where a thread, a place in a table or memory for them was refused. `Memory` where a growth was refused
+/// elsewhere.
+pub(crate) fn count_sources<H: Threads + Wait + Sync, R: Source, P: Progress + Sync>(
     rt: &H,
     alloc: Global,
-    sources: Vec<R>,
+    sources: &mut [NamedSource<'_, R>],
     options: &Options,
     progress: &P,
 ) -> Result<Tally, ToolFault>
-    ensures tally { IfOk result (TalliesSources R.seen sources.items options.now) }
-    ensures fault { IfErr result (RefusesSources R.seen sources.items) }
+    ensures tally { IfOk result
+        (TalliesSources (seen_of R.seen sources.old) (seen_of R.seen sources.new) options.now) }
+    ensures fault { IfErr result (RefusesSources (seen_of R.seen sources.old) (seen_of R.seen sources.new)) }
+    ensures names { names_of sources.new ≡ names_of sources.old }
 {
     let cutting = cut_sources(alloc, sources, options, progress)?;
+    count_cutting(rt, alloc, cutting, options, progress)
+}
+
+/// The tally of the reads of one source, the input. The rest is as with a list of sources.
+///
+/// # Errors
+/// As with a list of this source alone.
+pub(crate) fn count_input<H: Threads + Wait + Sync, R: Source, P: Progress + Sync>(
+    rt: &H,
+    alloc: Global,
+    input: &mut R,
+    options: &Options,
+    progress: &P,
+) -> Result<Tally, ToolFault>
+    ensures tally { IfOk result
+        (TalliesSources (R.seen input.old ∷ []) (R.seen input.new ∷ []) options.now) }
+    ensures fault { IfErr result (RefusesSources (R.seen input.old ∷ []) (R.seen input.new ∷ [])) }
+{
+    let cutting = cut_input(alloc, input, options, progress)?;
+    count_cutting(rt, alloc, cutting, options, progress)
+}
+
+// The tally of the reads whose pieces were cut. Condition: the cutting is that of some reads.
+fn count_cutting<H: Threads + Wait + Sync, P: Progress + Sync>(
+    rt: &H,
+    alloc: Global,
+    cutting: Cutting,
+    options: &Options,
+    progress: &P,
+) -> Result<Tally, ToolFault>
+    requires { (reads : List Read) × IsCuttingOf (rule_of options.now) options.now.batch reads cutting }
+    ensures tally { IfOk result (λ tally. (reads : List Read)
+        → IsCuttingOf (rule_of options.now) options.now.batch reads cutting
+        → IsTallyOf (rule_of options.now) reads tally) }
+    ensures fault { IfErr result IsUncounted }
+{
     let rule = options.rule();
     // what is known of a length, of the size of a batch, and of the tally of a cutting
     let _bases = rule.k().get();
@@ -67,37 +118,57 @@ pub(crate) fn count_sources<H: Threads + Wait + Sync, R: Source + Drop, P: Progr
 // The cutting of the reads of all sources, in order. Each source is read whole before the next one, and each read is
 // cleaned and cut before the next one is read, so that the text of one read is in memory at a time. A fault is that of
 // the first source that has one, with its number from 1, or `Memory` where a growth was refused outside the reading.
-fn cut_sources<R: Source + Drop, P: Progress>(
+fn cut_sources<R: Source, P: Progress>(
     alloc: Global,
-    sources: Vec<R>,
+    sources: &mut [NamedSource<'_, R>],
     options: &Options,
     progress: &P,
 ) -> Result<Cutting, ToolFault>
-    ensures cut { IfOk result (CutsSources R.seen sources.items (rule_of options.now) options.now.batch) }
-    ensures fault { IfErr result (RefusesSources R.seen sources.items) }
+    ensures cut { let Cuts = CutsSources (seen_of R.seen sources.old) (seen_of R.seen sources.new) in
+        IfOk result (Cuts (rule_of options.now) options.now.batch) }
+    ensures fault { IfErr result (RefusesSources (seen_of R.seen sources.old) (seen_of R.seen sources.new)) }
+    ensures names { names_of sources.new ≡ names_of sources.old }
 {
     let rule = options.rule();
     let mut cutting = Cutting::new(alloc, rule.k(), options.batch());
     let mut left = MOST_BYTES;
     let mut number = 0u64;
     let _fits = sources.len();
-    for source in sources {
-        let mut source = ToldSource { source, progress };
+    for source in sources.iter_mut() {
         number += 1;
-        left -= cut_source(alloc, &mut source, number, left, &rule, &mut cutting)?;
+        let source = &mut source.source;
+        left -= cut_source(alloc, source, number, left, &rule, &mut cutting, progress)?;
     }
     Ok(cutting)
 }
 
+// The cutting of the reads of one source, the input.
+fn cut_input<R: Source, P: Progress>(
+    alloc: Global,
+    input: &mut R,
+    options: &Options,
+    progress: &P,
+) -> Result<Cutting, ToolFault>
+    ensures cut { let Cuts = CutsSources (R.seen input.old ∷ []) (R.seen input.new ∷ []) in
+        IfOk result (Cuts (rule_of options.now) options.now.batch) }
+    ensures fault { IfErr result (RefusesSources (R.seen input.old ∷ []) (R.seen input.new ∷ [])) }
+{
+    let rule = options.rule();
+    let mut cutting = Cutting::new(alloc, rule.k(), options.batch());
+    let _count = cut_source(alloc, input, 1, MOST_BYTES, &rule, &mut cutting, progress)?;
+    Ok(cutting)
+}
+
 // Reads this source whole and cuts the pieces of its reads behind those that were cut. It answers how many bytes the
-// source gave. A fault of the lines is told where the rest was read too.
-fn cut_source<R: Source>(
+// source gave, and tells of them read by read. A fault of the lines is told where the rest was read too.
+fn cut_source<R: Source, P: Progress>(
     alloc: Global,
     source: &mut R,
     number: u64,
     limit: u64,
     rule: &Rule,
     cutting: &mut Cutting,
+    progress: &P,
 ) -> Result<u64, ToolFault>
     requires { limit ≤ most_bytes }
     ensures pieces { let Cuts = CutsPieces (R.seen source.old) (R.seen source.new) limit rule.now in
@@ -113,13 +184,15 @@ fn cut_source<R: Source>(
             });
         }
     };
+    let mut told = 0u64;
     'reads: loop {
         match reading.next_read(alloc, source) {
             Ok(Some(read)) => {
+                told = tell_bytes(progress, told, reading.byte_count());
                 let piece = clean(alloc, &read, rule)?;
                 cutting.push(alloc, &piece)?;
             }
-            Ok(None) => return Ok(reading.byte_count()),
+            Ok(None) => return Ok(tell_bytes(progress, told, reading.byte_count())),
             Err(fault) => {
                 return Err(ToolFault::Fastx {
                     source: number,
@@ -128,6 +201,17 @@ fn cut_source<R: Source>(
             }
         }
     }
+}
+
+// Tells of the bytes that came since the last call, where some did: so many were told of, and so many were read. It
+// answers how many were read.
+fn tell_bytes<P: Progress>(progress: &P, told: u64, count: u64) -> u64
+    ensures { result ≡ count }
+{
+    if told < count {
+        progress.bytes_read(count - told);
+    }
+    count
 }
 
 // The setup that the options ask for: how words are divided among the stripes.

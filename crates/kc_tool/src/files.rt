@@ -1,131 +1,222 @@
 //! The files that a command line names.
 //!
-//! What stands in a file no contract tells. So `open_file` and `create_file` are to be read by eye: one call of std
-//! each, with the name that the answer keeps.
-ghost use Rattle.std.specs.Prelude.{◌≡◌, IfOk, IfErr, map};
+//! What stands in a file no contract tells. So `NamedFiles::open` and `NamedFiles::create` are to be read by eye: one
+//! call of std each, with the name that the log and the answer keep. Nothing else can open a file.
+ghost use Rattle.std.specs.Prelude.{◌≡◌, [], ◌∷◌, ◌++◌, IfErr, IfOk, IfSome, MatchOption, map};
 ghost use Rattle.kc_io.specs.History.{no_history};
-ghost use Rattle.kc_tool.specs.Files.{AreOpened, IsCreated, FailsToOpen, FailsToOpenOne};
+ghost use Rattle.kc_tool.specs.FileEvents.{created, not_created, not_opened, opened, read, wrote};
+ghost use Rattle.kc_tool.specs.Files.{FailsToOpen, OpensAll, TellsName, given_back};
 
+use crate::file_acts::FileAct;
+use crate::file_log::FileLog;
+use crate::named_sources::NamedSource;
 use crate::tool_faults::ToolFault;
-use kc_io::{Failed, FromRead, Sink, Source, ToWrite};
+use kc_io::{Failed, FromRead, Heard, Sink, Source, ToWrite};
 use std::alloc::Global;
 use std::fs;
 use std::io::{Read, Write};
 use std::marker::Model;
 use std::rt::Files;
 
-/// A file that was opened to be read, with its name.
+/// A file that is read.
 #[derive(Drop)]
-pub(crate) struct OpenedFile<'a, F: Read> {
-    name: &'a str,
+pub(crate) struct FileSource<F: Read> {
     stream: FromRead<F>,
+    heard: Heard,
 }
 
-impl<'a, F: Read> Model for OpenedFile<'a, F> {
-    ghost use Rattle.kc_tool.specs.Files.{NamedSource};
+impl<F: Read> Model for FileSource<F> {
+    ghost use Rattle.kc_io.specs.Sources.{Seen};
 
-    ghost Value = { NamedSource };
+    ghost Value = { Seen };
 
-    ghost view = { λ f. record { name = f.name.now; seen = f.stream.seen } };
+    ghost view = { λ f. record { left = f.stream.seen.left; history = f.heard.history } };
 }
 
-impl<F: Read> Source for OpenedFile<'_, F> {
-    ghost seen = { λ f. f.seen };
+impl<F: Read> Source for FileSource<F> {
+    ghost seen = { λ f. f };
 
     fn read(&mut self, buffer: &mut [u8]) -> Result<usize, Failed> {
-        self.stream.read(buffer)
+        let answer = self.stream.read(buffer);
+        self.heard = self.heard.and(&answer, buffer);
+        answer
     }
 }
 
-/// A file that was created, with its name.
+/// A file that is written, with its name.
 #[derive(Drop)]
-pub(crate) struct CreatedFile<'a, F: Write> {
-    name: &'a str,
+pub(crate) struct NamedSink<'a, F: Write> {
+    /// The name.
+    pub name: &'a str,
+    /// The file.
+    pub sink: FileSink<F>,
+}
+
+/// A file that is written.
+#[derive(Drop)]
+pub(crate) struct FileSink<F: Write> {
     stream: ToWrite<F>,
+    heard: Heard,
 }
 
-impl<'a, F: Write> Model for CreatedFile<'a, F> {
-    ghost use Rattle.kc_tool.specs.Files.{NamedSink};
+impl<F: Write> Model for FileSink<F> {
+    ghost use Rattle.kc_io.specs.Sinks.{Written};
 
-    ghost Value = { NamedSink };
+    ghost Value = { Written };
 
-    ghost view = { λ f. record { name = f.name.now; seen = f.stream.seen } };
+    ghost view = { λ f. record { bytes = f.stream.seen.bytes; history = f.heard.history } };
 }
 
-impl<F: Write> Sink for CreatedFile<'_, F> {
-    ghost seen = { λ f. f.seen };
+impl<F: Write> Sink for FileSink<F> {
+    ghost seen = { λ f. f };
 
     fn write(&mut self, bytes: &[u8]) -> Result<usize, Failed> {
-        self.stream.write(bytes)
+        // to take none of a text that has bytes is to fail
+        let answer = match self.stream.write(bytes) {
+            Ok(0) if !bytes.is_empty() => Err(Failed),
+            Ok(n) => Ok(n),
+            Err(Failed) => Err(Failed),
+        };
+        self.heard = self.heard.and(&answer, bytes);
+        answer
     }
 
     fn flush(&mut self) -> Result<(), Failed> {
-        self.stream.flush()
+        let answer = self.stream.flush();
+        self.heard = self.heard.and_flush(&answer);
+        answer
     }
 }
 
-/// Opens the files of these names, in order.
+/// Files that are opened and created by their names. Contracts see what was asked of them, in order.
+#[derive(Drop)]
+pub struct NamedFiles<'a, H: Files> {
+    rt: &'a H,
+    log: FileLog,
+}
+
+impl<'a, H: Files> Model for NamedFiles<'a, H> {
+    ghost use Rattle.std.specs.Prelude.{List};
+    ghost use Rattle.kc_tool.specs.FileEvents.{FileEvent};
+
+    ghost Value = { List FileEvent };
+
+    ghost view = { λ f. f.log.events };
+}
+
+impl<'a, H: Files> NamedFiles<'a, H> {
+    /// The files of a runtime, of which nothing was asked yet.
+    pub fn new(rt: &'a H) -> NamedFiles<'a, H>
+        ensures { result ≡ [] }
+    {
+        NamedFiles {
+            rt,
+            log: FileLog::nothing(),
+        }
+    }
+
+    /// Opens the file of this name; None where it can't be opened.
+    pub(crate) fn open<'n>(&mut self, name: &'n str) -> Option<NamedSource<'n, FileSource<H::File>>>
+        ensures asked { MatchOption result (self.new ≡ self.old ++ not_opened name.entry.now ∷ [])
+            (λ file. self.new ≡ self.old ++ opened name.entry.now ∷ []) }
+        ensures named { IfSome result (λ file. file.name.now ≡ name.entry.now) }
+        ensures fresh { IfSome result (λ file. file.source.history ≡ no_history) }
+    {
+        let heard = Heard::nothing();
+        match fs::open(self.rt, name) {
+            Ok(file) => {
+                self.log = self.log.and(&FileAct::Opened, name.as_bytes(), &heard);
+                let stream = FromRead::new(file);
+                let source = FileSource { stream, heard };
+                Some(NamedSource { name, source })
+            }
+            Err(_) => {
+                self.log = self.log.and(&FileAct::NotOpened, name.as_bytes(), &heard);
+                None
+            }
+        }
+    }
+
+    /// Creates the file of this name, or empties it where there is one; None where that can't be done.
+    pub(crate) fn create<'n>(&mut self, name: &'n str) -> Option<NamedSink<'n, H::File>>
+        ensures asked { MatchOption result (self.new ≡ self.old ++ not_created name.entry.now ∷ [])
+            (λ file. self.new ≡ self.old ++ created name.entry.now ∷ []) }
+        ensures named { IfSome result (λ file. file.name.now ≡ name.entry.now) }
+        ensures fresh { IfSome result (λ file. file.sink.history ≡ no_history) }
+    {
+        let heard = Heard::nothing();
+        match fs::create(self.rt, name) {
+            Ok(file) => {
+                self.log = self.log.and(&FileAct::Created, name.as_bytes(), &heard);
+                let stream = ToWrite::new(file);
+                let sink = FileSink { stream, heard };
+                Some(NamedSink { name, sink })
+            }
+            Err(_) => {
+                self.log = self.log.and(&FileAct::NotCreated, name.as_bytes(), &heard);
+                None
+            }
+        }
+    }
+
+    /// Takes back a file that was opened, and closes it.
+    pub(crate) fn take_source(&mut self, file: NamedSource<'_, FileSource<H::File>>)
+        ensures { self.new ≡ self.old ++ read file.entry.name.now file.entry.source.history ∷ [] }
+    {
+        let name = file.name.as_bytes();
+        self.log = self.log.and(&FileAct::Read, name, &file.source.heard);
+    }
+
+    /// Takes back a file that was created, and closes it.
+    pub(crate) fn take_sink(&mut self, file: NamedSink<'_, H::File>)
+        ensures { self.new ≡ self.old ++ wrote file.entry.name.now file.entry.sink.history ∷ [] }
+    {
+        let name = file.name.as_bytes();
+        self.log = self.log.and(&FileAct::Wrote, name, &file.sink.heard);
+    }
+}
+
+/// Opens the files of these names, in order. Where one can't be opened, those before it are closed.
 ///
 /// # Errors
 /// `OpenFailed` with the first name whose file can't be opened. `Memory` where a growth was refused.
 pub(crate) fn open_files<'a, H: Files>(
-    rt: &H,
     alloc: Global,
+    files: &mut NamedFiles<'_, H>,
     names: &[&'a str],
-) -> Result<Vec<OpenedFile<'a, H::File>>, ToolFault>
-    ensures opened { IfOk result (λ files. AreOpened (map (λ name. name.now) names.now) files.items) }
-    ensures fault { IfErr result (FailsToOpenOne (map (λ name. name.now) names.now)) }
+) -> Result<Vec<NamedSource<'a, FileSource<H::File>>>, ToolFault>
+    ensures opened { IfOk result (λ sources.
+        OpensAll (map (λ name. name.now) names.now) files.old files.new sources.items) }
+    ensures fault { IfErr result (FailsToOpen (map (λ name. name.now) names.now) files.old files.new) }
 {
-    let mut files = Vec::new(alloc);
+    let mut sources = Vec::with_capacity(alloc, names.len())?;
     for name in names {
-        files.push(open_file(rt, alloc, *name)?)?;
+        let Some(source) = files.open(*name) else {
+            take_sources(files, sources);
+            return Err(open_failed(alloc, *name));
+        };
+        let Ok(()) = sources.push(source) else {
+            unreachable!()
+        };
     }
-    Ok(files)
+    Ok(sources)
 }
 
-// Opens the file of this name.
-fn open_file<'a, H: Files>(
-    rt: &H,
-    alloc: Global,
-    name: &'a str,
-) -> Result<OpenedFile<'a, H::File>, ToolFault>
-    ensures named { IfOk result (λ file. file.name ≡ name.entry.now) }
-    ensures fresh { IfOk result (λ file. file.seen.history ≡ no_history) }
-    ensures fault { IfErr result (FailsToOpen name.entry.now) }
+/// Takes back files that were opened, in order, and closes them.
+pub(crate) fn take_sources<H: Files>(
+    files: &mut NamedFiles<'_, H>,
+    sources: Vec<NamedSource<'_, FileSource<H::File>>>,
+)
+    ensures { files.new ≡ files.old ++ given_back sources.entry.items }
 {
-    match fs::open(rt, name) {
-        Ok(file) => Ok(OpenedFile {
-            name,
-            stream: FromRead::new(file),
-        }),
-        Err(_) => Err(open_failed(alloc, name)),
+    for source in sources {
+        files.take_source(source);
     }
 }
 
-/// Creates the file of this name, or empties it where there is one.
-///
-/// # Errors
-/// `OpenFailed` with the name where that can't be done. `Memory` where a growth was refused.
-pub(crate) fn create_file<'a, H: Files>(
-    rt: &H,
-    alloc: Global,
-    name: &'a str,
-) -> Result<CreatedFile<'a, H::File>, ToolFault>
-    ensures created { IfOk result (IsCreated name.entry.now) }
-    ensures fault { IfErr result (FailsToOpen name.entry.now) }
-{
-    match fs::create(rt, name) {
-        Ok(file) => Ok(CreatedFile {
-            name,
-            stream: ToWrite::new(file),
-        }),
-        Err(_) => Err(open_failed(alloc, name)),
-    }
-}
-
-// That the file of this name can't be opened or created.
-fn open_failed(alloc: Global, name: &str) -> ToolFault
-    ensures { FailsToOpen name.now result }
+/// The fault that the file of this name can't be opened or created.
+pub(crate) fn open_failed(alloc: Global, name: &str) -> ToolFault
+    ensures { TellsName name.now result }
 {
     match String::from_str(alloc, name) {
         Ok(name) => ToolFault::OpenFailed(name),

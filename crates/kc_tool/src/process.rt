@@ -1,10 +1,11 @@
 //! The program as a process runs it: with the arguments as std gives them, and over standard streams by value.
 ghost use Rattle.std.specs.Prelude.{◌≡◌, ◌≤◌, IfErr, IfOk, map, string_bytes};
-ghost use Rattle.kc_tool.specs.Process.{Ends, EndsOver, EndsUnread, EndsUnreadOver, TellsUnread, untouched, unwritten};
+ghost use Rattle.kc_tool.specs.Process.{Ends, EndsOver, EndsUnread, EndsUnreadOver, TellsUnread, at_first, unwritten};
 
 use crate::command_line::{FAULT, REFUSED, run};
 use crate::count_progress::{NoProgress, Progress};
 use crate::fault_lines::write_fault;
+use crate::files::NamedFiles;
 use crate::tool_faults::ToolFault;
 use kc_io::{FromRead, Sink, Source, ToWrite, write_out};
 use std::alloc::Global;
@@ -24,8 +25,8 @@ pub fn program<
     E: io::Write + Drop,
 >(rt: &H, alloc: Global, arguments: Vec<String>, input: I, output: O, errors: E) -> u8
     ensures within { result ≤ 2 }
-    ensures ends { EndsOver (untouched (I.remaining input)) (map string_bytes arguments.items)
-        (unwritten (O.contents output)) (unwritten (E.contents errors)) result }
+    ensures ends { EndsOver (map string_bytes arguments.items)
+        (at_first (I.remaining input) (O.contents output)) (unwritten (E.contents errors)) result }
 {
     program_showing(rt, alloc, Ok(arguments), input, output, errors, &NoProgress)
 }
@@ -48,19 +49,21 @@ pub fn program_showing<
     progress: &P,
 ) -> u8
     ensures within { result ≤ 2 }
-    ensures texts { IfOk arguments (λ texts. EndsOver (untouched (I.remaining input)) (map string_bytes texts.items)
-        (unwritten (O.contents output)) (unwritten (E.contents errors)) result) }
+    ensures texts { IfOk arguments (λ texts. EndsOver (map string_bytes texts.items)
+        (at_first (I.remaining input) (O.contents output)) (unwritten (E.contents errors)) result) }
     ensures unread { IfErr arguments (λ error. EndsUnreadOver error
-        (unwritten (O.contents output)) (unwritten (E.contents errors)) result) }
+        (at_first (I.remaining input) (O.contents output)) (unwritten (E.contents errors)) result) }
 {
     let mut output = ToWrite::new(output);
     let mut errors = ToWrite::new(errors);
-    let input = FromRead::new(input);
+    let mut input = FromRead::new(input);
+    let mut files = NamedFiles::new(rt);
     run_given(
         rt,
         alloc,
         arguments,
-        input,
+        &mut files,
+        &mut input,
         &mut output,
         &mut errors,
         progress,
@@ -71,11 +74,12 @@ pub fn program_showing<
 const NOT_TEXT: &[u8] = b"kcount: an argument is not UTF-8\n";
 
 /// What `run` does with the arguments as std gives them. If one of them is not UTF-8, that refuses the command line:
-/// status 2, the output is as it was, and a line that says so went to the errors. If they can't be had otherwise, there
+/// status 2, nothing was read or written, and a line that says so went to the errors. If they can't be had otherwise, there
 /// was no memory for them: status 1, and the line of `Memory`.
 pub fn run_given<
-    H: Files + Threads + Wait + Sync,
-    R: Source + Drop,
+    H: Threads + Wait + Sync,
+    S: Files,
+    R: Source,
     W: Sink,
     E: Sink,
     P: Progress + Sync,
@@ -83,19 +87,26 @@ pub fn run_given<
     rt: &H,
     alloc: Global,
     arguments: io::Result<Vec<String>>,
-    input: R,
+    files: &mut NamedFiles<'_, S>,
+    input: &mut R,
     output: &mut W,
     errors: &mut E,
     progress: &P,
 ) -> u8
     ensures within { result ≤ 2 }
-    ensures texts { IfOk arguments (λ texts. Ends (R.seen input) (map string_bytes texts.items)
-        (W.seen output.old) (W.seen output.new) (E.seen errors.old) (E.seen errors.new) result) }
+    ensures texts { IfOk arguments (λ texts. Ends (map string_bytes texts.items)
+        (record { input = R.seen input.old; output = W.seen output.old; asked = files.old })
+        (record { input = R.seen input.new; output = W.seen output.new; asked = files.new })
+        (E.seen errors.old) (E.seen errors.new) result) }
     ensures unread { IfErr arguments (λ error. EndsUnread error
-        (W.seen output.old) (W.seen output.new) (E.seen errors.old) (E.seen errors.new) result) }
+        (record { input = R.seen input.old; output = W.seen output.old; asked = files.old })
+        (record { input = R.seen input.new; output = W.seen output.new; asked = files.new })
+        (E.seen errors.old) (E.seen errors.new) result) }
 {
     match arguments {
-        Ok(arguments) => run(rt, alloc, &arguments, input, output, errors, progress),
+        Ok(arguments) => run(
+            rt, alloc, &arguments, files, input, output, errors, progress,
+        ),
         Err(error) => tell_unread(&error, errors),
     }
 }

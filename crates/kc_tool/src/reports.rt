@@ -1,16 +1,18 @@
 //! Reports on a tally: which one is written, and from sources of reads to the report on their tally.
-ghost use Rattle.std.specs.Prelude.{◌≡◌, ◌≢◌, OnOk, IfErr, IsErrOf};
+ghost use Rattle.std.specs.Prelude.{◌≡◌, ◌≢◌, OnOk, IfErr, IfOk, IsErrOf, map};
+ghost use Rattle.kc_tool.specs.NamedSources.{seen_of};
 ghost use Rattle.kc_tool.specs.Reports.{BeginsReport, IsWritable, LeavesUnwritten, WritesReport, WritesText};
 ghost use Rattle.kc_tool.specs.Reports.{report_of, report_text};
 
 use crate::count_progress::NoProgress;
 use crate::counted_sources::count_sources;
+use crate::named_sources::NamedSource;
 use crate::tool_faults::ToolFault;
 use kc_command::{Options, Print};
 use kc_io::{Sink, Source};
 use kc_report::{Dump, write_dump, write_histo, write_stats, write_table};
 use kc_tally::Tally;
-use std::alloc::Global;
+use std::alloc::{AllocError, Global};
 use std::sync::Wait;
 use std::thread::Threads;
 
@@ -42,14 +44,29 @@ pub fn count_reads<H: Threads + Wait + Sync, R: Source + Drop, W: Sink>(
     writer: &mut W,
 ) -> Result<(), ToolFault>
     ensures written { OnOk result
-        (WritesReport R.seen sources.items options.now (W.seen writer.old) (W.seen writer.new)) }
+        (WritesReport (map R.seen sources.items) options.now (W.seen writer.old) (W.seen writer.new)) }
     ensures begun { IsErrOf result ToolFault.Write
-        → BeginsReport R.seen sources.items options.now (W.seen writer.old) (W.seen writer.new) }
+        → BeginsReport (map R.seen sources.items) options.now (W.seen writer.old) (W.seen writer.new) }
     ensures refused { IfErr result (λ fault. fault ≢ ToolFault.Write
-        → LeavesUnwritten R.seen sources.items (W.seen writer.old) (W.seen writer.new) fault) }
+        → LeavesUnwritten (map R.seen sources.items) (W.seen writer.old) (W.seen writer.new) fault) }
 {
-    let tally = count_sources(rt, alloc, sources, options, &NoProgress)?;
+    let mut sources = unnamed(alloc, sources)?;
+    let tally = count_sources(rt, alloc, &mut sources, options, &NoProgress)?;
     write_report(alloc, writer, &tally, report_of(options))
+}
+
+// The sources, without names.
+fn unnamed<R: Source + Drop>(
+    alloc: Global,
+    sources: Vec<R>,
+) -> Result<Vec<NamedSource<'static, R>>, AllocError>
+    ensures { IfOk result (λ named. seen_of R.seen named.items ≡ map R.seen sources.items) }
+{
+    let mut named = Vec::with_capacity(alloc, sources.len())?;
+    for source in sources {
+        named.push(NamedSource { name: "", source })?;
+    }
+    Ok(named)
 }
 
 /// The report that the options ask for.

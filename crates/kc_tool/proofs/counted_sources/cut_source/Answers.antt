@@ -1,5 +1,6 @@
-use Rattle.std.proofs.Common.{refl, arith}
+use Rattle.std.proofs.Common.{refl, arith, inl}
 use Rattle.kc_fastx.proofs.ReadingLemmas.{used_within}
+use Rattle.kc_io.proofs.IntakesLemmas.{taken_in_vain, taken_none}
 use Rattle.kc_word.specs.Cutting.{cleaned}
 use Rattle.kc_tool.proofs.CleaningLemmas.{TakesPiece, no_piece, one_more_piece}
 use Rattle.kc_tool.proofs.counted_sources.cut_source.Goals as goal
@@ -61,9 +62,21 @@ pub byte_count-requires : goal.byte_count-requires
 byte_count-requires g c =
     let start = g.R.Source.seen c.args.source.now in
     let so_far = c.reads.invariant in
+    let next = rw c.in-Ok-Some.field-0-is at
+    c.in-Ok-Some.ensures.given start c.args.limit so_far.reads so_far.given in
+    next.unfailed
+
+pub byte_count-requires-in-Ok-None : goal.byte_count-requires-in-Ok-None
+byte_count-requires-in-Ok-None g c =
+    let start = g.R.Source.seen c.args.source.now in
+    let so_far = c.reads.invariant in
     let end = rw c.in-Ok-None.field-0-is at
     c.in-Ok-None.ensures.given start c.args.limit so_far.reads so_far.given in
     end.0.unfailed
+
+pub returns-in-Err-clause-fault : goal.returns-in-Err-clause-fault
+returns-in-Err-clause-fault g c =
+    (refl, inl (taken_in_vain (taken_none (g.R.Source.seen c.args.source.now) c.args.limit)))
 
 pub returns-in-Ok-None-clause-pieces : goal.returns-in-Ok-None-clause-pieces
 returns-in-Ok-None-clause-pieces g c =
@@ -73,7 +86,7 @@ returns-in-Ok-None-clause-pieces g c =
     c.in-Ok-None.ensures.given start c.args.limit so_far.reads so_far.given in
     record {
       reads = so_far.reads;
-      given = rw c.byte_count.ensures end.1;
+      given = rw (c.tell_bytes.ensures, c.byte_count-in-Ok-None.ensures) end.1;
       length_of_words = so_far.length_of_words;
       size = so_far.size;
       behind = so_far.behind;

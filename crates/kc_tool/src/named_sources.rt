@@ -1,0 +1,11 @@
+//! Sources with the names of the files that they read.
+use kc_io::Source;
+
+/// A source, and the name of the file that it reads; of a source that reads none, an empty name.
+#[derive(Drop)]
+pub(crate) struct NamedSource<'a, R: Source> {
+    /// The name.
+    pub name: &'a str,
+    /// The source.
+    pub source: R,
+}
