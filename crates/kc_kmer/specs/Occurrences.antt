@@ -51,11 +51,11 @@ positions rule read = range_with_len 0 (position_count rule.k (length read.bases
 abbrev pub counts_under : CountingRule → Read → List ℕ → ℕ → Bool
 counts_under rule read word p = option_map_or (λ found. bytes_eq found word) (counted_at rule read p) false
 
--- at how many positions of a read the word stands, in the form under which it counts
+-- the occurrences of a word in a read: how many of its positions count under the word
 unfoldable pub occurrences_in : CountingRule → Read → List ℕ → ℕ
 occurrences_in rule read word = count_by (λ p. counts_under rule read word p) (positions rule read)
 
--- the occurrences of a word: at how many positions of all reads it stands
+-- the occurrences of a word: how many positions of all reads count under it
 unfoldable pub occurrences : CountingRule → List Read → List ℕ → ℕ
 occurrences rule reads word = sum_by (λ read. occurrences_in rule read word) reads
 
