@@ -1,5 +1,6 @@
 -- Two tables put together, and what their texts say of it: source, our formats page ("Merging").
-use Rattle.std.specs.Prelude.{⊤, ◌≡◌, ℕ, ◌+◌, ◌^◌, ◌≤◌, false, List, ◌++◌, length, Option, Some, None, IfSome, Result, Ok, Err}
+use Rattle.std.specs.Prelude.{⊤, ◌≡◌, ℕ, ◌+◌, ◌^◌, ◌≤◌, false, List, ◌++◌, length}
+use Rattle.std.specs.Prelude.{Option, Some, None, IfSome, Result, Ok, Err}
 use Rattle.kc_kmer.specs.Rule.{CountingRule}
 use Rattle.kc_tally.specs.Tally.{Read, TallySeen, total_of, IsTallyOf}
 use Rattle.kc_tally.specs.Sum.{IsSumOf}
@@ -47,8 +48,8 @@ joined_origin None other = None
 
 -- What comes of two tables that are put together: their sum, with the origin of both; or that they don't match; else
 -- that a sum is too large; else that memory was refused.
-abbrev pub Merges : TallySeen → TallySeen → Option Origin → Option Origin → Result (TallySeen × Option Origin) ReportFault
-    → Type 0
+abbrev pub Merges : TallySeen → TallySeen → Option Origin → Option Origin
+    → Result (TallySeen × Option Origin) ReportFault → Type 0
 Merges tally other origin another (Ok table) = AreAlike tally other origin another
     × AreSmall tally other origin another
     × IsSumOf tally other table.0
@@ -56,7 +57,8 @@ Merges tally other origin another (Ok table) = AreAlike tally other origin anoth
 Merges tally other origin another (Err Unlike) = ¬ AreAlike tally other origin another
 Merges tally other origin another (Err TooLarge) =
     AreAlike tally other origin another × (¬ AreSmall tally other origin another)
-Merges tally other origin another (Err Memory) = AreAlike tally other origin another × AreSmall tally other origin another
+Merges tally other origin another (Err Memory) =
+    AreAlike tally other origin another × AreSmall tally other origin another
 Merges tally other origin another (Err fault) = ⊥
 
 -- ---- texts

@@ -1,7 +1,8 @@
 //! Two tables put together.
-ghost use Rattle.std.specs.Prelude.{◌≡◌, ◌↔◌, ◌+◌, ◌≤◌, ◌^◌, IsTrue, option_map};
+ghost use Rattle.std.specs.Prelude.{◌≡◌, ◌↔◌, ◌+◌, ◌≤◌, ◌^◌, IsTrue, IfOk, option_map};
 ghost use Rattle.kc_report.specs.Merging.{IsUnlisted, HaveOneFloor, AreAlike, AreSmall, Merges};
 ghost use Rattle.kc_report.specs.Merging as specs;
+ghost use Rattle.kc_report.specs.Table.{MaySay};
 
 use crate::dump::GREATEST_COUNT;
 use crate::origin::{MOST_READS, Origin};
@@ -23,8 +24,11 @@ pub fn merge(
     second: &Tally,
     second_origin: Option<&Origin>,
 ) -> Result<(Tally, Option<Origin>), ReportFault>
-    ensures { Merges first.now second.now (option_map (λ said. said.now) first_origin.entry)
+    ensures merged { Merges first.now second.now (option_map (λ said. said.now) first_origin.entry)
         (option_map (λ said. said.now) second_origin.entry) result }
+    ensures said { MaySay (option_map (λ said. said.now) first_origin.entry)
+        → MaySay (option_map (λ said. said.now) second_origin.entry)
+        → IfOk result (λ table. MaySay table.1) }
 {
     let (origin, other) = (first_origin.copied(), second_origin.copied());
     if !are_alike(first, second, origin, other) {
@@ -89,7 +93,8 @@ fn are_reads_few(origin: Option<Origin>, other: Option<Origin>) -> bool
 // The origin of both together. Condition: their reads together are at most 2^62.
 fn joined_origin(origin: Option<Origin>, other: Option<Origin>) -> Option<Origin>
     requires { specs.reads_together origin other ≤ 2 ^ 62 }
-    ensures { result ≡ specs.joined_origin origin other }
+    ensures value { result ≡ specs.joined_origin origin other }
+    ensures said { MaySay origin → MaySay other → MaySay result }
 {
     match (origin, other) {
         (Some(origin), Some(other)) => Some(Origin {

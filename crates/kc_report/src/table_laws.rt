@@ -8,7 +8,8 @@ ghost use Rattle.kc_report.specs.TableReading.{IsTable, IsTableOf};
 
 /// Every byte string has an answer, a tally with its origin or its first fault, and none has two.
 pub fn one_table()
-    ensures some { (bytes : List ℕ) → (answer : Result (TallySeen × Option Origin) ReportFault) × IsTableOf bytes answer }
+    ensures some { (bytes : List ℕ)
+        → (answer : Result (TallySeen × Option Origin) ReportFault) × IsTableOf bytes answer }
     ensures only { (bytes : List ℕ) (one other : Result (TallySeen × Option Origin) ReportFault)
         → IsTableOf bytes one → IsTableOf bytes other → one ≡ other }
 {}

@@ -32,6 +32,7 @@ pub fn read_table<R: Source>(
 ) -> Result<(Tally, Option<Origin>), ReportFault>
     requires { limit ≤ 2 ^ 42 }
     ensures table { IfOk result (λ table. GivesTable (R.seen reader.old) (R.seen reader.new) limit (table.0, table.1)) }
+    ensures origin { IfOk result (λ table. MaySay table.1) }
     ensures fault { IfErr result (RefusesTable (R.seen reader.old) (R.seen reader.new) limit) }
 {
     let mut scratch = Block::new();
