@@ -51,7 +51,7 @@ refused_test() {
 }
 
 # A table is read with all its growths or not at all, and so is a histogram written: else nothing was.
-test=streams::memory_or_the_report
+test=refusing_streams::memory_or_the_report
 refused=0
 until refused_test kc_count_tests "$test" $((refused + 1)); do
     refused=$((refused + 1))
@@ -71,7 +71,7 @@ done
 echo "memory: $refused growths of tickets refused in turn, then they are made"
 
 # A table that must double has its numbers after a refusal, and takes the key when there is memory.
-test=tables::a_refused_growth_leaves_the_table
+test=counting_tables::a_refused_growth_leaves_the_table
 for n in $(seq 1 40); do
     refused_test kc_count_tests "$test" "$n" || { echo "kc_table, growth $n:"; cat "$work/said"; exit 1; }
 done
