@@ -227,8 +227,8 @@ IsRefusedOption command rows (BadOption name) = first_refused command rows ≡ S
 IsRefusedOption command rows Memory = ⊤
 IsRefusedOption command rows fault = ⊥
 
--- why a command does not come to its task, and what it asked of files: an option is refused, before all; or a file can't
--- be opened or created; or there was no memory, which may show in any of these places
+-- why a command does not come to its task, and what it asked of files: an option is refused, before all; or a file
+-- can't be opened or created; or there was no memory, which may show in any of these places
 abbrev pub IsRefused : Verb → List Row → List FileEvent → ToolFault → Type 0
 IsRefused command rows asked (BadOption name) = (first_refused command rows ≡ Some name) × (asked ≡ [])
 IsRefused command rows asked (OpenFailed name) = (first_refused command rows ≡ None)

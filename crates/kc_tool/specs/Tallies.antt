@@ -36,8 +36,8 @@ ReadsSources old new reads = (inputs : List (List ℕ)) × GaveReads old new inp
 abbrev pub pieces_of : CountingRule → List Read → List (List ℕ)
 pieces_of rule reads = map (λ read. cleaned rule read) reads
 
--- the pieces of the reads were cut by this rule into batches of so many positions, and have no more letters together than
--- the sources of one count may have bytes
+-- the pieces of the reads were cut by this rule into batches of so many positions, and have no more letters together
+-- than the sources of one count may have bytes
 pub record IsCuttingOf (rule : CountingRule) (batch : ℕ) (reads : List Read) (cutting : OpenCutting) : Type 0 where
   pub length_of_words : cutting.k ≡ rule.k
   pub size : cutting.size ≡ batch
@@ -71,8 +71,8 @@ RefusesSource old new number limit (Fastx source fault) = (source ≡ number) ×
 RefusesSource old new number limit Memory = ⊤
 RefusesSource old new number limit _ = ⊥
 
--- the number-th source, from 1, is the first that has no reads: those before it gave theirs, it was refused in this call
--- for this fault, and those behind it are as they were
+-- the number-th source, from 1, is the first that has no reads: those before it gave theirs, it was refused in this
+-- call for this fault, and those behind it are as they were
 pub record FailsAt (old new : List Seen) (number : ℕ) (fault : FastxFault) : Type 0 where
   pub before : List Seen
   pub given : List Seen

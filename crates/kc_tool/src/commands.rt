@@ -281,8 +281,8 @@ fn owned_texts(alloc: Global, texts: &[&str]) -> Result<Vec<String>, AllocError>
     Ok(strings)
 }
 
-// The tally that a task is about, from the files or, where there are none, from the given input: that of the reads, whose
-// counting is told, or that of a table. The sources keep their names. Condition: a task over a table has one source.
+// The tally that a task is about, from the files or, where there are none, from the given input: that of the reads,
+// whose counting is told, or that of a table. The sources keep their names. Condition: a task over a table has one source.
 fn tally_for<H: Threads + Wait + Sync, R: Source, F: Source, P: Progress + Sync>(
     rt: &H,
     alloc: Global,
