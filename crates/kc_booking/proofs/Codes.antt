@@ -181,25 +181,6 @@ divides setup bits stays one onto = record {
       ∙ shr_split (product setup.hash other) setup.stripe_bits);
 }
 
--- ---- equal setups
-
--- the test of two setups, field by field
-abbrev pub is_same_setup : StripeSetup → StripeSetup → Bool
-is_same_setup setup other =
-    (nat_eq setup.rule.k other.rule.k && (beq setup.rule.both other.rule.both && nat_eq setup.rule.floor other.rule.floor))
-    && (pointwise nat_eq setup.hash other.hash && nat_eq setup.stripe_bits other.stripe_bits)
-
-pub is_same_setup-same : (setup other : StripeSetup) → setup ≡ other → is_same_setup setup other ≡ true
-is_same_setup-same setup other same =
-    ap (is_same_setup setup) (sym same)
-    ∙ and_from _ _
-    (and_from _ _ (eq-eqb setup.rule.k setup.rule.k refl) (and_from _ _ (both setup.rule.both) (eq-eqb setup.rule.floor setup.rule.floor refl)))
-    (and_from _ _ (nat_list_eq_equiv.refl setup.hash) (eq-eqb setup.stripe_bits setup.stripe_bits refl))
-  where
-    both : (b : Bool) → beq b b ≡ true
-    both true = refl
-    both false = refl
-
 -- what the inverse of the hash gives back for the code of a stripe and a key is the word that has them
 pub StandsAt-undone : (setup : StripeSetup) (inverse : List ℕ) (stripe key : ℕ) → HasBits setup.rule.k setup.hash setup.stripe_bits → AreInverse setup.hash inverse
     → stripe < stripe_count setup → key < 2 ^ key_bits setup → StandsAt setup stripe key (product inverse (key * stripe_count setup + stripe))

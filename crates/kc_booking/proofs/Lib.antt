@@ -5,3 +5,4 @@ pub mod Lawful
 pub mod StripeRows
 pub mod Forms
 pub mod Logs
+pub mod ListedLemmas

@@ -1,4 +1,6 @@
 pub mod Setup
+pub mod Listed
+pub mod SetupEquality
 pub mod Cut
 pub mod Counted
 pub mod Stripe

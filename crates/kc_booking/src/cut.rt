@@ -1,14 +1,17 @@
 //! The words of a batch divided among the stripes.
 ghost use Rattle.std.specs.Prelude.{◌≡◌, ℕ, ◌%◌, ◌^◌, ◌<◌, ◌≤◌, ◌==◌, [], length, map, count_by, slice_index, All};
-ghost use Rattle.std.specs.Prelude.{IfOk};
+ghost use Rattle.std.specs.Prelude.{IfOk, Some, filter};
 ghost use Rattle.std.specs.Vec.{vec_capacity};
 ghost use Rattle.kc_hash.specs.Product.{product};
+ghost use Rattle.kc_kmer.specs.Rule.{is_listed};
+ghost use Rattle.kc_kmer.specs.Occurrences.{words_of};
+ghost use Rattle.kc_word.specs.Cutting.{as_reads};
 ghost use Rattle.kc_booking.specs.Cut.{StripeCut, keys_of, cuts_of, key_parts};
 
 use crate::setup::Setup;
 use kc_hash::MatrixTables;
 use kc_lemmas::room_for_each;
-use kc_word::{Batch, words};
+use kc_word::{Batch, Only, Word, word_laws, words};
 use std::alloc::{AllocError, Global};
 use std::marker::Model;
 use std::sync::Arc;
@@ -72,8 +75,9 @@ pub fn cut_up(alloc: Global, setup: &Setup, batch: &Arc<Batch>) -> Result<Vec<Cu
     let parts = stripe_keys(alloc, setup, batch)?;
     let mut cuts = room_for_each(alloc, &parts)?;
     for keys in parts {
+        let setup = setup.clone()?;
         let cut = Cut {
-            setup: *setup,
+            setup,
             stripe: cuts.len() as u32,
             batch: batch.clone()?,
             keys,
@@ -90,9 +94,42 @@ fn stripe_keys(alloc: Global, setup: &Setup, batch: &Batch) -> Result<Vec<Vec<u6
     ensures few { IfOk result (λ parts. length parts.items ≤ 64) }
 {
     let stripe_bits = setup.stripe_bits();
-    let mut codes = words(alloc, batch, setup.rule())?;
+    let mut codes = counted_words(alloc, setup, batch)?;
     hash_all(&setup.hash().forward_tables(), &mut codes);
     divided(alloc, &codes, stripe_bits)
+}
+
+// The words of the batch that count: where a list is given, the listed ones.
+fn counted_words(alloc: Global, setup: &Setup, batch: &Batch) -> Result<Vec<u64>, AllocError>
+    ensures words { IfOk result (λ words. words.items ≡ words_of setup.now.rule (as_reads batch.now.pieces)) }
+    ensures below { IfOk result (λ words. All (λ word. word < 4 ^ setup.now.rule.k) words.items) }
+{
+    let mut words = words(alloc, batch, setup.rule())?;
+    word_laws::listed_words();
+    word_laws::words_of_reads();
+    match setup.list() {
+        None => Ok(words),
+        Some(list) => {
+            keep_listed(list, &mut words);
+            Ok(words)
+        }
+    }
+}
+
+// Leaves out the words that are not in the list.
+fn keep_listed(list: &Only, words: &mut Vec<u64>)
+    requires { All (λ word. word < 4 ^ list.now.k) words.old.items }
+    ensures { words.new.items ≡ filter (λ word. is_listed (Some list.now.words) word) words.old.items }
+{
+    let mut kept = 0;
+    for i in 0..words.len() {
+        let word = words[i];
+        if list.holds(Word(word)) {
+            words[kept] = word;
+            kept += 1;
+        }
+    }
+    words.truncate(kept);
 }
 
 // Replaces each word by its code, the word's hashed number.

@@ -1,7 +1,7 @@
 //! One stripe of a count: how the words are divided among stripes, the keys of a batch's words in each stripe, and a
 //! stripe that always holds exactly the counts of the batches that its journal names.
 //!
-//! A [`Setup`] divides the words. [`cut_up`] cuts a batch up into one [`Cut`] for each stripe, and [`Stripe::book`]
+//! A [`Setup`] divides the words, all of them or those of a list alone. [`cut_up`] cuts a batch up into one [`Cut`] for each stripe, and [`Stripe::book`]
 //! counts a cut whole or not at all. A stripe begins with an empty table: [`plain_tables`] and [`quotient_tables`] make
 //! one for each.
 //!

@@ -1,21 +1,28 @@
 //! How the words of a count are divided among stripes.
-ghost use Rattle.std.specs.Prelude.{◌≡◌, ℕ, ◌+◌, ◌*◌, ◌^◌, ◌<◌, ◌≤◌, ◌↔◌, length, IsSome, IfSome};
+ghost use Rattle.std.specs.Prelude.{◌≡◌, ℕ, ◌+◌, ◌*◌, ◌^◌, ◌<◌, ◌≤◌, ◌↔◌, length, Some, None, IsSome, IfSome, IfNone};
 ghost use Rattle.kc_hash.specs.Product.{product};
 ghost use Rattle.kc_booking.specs.Setup.{StripeSetup, IsSetup, HasBits, word_count, stripe_count, key_bits};
 ghost use Rattle.kc_booking.specs.Setup.{stripe_of, key_of, StandsAt, DividesWords, form_of, form_text};
+ghost use Rattle.kc_booking.specs.Listed.{listed_words, are_same_words};
+ghost use Rattle.kc_kmer.specs.Rule.{with_list, without_list};
 ghost use Rattle.kc_kmer.specs.Word.{text};
 
 use kc_hash::Hash;
-use kc_word::{Rule, Word, canonical, word_laws};
+use kc_word::{Only, Rule, Word, canonical, word_laws};
+use std::alloc::AllocError;
 use std::marker::Model;
+use std::sync::Arc;
 
-/// The rule of a count, the hash of its words, and the number of stripes among which they are divided.
+/// The rule of a count, the list of the words that it counts, where one is given, the hash of its words, and the number
+/// of stripes among which they are divided.
 ///
 /// A word's code is its hashed number. The low bits of the code, as many as tell the stripes apart, are the
-/// word's stripe; the rest is its key. No call takes memory. It has about 1 KB: lend it where it is not kept.
-#[derive(Clone, Copy, PartialEq, Eq, Debug)]
+/// word's stripe; the rest is its key. No call but `clone` takes memory. It has about 1 KB: lend it where it is not
+/// kept.
+#[derive(Debug, Drop)]
 pub struct Setup {
     rule: Rule,
+    only: Option<Arc<Only>>,
     hash: Hash,
     stripe_bits: u32,
 }
@@ -25,11 +32,11 @@ impl Model for Setup {
 
     ghost Value = { StripeSetup };
 
-    ghost view = { λ s. record { rule = s.rule; hash = s.hash; stripe_bits = s.stripe_bits } };
+    ghost use Rattle.kc_booking.specs.Listed.{rule_with, IsForRule};
 
-    ghost invariant = { λ s. HasBits s.rule.k s.hash s.stripe_bits };
+    ghost view = { λ s. record { rule = rule_with s.rule s.only; hash = s.hash; stripe_bits = s.stripe_bits } };
 
-    ghost inverse = { λ v. record { rule = v.rule; hash = v.hash; stripe_bits = v.stripe_bits } };
+    ghost invariant = { λ s. HasBits s.rule.k s.hash s.stripe_bits × IsForRule s.rule s.only };
 }
 
 impl Setup {
@@ -52,18 +59,58 @@ impl Setup {
         if hash.bits() != word_bits || stripes != 1 << stripe_bits || stripe_bits > word_bits {
             return None;
         }
+        rule.has_no_list();
         Some(Setup {
             rule,
+            only: None,
             hash,
             stripe_bits,
         })
     }
 
-    /// The rule of the count.
-    pub fn rule(&self) -> &Rule
-        ensures { result.now ≡ self.now.rule }
+    /// The same, where no word counts that is not in the list: Some where the words of the list are as long as those of
+    /// the count, and in the forms under which these count.
+    pub fn listed(self, list: Arc<Only>) -> Option<Setup>
+        ensures some { IsSome result ↔ ((list.value.k ≡ self.rule.k) × (list.value.both ≡ self.rule.both)) }
+        ensures rule { IfSome result (λ setup. setup.rule ≡ with_list self.rule list.value.words) }
+        ensures hash { IfSome result (λ setup. setup.hash ≡ self.hash) }
+        ensures stripes { IfSome result (λ setup. setup.stripe_bits ≡ self.stripe_bits) }
     {
+        if list.k() != self.rule.k() || list.both() != self.rule.both() {
+            return None;
+        }
+        let Setup {
+            rule,
+            only: _,
+            hash,
+            stripe_bits,
+        } = self;
+        Some(Setup {
+            rule,
+            only: Some(list),
+            hash,
+            stripe_bits,
+        })
+    }
+
+    /// The rule of the count, without its list.
+    pub fn rule(&self) -> &Rule
+        ensures { result.now ≡ without_list self.now.rule }
+    {
+        self.rule.has_no_list();
         &self.rule
+    }
+
+    /// The list of the words that count, where one is given.
+    pub(crate) fn list(&self) -> Option<&Only>
+        ensures none { IfNone result (self.now.rule.only ≡ None) }
+        ensures words { IfSome result (λ list. self.now.rule.only ≡ Some list.now.words) }
+        ensures k { IfSome result (λ list. list.now.k ≡ self.now.rule.k) }
+    {
+        match &self.only {
+            None => None,
+            Some(list) => Some(&**list),
+        }
     }
 
     /// The hash of the words.
@@ -164,5 +211,57 @@ impl Setup {
         ensures hashed { (word : ℕ) → StandsAt self.now stripe key word → product self.now.hash word ≡ result }
     {
         (key << self.stripe_bits) + stripe as u64
+    }
+}
+
+impl Clone for Setup {
+    ghost use Rattle.std.specs.Prelude.{◌≡◌};
+
+    ghost is_clone = { λ setup copy. copy ≡ setup };
+
+    fn clone(&self) -> Result<Setup, AllocError> {
+        let only = match &self.only {
+            None => None,
+            Some(list) => Some(list.clone()?),
+        };
+        Ok(Setup {
+            rule: self.rule,
+            only,
+            hash: self.hash,
+            stripe_bits: self.stripe_bits,
+        })
+    }
+}
+
+/// Equal setups count by equal rules the words of equal lists, and divide them in the same way.
+impl PartialEq for Setup {
+    ghost use Rattle.kc_booking.specs.Listed.{is_same_setup};
+    ghost use Rattle.kc_booking.specs.SetupEquality.{is_same_setup-laws};
+
+    ghost eq = { is_same_setup };
+
+    ghost laws = { is_same_setup-laws };
+
+    fn eq(&self, other: &Setup) -> bool {
+        (self.rule == other.rule
+            && (self.hash == other.hash && self.stripe_bits == other.stripe_bits))
+            && have_same_words(&self.only, &other.only)
+    }
+}
+
+impl Eq for Setup {
+    ghost use Rattle.kc_booking.specs.SetupEquality.{is_same_setup-IsEquivalence};
+
+    ghost laws = { is_same_setup-IsEquivalence };
+}
+
+// Whether two lists have the same words, or none is given.
+fn have_same_words(only: &Option<Arc<Only>>, other: &Option<Arc<Only>>) -> bool
+    ensures { result ≡ are_same_words (listed_words only.now) (listed_words other.now) }
+{
+    match (only, other) {
+        (None, None) => true,
+        (Some(list), Some(other)) => list.words() == other.words(),
+        _ => false,
     }
 }

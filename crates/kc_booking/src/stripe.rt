@@ -73,8 +73,9 @@ impl<C: Counts + Drop> Stripe<C> {
     {
         // what is known of the words and their keys
         setup.divides_words();
+        let setup = setup.clone()?;
         Ok(Stripe {
-            setup: *setup,
+            setup,
             number,
             counted: CountedTable::new(alloc, table)?,
             journal: Vec::new(alloc),

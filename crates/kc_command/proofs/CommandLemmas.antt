@@ -20,7 +20,8 @@ use Rattle.clap.specs.Kinds.{Kinds, check_kinds, or_else}
 use Rattle.clap.specs.Faults.{check_fault, defaults_fault, entered_fault, fault_of, other_fault, settle_fault}
 use Rattle.clap.specs.Faults.{turn_fault, walk_fault}
 use Rattle.std.specs.List.{AllByRecursion}
-use Rattle.kc_command.specs.Command.{IsCommand, count_shape, dump_shape, histo_shape, kcount_app, query_shape, stats_shape}
+use Rattle.kc_command.specs.Command.{IsCommand, count_shape, dump_shape, histo_shape, kcount_app, merge_shape}
+use Rattle.kc_command.specs.Command.{query_shape, stats_shape}
 
 -- a command with one argument more
 pub added : {old new : Command} {argument : Arg} {app : App} {rule : Rule} → AddsArg old argument new
@@ -185,6 +186,7 @@ commands =
     ∷ of_kcount histo_shape
     ∷ of_kcount stats_shape
     ∷ of_kcount query_shape
+    ∷ of_kcount merge_shape
     ∷ []
 
 abbrev helping : Shape
@@ -193,7 +195,13 @@ helping = built_leaf help_shape
 are_commands : AllByRecursion (λ (s : Shape). IsCommand s.name) commands
 are_commands = (
   inl refl,
-  (inr (inl refl), (inr (inr (inl refl)), (inr (inr (inr (inl refl))), (inr (inr (inr (inr refl))), tt)))),
+  (
+    inr (inl refl),
+    (
+      inr (inr (inl refl)),
+      (inr (inr (inr (inl refl))), (inr (inr (inr (inr (inl refl)))), (inr (inr (inr (inr (inr refl)))), tt))),
+    ),
+  ),
 )
 
 -- the name of a command, and what was found of its options

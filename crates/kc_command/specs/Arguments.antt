@@ -82,6 +82,18 @@ upper_of rows = or_default (2 ^ 62) (number_between 0 (2 ^ 62)) (first_of (codes
 abbrev pub high_of : List Row → Option ℕ
 high_of rows = or_default 10000 (number_between 1 10000000) (first_of (codes "high") rows)
 
+-- `--only`, the name of the file whose words alone are counted, which may be any text; none where all count
+abbrev pub only_of : List Row → Option Text
+only_of rows = first_of (codes "only") rows
+
+-- FIRST and SECOND, the names of the tables of a merge, which may be any texts
+
+abbrev pub first_table_of : List Row → Option Text
+first_table_of rows = first_of (codes "first") rows
+
+abbrev pub second_table_of : List Row → Option Text
+second_table_of rows = first_of (codes "second") rows
+
 -- the value is the one that is asked for; or where it is outside its limits, its option is refused
 abbrev pub IsValueOf : {X : Type 0} → OptionName → Option X → Result X OptionName → Type 0
 IsValueOf name asked (Ok value) = asked ≡ Some value

@@ -86,6 +86,10 @@ upper_count_option = value_option (codes "upper-count")
 abbrev pub high_option : Rule
 high_option = value_option (codes "high")
 
+-- `--only`, the file whose words alone are counted
+abbrev pub only_option : Rule
+only_option = value_option (codes "only")
+
 -- FILE, any number of them
 abbrev pub files_argument : Rule
 files_argument = several_arguments (codes "file")
@@ -97,6 +101,14 @@ file_argument = one_argument (codes "file")
 -- TABLE, a file that has to be given
 abbrev pub table_argument : Rule
 table_argument = required file_argument
+
+-- FIRST, a file that has to be given
+abbrev pub first_argument : Rule
+first_argument = required (one_argument (codes "first"))
+
+-- SECOND, a file that has to be given
+abbrev pub second_argument : Rule
+second_argument = required (one_argument (codes "second"))
 
 -- WORD, at least one
 abbrev pub words_argument : Rule
@@ -119,6 +131,7 @@ count_shape = record (new_shape (codes "count")) {
       ∷ lower_count_option
       ∷ upper_count_option
       ∷ high_option
+      ∷ only_option
       ∷ files_argument
       ∷ [];
 }
@@ -147,11 +160,15 @@ stats_shape = record (new_shape (codes "stats")) { rules = output_option ∷ fil
 abbrev pub query_shape : Shape
 query_shape = record (new_shape (codes "query")) { rules = output_option ∷ table_argument ∷ words_argument ∷ [] }
 
+-- `kcount merge`, which takes exactly two files
+abbrev pub merge_shape : Shape
+merge_shape = record (new_shape (codes "merge")) { rules = output_option ∷ first_argument ∷ second_argument ∷ [] }
+
 -- `kcount`, which has a version and wants a command
 abbrev pub kcount_app : App
 kcount_app = record {
   top = record (new_shape (codes "kcount")) { has_version = true; subcommand_required = true; is_leaf = false };
-  subs = count_shape ∷ dump_shape ∷ histo_shape ∷ stats_shape ∷ query_shape ∷ [];
+  subs = count_shape ∷ dump_shape ∷ histo_shape ∷ stats_shape ∷ query_shape ∷ merge_shape ∷ [];
 }
 
 -- the name of a command
@@ -161,3 +178,4 @@ IsCommand name = (name ≡ codes "count")
     ⊎ (name ≡ codes "histo")
     ⊎ (name ≡ codes "stats")
     ⊎ (name ≡ codes "query")
+    ⊎ (name ≡ codes "merge")

@@ -7,6 +7,7 @@ use Rattle.clap.specs.declared.error.kind.ErrorKind.TheVariants.{
   DisplayHelp,
   DisplayVersion,
   InvalidSubcommand,
+  InvalidValue,
   MissingRequiredArgument,
   MissingSubcommand,
   UnknownArgument,
@@ -16,11 +17,14 @@ use Rattle.kc_command.specs.Arguments.{
   first_bad,
   first_bad_of_dump,
   first_bad_of_histo,
+  first_table_of,
   floor_of,
   high_of,
   lower_of,
   mer_len_of,
+  only_of,
   print_of,
+  second_table_of,
   size_of,
   stripes_of,
   threads_of,
@@ -84,6 +88,29 @@ pub record CountsFiles : Type 0 where
   pub taken : fault_of kcount_app two_files ≡ []
   pub files : all_of (codes "file") (options_of two_files) ≡ Some (codes "a.fa" ∷ codes "b.fa" ∷ [])
   pub output : first_of (codes "output") (options_of two_files) ≡ Some (codes "out")
+
+-- `kcount count -m 3 --only x y`
+abbrev pub listed_words : List Text
+listed_words = count_with (codes "-m" ∷ codes "3" ∷ codes "--only" ∷ codes "x" ∷ codes "y" ∷ [])
+
+-- `kcount count -m 3 --only`, with this text behind it
+abbrev pub only_with : Text → List Text
+only_with name = count_with (codes "-m" ∷ codes "3" ∷ codes "--only" ∷ name ∷ [])
+
+-- counts the words of one file that are in another; the name of that one may be any text, and it is given once
+pub record CountsListedWords : Type 0 where
+  pub taken : fault_of kcount_app listed_words ≡ []
+  pub good : first_bad (options_of listed_words) ≡ None
+  pub only : only_of (options_of listed_words) ≡ Some (codes "x")
+  pub files : all_of (codes "file") (options_of listed_words) ≡ Some (codes "y" ∷ [])
+  pub absent : only_of (options_of two_files) ≡ None
+  pub empty_taken : fault_of kcount_app (only_with []) ≡ []
+  pub empty : only_of (options_of (only_with [])) ≡ Some []
+  pub empty_good : first_bad (options_of (only_with [])) ≡ None
+  pub attached : only_of (options_of (count_with (codes "--only=a b" ∷ []))) ≡ Some (codes "a b")
+  pub no_name : fault_of kcount_app (count_with (codes "--only" ∷ [])) ≡ InvalidValue ∷ []
+  pub twice : fault_of kcount_app (count_with (codes "--only=x" ∷ codes "--only=x" ∷ [])) ≡ ArgumentConflict ∷ []
+  pub of_dump : fault_of kcount_app (dump_with (codes "--only" ∷ codes "x" ∷ [])) ≡ UnknownArgument ∷ []
 
 -- numbers with a suffix: what they are where they are 1 to 2^40, and else none
 pub record ScalesNumbers : Type 0 where
@@ -156,6 +183,38 @@ pub record ReadsTables : Type 0 where
   pub no_word : fault_of kcount_app (query_with (codes "t.kct" ∷ [])) ≡ MissingRequiredArgument ∷ []
   pub words : all_of (codes "word") (options_of (query_with (codes "t.kct" ∷ codes "CGT" ∷ codes "aaa" ∷ [])))
       ≡ Some (codes "CGT" ∷ codes "aaa" ∷ [])
+
+-- `kcount merge`, with these arguments behind it
+abbrev pub merge_with : List Text → List Text
+merge_with options = codes "kcount" ∷ codes "merge" ∷ options
+
+-- `kcount merge a b`
+abbrev pub two_tables : List Text
+two_tables = merge_with (codes "a" ∷ codes "b" ∷ [])
+
+-- `kcount merge a -o out b`
+abbrev pub two_into_one : List Text
+two_into_one = merge_with (codes "a" ∷ codes "-o" ∷ codes "out" ∷ codes "b" ∷ [])
+
+-- adds two tables, neither fewer nor more
+pub record MergesTables : Type 0 where
+  pub taken : fault_of kcount_app two_tables ≡ []
+  pub command : option_map (λ met. met.0) (subcommand_of kcount_app two_tables) ≡ Some (codes "merge")
+  pub first : first_table_of (options_of two_tables) ≡ Some (codes "a")
+  pub second : second_table_of (options_of two_tables) ≡ Some (codes "b")
+  pub no_output : first_of (codes "output") (options_of two_tables) ≡ None
+  pub output_taken : fault_of kcount_app two_into_one ≡ []
+  pub output : first_of (codes "output") (options_of two_into_one) ≡ Some (codes "out")
+  pub first_before : first_table_of (options_of two_into_one) ≡ Some (codes "a")
+  pub second_behind : second_table_of (options_of two_into_one) ≡ Some (codes "b")
+  pub long_output : first_of (codes "output") (options_of (merge_with (codes "--output=out" ∷ [])))
+      ≡ Some (codes "out")
+  pub no_table : fault_of kcount_app (merge_with []) ≡ MissingRequiredArgument ∷ []
+  pub one_table : fault_of kcount_app (merge_with (codes "a" ∷ [])) ≡ MissingRequiredArgument ∷ []
+  pub three_tables : fault_of kcount_app (merge_with (codes "a" ∷ codes "b" ∷ codes "c" ∷ []))
+      ≡ UnknownArgument ∷ []
+  pub other_option : fault_of kcount_app (merge_with (codes "-c" ∷ codes "a" ∷ codes "b" ∷ []))
+      ≡ UnknownArgument ∷ []
 
 -- these are no command lines, or ask for help
 pub record Refuses : Type 0 where

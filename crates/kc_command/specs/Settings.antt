@@ -1,6 +1,6 @@
 -- How to count, and what to write: source, the table of options in the README.
 use Rattle.std.specs.Prelude.{◌≡◌, ℕ, ◌^◌, ◌≤◌, Bool, false, min}
-use Rattle.kc_kmer.specs.Rule.{CountingRule}
+use Rattle.kc_kmer.specs.Rule.{CountingRule, unlisted_rule}
 use Rattle.kc_report.specs.declared.dump.Dump.{Dump}
 use Rattle.kc_command.specs.declared.settings.Print.{Print}
 use Rattle.kc_command.specs.declared.settings.Print.TheVariants.{Table}
@@ -67,4 +67,4 @@ defaults k = record {
 
 -- by which rule the words count
 abbrev pub rule_of : Settings → CountingRule
-rule_of settings = record { k = settings.k; both = settings.both; floor = settings.floor }
+rule_of settings = unlisted_rule settings.k settings.both settings.floor

@@ -6,13 +6,14 @@ ghost use Rattle.kc_command.specs.Command.{
   dump_shape,
   histo_shape,
   kcount_app,
+  merge_shape,
   query_shape,
   stats_shape,
 };
 
 use crate::command_arguments::{
-    batch, canonical, column, file, files, high, lower_count, mer_len, min_qual_char, output,
-    print, size, stripes, tab, table, threads, upper_count, with_short, words,
+    batch, canonical, column, file, files, first, high, lower_count, mer_len, min_qual_char, only,
+    output, print, second, size, stripes, tab, table, threads, upper_count, with_short, words,
 };
 use crate::help;
 use clap::Command;
@@ -33,6 +34,9 @@ pub const STATS: &str = "stats";
 /// The name of the command that looks words up in a table.
 pub const QUERY: &str = "query";
 
+/// The name of the command that writes the sum of two tables.
+pub const MERGE: &str = "merge";
+
 /// The command line of `kcount`. Options take texts, which are judged when the command line has been read.
 pub fn command<'a>(alloc: Global) -> Result<Command<'a>, AllocError>
     ensures { IfOk result (λ command. app_of command ≡ kcount_app) }
@@ -44,7 +48,8 @@ pub fn command<'a>(alloc: Global) -> Result<Command<'a>, AllocError>
         .subcommand(dump_command(alloc)?)?
         .subcommand(histo_command(alloc)?)?
         .subcommand(stats_command(alloc)?)?
-        .subcommand(query_command(alloc)?)
+        .subcommand(query_command(alloc)?)?
+        .subcommand(merge_command(alloc)?)
 }
 
 // The command that counts.
@@ -66,6 +71,7 @@ fn count_command<'a>(alloc: Global) -> Result<Command<'a>, AllocError>
         .arg(lower_count(alloc))?
         .arg(upper_count(alloc))?
         .arg(high(alloc))?
+        .arg(only(alloc))?
         .arg(files(alloc))
 }
 
@@ -109,6 +115,16 @@ fn query_command<'a>(alloc: Global) -> Result<Command<'a>, AllocError>
         .arg(output(alloc))?
         .arg(table(alloc))?
         .arg(words(alloc))
+}
+
+// The command that writes the sum of two tables.
+fn merge_command<'a>(alloc: Global) -> Result<Command<'a>, AllocError>
+    ensures { IfOk result (λ command. shape_of command ≡ merge_shape) }
+{
+    described(alloc, MERGE, help::MERGE, help::AFTER_MERGE)
+        .arg(output(alloc))?
+        .arg(first(alloc))?
+        .arg(second(alloc))
 }
 
 // A command without arguments, with the text that stands at the top of its help and the one at the end.

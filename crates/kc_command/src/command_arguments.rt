@@ -7,15 +7,18 @@ ghost use Rattle.kc_command.specs.Command.{
   column_option,
   file_argument,
   files_argument,
+  first_argument,
   flag_option,
   high_option,
   lower_count_option,
   mer_len_option,
   min_qual_char_option,
   one_argument,
+  only_option,
   output_option,
   print_option,
   required,
+  second_argument,
   several_arguments,
   size_option,
   stripes_option,
@@ -161,6 +164,15 @@ pub(crate) fn high<'a>(alloc: Global) -> Arg<'a>
     value_option(alloc, "high", "N", help)
 }
 
+/// `--only`
+pub(crate) fn only<'a>(alloc: Global) -> Arg<'a>
+    ensures rule { rule_of result ≡ only_option }
+    ensures own { result.global ≡ false }
+{
+    let help = "Count only k-mers that are in this FASTA or FASTQ file [default: all k-mers]";
+    value_option(alloc, "only", "FILE", help)
+}
+
 /// FILE, any number of them
 pub(crate) fn files<'a>(alloc: Global) -> Arg<'a>
     ensures rule { rule_of result ≡ files_argument }
@@ -186,6 +198,24 @@ pub(crate) fn table<'a>(alloc: Global) -> Arg<'a>
 {
     let help = "Table that `kcount count` wrote";
     required(one_argument(alloc, "file", "TABLE", help))
+}
+
+/// FIRST, a file that has to be given
+pub(crate) fn first<'a>(alloc: Global) -> Arg<'a>
+    ensures rule { rule_of result ≡ first_argument }
+    ensures own { result.global ≡ false }
+{
+    let help = "Table that `kcount count` or `kcount merge` wrote";
+    required(one_argument(alloc, "first", "FIRST", help))
+}
+
+/// SECOND, a file that has to be given
+pub(crate) fn second<'a>(alloc: Global) -> Arg<'a>
+    ensures rule { rule_of result ≡ second_argument }
+    ensures own { result.global ≡ false }
+{
+    let help = "Another such table";
+    required(one_argument(alloc, "second", "SECOND", help))
 }
 
 /// WORD, at least one

@@ -2,8 +2,10 @@
 ghost use Rattle.kc_command.specs.Laws.{
   CountsBothStrands,
   CountsFiles,
+  CountsListedWords,
   JudgesInOrder,
   KeepsLimits,
+  MergesTables,
   ReadsTables,
   Refuses,
   ScalesNumbers,
@@ -13,7 +15,9 @@ ghost use Rattle.kc_command.specs.Laws.{
 pub fn command_lines()
     ensures counts { CountsBothStrands }
     ensures files { CountsFiles }
+    ensures listed { CountsListedWords }
     ensures tables { ReadsTables }
+    ensures merges { MergesTables }
     ensures refuses { Refuses }
 {}
 

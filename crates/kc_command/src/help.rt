@@ -13,7 +13,8 @@ Examples:
   kcount count -m 21 -C -o reads.kct reads_1.fq reads_2.fq
   zcat reads.fq.gz | kcount count -m 21 -C -o reads.kct
   kcount histo reads.kct
-  kcount query reads.kct ACGTACGTACGTACGTACGTA";
+  kcount query reads.kct ACGTACGTACGTACGTACGTA
+  kcount merge -o both.kct reads.kct more_reads.kct";
 
 /// At the top of the help of `count`.
 pub(crate) const COUNT: &str = "\
@@ -25,12 +26,16 @@ Each file is FASTA or Sanger FASTQ, as its first line says; lines may be wrapped
 ACGT and acgt, and bases below --min-qual-char, break k-mers. K-mers are written in rising order, and
 none before all files have been read and counted. Compressed files are read through zcat.
 
+The k-mers of the --only file are those of its sequences, by the same --mer-len, --canonical and
+--min-qual-char as those of the other files.
+
 Exit status: 0; 1 for a fault, whose line goes to standard error; 2 for a command line that is refused.
 
 Examples:
   kcount count -m 21 -C -t 4 -s 100M -o reads.kct reads_1.fq reads_2.fq
   zcat reads.fq.gz | kcount count -m 21 -C -o reads.kct
-  kcount count -m 4 --print dump --column < reads.fa";
+  kcount count -m 4 --print dump --column < reads.fa
+  kcount count -m 21 -C --only genome.fa -o reads.kct reads.fq";
 
 /// At the top of the help of `dump`.
 pub(crate) const DUMP: &str = "\
@@ -91,3 +96,20 @@ Exit status: 0; 1 for a fault, whose line goes to standard error; 2 for a comman
 Examples:
   zcat reads.fq.gz | kcount count -m 5 -C -o reads.kct
   kcount query reads.kct ACGTA GATTA";
+
+/// At the top of the help of `merge`.
+pub(crate) const MERGE: &str = "\
+Writes the sum of two tables.";
+
+/// At the end of the help of `merge`.
+pub(crate) const AFTER_MERGE: &str = "\
+The sum is a table with each k-mer of FIRST or SECOND, and its counts in both added. Both have to be
+counted with the same --mer-len, --canonical and --min-qual-char, and without --only. A table that begins
+with `KCT 1` does not tell the last two, so they are not compared, and the sum does not tell them.
+
+Exit status: 0; 1 for a fault, whose line goes to standard error; 2 for a command line that is refused.
+
+Examples:
+  kcount count -m 21 -C -o first.kct reads_1.fq
+  kcount count -m 21 -C -o second.kct reads_2.fq
+  kcount merge -o both.kct first.kct second.kct";

@@ -6,6 +6,8 @@ mod counting_tables;
 #[cfg(test)]
 mod hashes;
 #[cfg(test)]
+mod merged_tables;
+#[cfg(test)]
 mod refusing_streams;
 #[cfg(test)]
 mod report_rows;

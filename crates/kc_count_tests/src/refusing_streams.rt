@@ -47,7 +47,8 @@ fn read_slowly(alloc: Global, text: &[u8], reads: usize, limit: u64) -> Result<T
         return Err(ReportFault::TableTooLong);
     }
     let slow = ByteByByte { left: text, reads };
-    read_table(alloc, &mut FromRead::new(slow), limit)
+    let (tally, _) = read_table(alloc, &mut FromRead::new(slow), limit)?;
+    Ok(tally)
 }
 
 // A writer that has room for so many bytes, takes at most three at a time and then fails. Its vector has that room.
@@ -93,7 +94,7 @@ fn write_report(
     asked: &[String],
 ) -> Result<(), ReportFault> {
     match report {
-        Report::Table => write_table(writer, tally),
+        Report::Table => write_table(writer, tally, None),
         Report::Dump => write_dump(writer, tally, &Dump::in_lines()),
         Report::Histogram => write_histo(alloc, writer, tally, 1),
         Report::Statistics => write_stats(writer, tally),
@@ -136,7 +137,7 @@ struct Writing<'a> {
 fn assert_written<H: Abort + AllocGlobal>(rt: &H, writing: &Writing<'_>) -> Result<(), Fail> {
     let alloc = rt.alloc();
     let (report, room) = (writing.report, writing.room);
-    let tally = read_table(alloc, &mut FromBytes::new(TABLE), 100)?;
+    let (tally, _) = read_table(alloc, &mut FromBytes::new(TABLE), 100)?;
     let asked = strings_of(alloc, &["CGT", "aaa"])?;
     let mut sink = narrow_writer(alloc, room, writing.flushes)?;
     let outcome = write_report(alloc, &mut sink, &tally, report, &asked);
@@ -243,7 +244,7 @@ fn every_failed_read(rt: HostRuntime) -> Result<(), ReportFault> {
 // The tally of a table text. Asserts that nothing but want of memory refuses it.
 fn read_if_memory<H: Abort + AllocGlobal>(rt: &H, text: &[u8]) -> Result<Tally, AllocError> {
     match read_table(rt.alloc(), &mut FromBytes::new(text), 100) {
-        Ok(tally) => Ok(tally),
+        Ok((tally, _)) => Ok(tally),
         Err(fault) => {
             assert_eq!(rt; fault, ReportFault::Memory);
             Err(AllocError)

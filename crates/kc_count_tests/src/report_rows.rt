@@ -105,15 +105,17 @@ fn assert_refused<H: Abort + AllocGlobal>(rt: &H, text: &[u8], limit: u64, want:
     assert_eq!(rt; outcome.err(), Some(want));
 }
 
-// Asserts that what is written of the tally that a text gives is the text.
+// Asserts that what is written of the tally and the origin that a text gives is the text.
 fn assert_copied<H: Abort + AllocGlobal>(rt: &H, text: &[u8]) -> Result<(), ReportFault> {
     let alloc = rt.alloc();
-    let tally = read_table(alloc, &mut FromBytes::new(text), 100)?;
+    let (tally, origin) = read_table(alloc, &mut FromBytes::new(text), 100)?;
     let mut sink = ToVec::new(Vec::new(alloc));
-    write_table(&mut sink, &tally)?;
+    write_table(&mut sink, &tally, origin.as_ref())?;
     assert_eq!(rt; sink.as_slice(), text);
     Ok(())
 }
+
+const ORIGIN: &[u8] = b"KCT 2 3 c a 33 1\nACG 2\nGTA 1\nEND 2 3\n";
 
 const TABLES: &[&[u8]] = &[
     TABLE,
@@ -121,6 +123,9 @@ const TABLES: &[&[u8]] = &[
     b"KCT 1 1 c\nA 3\nC 2\nEND 2 5\n",
     b"KCT 1 9 s\nACGTTGCAC 7\nTGCAACGTA 12\nEND 2 19\n",
     b"KCT 1 31 s\nTTTTTTTTTTTTTTTTTTTTTTTTTTTTTTT 4611686018427387904\nEND 1 4611686018427387904\n",
+    ORIGIN,
+    b"KCT 2 31 s o 126 4611686018427387904\nEND 0 0\n",
+    b"KCT 2 1 s a 99 0\nEND 0 0\n",
 ];
 
 #[test]
@@ -164,6 +169,43 @@ const NO_TABLES: &[(&[u8], ReportFault)] = &[
     ),
 ];
 
+// Lines that are no headers.
+const NO_HEADERS: &[&[u8]] = &[
+    b"KCT 2 3 s a 33 01\n",
+    b"KCT 2 3 s a 033 1\n",
+    b"KCT 2 03 s a 33 1\n",
+    b"KCT 2 3 s a 33 +1\n",
+    b"KCT 2 3 s a +33 1\n",
+    b"KCT 2 3 s a 33  1\n",
+    b"KCT 2 3 s a 33 1 \n",
+    b"KCT 2 3 s a 33 1\r\n",
+    b"KCT 2 3 s a 33\n",
+    b"KCT 2 3 s a 33 \n",
+    b"KCT 2 3 s a 1\n",
+    b"KCT 2 3 s 33 1\n",
+    b"KCT 2 3 s\n",
+    b"KCT 2 3 a 33 1\n",
+    b"KCT 2 3 s a 127 1\n",
+    b"KCT 2 3 s a 32 1\n",
+    b"KCT 2 3 s a 289 1\n",
+    b"KCT 2 3 s a 33 4611686018427387905\n",
+    b"KCT 2 3 s a 33 18446744073709551617\n",
+    b"KCT 2 0 s a 33 0\n",
+    b"KCT 2 32 s a 33 0\n",
+    b"KCT 2 3 s x 33 1\n",
+    b"KCT 2 3 x a 33 1\n",
+    b"KCT 1 3 s a 33 1\n",
+    b"KCT 3 3 s\n",
+    b"KCT 3 3 s a 33 1\n",
+];
+
+#[test]
+fn headers_that_are_none(rt: HostRuntime) {
+    for line in NO_HEADERS {
+        assert_refused(&rt, *line, 100, ReportFault::BadHeader);
+    }
+}
+
 #[test]
 fn faults_of_tables(rt: HostRuntime) {
     for (text, want) in NO_TABLES {
@@ -171,16 +213,22 @@ fn faults_of_tables(rt: HostRuntime) {
     }
 }
 
-#[test]
-fn fronts_of_a_table(rt: HostRuntime) {
-    for count in 0..TABLE.len() {
-        let want = if count < 10 {
+// Asserts that each front of a table is refused, for its header where that is not whole.
+fn assert_fronts_refused<H: Abort + AllocGlobal>(rt: &H, table: &[u8], header: usize) {
+    for count in 0..table.len() {
+        let want = if count < header {
             ReportFault::BadHeader
         } else {
             ReportFault::BadEnd
         };
-        assert_refused(&rt, &TABLE[..count], 100, want);
+        assert_refused(rt, &table[..count], 100, want);
     }
+}
+
+#[test]
+fn fronts_of_a_table(rt: HostRuntime) {
+    assert_fronts_refused(&rt, TABLE, 10);
+    assert_fronts_refused(&rt, ORIGIN, 17);
     let more = b"KCT 1 3 c\nACG 2\nGTA 1\nEND 2 3\n ";
     assert_refused(&rt, more, 100, ReportFault::BadEnd);
     assert_refused(&rt, TABLE, 29, ReportFault::TableTooLong);
@@ -203,7 +251,7 @@ fn assert_answer<H: Abort + AllocGlobal>(
     text: &[u8],
 ) -> Result<(), Fail> {
     let alloc = rt.alloc();
-    let tally = read_table(alloc, &mut FromBytes::new(TABLE), 100)?;
+    let (tally, _) = read_table(alloc, &mut FromBytes::new(TABLE), 100)?;
     let asked = strings_of(alloc, words)?;
     let mut sink = ToVec::new(Vec::new(alloc));
     assert_eq!(rt; query(&mut sink, &tally, &asked), outcome);

@@ -284,6 +284,16 @@ fn assert_parted<H: Abort>(rt: &H, tally: &Tally) {
     }
 }
 
+// The rows of the parted tally, each counted twice.
+const DOUBLED: &[(u64, u64)] = &[(1, 4), (6, 2), (11, 140_000), (15, 2)];
+
+// The sum of tallies, of which a caller knows that they match.
+fn sum_of<H: Abort + AllocGlobal>(rt: &H, one: &Tally, other: &Tally) -> Result<Tally, AllocError> {
+    assert!(rt; one.k().get() == other.k().get() && one.both() == other.both());
+    assert!(rt; one.total() + other.total() <= 1 << 62);
+    Tally::sum(rt.alloc(), one, other)
+}
+
 // Ends of parts.
 const PARTINGS: &[&[usize]] = &[
     &[],
@@ -301,6 +311,18 @@ fn tallies_of_parts(rt: HostRuntime) -> Result<(), Fail> {
     for ends in PARTINGS {
         let tally = parted_tally(rt.alloc(), k, *ends)?;
         assert_parted(&rt, &tally);
+    }
+    Ok(())
+}
+
+#[test]
+fn sums_of_parts(rt: HostRuntime) -> Result<(), Fail> {
+    let k = K::new(2).ok_or("no length of a word")?;
+    let one = parted_tally(rt.alloc(), k, &[2])?;
+    for ends in PARTINGS {
+        let other = parted_tally(rt.alloc(), k, *ends)?;
+        let sum = sum_of(&rt, &one, &other)?;
+        assert_tally_rows(&rt, &sum, DOUBLED);
     }
     Ok(())
 }

@@ -4,4 +4,5 @@ pub mod Packing
 pub mod Letters
 pub mod Turning
 pub mod WordCounts
+pub mod ListedLemmas
 pub mod Looking

@@ -14,7 +14,7 @@ use Rattle.kc_fastx.specs.Reads.{Read}
 use Rattle.kc_kmer.specs.Letter.{is_base, are_bases, code}
 use Rattle.kc_kmer.specs.Word.{text, form, canonical}
 use Rattle.kc_kmer.specs.Rule.{CountingRule}
-use Rattle.kc_kmer.specs.Occurrences.{is_usable, passes_floor, word_at, form_at, position_count, counts_under, occurrences_in, occurrences}
+use Rattle.kc_kmer.specs.Occurrences.{is_usable, passes_floor, word_at, form_at, counted_at, position_count, counts_under, occurrences_in, occurrences}
 use Rattle.kc_kmer.proofs.WordLemmas.{code-lt, same_from_text}
 use Rattle.kc_kmer.proofs.WordCounts.{bases-usable}
 
@@ -163,7 +163,7 @@ word-packed rule read p k m held same e = held.counted ∙ ap (λ w. Some (form 
 
 -- the word that is found is the one that is looked for where their numbers are one
 pub stands-some : (rule : CountingRule) (read : Read) (p found n : ℕ) → n < 4 ^ rule.k → found < 4 ^ rule.k
-    → form_at rule read p ≡ Some (text rule.k found) → eqb found n ≡ counts_under rule read (text rule.k n) p
+    → counted_at rule read p ≡ Some (text rule.k found) → eqb found n ≡ counts_under rule read (text rule.k n) p
 stands-some rule read p found n h below here =
     let decides = bytes_eq-Decides (text rule.k found) (text rule.k n) in
     ⊎_elim
@@ -173,7 +173,7 @@ stands-some rule read p found n h below here =
     (cases_eq found n)
     ∙ sym (ap (λ o. option_map_or (λ word. bytes_eq word (text rule.k n)) o false) here)
 
-pub stands-none : (rule : CountingRule) (read : Read) (p : ℕ) (word : List ℕ) → form_at rule read p ≡ None → false ≡ counts_under rule read word p
+pub stands-none : (rule : CountingRule) (read : Read) (p : ℕ) (word : List ℕ) → counted_at rule read p ≡ None → false ≡ counts_under rule read word p
 stands-none rule read p word none = sym (ap (λ o. option_map_or (λ found. bytes_eq found word) o false) none)
 
 -- the count of a word over the positions before i

@@ -6,15 +6,15 @@ use Rattle.std.proofs.lemmas.List.Sums.{sum_by-cons, sum_by-append}
 use Rattle.std.proofs.lemmas.List.FromFn.{length-range_with_len}
 use Rattle.std.proofs.lemmas.Slice.Eq.{bytes_eq-Decides}
 use Rattle.std.specs.List.{list_all, range_with_len, cons_option}
-use Rattle.std.specs.Option.{option_map_or}
+use Rattle.std.specs.Option.{option_map_or, option_and_then}
 use Rattle.std.specs.Str.{bytes_eq}
 use Rattle.std.specs.Char.{to_ascii_uppercase}
 use Rattle.kc_lemmas.proofs.Lists.{length-filter_map, All-filter_map, All-flat_map}
 use Rattle.kc_fastx.specs.Reads.{Read}
 use Rattle.kc_kmer.specs.Letter.{is_base, are_bases}
 use Rattle.kc_kmer.specs.Word.{number, text, form}
-use Rattle.kc_kmer.specs.Rule.{CountingRule}
-use Rattle.kc_kmer.specs.Occurrences.{is_usable, passes_floor, word_at, form_at, positions, position_count, occurrences_in, occurrences, words_in, words_of}
+use Rattle.kc_kmer.specs.Rule.{CountingRule, is_listed}
+use Rattle.kc_kmer.specs.Occurrences.{is_usable, passes_floor, word_at, form_at, where_listed, counted_at, positions, position_count, occurrences_in, occurrences, words_in, words_of}
 use Rattle.kc_kmer.proofs.WordLemmas.{number-lt, text-number, number-text, length-form, are_bases-form, canonical-twice}
 
 -- ---- a word at a position is a word of k bases
@@ -71,8 +71,21 @@ form_at-IsForm rule read p = by (word_at rule read p) (word_at-IsWord rule read 
       kept = form-twice rule.both word is.bases;
     }
 
-form_at-IsWord : (rule : CountingRule) (read : Read) (p : ℕ) → MatchOption (form_at rule read p) (Unit {0}) (IsWord rule.k)
-form_at-IsWord rule read p = by (form_at rule read p) (form_at-IsForm rule read p)
+-- a position counts under a word of k bases in its form, if it does
+pub counted_at-IsForm : (rule : CountingRule) (read : Read) (p : ℕ) → MatchOption (counted_at rule read p) (Unit {0}) (IsForm rule)
+unfolding counted_at
+counted_at-IsForm rule read p = by (form_at rule read p) (form_at-IsForm rule read p)
+  where
+    pick : (b : Bool) (word : List ℕ) → IsForm rule word → MatchOption (cond b (Some word) None) (Unit {0}) (IsForm rule)
+    pick true word form = form
+    pick false word form = tt
+
+    by : (o : Option (List ℕ)) → MatchOption o (Unit {0}) (IsForm rule) → MatchOption (option_and_then (where_listed rule.only) o) (Unit {0}) (IsForm rule)
+    by None form = tt
+    by (Some word) form = pick (is_listed rule.only (number word)) word form
+
+counted_at-IsWord : (rule : CountingRule) (read : Read) (p : ℕ) → MatchOption (counted_at rule read p) (Unit {0}) (IsWord rule.k)
+counted_at-IsWord rule read p = by (counted_at rule read p) (counted_at-IsForm rule read p)
   where
     by : (o : Option (List ℕ)) → MatchOption o (Unit {0}) (IsForm rule) → MatchOption o (Unit {0}) (IsWord rule.k)
     by None form = tt
@@ -84,8 +97,8 @@ form_at-IsWord rule read p = by (form_at rule read p) (form_at-IsForm rule read 
 all-in : (rule : CountingRule) (P : ℕ → Type 0) → ((word : List ℕ) → IsForm rule word → P (number word)) → (read : Read) → All P (words_in rule read)
 unfolding words_in
 all-in rule P holds read =
-    All-filter_map P (λ p. option_map number (form_at rule read p)) (positions rule read) (λ i d within.
-    let p : ℕ = get_or (positions rule read) i d in by (form_at rule read p) (form_at-IsForm rule read p))
+    All-filter_map P (λ p. option_map number (counted_at rule read p)) (positions rule read) (λ i d within.
+    let p : ℕ = get_or (positions rule read) i d in by (counted_at rule read p) (counted_at-IsForm rule read p))
   where
     by : (o : Option (List ℕ)) → MatchOption o (Unit {0}) (IsForm rule) → MatchOption (option_map number o) (Unit {0}) P
     by None is = tt
@@ -140,7 +153,7 @@ times-filter_map k n f h each (p ∷ ps) =
 
 times-words_in : (rule : CountingRule) (read : Read) (n : ℕ) → n < 4 ^ rule.k → times n (words_in rule read) ≡ occurrences_in rule read (text rule.k n)
 unfolding words_in occurrences_in
-times-words_in rule read n h = times-filter_map rule.k n (form_at rule read) h (form_at-IsWord rule read) (positions rule read)
+times-words_in rule read n h = times-filter_map rule.k n (counted_at rule read) h (counted_at-IsWord rule read) (positions rule read)
 
 -- a word occurs as often as its number stands in the list of all words
 pub times-words_of : (rule : CountingRule) (reads : List Read) (n : ℕ) → n < 4 ^ rule.k → times n (words_of rule reads) ≡ occurrences rule reads (text rule.k n)
@@ -163,7 +176,7 @@ occurrences-append rule reads more word = sum_by-append (λ read. occurrences_in
 pub length-words_in : (rule : CountingRule) (read : Read) → 1 ≤ rule.k → length (words_in rule read) ≤ length read.bases
 unfolding words_in
 length-words_in rule read some =
-    let fewer = length-filter_map (λ p. option_map number (form_at rule read p)) (positions rule read) in
+    let fewer = length-filter_map (λ p. option_map number (counted_at rule read p)) (positions rule read) in
     let long = length-range_with_len 0 (position_count rule.k (length read.bases)) in
     omega (arith, fewer, long, some)
 

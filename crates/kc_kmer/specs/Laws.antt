@@ -1,12 +1,13 @@
 -- What holds of words and their occurrences, whatever the reads are.
-use Rattle.std.specs.Prelude.{◌≡◌, ℕ, ◌+◌, ◌^◌, ◌<◌, ◌≤◌, ◌==◌, List, ◌++◌, map, length, count_by, IsTrue, All}
+use Rattle.std.specs.Prelude.{◌≡◌, ℕ, ◌+◌, ◌^◌, ◌<◌, ◌≤◌, ◌==◌, List, ◌++◌, map, filter, length, count_by, IsTrue, All}
+use Rattle.std.specs.Prelude.{if◌then◌else◌}
 use Rattle.std.specs.Char.{to_ascii_uppercase}
 use Rattle.std.specs.Ordering.{nat_cmp}
 use Rattle.std.specs.Cmp.Lexicographic.{slice_cmp}
 use Rattle.kc_fastx.specs.Reads.{Read, base_count}
 use Rattle.kc_kmer.specs.Letter.{are_bases}
 use Rattle.kc_kmer.specs.Word.{number, text, reverse_complement, canonical, form}
-use Rattle.kc_kmer.specs.Rule.{CountingRule}
+use Rattle.kc_kmer.specs.Rule.{CountingRule, is_listed, without_list}
 use Rattle.kc_kmer.specs.Occurrences.{occurrences, words_of}
 
 -- a number below 4 ^ k is the number of its text
@@ -40,6 +41,16 @@ JoinedOccurrences = (rule : CountingRule) (reads more : List Read) (word : List 
 abbrev pub CountedWords : Type 0
 CountedWords = (rule : CountingRule) (reads : List Read) (n : ℕ) → n < 4 ^ rule.k
     → count_by (λ m. m == n) (words_of rule reads) ≡ occurrences rule reads (text rule.k n)
+
+-- a word that is listed occurs as often as it does without the list, and every other word 0 times
+abbrev pub ListedOccurrences : Type 0
+ListedOccurrences = (rule : CountingRule) (reads : List Read) (word : List ℕ) → occurrences rule reads word
+    ≡ (if is_listed rule.only (number word) then occurrences (without_list rule) reads word else 0)
+
+-- the words of the reads are the listed ones among those without the list, in order
+abbrev pub ListedWords : Type 0
+ListedWords = (rule : CountingRule) (reads : List Read)
+    → words_of rule reads ≡ filter (λ word. is_listed rule.only word) (words_of (without_list rule) reads)
 
 -- the number of each word of the reads is below 4 ^ k
 abbrev pub WordsAreBelow : Type 0

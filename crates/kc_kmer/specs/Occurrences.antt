@@ -3,13 +3,13 @@
 use Rattle.std.specs.Prelude.{ℕ, Bool, true, false, ◌+◌, ◌-◌, ◌&&◌, nat_le, List, length, map, take, drop}
 use Rattle.std.specs.Prelude.{slice_index, Option, None, Some, if◌then◌else◌, sum_by, count_by}
 use Rattle.std.specs.List.{list_all, filter_map, flat_map, range_with_len}
-use Rattle.std.specs.Option.{option_map, option_map_or}
+use Rattle.std.specs.Option.{option_map, option_map_or, option_and_then}
 use Rattle.std.specs.Char.{to_ascii_uppercase}
 use Rattle.std.specs.Str.{bytes_eq}
 use Rattle.kc_fastx.specs.Reads.{Read}
 use Rattle.kc_kmer.specs.Letter.{is_base}
 use Rattle.kc_kmer.specs.Word.{number, form}
-use Rattle.kc_kmer.specs.Rule.{CountingRule}
+use Rattle.kc_kmer.specs.Rule.{CountingRule, is_listed}
 
 -- whether the quality byte of base j, where there is one, is at least the floor
 abbrev pub passes_floor : ℕ → Option (List ℕ) → ℕ → Bool
@@ -27,9 +27,17 @@ word_at rule read p =
     then Some (map to_ascii_uppercase (take rule.k (drop p read.bases)))
     else None
 
--- the form under which position p counts
+-- the form of the word at position p
 unfoldable pub form_at : CountingRule → Read → ℕ → Option (List ℕ)
 form_at rule read p = option_map (form rule.both) (word_at rule read p)
+
+-- a word that is listed, and none in place of one that is not
+abbrev pub where_listed : Option (List ℕ) → List ℕ → Option (List ℕ)
+where_listed only word = if is_listed only (number word) then Some word else None
+
+-- the form under which position p counts, if it does: where a list is given, only its words count
+unfoldable pub counted_at : CountingRule → Read → ℕ → Option (List ℕ)
+counted_at rule read p = option_and_then (where_listed rule.only) (form_at rule read p)
 
 -- how many positions n bases have: the words of k bases begin at 0 to n - k
 abbrev pub position_count : ℕ → ℕ → ℕ
@@ -41,19 +49,19 @@ positions rule read = range_with_len 0 (position_count rule.k (length read.bases
 
 -- whether position p counts under this word
 abbrev pub counts_under : CountingRule → Read → List ℕ → ℕ → Bool
-counts_under rule read word p = option_map_or (λ found. bytes_eq found word) (form_at rule read p) false
+counts_under rule read word p = option_map_or (λ found. bytes_eq found word) (counted_at rule read p) false
 
--- at how many positions of a read the word stands, in the form under which it counts
+-- the occurrences of a word in a read: how many of its positions count under the word
 unfoldable pub occurrences_in : CountingRule → Read → List ℕ → ℕ
 occurrences_in rule read word = count_by (λ p. counts_under rule read word p) (positions rule read)
 
--- the occurrences of a word: at how many positions of all reads it stands
+-- the occurrences of a word: how many positions of all reads count under it
 unfoldable pub occurrences : CountingRule → List Read → List ℕ → ℕ
 occurrences rule reads word = sum_by (λ read. occurrences_in rule read word) reads
 
 -- the numbers of the words of a read, in the forms under which they count, in the order of their positions
 unfoldable pub words_in : CountingRule → Read → List ℕ
-words_in rule read = filter_map (λ p. option_map number (form_at rule read p)) (positions rule read)
+words_in rule read = filter_map (λ p. option_map number (counted_at rule read p)) (positions rule read)
 
 -- the same for all reads, one after another
 unfoldable pub words_of : CountingRule → List Read → List ℕ

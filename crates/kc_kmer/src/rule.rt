@@ -1,5 +1,6 @@
 //! The rule of a count: the length of its words, whether both strands count, and the floor of qualities.
-ghost use Rattle.std.specs.Prelude.{◌≡◌, ◌≤◌};
+ghost use Rattle.std.specs.Prelude.{◌≡◌, ◌≤◌, None};
+ghost use Rattle.kc_kmer.specs.Rule.{unlisted_rule};
 
 use crate::k::K;
 use std::marker::Model;
@@ -15,11 +16,11 @@ pub struct Rule {
 
 impl Model for Rule {
     ghost use Rattle.std.specs.Prelude.{◌≤◌};
-    ghost use Rattle.kc_kmer.specs.Rule.{CountingRule};
+    ghost use Rattle.kc_kmer.specs.Rule.{CountingRule, unlisted_rule};
 
     ghost Value = { CountingRule };
 
-    ghost view = { λ r. record { k = r.k; both = r.both; floor = r.floor } };
+    ghost view = { λ r. unlisted_rule r.k r.both r.floor };
 
     ghost invariant = { λ r. (33 ≤ r.floor) × (r.floor ≤ 126) };
 
@@ -32,9 +33,17 @@ impl Rule {
     pub fn new(k: K, both: bool, floor: u8) -> Rule
         requires low { 33 ≤ floor }
         requires high { floor ≤ 126 }
-        ensures { result ≡ record { k = k; both = both; floor = floor } }
+        ensures { result ≡ unlisted_rule k both floor }
     {
         Rule { k, both, floor }
+    }
+
+    /// A law: a rule has no list of words, so each word counts.
+    #[inline(always)]
+    pub fn has_no_list(self)
+        ensures { self.only ≡ None }
+    {
+        let _k = self.k;
     }
 
     /// The length of the words.

@@ -3,7 +3,7 @@
 ghost use Rattle.std.specs.Prelude.{◌≡◌, ◌+◌, ◌^◌, ◌<◌, ◌≤◌, length, sum_by, Some, None, SomeIff, IfOk, IfSome, IfNone};
 ghost use Rattle.kc_fastx.specs.Reads.{base_count};
 ghost use Rattle.kc_kmer.specs.Word.{text};
-ghost use Rattle.kc_kmer.specs.Occurrences.{is_usable, form_at, counts_under, occurrences_in, occurrences};
+ghost use Rattle.kc_kmer.specs.Occurrences.{is_usable, counted_at, counts_under, occurrences_in, occurrences};
 
 use crate::letter::{NO_BASE, code_of};
 use crate::rule::Rule;
@@ -65,10 +65,11 @@ fn stands_at(read: &SeqRead, rule: &Rule, word: Word, position: usize) -> bool
 
 // the form under which a position counts, if it does
 fn form_at(read: &SeqRead, rule: &Rule, position: usize) -> Option<Word>
-    ensures none { IfNone result (form_at rule.now read.now position ≡ None) }
-    ensures some { IfSome result (λ word. form_at rule.now read.now position ≡ Some (text rule.now.k word.0)) }
+    ensures none { IfNone result (counted_at rule.now read.now position ≡ None) }
+    ensures some { IfSome result (λ word. counted_at rule.now read.now position ≡ Some (text rule.now.k word.0)) }
     ensures below { IfSome result (λ word. word.0 < 4 ^ rule.now.k) }
 {
+    rule.has_no_list();
     let k = rule.k();
     let count = k.get() as usize;
     let bases = read.bases();

@@ -2,10 +2,11 @@
 ghost use Rattle.std.specs.Prelude.{◌≡◌, [], ◌∷◌, Some, None, true, false, codes};
 ghost use Rattle.kc_fastx.specs.Reads.{read_of};
 ghost use Rattle.kc_kmer.specs.Word.{number, text, reverse_complement, canonical};
-ghost use Rattle.kc_kmer.specs.Rule.{counting_all};
+ghost use Rattle.kc_kmer.specs.Rule.{counting_all, unlisted_rule, with_list};
 ghost use Rattle.kc_kmer.specs.Occurrences.{occurrences, words_in};
 ghost use Rattle.kc_kmer.specs.Laws.{NumberOfText, PackedText, OrderOfTexts, ReversedTwice, OneCanonicalForm};
-ghost use Rattle.kc_kmer.specs.Laws.{JoinedOccurrences, CountedWords, WordsAreBelow, WordsAreForms, WordsAreFew};
+ghost use Rattle.kc_kmer.specs.Laws.{JoinedOccurrences, CountedWords, ListedOccurrences, ListedWords};
+ghost use Rattle.kc_kmer.specs.Laws.{WordsAreBelow, WordsAreForms, WordsAreFew};
 
 /// A number below 4^k is the number of its text.
 pub fn number_of_text()
@@ -42,6 +43,12 @@ pub fn counted_words()
     ensures { CountedWords }
 {}
 
+/// Under a rule with a list of words each of them counts as without the list, and no other word does.
+pub fn listed_words()
+    ensures occurrences { ListedOccurrences }
+    ensures words { ListedWords }
+{}
+
 /// The words of reads are below 4^k and in the forms under which they count, and at most as many as the bases.
 pub fn words_of_reads()
     ensures below { WordsAreBelow }
@@ -59,7 +66,11 @@ pub fn worked_rows()
     ensures words { words_in (counting_all 3 false) (read_of (codes "ACGTA") None) ≡ 6 ∷ 27 ∷ 44 ∷ [] }
     ensures both_strands { words_in (counting_all 3 true) (read_of (codes "ACGTA") None) ≡ 6 ∷ 6 ∷ 44 ∷ [] }
     ensures broken { words_in (counting_all 3 false) (read_of (codes "ACNGT") None) ≡ [] }
-    ensures low_quality { words_in (record { k = 2; both = false; floor = 35 })
+    ensures low_quality { words_in (unlisted_rule 2 false 35)
         (read_of (codes "ACGT") (Some (codes "II!I"))) ≡ 1 ∷ [] }
+    ensures one_listed { words_in (with_list (counting_all 3 false) (27 ∷ [])) (read_of (codes "ACGTA") None) ≡ 27 ∷ [] }
+    ensures listed_form { words_in (with_list (counting_all 3 true) (6 ∷ [])) (read_of (codes "ACGTA") None)
+        ≡ 6 ∷ 6 ∷ [] }
+    ensures none_listed { words_in (with_list (counting_all 3 false) []) (read_of (codes "ACGTA") None) ≡ [] }
     ensures palindrome { occurrences (counting_all 4 true) (read_of (codes "ACGT") None ∷ []) (codes "ACGT") ≡ 1 }
 {}

@@ -267,23 +267,30 @@ counted {digits} {n} {many} s some most first =
     }
 
 -- the first byte that is no digit ends the digits
-first_other : (a b x rest : List ℕ) → AllDigits 10 a → AllDigits 10 b → (0 < length x → 10 ≤ digit_value (get_or x 0 0))
-    → a ++ x ≡ b ++ 10 ∷ rest → (a ≡ b) × (x ≡ 10 ∷ rest)
-first_other [] [] x rest p q none e = (refl, e)
-first_other [] (d ∷ b) x rest p q none e =
+pub first_other : (stop : ℕ) → stop < 48 → (a b x rest : List ℕ) → AllDigits 10 a → AllDigits 10 b
+    → (0 < length x → 10 ≤ digit_value (get_or x 0 0)) → a ++ x ≡ b ++ stop ∷ rest → (a ≡ b) × (x ≡ stop ∷ rest)
+first_other stop low [] [] x rest p q none e = (refl, e)
+first_other stop low [] (d ∷ b) x rest p q none e =
     let here : 0 < length x = omega (arith, ap length e) in
     let high = none here in
     let digit = q.0 in
     let same = ap (λ v. digit_value (get_or v 0 0)) e in
     absurd (omega (arith, high, digit, same))
-first_other (c ∷ a) [] x rest p q none e =
-    let same : c ≡ 10 = ap (λ v. get_or v 0 0) e in
+first_other stop low (c ∷ a) [] x rest p q none e =
+    let same : c ≡ stop = ap (λ v. get_or v 0 0) e in
     let range = digit_from_value c p.0 in
-    absurd (omega (arith, same, range.0))
-first_other (c ∷ a) (d ∷ b) x rest p q none e =
+    absurd (omega (arith, same, range.0, low))
+first_other stop low (c ∷ a) (d ∷ b) x rest p q none e =
     let head : c ≡ d = ap (λ v. get_or v 0 0) e in
-    let more = first_other a b x rest p.1 q.1 none (ap (drop 1) e) in
+    let more = first_other stop low a b x rest p.1 q.1 none (ap (drop 1) e) in
     (rw (head, more.0) refl, more.1)
+
+-- behind the digits stands no other
+pub digits_end : {bytes : List ℕ} {n many : ℕ} → HasDigits bytes n many → 0 < length (drop many bytes) → 10 ≤ digit_value (get_or (drop many bytes) 0 0)
+digits_end {bytes} {n} {many} s h =
+    let here : get_or (drop many bytes) 0 0 ≡ get_or bytes many 0 = get_or-drop many bytes 0 0 ∙ ap (λ i. get_or bytes i 0) (omega arith) in
+    let left = length-drop many bytes in
+    subst (λ b. 10 ≤ digit_value b) (sym here) (s.last (omega (arith, h, left)))
 
 -- ---- fields that begin with a count
 
@@ -314,9 +321,7 @@ tells {digits} {n} {many} fields count s behind some most at =
     let x = drop many digits in
     let here : get_or x 0 0 ≡ get_or digits many 0 = get_or-drop many digits 0 0 ∙ ap (λ i. get_or digits i 0) (omega arith) in
     let left = length-drop many digits in
-    let none : 0 < length x → 10 ≤ digit_value (get_or x 0 0) =
-    λ h. subst (λ b. 10 ≤ digit_value b) (sym here) (s.last (omega (arith, h, left))) in
-    let parts = first_other (take many digits) (decimal count) x rest s.digits numeral.1 none
+    let parts = first_other 10 (omega arith) (take many digits) (decimal count) x rest s.digits numeral.1 (digits_end s)
     (take-append-drop many digits ∙ cut) in
     let long = length-take-le many digits s.within in
     let same = ap length parts.0 in

@@ -8,7 +8,9 @@ pub mod TableAnswers
 pub mod TableSearch
 pub mod LineLemmas
 pub mod FieldLemmas
+pub mod HeaderLemmas
 pub mod NextRowLemmas
 pub mod TableReadingLemmas
 pub mod QueryLemmas
 pub mod HistoLemmas
+pub mod MergingLemmas

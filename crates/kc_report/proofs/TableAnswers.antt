@@ -1,17 +1,18 @@
 -- Bytes have one answer as a table text.
 use Rattle.std.proofs.Common.{◌≡◌, ℕ, ◌+◌, ◌≤◌, Bool, false, List, [], ◌∷◌, ◌++◌, length, drop, refl, sym}
 use Rattle.std.proofs.Common.{◌∙◌, ap, subst, append_assoc, append-nil, arith, inl, inr, ◌⊎◌}
-use Rattle.std.specs.Prelude.{codes, Result, Ok, Err}
+use Rattle.std.specs.Prelude.{codes, Result, Ok, Err, Option}
 use Rattle.kc_tally.specs.declared.row.Row.{Row}
 use Rattle.kc_tally.specs.Tally.{AreRows, TallySeen, total_of}
+use Rattle.kc_report.specs.declared.origin.Origin.{Origin}
 use Rattle.kc_report.specs.declared.report_faults.ReportFault.{ReportFault}
 use Rattle.kc_report.specs.declared.report_faults.ReportFault.TheVariants.{BadHeader, BadRow, BadEnd, Write, TableTooLong}
-use Rattle.kc_report.specs.declared.report_faults.ReportFault.TheVariants.{TableRead, BadWord, Memory}
+use Rattle.kc_report.specs.declared.report_faults.ReportFault.TheVariants.{TableRead, BadWord, Unlike, TooLarge, Memory}
 use Rattle.kc_report.specs.Dumping.{row_in_columns}
 use Rattle.kc_report.specs.Table.{header_line, end_line, ended, rows_text, end_text, table_text}
 use Rattle.kc_report.specs.TableReading.{BeginsWith, HasLine, IsTable, ReadsTo, HasBadHeader, IsTableOf}
 use Rattle.kc_report.proofs.TableLines.{row_line, first_line, Fits, same_row, same_header, row-no_end, Without-row}
-use Rattle.kc_report.proofs.TableLines.{Without-header}
+use Rattle.kc_report.proofs.TableLines.{Without-header, MayHead}
 use Rattle.kc_report.proofs.TableFronts.{AreRows-front, AreRows-last}
 
 -- no row that may come next stands at the front of the rest
@@ -93,47 +94,52 @@ end_begins rows rest e = (drop 3 (end_text rows), e)
 pub end_has_line : (rows : List Row) (rest : List ℕ) → rest ≡ end_text rows → HasLine rest
 end_has_line rows rest e = (end_line (length rows) (total_of rows), ([], e ∙ sym (append-nil (end_text rows))))
 
--- what the rest makes of the bytes, behind the last row that is read: a tally, a bad end or a bad row
-abbrev pub IsDone : TallySeen → List ℕ → Result TallySeen ReportFault → Type 0
-IsDone front rest answer = (answer ≡ Ok front) × (rest ≡ end_text front.rows)
+-- what the rest makes of the bytes, behind the last row that is read: a table, a bad end or a bad row
+abbrev pub Answered : Type 0
+Answered = Result (TallySeen × Option Origin) ReportFault
 
-abbrev pub EndsBadly : TallySeen → List ℕ → Result TallySeen ReportFault → Type 0
+abbrev pub IsDone : TallySeen → Option Origin → List ℕ → Answered → Type 0
+IsDone front origin rest answer = (answer ≡ Ok (front, origin)) × (rest ≡ end_text front.rows)
+
+abbrev pub EndsBadly : TallySeen → List ℕ → Answered → Type 0
 EndsBadly front rest answer = (answer ≡ Err BadEnd) × ((¬ HasLine rest) ⊎ BeginsWith rest (codes "END")) ×
     (¬ (rest ≡ end_text front.rows))
 
-abbrev pub GoesOnBadly : TallySeen → List ℕ → Result TallySeen ReportFault → Type 0
+abbrev pub GoesOnBadly : TallySeen → List ℕ → Answered → Type 0
 GoesOnBadly front rest answer = (answer ≡ Err (BadRow (length front.rows + 2))) × HasLine rest ×
     (¬ BeginsWith rest (codes "END"))
 
-abbrev pub Outcome : TallySeen → List ℕ → Result TallySeen ReportFault → Type 0
-Outcome front rest answer = IsDone front rest answer ⊎ (EndsBadly front rest answer ⊎ GoesOnBadly front rest answer)
+abbrev pub Outcome : TallySeen → Option Origin → List ℕ → Answered → Type 0
+Outcome front origin rest answer =
+    IsDone front origin rest answer ⊎ (EndsBadly front rest answer ⊎ GoesOnBadly front rest answer)
 
 neither : (rest : List ℕ) → (¬ HasLine rest) ⊎ BeginsWith rest (codes "END") → HasLine rest
     → ¬ BeginsWith rest (codes "END") → ⊥
 neither rest (inl none) line begins = none line
 neither rest (inr is) line begins = begins is
 
-one_outcome : (front : TallySeen) (rest : List ℕ) (one other : Result TallySeen ReportFault) → Outcome front rest one
-    → Outcome front rest other → one ≡ other
-one_outcome front rest one other (inl p) (inl q) = p.0 ∙ sym q.0
-one_outcome front rest one other (inl p) (inr (inl q)) = absurd (q.2 p.1)
-one_outcome front rest one other (inl p) (inr (inr q)) = absurd (q.2 (end_begins front.rows rest p.1))
-one_outcome front rest one other (inr (inl p)) (inl q) = absurd (p.2 q.1)
-one_outcome front rest one other (inr (inl p)) (inr (inl q)) = p.0 ∙ sym q.0
-one_outcome front rest one other (inr (inl p)) (inr (inr q)) = absurd (neither rest p.1 q.1 q.2)
-one_outcome front rest one other (inr (inr p)) (inl q) = absurd (p.2 (end_begins front.rows rest q.1))
-one_outcome front rest one other (inr (inr p)) (inr (inl q)) = absurd (neither rest q.1 p.1 p.2)
-one_outcome front rest one other (inr (inr p)) (inr (inr q)) = p.0 ∙ sym q.0
+one_outcome : (front : TallySeen) (origin : Option Origin) (rest : List ℕ) (one other : Answered)
+    → Outcome front origin rest one → Outcome front origin rest other → one ≡ other
+one_outcome front origin rest one other (inl p) (inl q) = p.0 ∙ sym q.0
+one_outcome front origin rest one other (inl p) (inr (inl q)) = absurd (q.2 p.1)
+one_outcome front origin rest one other (inl p) (inr (inr q)) = absurd (q.2 (end_begins front.rows rest p.1))
+one_outcome front origin rest one other (inr (inl p)) (inl q) = absurd (p.2 q.1)
+one_outcome front origin rest one other (inr (inl p)) (inr (inl q)) = p.0 ∙ sym q.0
+one_outcome front origin rest one other (inr (inl p)) (inr (inr q)) = absurd (neither rest p.1 q.1 q.2)
+one_outcome front origin rest one other (inr (inr p)) (inl q) = absurd (p.2 (end_begins front.rows rest q.1))
+one_outcome front origin rest one other (inr (inr p)) (inr (inl q)) = absurd (neither rest q.1 p.1 p.2)
+one_outcome front origin rest one other (inr (inr p)) (inr (inr q)) = p.0 ∙ sym q.0
 
 -- the reading went as far as it could, to this rest
-pub record ReadsOut (bytes : List ℕ) (answer : Result TallySeen ReportFault) : Type 0 where
+pub record ReadsOut (bytes : List ℕ) (answer : Answered) : Type 0 where
   pub front : TallySeen
+  pub origin : Option Origin
   pub rest : List ℕ
-  pub reads : ReadsTo bytes front rest
+  pub reads : ReadsTo bytes front origin rest
   pub stops : Stops front.k front.both front.rows rest
-  pub outcome : Outcome front rest answer
+  pub outcome : Outcome front origin rest answer
 
-abbrev pub Reading : List ℕ → Result TallySeen ReportFault → Type 0
+abbrev pub Reading : List ℕ → Answered → Type 0
 Reading bytes answer = (HasBadHeader bytes × (answer ≡ Err BadHeader)) ⊎ ReadsOut bytes answer
 
 stops_badly : (k : ℕ) (both : Bool) (rows : List Row) (rest : List ℕ) → 1 ≤ k
@@ -141,18 +147,20 @@ stops_badly : (k : ℕ) (both : Bool) (rows : List Row) (rest : List ℕ) → 1 
 stops_badly k both rows rest some (inl none) = stops_without_line k both rows rest none
 stops_badly k both rows rest some (inr is) = stops_at_end k both rows rest some is
 
-reading : (bytes : List ℕ) (answer : Result TallySeen ReportFault) → IsTableOf bytes answer → Reading bytes answer
-reading bytes (Ok tally) h = inr (record {
-  front = tally;
-  rest = end_text tally.rows;
+reading : (bytes : List ℕ) (answer : Answered) → IsTableOf bytes answer → Reading bytes answer
+reading bytes (Ok table) h = inr (record {
+  front = table.0;
+  origin = table.1;
+  rest = end_text table.0.rows;
   reads = record { lawful = h.lawful; split = h.whole };
-  stops = stops_at_end tally.k tally.both tally.rows (end_text tally.rows) h.lawful.some
-      (end_begins tally.rows (end_text tally.rows) refl);
+  stops = stops_at_end table.0.k table.0.both table.0.rows (end_text table.0.rows) h.lawful.some
+      (end_begins table.0.rows (end_text table.0.rows) refl);
   outcome = inl (refl, refl);
 })
 reading bytes (Err BadHeader) h = inl (h, refl)
 reading bytes (Err (BadRow number)) h = inr (record {
   front = h.front;
+  origin = h.origin;
   rest = h.rest;
   reads = h.reads;
   stops = h.no_row;
@@ -160,6 +168,7 @@ reading bytes (Err (BadRow number)) h = inr (record {
 })
 reading bytes (Err BadEnd) h = inr (record {
   front = h.front;
+  origin = h.origin;
   rest = h.rest;
   reads = h.reads;
   stops = stops_badly h.front.k h.front.both h.front.rows h.rest h.reads.lawful.some h.ends;
@@ -169,60 +178,80 @@ reading bytes (Err Write) h = absurd h
 reading bytes (Err TableTooLong) h = absurd h
 reading bytes (Err TableRead) h = absurd h
 reading bytes (Err (BadWord number)) h = absurd h
+reading bytes (Err Unlike) h = absurd h
+reading bytes (Err TooLarge) h = absurd h
 reading bytes (Err Memory) h = absurd h
 
 -- the front begins with its header
-pub front_begins : (bytes : List ℕ) (front : TallySeen) (rest : List ℕ) → ReadsTo bytes front rest
-    → bytes ≡ ended (header_line front.k front.both) ++ (rows_text front.k front.rows ++ rest)
-front_begins bytes front rest r = r.split ∙ append_assoc (ended (header_line front.k front.both))
+pub front_begins : (bytes : List ℕ) (front : TallySeen) (origin : Option Origin) (rest : List ℕ)
+    → ReadsTo bytes front origin rest
+    → bytes ≡ ended (header_line front.k front.both origin) ++ (rows_text front.k front.rows ++ rest)
+front_begins bytes front origin rest r = r.split ∙ append_assoc (ended (header_line front.k front.both origin))
     (rows_text front.k front.rows) rest
 
-same_front : {bytes : List ℕ} {f g : TallySeen} {r s : List ℕ} → ReadsTo bytes f r → ReadsTo bytes g s
-    → Stops f.k f.both f.rows r → Stops g.k g.both g.rows s → (f ≡ g) × (r ≡ s)
-same_front {bytes} {f} {g} {r} {s} p q f_stops g_stops =
-    let lines = first_line (header_line f.k f.both) (header_line g.k g.both) (rows_text f.k f.rows ++ r)
-    (rows_text g.k g.rows ++ s)
-    (Without-header f.k f.both p.lawful.most) (Without-header g.k g.both q.lawful.most)
-    (sym (front_begins bytes f r p) ∙ front_begins bytes g s q) in
-    let heads = same_header f.k g.k f.both g.both p.lawful.most q.lawful.most lines.0 in
-    let g_rows : AreRows f.k f.both g.rows = subst (λ k. AreRows k f.both g.rows) (sym heads.0)
-    (subst (λ both. AreRows g.k both g.rows) (sym heads.1) q.lawful.rows) in
-    let g_none : Stops f.k f.both g.rows s = subst (λ k. Stops k f.both g.rows s) (sym heads.0)
-    (subst (λ both. Stops g.k both g.rows s) (sym heads.1) g_stops) in
-    let rests : rows_text f.k f.rows ++ r ≡ rows_text f.k g.rows ++ s = lines.1
-    ∙ ap (λ k. rows_text k g.rows ++ s) (sym heads.0) in
-    let both = agree {before = []} f.rows g.rows r s (record { lawful = p.lawful.rows; stops = f_stops })
-    (record { lawful = g_rows; stops = g_none }) rests in
-    (λ i. record { k = heads.0 i; both = heads.1 i; rows = both.0 i }, both.1)
+may_head : {front : TallySeen} {origin : Option Origin} → IsTable front origin → MayHead front.k origin
+may_head lawful = record { most = lawful.most; said = lawful.said }
 
-one_reading : (bytes : List ℕ) (one other : Result TallySeen ReportFault) → Reading bytes one → Reading bytes other
-    → one ≡ other
+pub record SameFront (f g : TallySeen) (o p : Option Origin) (r s : List ℕ) : Type 0 where
+  pub front : f ≡ g
+  pub origin : o ≡ p
+  pub rest : r ≡ s
+
+same_front : {bytes : List ℕ} {f g : TallySeen} {o p : Option Origin} {r s : List ℕ} → ReadsTo bytes f o r
+    → ReadsTo bytes g p s → Stops f.k f.both f.rows r → Stops g.k g.both g.rows s → SameFront f g o p r s
+same_front {bytes} {f} {g} {o} {p} {r} {s} one other f_stops g_stops =
+    let lines = first_line (header_line f.k f.both o) (header_line g.k g.both p) (rows_text f.k f.rows ++ r)
+    (rows_text g.k g.rows ++ s)
+    (Without-header f.k f.both o one.lawful.most one.lawful.said)
+    (Without-header g.k g.both p other.lawful.most other.lawful.said)
+    (sym (front_begins bytes f o r one) ∙ front_begins bytes g p s other) in
+    let heads = same_header f.k g.k f.both g.both o p (may_head one.lawful) (may_head other.lawful) lines.0 in
+    let g_rows : AreRows f.k f.both g.rows = subst (λ k. AreRows k f.both g.rows) (sym heads.bases)
+    (subst (λ both. AreRows g.k both g.rows) (sym heads.strands) other.lawful.rows) in
+    let g_none : Stops f.k f.both g.rows s = subst (λ k. Stops k f.both g.rows s) (sym heads.bases)
+    (subst (λ both. Stops g.k both g.rows s) (sym heads.strands) g_stops) in
+    let rests : rows_text f.k f.rows ++ r ≡ rows_text f.k g.rows ++ s = lines.1
+    ∙ ap (λ k. rows_text k g.rows ++ s) (sym heads.bases) in
+    let both = agree {before = []} f.rows g.rows r s (record { lawful = one.lawful.rows; stops = f_stops })
+    (record { lawful = g_rows; stops = g_none }) rests in
+    record {
+      front = λ i. record { k = heads.bases i; both = heads.strands i; rows = both.0 i };
+      origin = heads.told;
+      rest = both.1;
+    }
+
+begins_well : {bytes : List ℕ} {answer : Answered} → HasBadHeader bytes → ReadsOut bytes answer → ⊥
+begins_well {bytes} bad q =
+    bad q.front.k q.front.both q.origin q.reads.lawful.some q.reads.lawful.most q.reads.lawful.said
+    (rows_text q.front.k q.front.rows ++ q.rest, front_begins bytes q.front q.origin q.rest q.reads)
+
+one_reading : (bytes : List ℕ) (one other : Answered) → Reading bytes one → Reading bytes other → one ≡ other
 one_reading bytes one other (inl p) (inl q) = p.1 ∙ sym q.1
-one_reading bytes one other (inl p) (inr q) =
-    absurd (p.0 q.front.k q.front.both q.reads.lawful.some q.reads.lawful.most
-    (rows_text q.front.k q.front.rows ++ q.rest, front_begins bytes q.front q.rest q.reads))
-one_reading bytes one other (inr p) (inl q) =
-    absurd (q.0 p.front.k p.front.both p.reads.lawful.some p.reads.lawful.most
-    (rows_text p.front.k p.front.rows ++ p.rest, front_begins bytes p.front p.rest p.reads))
+one_reading bytes one other (inl p) (inr q) = absurd (begins_well p.0 q)
+one_reading bytes one other (inr p) (inl q) = absurd (begins_well q.0 p)
 one_reading bytes one other (inr p) (inr q) =
     let same = same_front p.reads q.reads p.stops q.stops in
-    let here = subst (λ rest. Outcome p.front rest other) (sym same.1)
-    (subst (λ front. Outcome front q.rest other) (sym same.0) q.outcome) in
-    one_outcome p.front p.rest one other p.outcome here
+    let here = subst (λ rest. Outcome p.front p.origin rest other) (sym same.rest)
+    (subst (λ origin. Outcome p.front origin q.rest other) (sym same.origin)
+    (subst (λ front. Outcome front q.origin q.rest other) (sym same.front) q.outcome)) in
+    one_outcome p.front p.origin p.rest one other p.outcome here
 
-pub one_answer : (bytes : List ℕ) (one other : Result TallySeen ReportFault) → IsTableOf bytes one
-    → IsTableOf bytes other → one ≡ other
+pub one_answer : (bytes : List ℕ) (one other : Answered) → IsTableOf bytes one → IsTableOf bytes other → one ≡ other
 one_answer bytes one other p q = one_reading bytes one other (reading bytes one p) (reading bytes other q)
 
 -- ---- spellings
 
-pub table_of_text : (tally : TallySeen) → IsTable tally → IsTableOf (table_text tally) (Ok tally)
-table_of_text tally lawful = record { lawful = lawful; whole = refl }
+pub table_of_text : (tally : TallySeen) (origin : Option Origin) → IsTable tally origin
+    → IsTableOf (table_text tally origin) (Ok (tally, origin))
+table_of_text tally origin lawful = record { lawful = lawful; whole = refl }
 
-pub same_tally : (tally other : TallySeen) → IsTable tally → IsTable other → table_text tally ≡ table_text other
-    → tally ≡ other
-same_tally tally other p q e =
-    let same : ◌≡◌ {A = Result TallySeen ReportFault} (Ok tally) (Ok other) =
-    one_answer (table_text other) (Ok tally) (Ok other)
-    (subst (λ bytes. IsTableOf bytes (Ok tally)) e (table_of_text tally p)) (table_of_text other q) in
-    cc
+pub same_tally : (tally other : TallySeen) (origin another : Option Origin) → IsTable tally origin
+    → IsTable other another → table_text tally origin ≡ table_text other another
+    → (tally ≡ other) × (origin ≡ another)
+same_tally tally other origin another p q e =
+    let same : ◌≡◌ {A = Answered} (Ok (tally, origin)) (Ok (other, another)) =
+    one_answer (table_text other another) (Ok (tally, origin)) (Ok (other, another))
+    (subst (λ bytes. IsTableOf bytes (Ok (tally, origin))) e (table_of_text tally origin p))
+    (table_of_text other another q) in
+    let pair : ◌≡◌ {A = TallySeen × Option Origin} (tally, origin) (other, another) = cc in
+    (ap (λ (t : TallySeen × Option Origin). t.0) pair, ap (λ (t : TallySeen × Option Origin). t.1) pair)

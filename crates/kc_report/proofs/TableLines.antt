@@ -1,6 +1,6 @@
 -- The lines of a table text: each ends with its first line feed, and says one thing.
 use Rattle.std.proofs.Common.{◌≡◌, ◌≢◌, ℕ, zero, suc, ◌^◌, ◌/◌, ◌%◌, ◌<◌, ◌≤◌, Bool, true, false, List, [], ◌∷◌, ◌++◌, length, get_or, drop, refl, sym, ◌∙◌, ap, append_assoc, arith}
-use Rattle.std.specs.Prelude.{codes, decimal}
+use Rattle.std.specs.Prelude.{codes, decimal, Option, Some, None}
 use Rattle.std.specs.Str.Parse.{AllDigits}
 use Rattle.std.proofs.lemmas.Fmt.{decimal_is_IsNumeral, decimal_injective}
 use Rattle.std.proofs.lemmas.Str.Parse.{digit_from_value}
@@ -10,7 +10,8 @@ use Rattle.kc_kmer.proofs.WordLemmas.{below_four, length-text, same_from_text}
 use Rattle.kc_tally.specs.declared.row.Row.{Row}
 use Rattle.kc_report.specs.Bytes.{line_feed, space}
 use Rattle.kc_report.specs.Dumping.{row_in_columns}
-use Rattle.kc_report.specs.Table.{kind, header_line, end_line, ended}
+use Rattle.kc_report.specs.declared.origin.Origin.{Origin}
+use Rattle.kc_report.specs.Table.{version, kind, selection, origin_text, header_line, MaySay, end_line, ended}
 use Rattle.kc_report.specs.Lines.{Without}
 
 pub Without-append : (stop : ℕ) (a b : List ℕ) → Without stop a → Without stop b → Without stop (a ++ b)
@@ -113,25 +114,96 @@ Without-kind : (both : Bool) → Without line_feed (kind both)
 Without-kind true = (λ e. omega (arith, e), tt)
 Without-kind false = (λ e. omega (arith, e), tt)
 
-pub Without-header : (k : ℕ) (both : Bool) → k ≤ 31 → Without line_feed (header_line k both)
-Without-header k both most =
+Without-version : (origin : Option Origin) → Without line_feed (version origin)
+Without-version None = (λ e. omega (arith, e), (λ e. omega (arith, e), (λ e. omega (arith, e), (λ e. omega (arith, e), (λ e. omega (arith, e), (λ e. omega (arith, e), tt))))))
+Without-version (Some origin) = (λ e. omega (arith, e), (λ e. omega (arith, e), (λ e. omega (arith, e), (λ e. omega (arith, e), (λ e. omega (arith, e), (λ e. omega (arith, e), tt))))))
+
+Without-selection : (listed : Bool) → Without line_feed (selection listed)
+Without-selection true = (λ e. omega (arith, e), tt)
+Without-selection false = (λ e. omega (arith, e), tt)
+
+Without-origin : (origin : Option Origin) → MaySay origin → Without line_feed (origin_text origin)
+Without-origin None said = tt
+Without-origin (Some origin) said =
+    let most = said.floor_most in
+    let few = said.reads in
+    let floor : Without line_feed (space ∷ decimal origin.floor) = (λ e. omega (arith, e), Without-decimal line_feed origin.floor (omega arith) (omega (arith, most))) in
+    let reads : Without line_feed (space ∷ decimal origin.reads) = (λ e. omega (arith, e), Without-decimal line_feed origin.reads (omega arith) (omega (arith, few))) in
+    Without-append line_feed (space ∷ selection origin.listed ++ space ∷ decimal origin.floor) (space ∷ decimal origin.reads)
+    (Without-append line_feed (space ∷ selection origin.listed) (space ∷ decimal origin.floor) (λ e. omega (arith, e), Without-selection origin.listed) floor) reads
+
+pub Without-header : (k : ℕ) (both : Bool) (origin : Option Origin) → k ≤ 31 → MaySay origin → Without line_feed (header_line k both origin)
+Without-header k both origin most said =
     let number : Without line_feed (decimal k) = Without-decimal line_feed k (omega arith) (omega arith) in
-    let front : Without line_feed (codes "KCT 1 " ++ decimal k) =
-    (λ e. omega (arith, e), (λ e. omega (arith, e), (λ e. omega (arith, e), (λ e. omega (arith, e), (λ e. omega (arith, e), (λ e. omega (arith, e), number)))))) in
-    Without-append line_feed (codes "KCT 1 " ++ decimal k) (space ∷ kind both) front (λ e. omega (arith, e), Without-kind both)
+    let front : Without line_feed (version origin ++ decimal k) = Without-append line_feed (version origin) (decimal k) (Without-version origin) number in
+    let kinds : Without line_feed (version origin ++ decimal k ++ space ∷ kind both) =
+    Without-append line_feed (version origin ++ decimal k) (space ∷ kind both) front (λ e. omega (arith, e), Without-kind both) in
+    Without-append line_feed (version origin ++ decimal k ++ space ∷ kind both) (origin_text origin) kinds (Without-origin origin said)
 
-same_kind : (a b : Bool) → kind a ≡ kind b → a ≡ b
-same_kind true true e = refl
-same_kind true false e = absurd (omega (arith, ap (λ (l : List ℕ). get_or l 0 0) e))
-same_kind false true e = absurd (omega (arith, ap (λ (l : List ℕ). get_or l 0 0) e))
-same_kind false false e = refl
+same_kind : (a b : Bool) (x y : List ℕ) → kind a ++ x ≡ kind b ++ y → (a ≡ b) × (x ≡ y)
+same_kind true true x y e = (refl, ap (drop 1) e)
+same_kind true false x y e = absurd (omega (arith, ap (λ (l : List ℕ). get_or l 0 0) e))
+same_kind false true x y e = absurd (omega (arith, ap (λ (l : List ℕ). get_or l 0 0) e))
+same_kind false false x y e = (refl, ap (drop 1) e)
 
-pub same_header : (k m : ℕ) (both other : Bool) → k ≤ 31 → m ≤ 31 → header_line k both ≡ header_line m other → (k ≡ m) × (both ≡ other)
-same_header k m both other most most_ e =
-    let numbers : decimal k ++ space ∷ kind both ≡ decimal m ++ space ∷ kind other = ap (drop 6) e in
-    let parts = first_stop space (decimal k) (decimal m) (kind both) (kind other)
-    (Without-decimal space k (omega arith) (omega arith)) (Without-decimal space m (omega arith) (omega arith)) numbers in
-    (decimal_injective k m (omega arith) (omega arith) parts.0, same_kind both other parts.1)
+same_selection : (a b : Bool) (x y : List ℕ) → selection a ++ x ≡ selection b ++ y → (a ≡ b) × (x ≡ y)
+same_selection true true x y e = (refl, ap (drop 1) e)
+same_selection true false x y e = absurd (omega (arith, ap (λ (l : List ℕ). get_or l 0 0) e))
+same_selection false true x y e = absurd (omega (arith, ap (λ (l : List ℕ). get_or l 0 0) e))
+same_selection false false x y e = (refl, ap (drop 1) e)
+
+-- what stands behind the version, and in an origin, field by field
+pub header_fields : (k : ℕ) (both : Bool) (origin : Option Origin) → drop 6 (header_line k both origin) ≡ decimal k ++ space ∷ (kind both ++ origin_text origin)
+header_fields k both None = append_assoc (decimal k) (space ∷ kind both) []
+header_fields k both (Some origin) = append_assoc (decimal k) (space ∷ kind both) (origin_text (Some origin))
+
+pub origin_fields : (origin : Origin) → origin_text (Some origin) ≡ space ∷ (selection origin.listed ++ space ∷ (decimal origin.floor ++ space ∷ decimal origin.reads))
+origin_fields origin =
+    append_assoc (space ∷ selection origin.listed) (space ∷ decimal origin.floor) (space ∷ decimal origin.reads)
+
+same_origin : (origin another : Option Origin) → MaySay origin → MaySay another → origin_text origin ≡ origin_text another → origin ≡ another
+same_origin None None said said_ e = refl
+same_origin None (Some origin) said said_ e = absurd (let long = ap length e in omega (arith, long))
+same_origin (Some origin) None said said_ e = absurd (let long = ap length e in omega (arith, long))
+same_origin (Some origin) (Some another) said said_ e =
+    let most = said.floor_most in
+    let most_ = said_.floor_most in
+    let few = said.reads in
+    let few_ = said_.reads in
+    let cut = sym (origin_fields origin) ∙ e ∙ origin_fields another in
+    let lists = same_selection origin.listed another.listed (space ∷ (decimal origin.floor ++ space ∷ decimal origin.reads)) (space ∷ (decimal another.floor ++ space ∷ decimal another.reads)) (ap (drop 1) cut) in
+    let numbers = first_stop space (decimal origin.floor) (decimal another.floor) (decimal origin.reads) (decimal another.reads)
+    (Without-decimal space origin.floor (omega arith) (omega (arith, most))) (Without-decimal space another.floor (omega arith) (omega (arith, most_))) (ap (drop 1) lists.1) in
+    let floor = decimal_injective origin.floor another.floor (omega (arith, most)) (omega (arith, most_)) numbers.0 in
+    let reads = decimal_injective origin.reads another.reads (omega (arith, few)) (omega (arith, few_)) numbers.1 in
+    λ i. Some (record { floor = floor i; reads = reads i; listed = lists.0 i })
+
+-- what a header says
+pub record SameHeader (k m : ℕ) (both other : Bool) (origin another : Option Origin) : Type 0 where
+  pub bases : k ≡ m
+  pub strands : both ≡ other
+  pub told : origin ≡ another
+
+-- a header that may be read
+pub record MayHead (k : ℕ) (origin : Option Origin) : Type 0 where
+  pub most : k ≤ 31
+  pub said : MaySay origin
+
+pub same_header : (k m : ℕ) (both other : Bool) (origin another : Option Origin) → MayHead k origin → MayHead m another
+    → header_line k both origin ≡ header_line m other another → SameHeader k m both other origin another
+same_header k m both other origin another may may_ e =
+    let most = may.most in
+    let most_ = may_.most in
+    let numbers : decimal k ++ space ∷ (kind both ++ origin_text origin) ≡ decimal m ++ space ∷ (kind other ++ origin_text another) =
+    sym (header_fields k both origin) ∙ ap (drop 6) e ∙ header_fields m other another in
+    let parts = first_stop space (decimal k) (decimal m) (kind both ++ origin_text origin) (kind other ++ origin_text another)
+    (Without-decimal space k (omega arith) (omega (arith, most))) (Without-decimal space m (omega arith) (omega (arith, most_))) numbers in
+    let kinds = same_kind both other (origin_text origin) (origin_text another) parts.1 in
+    record {
+      bases = decimal_injective k m (omega (arith, most)) (omega (arith, most_)) parts.0;
+      strands = kinds.0;
+      told = same_origin origin another may.said may_.said kinds.1;
+    }
 
 pub Without-end : (distinct total : ℕ) → distinct < 2 ^ 64 → total < 2 ^ 64 → Without line_feed (end_line distinct total)
 Without-end distinct total small small_ =

@@ -2,7 +2,7 @@
 use Rattle.std.proofs.Common.{◌≡◌, ℕ, zero, suc, ◌+◌, ◌-◌, ◌<◌, ◌≤◌, Bool, true, false, eqb, List, [], ◌∷◌, ◌++◌}
 use Rattle.std.proofs.Common.{length, get_or, drop, take, refl, sym, ◌∙◌, ap, subst, append_assoc, append-nil, length-append, arith}
 use Rattle.std.proofs.Common.{inl, inr, ◌⊎◌}
-use Rattle.std.specs.Prelude.{codes, IsTrue}
+use Rattle.std.specs.Prelude.{codes, IsTrue, Option}
 use Rattle.std.specs.Cmp.Lexicographic.{pointwise}
 use Rattle.std.proofs.lemmas.Bool.Decides.{Decides-eqb}
 use Rattle.std.proofs.Math.Seq.{take-add}
@@ -21,7 +21,8 @@ use Rattle.kc_report.specs.Bytes.{line_feed}
 use Rattle.kc_report.specs.Dumping.{row_in_columns}
 use Rattle.kc_report.specs.Faults.{taking_fault}
 use Rattle.kc_report.specs.Lines.{Without, IsLine}
-use Rattle.kc_report.specs.Table.{header_line, end_line, ended, rows_text, front_text, end_text}
+use Rattle.kc_report.specs.declared.origin.Origin.{Origin}
+use Rattle.kc_report.specs.Table.{header_line, MaySay, end_line, ended, rows_text, front_text, end_text}
 use Rattle.kc_report.specs.TableReading.{BeginsWith, HasLine, IsTable, ReadsTo, MayFollow}
 use Rattle.kc_report.specs.TableReading.{GivesTable, RefusesTable}
 use Rattle.kc_report.specs.TableRows.{TakesRows}
@@ -82,13 +83,13 @@ begins_with_end {left} {line} {rest} is s told taken = (
 -- ---- one line of what was taken
 
 -- the header and the rows of a tally
-abbrev pub front_of : TallySeen → List ℕ
-front_of front = front_text front.k front.both front.rows
+abbrev pub front_of : TallySeen → Option Origin → List ℕ
+front_of front origin = front_text front.k front.both origin front.rows
 
 -- the header and these rows were taken and used, and nothing else
-pub record Reached (old now : Seen) (limit : ℕ) (front : TallySeen) (unread : Unread) : Type 0 where
-  pub lawful : IsTable front
-  pub used : Used old now limit (front_of front) unread
+pub record Reached (old now : Seen) (limit : ℕ) (front : TallySeen) (origin : Option Origin) (unread : Unread) : Type 0 where
+  pub lawful : IsTable front origin
+  pub used : Used old now limit (front_of front origin) unread
 
 -- a line stands in front of the unread bytes, and has so many
 pub record InFront (unread : Unread) (count : ℕ) (line : List ℕ) : Type 0 where
@@ -109,15 +110,15 @@ splits {unread} {count} {line} more f = record {
   one = f.one;
 }
 
-pub reached_more : {old mid now : Seen} {limit : ℕ} {front : TallySeen} {before after : Unread}
-    → Reached old mid limit front before → Filled mid now before after → Reached old now limit front after
+pub reached_more : {old mid now : Seen} {limit : ℕ} {front : TallySeen} {origin : Option Origin} {before after : Unread}
+    → Reached old mid limit front origin before → Filled mid now before after → Reached old now limit front origin after
 reached_more r filled = record { lawful = r.lawful; used = used_filled r.used filled }
 
-reads_to : {old mid : Seen} {limit : ℕ} {front : TallySeen} {unread : Unread} (more : List ℕ)
-    → Reached old mid limit front unread
-    → ReadsTo ((front_of front ++ unread.bytes) ++ more) front (unread.bytes ++ more)
-reads_to {front = front} {unread = unread} more r =
-    record { lawful = r.lawful; split = append_assoc (front_of front) unread.bytes more }
+reads_to : {old mid : Seen} {limit : ℕ} {front : TallySeen} {origin : Option Origin} {unread : Unread} (more : List ℕ)
+    → Reached old mid limit front origin unread
+    → ReadsTo ((front_of front origin ++ unread.bytes) ++ more) front origin (unread.bytes ++ more)
+reads_to {front = front} {origin = origin} {unread = unread} more r =
+    record { lawful = r.lawful; split = append_assoc (front_of front origin) unread.bytes more }
 
 -- with the first bytes used, fewer are to come or unread
 pub less_to_come : {old new : Seen} {before after : Unread} (start : Unread) (taken size : ℕ)
@@ -145,30 +146,38 @@ begun {old} {now} {limit} {start} {unread} new filled =
 -- there was no line
 pub header_missing : {old new : Seen} {limit : ℕ} (more : List ℕ) → TakesAll old new limit more → ¬ HasLine more
     → RefusesTable old new limit BadHeader
-header_missing more all none = (more, all, λ k both some most at. none (header_line k both, at))
+header_missing more all none = (more, all, λ k both origin some most said at. none (header_line k both origin, at))
 
 -- the first line is no header
 pub header_refused : {old mid new : Seen} {limit count : ℕ} {unread : Unread} {line more : List ℕ}
     → Used old mid limit [] unread → TakesAll mid new unread.room more → InFront unread count line
-    → ((k : ℕ) (both : Bool) → 1 ≤ k → k ≤ 31 → line ≡ ended (header_line k both) → ⊥)
+    → ((k : ℕ) (both : Bool) (origin : Option Origin) → 1 ≤ k → k ≤ 31 → MaySay origin
+    → line ≡ ended (header_line k both origin) → ⊥)
     → RefusesTable old new limit BadHeader
 header_refused {unread = unread} {more = more} used all f none = (
   unread.bytes ++ more,
   used_all used all,
-  λ k both some most at. none k both some most
-      (line_is (header_line k both) at.0 (splits more f) (Without-header k both most) at.1),
+  λ k both origin some most said at. none k both origin some most said
+      (line_is (header_line k both origin) at.0 (splits more f) (Without-header k both origin most said) at.1),
 )
+
+-- what a header may say
+pub record MayBegin (k : ℕ) (origin : Option Origin) : Type 0 where
+  pub some : 1 ≤ k
+  pub most : k ≤ 31
+  pub said : MaySay origin
 
 -- the first line is a header
 pub header_used : {old now : Seen} {limit count : ℕ} {unread : Unread} {line : List ℕ} (k : ℕ) (both : Bool)
-    → Used old now limit [] unread → InFront unread count line → 1 ≤ k → k ≤ 31 → line ≡ ended (header_line k both)
-    → Reached old now limit (record { k = k; both = both; rows = [] })
+    (origin : Option Origin) → Used old now limit [] unread → InFront unread count line → MayBegin k origin
+    → line ≡ ended (header_line k both origin)
+    → Reached old now limit (record { k = k; both = both; rows = [] }) origin
     (record unread { bytes = drop count unread.bytes })
-header_used {old} {now} {limit} {count} {unread} {line} k both used f some most e = record {
-  lawful = record { some = some; most = most; rows = AreRows-none k both };
+header_used {old} {now} {limit} {count} {unread} {line} k both origin used f may e = record {
+  lawful = record { some = may.some; most = may.most; rows = AreRows-none k both; said = may.said };
   used =
-      let text : take count unread.bytes ≡ ended (header_line k both) ++ [] = sym f.cut ∙ e
-      ∙ sym (append-nil (ended (header_line k both))) in
+      let text : take count unread.bytes ≡ ended (header_line k both origin) ++ [] = sym f.cut ∙ e
+      ∙ sym (append-nil (ended (header_line k both origin))) in
       subst (λ v. Used old now limit v (record unread { bytes = drop count unread.bytes })) text (used_up count used);
 }
 
@@ -219,23 +228,23 @@ some_size bytes k zero row e =
 some_size bytes k (suc size) row e = omega arith
 
 -- the rows in front of the unread bytes were taken
-pub rows_used : {old now : Seen} {limit : ℕ} {front next : TallySeen} {unread left : Unread} {bytes : List ℕ} (taken : ℕ)
-    → Reached old now limit front unread → bytes ≡ unread.bytes → TakesRows front next bytes taken
-    → left ≡ record unread { bytes = drop taken unread.bytes } → Reached old now limit next left
-rows_used {old} {now} {limit} {front} {next} {unread} {left} {bytes} taken r same takes is =
+pub rows_used : {old now : Seen} {limit : ℕ} {front next : TallySeen} {origin : Option Origin} {unread left : Unread} {bytes : List ℕ} (taken : ℕ)
+    → Reached old now limit front origin unread → bytes ≡ unread.bytes → TakesRows front next bytes taken
+    → left ≡ record unread { bytes = drop taken unread.bytes } → Reached old now limit next origin left
+rows_used {old} {now} {limit} {front} {next} {origin} {unread} {left} {bytes} taken r same takes is =
     let t = subst (λ v. TakesRows front next v taken) same takes in
     let after : TallySeen = record front { rows = front.rows ++ t.more } in
     let lawful : AreRows after.k after.both after.rows = subst (λ (s : TallySeen). AreRows s.k s.both s.rows) t.pushed
     (t.lawful r.lawful.rows) in
-    let text : front_of front ++ take taken unread.bytes ≡ front_of after =
-    ap (λ v. front_of front ++ v) t.text ∙ front_more front t.more in
-    let reached : Reached old now limit after left = record {
-      lawful = record { some = r.lawful.some; most = r.lawful.most; rows = lawful };
-      used = subst (λ u. Used old now limit (front_of after) u) (sym is)
+    let text : front_of front origin ++ take taken unread.bytes ≡ front_of after origin =
+    ap (λ v. front_of front origin ++ v) t.text ∙ front_more front origin t.more in
+    let reached : Reached old now limit after origin left = record {
+      lawful = record { some = r.lawful.some; most = r.lawful.most; rows = lawful; said = r.lawful.said };
+      used = subst (λ u. Used old now limit (front_of after origin) u) (sym is)
           (subst (λ v. Used old now limit v (record unread { bytes = drop taken unread.bytes })) text
           (used_up taken r.used));
     } in
-    subst (λ (s : TallySeen). Reached old now limit s left) (sym t.pushed) reached
+    subst (λ (s : TallySeen). Reached old now limit s origin left) (sym t.pushed) reached
 
 -- what stands in the line stands in the unread bytes
 pub within_line : {line : List ℕ} {count : ℕ} (bytes : List ℕ) (size : ℕ) → line ≡ take count bytes → count ≤ length bytes
@@ -246,12 +255,12 @@ within_line {line} {count} bytes size cut inside within =
     omega (arith, short, long, inside, within)
 
 -- the line begins with a row that may come next
-pub row_used : {old now : Seen} {limit count : ℕ} {front : TallySeen} {unread : Unread} {line : List ℕ} (size : ℕ)
-    (row : Row) → Reached old now limit front unread → line ≡ take count unread.bytes → count ≤ length unread.bytes
+pub row_used : {old now : Seen} {limit count : ℕ} {front : TallySeen} {origin : Option Origin} {unread : Unread} {line : List ℕ} (size : ℕ)
+    (row : Row) → Reached old now limit front origin unread → line ≡ take count unread.bytes → count ≤ length unread.bytes
     → MayFollow front row → size ≤ length line → take size line ≡ row_in_columns front.k false row
-    → Reached old now limit (record front { rows = front.rows ++ row ∷ [] })
+    → Reached old now limit (record front { rows = front.rows ++ row ∷ [] }) origin
     (record unread { bytes = drop size unread.bytes })
-row_used {old} {now} {limit} {count} {front} {unread} {line} size row r cut inside follows within e =
+row_used {old} {now} {limit} {count} {front} {origin} {unread} {line} size row r cut inside follows within e =
     let short = length-take-le count unread.bytes inside in
     let long = ap length cut in
     let same : take size unread.bytes ≡ take size line =
@@ -266,17 +275,18 @@ row_used {old} {now} {limit} {count} {front} {unread} {line} size row r cut insi
     rows_used size r refl takes refl
 
 -- the line is no such row
-pub row_refused : {old mid new : Seen} {limit count : ℕ} {front : TallySeen} {unread : Unread}
+pub row_refused : {old mid new : Seen} {limit count : ℕ} {front : TallySeen} {origin : Option Origin} {unread : Unread}
     {line more : List ℕ} (is : Bool) (number : ℕ)
-    → Reached old mid limit front unread → TakesAll mid new unread.room more → InFront unread count line
+    → Reached old mid limit front origin unread → TakesAll mid new unread.room more → InFront unread count line
     → BeginsAsEnd line is × (is ≡ false)
     → ((row : Row) → MayFollow front row → BeginsWith line (row_in_columns front.k false row) → ⊥)
     → number ≡ length front.rows + 2 → RefusesTable old new limit (BadRow number)
-row_refused {front = front} {unread = unread} {more = more} is number r all f told none counted = (
-  (front_of front ++ unread.bytes) ++ more,
+row_refused {front = front} {origin = origin} {unread = unread} {more = more} is number r all f told none counted = (
+  (front_of front origin ++ unread.bytes) ++ more,
   used_all r.used all,
   record {
     front = front;
+    origin = origin;
     rest = unread.bytes ++ more;
     reads = reads_to more r;
     line = has_line (splits more f);
@@ -294,14 +304,15 @@ row_refused {front = front} {unread = unread} {more = more} is number r all f to
 -- ---- the end
 
 -- no line is left
-pub end_missing : {old mid new : Seen} {limit : ℕ} {front : TallySeen} {unread : Unread} {more : List ℕ}
-    → Reached old mid limit front unread → TakesAll mid new unread.room more → ¬ HasLine (unread.bytes ++ more)
+pub end_missing : {old mid new : Seen} {limit : ℕ} {front : TallySeen} {origin : Option Origin} {unread : Unread} {more : List ℕ}
+    → Reached old mid limit front origin unread → TakesAll mid new unread.room more → ¬ HasLine (unread.bytes ++ more)
     → RefusesTable old new limit BadEnd
-end_missing {front = front} {unread = unread} {more = more} r all none = (
-  (front_of front ++ unread.bytes) ++ more,
+end_missing {front = front} {origin = origin} {unread = unread} {more = more} r all none = (
+  (front_of front origin ++ unread.bytes) ++ more,
   used_all r.used all,
   record {
     front = front;
+    origin = origin;
     rest = unread.bytes ++ more;
     reads = reads_to more r;
     ends = inl none;
@@ -311,17 +322,17 @@ end_missing {front = front} {unread = unread} {more = more} r all none = (
 )
 
 -- the end line of the rows is a line
-end_is_line : {front : TallySeen} → IsTable front
+end_is_line : {front : TallySeen} {origin : Option Origin} → IsTable front origin
     → Without line_feed (end_line (length front.rows) (total_of front.rows))
-end_is_line {front} lawful =
+end_is_line {front} {origin} lawful =
     let most = length-le_total front.rows lawful.rows.ordered.present in
     let small = lawful.rows.small in
     Without-end (length front.rows) (total_of front.rows) (omega (arith, most, small)) (omega (arith, small))
 
 -- where what is left is the end, the line is it, and nothing comes behind
-only_end : {left line rest : List ℕ} {front : TallySeen} → IsTable front → Splits left line rest
+only_end : {left line rest : List ℕ} {front : TallySeen} {origin : Option Origin} → IsTable front origin → Splits left line rest
     → left ≡ end_text front.rows → (line ≡ end_text front.rows) × (rest ≡ [])
-only_end {left} {line} {rest} {front} lawful s e =
+only_end {left} {line} {rest} {front} {origin} lawful s e =
     let same : line ≡ end_text front.rows =
     line_is (end_line (length front.rows) (total_of front.rows)) [] s (end_is_line lawful)
     (e ∙ sym (append-nil (end_text front.rows))) in
@@ -338,16 +349,17 @@ not_both one other (inl failed) told told_one a b = never (sym failed ∙ told_o
 not_both one other (inr failed) told told_one a b = never (sym failed.1 ∙ told a)
 
 -- the line begins as the end does, but it is another, or more comes behind it
-pub end_refused : {old mid new : Seen} {limit count : ℕ} {front : TallySeen} {unread : Unread}
+pub end_refused : {old mid new : Seen} {limit count : ℕ} {front : TallySeen} {origin : Option Origin} {unread : Unread}
     {line more : List ℕ} (is : Bool)
-    → Reached old mid limit front unread → TakesAll mid new unread.room more → InFront unread count line
+    → Reached old mid limit front origin unread → TakesAll mid new unread.room more → InFront unread count line
     → BeginsAsEnd line is × (is ≡ true) → (line ≡ end_text front.rows → drop count unread.bytes ++ more ≡ [] → ⊥)
     → RefusesTable old new limit BadEnd
-end_refused {front = front} {unread = unread} {more = more} is r all f told wrong = (
-  (front_of front ++ unread.bytes) ++ more,
+end_refused {front = front} {origin = origin} {unread = unread} {more = more} is r all f told wrong = (
+  (front_of front origin ++ unread.bytes) ++ more,
   used_all r.used all,
   record {
     front = front;
+    origin = origin;
     rest = unread.bytes ++ more;
     reads = reads_to more r;
     ends = inr (begins_with_end is (splits more f) told.0 told.1);
@@ -356,11 +368,11 @@ end_refused {front = front} {unread = unread} {more = more} is r all f told wron
 )
 
 -- the line is the end, and nothing comes behind it
-pub table_given : {old mid new : Seen} {limit count : ℕ} {front : TallySeen} {unread : Unread} {line more : List ℕ}
-    → Reached old mid limit front unread → TakesAll mid new unread.room more → InFront unread count line
-    → line ≡ end_text front.rows → drop count unread.bytes ++ more ≡ [] → GivesTable old new limit front
-table_given {front = front} {unread = unread} {line = line} {more = more} r all f is none = record {
-  bytes = (front_of front ++ unread.bytes) ++ more;
+pub table_given : {old mid new : Seen} {limit count : ℕ} {front : TallySeen} {origin : Option Origin} {unread : Unread} {line more : List ℕ}
+    → Reached old mid limit front origin unread → TakesAll mid new unread.room more → InFront unread count line
+    → line ≡ end_text front.rows → drop count unread.bytes ++ more ≡ [] → GivesTable old new limit (front, origin)
+table_given {front = front} {origin = origin} {unread = unread} {line = line} {more = more} r all f is none = record {
+  bytes = (front_of front origin ++ unread.bytes) ++ more;
   taken = used_all r.used all;
   has_table =
       let s = splits more f in
@@ -368,8 +380,8 @@ table_given {front = front} {unread = unread} {line = line} {more = more} r all 
       ∙ is in
       record {
         lawful = r.lawful;
-        whole = append_assoc (front_of front) unread.bytes more
-            ∙ ap (λ v. front_of front ++ v) rest;
+        whole = append_assoc (front_of front origin) unread.bytes more
+            ∙ ap (λ v. front_of front origin ++ v) rest;
       };
 }
 
@@ -392,7 +404,7 @@ pub memory_refused : {old now : Seen} {limit : ℕ} {used : List ℕ} {unread : 
 memory_refused used = inl (used_in_vain used)
 
 -- all was taken, and then a growth was refused
-pub all_in_vain : {old mid new : Seen} {limit : ℕ} {front : TallySeen} {unread : Unread} {more : List ℕ}
-    → Reached old mid limit front unread → TakesAll mid new unread.room more → RefusesTable old new limit Memory
-all_in_vain {front = front} {unread = unread} {more = more} r all =
-    inr ((front_of front ++ unread.bytes) ++ more, used_all r.used all)
+pub all_in_vain : {old mid new : Seen} {limit : ℕ} {front : TallySeen} {origin : Option Origin} {unread : Unread} {more : List ℕ}
+    → Reached old mid limit front origin unread → TakesAll mid new unread.room more → RefusesTable old new limit Memory
+all_in_vain {front = front} {origin = origin} {unread = unread} {more = more} r all =
+    inr ((front_of front origin ++ unread.bytes) ++ more, used_all r.used all)

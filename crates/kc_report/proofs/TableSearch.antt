@@ -1,20 +1,20 @@
 -- Bytes have an answer as a table text.
 use Rattle.std.proofs.Common.{◌≡◌, ℕ, zero, suc, ◌+◌, ◌^◌, ◌<◌, ◌≤◌, Bool, true, false, eqb, List, [], ◌∷◌, ◌++◌, length, get_or, drop, refl, sym, ◌∙◌, ap, subst, append_assoc, append-nil, arith, inl, inr, ◌⊎◌, ⊎_elim, eq-eqb}
-use Rattle.std.specs.Prelude.{codes, Result, Ok, Err}
+use Rattle.std.specs.Prelude.{codes, Ok, Err, Option, Some, None}
 use Rattle.std.proofs.lemmas.Bool.{cases_lt, cases_Bool, eqb-true}
 use Rattle.std.proofs.lemmas.List.{length-append}
 use Rattle.kc_kmer.specs.Word.{text, form}
 use Rattle.kc_tally.specs.declared.row.Row.{Row}
 use Rattle.kc_tally.specs.Tally.{TallySeen, total_of}
-use Rattle.kc_report.specs.declared.report_faults.ReportFault.{ReportFault}
+use Rattle.kc_report.specs.declared.origin.Origin.{Origin}
 use Rattle.kc_report.specs.declared.report_faults.ReportFault.TheVariants.{BadHeader, BadRow, BadEnd}
 use Rattle.kc_report.specs.Bytes.{line_feed}
 use Rattle.kc_report.specs.Dumping.{row_in_columns}
-use Rattle.kc_report.specs.Table.{header_line, ended, rows_text, front_text, end_text}
+use Rattle.kc_report.specs.Table.{header_line, MaySay, ended, rows_text, front_text, end_text}
 use Rattle.kc_report.specs.TableReading.{BeginsWith, HasLine, IsTable, ReadsTo, MayFollow, HasBadHeader, IsTableOf}
 use Rattle.kc_report.proofs.TableLines.{row_line}
 use Rattle.kc_report.proofs.TableFronts.{AreRows-none, AreRows-last, AreRows-push, IsLast}
-use Rattle.kc_report.proofs.TableAnswers.{Stops}
+use Rattle.kc_report.proofs.TableAnswers.{Stops, Answered}
 
 -- it holds, or it doesn't
 abbrev Known : Type 0 → Type 0
@@ -144,8 +144,8 @@ pub record GoesOn (front : TallySeen) (rest : List ℕ) : Type 0 where
   pub more : List ℕ
   pub split : rest ≡ row_in_columns front.k false row ++ more
 
-next_row : (front : TallySeen) (rest : List ℕ) → IsTable front → GoesOn front rest ⊎ Stops front.k front.both front.rows rest
-next_row front rest lawful = found (known_next front rest) where
+next_row : (front : TallySeen) {origin : Option Origin} (rest : List ℕ) → IsTable front origin → GoesOn front rest ⊎ Stops front.k front.both front.rows rest
+next_row front {origin} rest lawful = found (known_next front rest) where
   found : Known (HasNext front rest) → GoesOn front rest ⊎ Stops front.k front.both front.rows rest
   found (inl h) = inl (record {
     row = record { word = h.0; count = h.2.0 };
@@ -161,16 +161,16 @@ next_row front rest lawful = found (known_next front rest) where
 -- ---- the answer
 
 abbrev Answer : List ℕ → Type 0
-Answer bytes = (answer : Result TallySeen ReportFault) × IsTableOf bytes answer
+Answer bytes = (answer : Answered) × IsTableOf bytes answer
 
-stopped : (bytes : List ℕ) (front : TallySeen) (rest : List ℕ) → ReadsTo bytes front rest → Stops front.k front.both front.rows rest
+stopped : (bytes : List ℕ) (front : TallySeen) (origin : Option Origin) (rest : List ℕ) → ReadsTo bytes front origin rest → Stops front.k front.both front.rows rest
     → Known (rest ≡ end_text front.rows) → Known (HasLine rest) → Known (BeginsWith rest (codes "END")) → Answer bytes
-stopped bytes front rest reads stops (inl e) line end =
-    (Ok front, record { lawful = reads.lawful; whole = reads.split ∙ ap (λ v. front_text front.k front.both front.rows ++ v) e })
-stopped bytes front rest reads stops (inr e) (inr none) end = (Err BadEnd, record { front = front; rest = rest; reads = reads; ends = inl none; wrong = e })
-stopped bytes front rest reads stops (inr e) (inl line) (inl is) = (Err BadEnd, record { front = front; rest = rest; reads = reads; ends = inr is; wrong = e })
-stopped bytes front rest reads stops (inr e) (inl line) (inr is) =
-    (Err (BadRow (length front.rows + 2)), record { front = front; rest = rest; reads = reads; line = line; no_end = is; no_row = stops; counted = refl })
+stopped bytes front origin rest reads stops (inl e) line end =
+    (Ok (front, origin), record { lawful = reads.lawful; whole = reads.split ∙ ap (λ v. front_text front.k front.both origin front.rows ++ v) e })
+stopped bytes front origin rest reads stops (inr e) (inr none) end = (Err BadEnd, record { front = front; origin = origin; rest = rest; reads = reads; ends = inl none; wrong = e })
+stopped bytes front origin rest reads stops (inr e) (inl line) (inl is) = (Err BadEnd, record { front = front; origin = origin; rest = rest; reads = reads; ends = inr is; wrong = e })
+stopped bytes front origin rest reads stops (inr e) (inl line) (inr is) =
+    (Err (BadRow (length front.rows + 2)), record { front = front; origin = origin; rest = rest; reads = reads; line = line; no_end = is; no_row = stops; counted = refl })
 
 pub rows_push : (k : ℕ) (rows : List Row) (row : Row) → rows_text k rows ++ row_in_columns k false row ≡ rows_text k (rows ++ row ∷ [])
 rows_push k [] row = sym (append-nil (row_in_columns k false row))
@@ -178,10 +178,10 @@ rows_push k (first ∷ rows) row =
     append_assoc (row_in_columns k false first) (rows_text k rows) (row_in_columns k false row) ∙ ap (λ v. row_in_columns k false first ++ v) (rows_push k rows row)
 
 -- the header and the rows, and one row more
-pub front_push : (front : TallySeen) (row : Row)
-    → front_text front.k front.both front.rows ++ row_in_columns front.k false row ≡ front_text front.k front.both (front.rows ++ row ∷ [])
-front_push front row =
-    let header = ended (header_line front.k front.both) in
+pub front_push : (front : TallySeen) (origin : Option Origin) (row : Row)
+    → front_text front.k front.both origin front.rows ++ row_in_columns front.k false row ≡ front_text front.k front.both origin (front.rows ++ row ∷ [])
+front_push front origin row =
+    let header = ended (header_line front.k front.both origin) in
     append_assoc header (rows_text front.k front.rows) (row_in_columns front.k false row) ∙ ap (λ v. header ++ v) (rows_push front.k front.rows row)
 
 -- and more of them
@@ -191,79 +191,125 @@ rows_more k (first ∷ rows) more =
     append_assoc (row_in_columns k false first) (rows_text k rows) (rows_text k more)
     ∙ ap (λ v. row_in_columns k false first ++ v) (rows_more k rows more)
 
-pub front_more : (front : TallySeen) (more : List Row)
-    → front_text front.k front.both front.rows ++ rows_text front.k more
-    ≡ front_text front.k front.both (front.rows ++ more)
-front_more front more =
-    let header = ended (header_line front.k front.both) in
+pub front_more : (front : TallySeen) (origin : Option Origin) (more : List Row)
+    → front_text front.k front.both origin front.rows ++ rows_text front.k more
+    ≡ front_text front.k front.both origin (front.rows ++ more)
+front_more front origin more =
+    let header = ended (header_line front.k front.both origin) in
     append_assoc header (rows_text front.k front.rows) (rows_text front.k more)
     ∙ ap (λ v. header ++ v) (rows_more front.k front.rows more)
 
 -- the reading with one row more
-one_more : (bytes : List ℕ) (front : TallySeen) (row : Row) (rest more : List ℕ) → ReadsTo bytes front rest → MayFollow front row
-    → rest ≡ row_in_columns front.k false row ++ more → ReadsTo bytes (record front { rows = front.rows ++ row ∷ [] }) more
-one_more bytes front row rest more reads follows split =
-    let text = front_text front.k front.both front.rows in
+one_more : (bytes : List ℕ) (front : TallySeen) (origin : Option Origin) (row : Row) (rest more : List ℕ) → ReadsTo bytes front origin rest → MayFollow front row
+    → rest ≡ row_in_columns front.k false row ++ more → ReadsTo bytes (record front { rows = front.rows ++ row ∷ [] }) origin more
+one_more bytes front origin row rest more reads follows split =
+    let text = front_text front.k front.both origin front.rows in
     let line = row_in_columns front.k false row in
     record {
-      lawful = record { some = reads.lawful.some; most = reads.lawful.most; rows = follows };
-      split = reads.split ∙ ap (λ v. text ++ v) split ∙ sym (append_assoc text line more) ∙ ap (λ v. v ++ more) (front_push front row);
+      lawful = record { some = reads.lawful.some; most = reads.lawful.most; rows = follows; said = reads.lawful.said };
+      split = reads.split ∙ ap (λ v. text ++ v) split ∙ sym (append_assoc text line more) ∙ ap (λ v. v ++ more) (front_push front origin row);
     }
 
 -- the answer, where the rows go on with an answer for each shorter rest
-answer_here : (bytes : List ℕ) (front : TallySeen) (rest : List ℕ) → ReadsTo bytes front rest
-    → ((later : TallySeen) (more : List ℕ) → length more < length rest → ReadsTo bytes later more → Answer bytes)
+answer_here : (bytes : List ℕ) (front : TallySeen) (origin : Option Origin) (rest : List ℕ) → ReadsTo bytes front origin rest
+    → ((later : TallySeen) (more : List ℕ) → length more < length rest → ReadsTo bytes later origin more → Answer bytes)
     → GoesOn front rest ⊎ Stops front.k front.both front.rows rest → Answer bytes
-answer_here bytes front rest reads on (inl g) =
+answer_here bytes front origin rest reads on (inl g) =
     let line = row_in_columns front.k false g.row in
     let long = length-append line g.more in
     let some = length-append (row_line front.k g.row) (line_feed ∷ []) in
     let split = ap length g.split in
-    on (record front { rows = front.rows ++ g.row ∷ [] }) g.more (omega (arith, long, some, split)) (one_more bytes front g.row rest g.more reads g.follows g.split)
-answer_here bytes front rest reads on (inr stops) =
-    stopped bytes front rest reads stops (known_text rest (end_text front.rows)) (known_line rest) (known_front rest (codes "END"))
+    on (record front { rows = front.rows ++ g.row ∷ [] }) g.more (omega (arith, long, some, split)) (one_more bytes front origin g.row rest g.more reads g.follows g.split)
+answer_here bytes front origin rest reads on (inr stops) =
+    stopped bytes front origin rest reads stops (known_text rest (end_text front.rows)) (known_line rest) (known_front rest (codes "END"))
 
-answer_from : (fuel : ℕ) (bytes : List ℕ) (front : TallySeen) (rest : List ℕ) → length rest < fuel → ReadsTo bytes front rest → Answer bytes
-answer_from zero bytes front rest fits reads = absurd (omega (arith, fits))
-answer_from (suc fuel) bytes front rest fits reads =
-    answer_here bytes front rest reads (λ later more shorter reads. answer_from fuel bytes later more (omega (arith, fits, shorter)) reads) (next_row front rest reads.lawful)
+answer_from : (fuel : ℕ) (bytes : List ℕ) (front : TallySeen) (origin : Option Origin) (rest : List ℕ) → length rest < fuel → ReadsTo bytes front origin rest → Answer bytes
+answer_from zero bytes front origin rest fits reads = absurd (omega (arith, fits))
+answer_from (suc fuel) bytes front origin rest fits reads =
+    answer_here bytes front origin rest reads (λ later more shorter reads. answer_from fuel bytes later origin more (omega (arith, fits, shorter)) reads) (next_row front rest reads.lawful)
 
 -- ---- the header
-
-abbrev HasHeader : List ℕ → Type 0
-HasHeader bytes = (k : ℕ) × (k < 32) × ((1 ≤ k) × (BeginsWith bytes (ended (header_line k true)) ⊎ BeginsWith bytes (ended (header_line k false))))
 
 either : (P Q : Type 0) → Known P → Known Q → Known (P ⊎ Q)
 either P Q (inl p) known = inl (inl p)
 either P Q (inr p) (inl q) = inl (inr q)
 either P Q (inr p) (inr q) = inr (λ h. ⊎_elim p q h)
 
-known_header : (bytes : List ℕ) → Known (HasHeader bytes)
-known_header bytes =
-    first_below (λ k. (1 ≤ k) × (BeginsWith bytes (ended (header_line k true)) ⊎ BeginsWith bytes (ended (header_line k false))))
-    (λ k. both _ _ (known_le 1 k) (either _ _ (known_front bytes (ended (header_line k true))) (known_front bytes (ended (header_line k false))))) 32
+-- the bytes begin with a header of this origin, of words of k bases
+abbrev Heads : List ℕ → Option Origin → ℕ → Type 0
+Heads bytes origin k =
+    (1 ≤ k) × (BeginsWith bytes (ended (header_line k true origin)) ⊎ BeginsWith bytes (ended (header_line k false origin)))
+
+abbrev HasHeader : List ℕ → Option Origin → Type 0
+HasHeader bytes origin = (k : ℕ) × (k < 32) × Heads bytes origin k
+
+known_header : (bytes : List ℕ) (origin : Option Origin) → Known (HasHeader bytes origin)
+known_header bytes origin =
+    first_below (Heads bytes origin)
+    (λ k. both _ _ (known_le 1 k) (either _ _ (known_front bytes (ended (header_line k true origin))) (known_front bytes (ended (header_line k false origin))))) 32
+
+-- some origin of these numbers is said
+abbrev Said : List ℕ → ℕ → ℕ → Type 0
+Said bytes floor reads =
+    HasHeader bytes (Some (record { floor = floor; reads = reads; listed = true }))
+    ⊎ HasHeader bytes (Some (record { floor = floor; reads = reads; listed = false }))
+
+abbrev HasOrigin : List ℕ → Type 0
+HasOrigin bytes = (floor : ℕ) × (floor < 127) × ((33 ≤ floor) × ((reads : ℕ) × (reads < 2 ^ 62 + 1) × Said bytes floor reads))
+
+known_origin : (bytes : List ℕ) → Known (HasOrigin bytes)
+known_origin bytes =
+    first_below (λ floor. (33 ≤ floor) × ((reads : ℕ) × (reads < 2 ^ 62 + 1) × Said bytes floor reads))
+    (λ floor. both _ _ (known_le 33 floor) (first_below (λ reads. Said bytes floor reads) (λ reads. either _ _ (known_header bytes (Some (record { floor = floor; reads = reads; listed = true }))) (known_header bytes (Some (record { floor = floor; reads = reads; listed = false })))) (2 ^ 62 + 1)))
+    127
 
 -- behind the header, no row is read yet
-no_row_yet : (bytes : List ℕ) (k : ℕ) (both_ : Bool) (rest : List ℕ) → 1 ≤ k → k ≤ 31 → bytes ≡ ended (header_line k both_) ++ rest
-    → ReadsTo bytes (record { k = k; both = both_; rows = [] }) rest
-no_row_yet bytes k both_ rest some most split = record {
-  lawful = record { some = some; most = most; rows = AreRows-none k both_ };
-  split = split ∙ ap (λ v. v ++ rest) (sym (append-nil (ended (header_line k both_))));
+no_row_yet : (bytes : List ℕ) (k : ℕ) (both_ : Bool) (origin : Option Origin) (rest : List ℕ) → 1 ≤ k → k ≤ 31 → MaySay origin
+    → bytes ≡ ended (header_line k both_ origin) ++ rest → ReadsTo bytes (record { k = k; both = both_; rows = [] }) origin rest
+no_row_yet bytes k both_ origin rest some most said split = record {
+  lawful = record { some = some; most = most; rows = AreRows-none k both_; said = said };
+  split = split ∙ ap (λ v. v ++ rest) (sym (append-nil (ended (header_line k both_ origin))));
 }
 
-behind_header : (bytes : List ℕ) (k : ℕ) (both_ : Bool) → 1 ≤ k → k < 32 → BeginsWith bytes (ended (header_line k both_)) → Answer bytes
-behind_header bytes k both_ some most at =
-    answer_from (length at.0 + 1) bytes (record { k = k; both = both_; rows = [] }) at.0 (omega arith) (no_row_yet bytes k both_ at.0 some (omega (arith, most)) at.1)
+behind_header : (bytes : List ℕ) (k : ℕ) (both_ : Bool) (origin : Option Origin) → 1 ≤ k → k < 32 → MaySay origin → BeginsWith bytes (ended (header_line k both_ origin)) → Answer bytes
+behind_header bytes k both_ origin some most said at =
+    answer_from (length at.0 + 1) bytes (record { k = k; both = both_; rows = [] }) origin at.0 (omega arith) (no_row_yet bytes k both_ origin at.0 some (omega (arith, most)) said at.1)
+
+begun : (bytes : List ℕ) (origin : Option Origin) → MaySay origin → HasHeader bytes origin → Answer bytes
+begun bytes origin said h = here h.2.1 where
+  here : BeginsWith bytes (ended (header_line h.0 true origin)) ⊎ BeginsWith bytes (ended (header_line h.0 false origin)) → Answer bytes
+  here (inl at) = behind_header bytes h.0 true origin h.2.0 h.1 said at
+  here (inr at) = behind_header bytes h.0 false origin h.2.0 h.1 said at
+
+has_header : (bytes : List ℕ) (k : ℕ) (both_ : Bool) (origin : Option Origin) → 1 ≤ k → k ≤ 31 → BeginsWith bytes (ended (header_line k both_ origin)) → HasHeader bytes origin
+has_header bytes k true origin some most at = (k, omega (arith, most), (some, inl at))
+has_header bytes k false origin some most at = (k, omega (arith, most), (some, inr at))
+
+said_so : (bytes : List ℕ) (origin : Origin) → HasHeader bytes (Some origin) → Said bytes origin.floor origin.reads
+said_so bytes origin h = here origin.listed refl where
+  here : (listed : Bool) → origin.listed ≡ listed → Said bytes origin.floor origin.reads
+  here true e = inl (subst (λ listed. HasHeader bytes (Some (record { floor = origin.floor; reads = origin.reads; listed = listed }))) e h)
+  here false e = inr (subst (λ listed. HasHeader bytes (Some (record { floor = origin.floor; reads = origin.reads; listed = listed }))) e h)
+
+no_header : (bytes : List ℕ) → ¬ HasHeader bytes None → ¬ HasOrigin bytes → HasBadHeader bytes
+no_header bytes none nor k both_ None some most said at = none (has_header bytes k both_ None some most at)
+no_header bytes none nor k both_ (Some origin) some most said at =
+    let floor = said.floor_most in
+    let reads = said.reads in
+    nor (origin.floor, omega (arith, floor), (said.floor_least, (origin.reads, omega (arith, reads), said_so bytes origin (has_header bytes k both_ (Some origin) some most at))))
+
+with_origin : (bytes : List ℕ) → HasOrigin bytes → Answer bytes
+with_origin bytes h = here h.2.1.2 where
+  may : (listed : Bool) → MaySay (Some (record { floor = h.0; reads = h.2.1.0; listed = listed }))
+  may listed = let most = h.1 in let few = h.2.1.1 in record { floor_least = h.2.0; floor_most = omega (arith, most); reads = omega (arith, few) }
+
+  here : Said bytes h.0 h.2.1.0 → Answer bytes
+  here (inl at) = begun bytes (Some (record { floor = h.0; reads = h.2.1.0; listed = true })) (may true) at
+  here (inr at) = begun bytes (Some (record { floor = h.0; reads = h.2.1.0; listed = false })) (may false) at
 
 pub answer : (bytes : List ℕ) → Answer bytes
-answer bytes = found (known_header bytes) where
-  begun : (k : ℕ) → 1 ≤ k → k < 32 → BeginsWith bytes (ended (header_line k true)) ⊎ BeginsWith bytes (ended (header_line k false)) → Answer bytes
-  begun k some most (inl at) = behind_header bytes k true some most at
-  begun k some most (inr at) = behind_header bytes k false some most at
-
-  found : Known (HasHeader bytes) → Answer bytes
-  found (inl h) = begun h.0 h.2.0 h.1 h.2.1
-  found (inr none) = (Err BadHeader, no_header none) where
-    no_header : ¬ HasHeader bytes → HasBadHeader bytes
-    no_header none k true some most at = none (k, omega (arith, most), (some, inl at))
-    no_header none k false some most at = none (k, omega (arith, most), (some, inr at))
+answer bytes = found (known_header bytes None) (known_origin bytes) where
+  found : Known (HasHeader bytes None) → Known (HasOrigin bytes) → Answer bytes
+  found (inl h) known = begun bytes None tt h
+  found (inr none) (inl h) = with_origin bytes h
+  found (inr none) (inr nor) = (Err BadHeader, no_header bytes none nor)

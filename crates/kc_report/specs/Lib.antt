@@ -8,3 +8,4 @@ pub mod TableRows
 pub mod Querying
 pub mod Histo
 pub mod Statistics
+pub mod Merging

@@ -1,8 +1,7 @@
--- What a byte string says where it is read as a table text: the tally whose text it is, or its first fault.
--- Source, our formats
--- page ("Table text").
+-- What a byte string says where it is read as a table text: the tally and the origin whose text it is, or its first
+-- fault. Source, our formats page ("Table text").
 use Rattle.std.specs.Prelude.{◌≡◌, ℕ, ◌+◌, ◌≤◌, Bool, false, List}
-use Rattle.std.specs.Prelude.{[], ◌∷◌, ◌++◌, length, codes, Result, MatchResult, ◌⊎◌}
+use Rattle.std.specs.Prelude.{[], ◌∷◌, ◌++◌, length, codes, Result, MatchResult, Option, ◌⊎◌}
 use Rattle.kc_io.specs.declared.intakes.TakeFault.TheVariants as taking
 use Rattle.kc_io.specs.Sources.{Seen}
 use Rattle.kc_io.specs.Intakes.{TakesAll, TakingFails}
@@ -12,7 +11,8 @@ use Rattle.kc_report.specs.declared.report_faults.ReportFault.{ReportFault}
 use Rattle.kc_report.specs.declared.report_faults.ReportFault.TheVariants.{BadHeader, BadRow, BadEnd}
 use Rattle.kc_report.specs.declared.report_faults.ReportFault.TheVariants.{TableTooLong, TableRead, Memory}
 use Rattle.kc_report.specs.Dumping.{row_in_columns}
-use Rattle.kc_report.specs.Table.{header_line, ended, front_text, end_text, table_text}
+use Rattle.kc_report.specs.declared.origin.Origin.{Origin}
+use Rattle.kc_report.specs.Table.{header_line, MaySay, ended, front_text, end_text, table_text}
 
 -- the bytes begin with the front
 abbrev pub BeginsWith : List ℕ → List ℕ → Type 0
@@ -22,16 +22,17 @@ BeginsWith bytes front = (rest : List ℕ) × (bytes ≡ front ++ rest)
 abbrev pub HasLine : List ℕ → Type 0
 HasLine bytes = (line : List ℕ) × BeginsWith bytes (ended line)
 
--- a tally that a table can tell: its words have 1 to 31 bases, and its rows are such as a tally may have
-pub record IsTable (tally : TallySeen) : Type 0 where
+-- a tally and an origin that a table can tell: its words have 1 to 31 bases, and its rows are such as a tally may have
+pub record IsTable (tally : TallySeen) (origin : Option Origin) : Type 0 where
   pub some : 1 ≤ tally.k
   pub most : tally.k ≤ 31
   pub rows : AreRows tally.k tally.both tally.rows
+  pub said : MaySay origin
 
--- the bytes begin with the header and the rows of such a tally, and the rest comes behind them
-pub record ReadsTo (bytes : List ℕ) (front : TallySeen) (rest : List ℕ) : Type 0 where
-  pub lawful : IsTable front
-  pub split : bytes ≡ front_text front.k front.both front.rows ++ rest
+-- the bytes begin with the header and the rows of such a table, and the rest comes behind them
+pub record ReadsTo (bytes : List ℕ) (front : TallySeen) (origin : Option Origin) (rest : List ℕ) : Type 0 where
+  pub lawful : IsTable front origin
+  pub split : bytes ≡ front_text front.k front.both origin front.rows ++ rest
 
 -- a row may come next in the table
 abbrev pub MayFollow : TallySeen → Row → Type 0
@@ -39,14 +40,16 @@ MayFollow front row = AreRows front.k front.both (front.rows ++ row ∷ [])
 
 -- the first line isn't a header, or there is none
 abbrev pub HasBadHeader : List ℕ → Type 0
-HasBadHeader bytes = (k : ℕ) (both : Bool) → 1 ≤ k → k ≤ 31 → ¬ BeginsWith bytes (ended (header_line k both))
+HasBadHeader bytes = (k : ℕ) (both : Bool) (origin : Option Origin) → 1 ≤ k → k ≤ 31 → MaySay origin
+    → ¬ BeginsWith bytes (ended (header_line k both origin))
 
 -- behind a header and rows stands a line that doesn't begin with `END` and isn't a row that may come next; it is the
 -- number-th line
 pub record HasBadRow (bytes : List ℕ) (number : ℕ) : Type 0 where
   pub front : TallySeen
+  pub origin : Option Origin
   pub rest : List ℕ
-  pub reads : ReadsTo bytes front rest
+  pub reads : ReadsTo bytes front origin rest
   pub line : HasLine rest
   pub no_end : ¬ BeginsWith rest (codes "END")
   pub no_row : (row : Row) → MayFollow front row → ¬ BeginsWith rest (row_in_columns front.k false row)
@@ -55,15 +58,16 @@ pub record HasBadRow (bytes : List ℕ) (number : ℕ) : Type 0 where
 -- behind a header and rows no line is left, or one that begins with `END`, and what is left isn't the end of the table
 pub record HasBadEnd (bytes : List ℕ) : Type 0 where
   pub front : TallySeen
+  pub origin : Option Origin
   pub rest : List ℕ
-  pub reads : ReadsTo bytes front rest
+  pub reads : ReadsTo bytes front origin rest
   pub ends : (¬ HasLine rest) ⊎ BeginsWith rest (codes "END")
   pub wrong : ¬ (rest ≡ end_text front.rows)
 
--- the bytes are the text of this tally
-pub record HasTable (bytes : List ℕ) (tally : TallySeen) : Type 0 where
-  pub lawful : IsTable tally
-  pub whole : bytes ≡ table_text tally
+-- the bytes are the text of this tally with this origin
+pub record HasTable (bytes : List ℕ) (table : TallySeen × Option Origin) : Type 0 where
+  pub lawful : IsTable table.0 table.1
+  pub whole : bytes ≡ table_text table.0 table.1
 
 -- the bytes are no table text: this is their first fault
 abbrev pub HasTableFault : List ℕ → ReportFault → Type 0
@@ -72,15 +76,15 @@ HasTableFault bytes (BadRow number) = HasBadRow bytes number
 HasTableFault bytes BadEnd = HasBadEnd bytes
 HasTableFault bytes _ = ⊥
 
--- the tally of the bytes, or their first fault
-abbrev pub IsTableOf : List ℕ → Result TallySeen ReportFault → Type 0
+-- the tally of the bytes with its origin, or their first fault
+abbrev pub IsTableOf : List ℕ → Result (TallySeen × Option Origin) ReportFault → Type 0
 IsTableOf bytes answer = MatchResult answer (HasTable bytes) (HasTableFault bytes)
 
--- all bytes of the source were taken, and they are the text of this tally
-pub record GivesTable (old new : Seen) (limit : ℕ) (tally : TallySeen) : Type 0 where
+-- all bytes of the source were taken, and they are the text of this tally with this origin
+pub record GivesTable (old new : Seen) (limit : ℕ) (table : TallySeen × Option Origin) : Type 0 where
   pub bytes : List ℕ
   pub taken : TakesAll old new limit bytes
-  pub has_table : HasTable bytes tally
+  pub has_table : HasTable bytes table
 
 -- why `read_table` gave no tally: the taking failed, or all bytes were taken and have this fault. Memory was
 -- refused in the

@@ -127,7 +127,7 @@ pub(crate) fn count_of(fields: &[u8]) -> Option<(u64, usize)>
 
 // The number that the digits in front of bytes write, and how many they are. Where they are many the number is wrong.
 #[inline(always)]
-fn digits_of(bytes: &[u8]) -> (u64, usize)
+pub(crate) fn digits_of(bytes: &[u8]) -> (u64, usize)
     ensures { HasDigits bytes.now result.0 result.1 }
 {
     let mut number = 0u64;

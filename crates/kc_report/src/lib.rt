@@ -3,7 +3,8 @@
 //! `write_dump` writes the k-mers (words of length k) with their counts, laid out as a `Dump` says; `write_histo` how
 //! many words have which count; `write_stats` four numbers about all of them. Each is a function of the rows of the
 //! `Tally`. `write_table` writes the table text, from which `read_table` makes the same tally again, and `query` the
-//! counts of asked words; `table_laws` says what holds of table texts. The `Block` of `kc_io` gathers the bytes of a
+//! counts of asked words; `table_laws` says what holds of table texts. `merge` puts two tables together, and
+//! `merging_laws` says what holds of that. The `Block` of `kc_io` gathers the bytes of a
 //! text, so that the writer gets blocks of 64 KB.
 //!
 //! ```ignore
@@ -15,8 +16,12 @@
 
 mod dump;
 mod fields;
+mod header_fields;
 mod histogram_text;
 mod letters;
+mod merging;
+pub mod merging_laws;
+mod origin;
 mod queries;
 mod report_faults;
 mod statistics;
@@ -29,6 +34,8 @@ mod table_rows;
 pub use dump::{Dump, GREATEST_COUNT, write_dump};
 pub use histogram_text::{GREATEST_HIGH, write_histo};
 pub use kc_io::{BLOCK_SIZE, Block, NUMBER_SIZE};
+pub use merging::merge;
+pub use origin::Origin;
 pub use queries::query;
 pub use report_faults::ReportFault;
 pub use statistics::write_stats;

@@ -31,6 +31,12 @@ pub enum ReportFault {
     /// This asked word, numbered from 1, is no word of the tally's length.
     #[error("bad word {0}")]
     BadWord(u64),
+    /// Two tables do not match: they were not counted under one rule, or a list was given.
+    #[error("tables do not match")]
+    Unlike,
+    /// What two tables counted together, or their reads together, are more than a table can tell.
+    #[error("sums too large")]
+    TooLarge,
     /// A growth was refused.
     #[error("no memory")]
     Memory,

@@ -1,38 +1,54 @@
 //! The table text of a tally, which keeps all of it.
-ghost use Rattle.std.specs.Prelude.{◌≡◌, ◌+◌, ◌≤◌, ◌∷◌, [], ◌++◌, length, IfErr};
+ghost use Rattle.std.specs.Prelude.{◌≡◌, ◌+◌, ◌≤◌, ◌∷◌, ◌++◌, length, option_map, IfSome, IfErr};
 ghost use Rattle.kc_io.specs.Sinks.{Writes};
 ghost use Rattle.kc_report.specs.declared.report_faults.ReportFault.TheVariants.{Write};
-ghost use Rattle.kc_report.specs.Bytes.{line_feed, space};
-ghost use Rattle.kc_report.specs.Table.{kind, header_line, end_line, ended, table_text};
+ghost use Rattle.kc_report.specs.Bytes.{space};
+ghost use Rattle.kc_report.specs.Table.{version, kind, selection, origin_text, header_line, IsOrigin};
+ghost use Rattle.kc_report.specs.Table.{end_line, ended, table_text};
 
 use crate::dump::{ROW_SIZE, push_columns};
+use crate::origin::Origin;
 use crate::report_faults::ReportFault;
 use kc_io::{BLOCK_SIZE, Block, Failed, NUMBER_SIZE, Sink, write_out};
 use kc_kmer::K;
 use kc_tally::Tally;
 
-// The most bytes of a header and of an end line, each with its line end.
-pub(crate) const HEADER_SIZE: usize = 6 + NUMBER_SIZE + 3;
+// The most bytes of an origin, of a header and of an end line, both with their line ends.
+const ORIGIN_SIZE: usize = 2 + 1 + NUMBER_SIZE + 1 + NUMBER_SIZE;
+
+pub(crate) const HEADER_SIZE: usize = 6 + NUMBER_SIZE + 2 + ORIGIN_SIZE + 1;
 
 pub(crate) const END_SIZE: usize = 4 + NUMBER_SIZE + 1 + NUMBER_SIZE + 1;
 
-/// Writes the table text of a tally, from which `read_table` makes the same tally again. It takes no memory.
+/// Writes the table text of a tally, from which `read_table` makes the same tally and the same origin again: version 2
+/// where an origin is given, else version 1. It takes no memory. Conditions: the floor is 33 to 126, and the reads are
+/// at most 2^62.
 ///
 /// # Errors
 /// `Write` where the writer failed or took no byte. It took a beginning of the text.
-pub fn write_table<W: Sink>(writer: &mut W, tally: &Tally) -> Result<(), ReportFault>
-    ensures written { Writes (W.seen writer.old) (W.seen writer.new) result (table_text tally.now) }
+pub fn write_table<W: Sink>(
+    writer: &mut W,
+    tally: &Tally,
+    origin: Option<&Origin>,
+) -> Result<(), ReportFault>
+    requires { IfSome origin (λ origin. IsOrigin origin.now) }
+    ensures written { Writes (W.seen writer.old) (W.seen writer.new) result
+        (table_text tally.now (option_map (λ said. said.now) origin.entry)) }
     ensures fault { IfErr result (λ fault. fault ≡ Write) }
 {
-    Ok(table_by_blocks(writer, tally)?)
+    Ok(table_by_blocks(writer, tally, origin.copied())?)
 }
 
 // Writes the table text of a tally, a block at a time.
-fn table_by_blocks<W: Sink>(writer: &mut W, tally: &Tally) -> Result<(), Failed>
-    ensures { Writes (W.seen writer.old) (W.seen writer.new) result (table_text tally.now) }
+fn table_by_blocks<W: Sink>(
+    writer: &mut W,
+    tally: &Tally,
+    origin: Option<Origin>,
+) -> Result<(), Failed>
+    ensures { Writes (W.seen writer.old) (W.seen writer.new) result (table_text tally.now origin) }
 {
     let mut block = Block::new();
-    push_header(&mut block, tally.k(), tally.both());
+    push_header(&mut block, tally.k(), tally.both(), origin);
     for row in tally.rows() {
         block.make_room(writer, ROW_SIZE)?;
         push_columns(&mut block, tally.k(), false, row);
@@ -43,21 +59,60 @@ fn table_by_blocks<W: Sink>(writer: &mut W, tally: &Tally) -> Result<(), Failed>
 }
 
 // The header, at the end of the block.
-pub(crate) fn push_header(block: &mut Block, k: K, both: bool)
+pub(crate) fn push_header(block: &mut Block, k: K, both: bool, origin: Option<Origin>)
     requires room { length block.old + HEADER_SIZE ≤ BLOCK_SIZE }
-    ensures { block.new ≡ block.old ++ ended (header_line k both) }
+    ensures { block.new ≡ block.old ++ ended (header_line k both origin) }
 {
-    block.push(b"KCT 1 ");
+    block.push(version_bytes(origin));
     block.push_number(k.get() as u64);
     block.push(kind_bytes(both));
+    push_origin(block, origin);
+    block.push(b"\n");
 }
 
-// The end of a header, behind the length of the words.
-fn kind_bytes(both: bool) -> &'static [u8]
-    ensures bytes { result.now ≡ space ∷ kind both ++ line_feed ∷ [] }
-    ensures size { length result.now ≡ 3 }
+// The start of a header, before the length of the words.
+fn version_bytes(origin: Option<Origin>) -> &'static [u8]
+    ensures bytes { result.now ≡ version origin }
+    ensures size { length result.now ≡ 6 }
 {
-    if both { b" c\n" } else { b" s\n" }
+    match origin {
+        None => b"KCT 1 ",
+        Some(_) => b"KCT 2 ",
+    }
+}
+
+// What stands in a header behind the length of the words, before an origin.
+fn kind_bytes(both: bool) -> &'static [u8]
+    ensures bytes { result.now ≡ space ∷ kind both }
+    ensures size { length result.now ≡ 2 }
+{
+    if both { b" c" } else { b" s" }
+}
+
+// The fields of an origin, where there is one, at the end of the block.
+fn push_origin(block: &mut Block, origin: Option<Origin>)
+    requires room { length block.old + ORIGIN_SIZE ≤ BLOCK_SIZE }
+    ensures text { block.new ≡ block.old ++ origin_text origin }
+    ensures size { length block.new ≤ length block.old + ORIGIN_SIZE }
+{
+    match origin {
+        None => {}
+        Some(origin) => {
+            block.push(selection_bytes(origin.listed));
+            block.push(b" ");
+            block.push_number(origin.floor as u64);
+            block.push(b" ");
+            block.push_number(origin.reads);
+        }
+    }
+}
+
+// The first field of an origin.
+fn selection_bytes(listed: bool) -> &'static [u8]
+    ensures bytes { result.now ≡ space ∷ selection listed }
+    ensures size { length result.now ≡ 2 }
+{
+    if listed { b" o" } else { b" a" }
 }
 
 // The end line of a table with so many rows and this sum of their counts, at the end of the block.

@@ -9,6 +9,8 @@ mod batches;
 #[cfg(test)]
 mod counters;
 #[cfg(test)]
+mod listed_words;
+#[cfg(test)]
 mod read_streams;
 #[cfg(test)]
 mod sample_reads;

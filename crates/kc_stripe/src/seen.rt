@@ -55,7 +55,7 @@ impl Seen {
         let count = stripe.count_of(stripe.setup().form_of(word));
         let batches = shared(alloc, stripe.journal())?;
         Ok(Seen {
-            setup: *stripe.setup(),
+            setup: stripe.setup().clone()?,
             word,
             count,
             batches,

@@ -57,6 +57,7 @@ impl<C: Counts + Drop, N: Books> Stripes<C, N> {
         ensures setup { IfOk result (λ made. made.0.setup ≡ setup.now) }
         ensures share { IfOk result (λ made. made.1 ≡ share_of sheet.plan sheet.plan.parts []) }
     {
+        let kept = setup.clone()?;
         let (sheet, mut opening) = sheet.open::<N>();
         let mut locks = Vec::with_capacity(alloc, setup.stripes() as usize)?;
         for table in tables {
@@ -66,7 +67,7 @@ impl<C: Counts + Drop, N: Books> Stripes<C, N> {
         }
         let share = sheet.first_share(opening);
         let stripes = Stripes {
-            setup: *setup,
+            setup: kept,
             sheet,
             locks,
         };

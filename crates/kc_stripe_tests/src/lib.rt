@@ -11,6 +11,8 @@ mod gathered_tallies;
 #[cfg(test)]
 mod gatherings;
 #[cfg(test)]
+mod listed_counts;
+#[cfg(test)]
 mod many_threads;
 #[cfg(test)]
 mod meetings;

@@ -34,18 +34,18 @@ rising_push xs y rising less k h =
     (λ l. let next = get_or_push xs y 0 (k + 1) (omega (arith, inside, l)) in let step = less k inside in omega (arith, first, next, step))
     (cases_lt (k + 1) (length xs))
 
-count_of_push : (rows : List Row) (row : Row) (m : ℕ) → (row.word ≡ m → ⊥) → count_of (rows ++ row ∷ []) m ≡ count_of rows m
+pub count_of_push : (rows : List Row) (row : Row) (m : ℕ) → (row.word ≡ m → ⊥) → count_of (rows ++ row ∷ []) m ≡ count_of rows m
 count_of_push [] row m ne = cond-false (eqb row.word m) row.count 0 (ne_eqb row.word m ne)
 count_of_push (first ∷ rows) row m ne = ap (cond (eqb first.word m) first.count) (count_of_push rows row m ne)
 
-count_of_pushed : (rows : List Row) (row : Row) → All (λ (r : Row). r.word < row.word) rows → count_of (rows ++ row ∷ []) row.word ≡ row.count
+pub count_of_pushed : (rows : List Row) (row : Row) → All (λ (r : Row). r.word < row.word) rows → count_of (rows ++ row ∷ []) row.word ≡ row.count
 count_of_pushed [] row below = cond-true (eqb row.word row.word) row.count 0 (eq-eqb row.word row.word refl)
 count_of_pushed (first ∷ rows) row below =
     let less = below 0 first (omega arith) in
     cond-false (eqb first.word row.word) first.count (count_of (rows ++ row ∷ []) row.word) (ne_eqb first.word row.word (λ e. omega (arith, e, less)))
     ∙ count_of_pushed rows row (λ k d h. below (suc k) d (omega (arith, h)))
 
-count_of-absent : (rows : List Row) (n : ℕ) → All (λ row. row.word < n) rows → count_of rows n ≡ 0
+pub count_of-absent : (rows : List Row) (n : ℕ) → All (λ row. row.word < n) rows → count_of rows n ≡ 0
 count_of-absent [] n below = refl
 count_of-absent (first ∷ rows) n below =
     let less = below 0 first (omega arith) in
@@ -54,19 +54,23 @@ count_of-absent (first ∷ rows) n below =
 wider : (n : ℕ) (rows : List Row) → All (λ row. row.word < n) rows → All (λ row. row.word < n + 1) rows
 wider n rows below k d h = let less = below k d h in omega (arith, less)
 
+-- a row behind others that have lesser words
+pub ordered_push : (n count : ℕ) (rows : List Row) → 0 < count → AreOrderedRows n rows → AreOrderedRows (n + 1) (rows ++ row_of n count ∷ [])
+ordered_push n count rows some ordered = record {
+  rising = subst IsStrictlyIncreasing (sym (map_push (λ (row : Row). row.word) rows (row_of n count)))
+      (rising_push (map (λ (row : Row). row.word) rows) n ordered.rising (λ k h.
+      let long = length-map rows (λ (row : Row). row.word) in
+      let less = ordered.words k (row_of 0 0) (omega (arith, h, long)) in
+      let same = get_or-map (λ (row : Row). row.word) rows k (row_of 0 0) 0 (omega (arith, h, long)) in
+      omega (arith, less, same)));
+  words = All-push (λ (row : Row). row.word < n + 1) rows (row_of n count) (wider n rows ordered.words) (omega arith);
+  present = All-push (λ (row : Row). 1 ≤ row.count) rows (row_of n count) ordered.present some;
+}
+
 -- a word that occurs has a row
 pub IsTalliedTo-yes : (rule : CountingRule) (reads : List Read) (n count : ℕ) (rows : List Row) → 0 < count → count ≡ occurrences rule reads (text rule.k n) → IsTalliedTo rule reads n rows → IsTalliedTo rule reads (n + 1) (rows ++ row_of n count ∷ [])
 IsTalliedTo-yes rule reads n count rows some e tallied = record {
-  ordered = record {
-    rising = subst IsStrictlyIncreasing (sym (map_push (λ (row : Row). row.word) rows (row_of n count)))
-        (rising_push (map (λ (row : Row). row.word) rows) n tallied.ordered.rising (λ k h.
-        let long = length-map rows (λ (row : Row). row.word) in
-        let less = tallied.ordered.words k (row_of 0 0) (omega (arith, h, long)) in
-        let same = get_or-map (λ (row : Row). row.word) rows k (row_of 0 0) 0 (omega (arith, h, long)) in
-        omega (arith, less, same)));
-    words = All-push (λ (row : Row). row.word < n + 1) rows (row_of n count) (wider n rows tallied.ordered.words) (omega arith);
-    present = All-push (λ (row : Row). 1 ≤ row.count) rows (row_of n count) tallied.ordered.present some;
-  };
+  ordered = ordered_push n count rows some tallied.ordered;
   counts = λ m h.
       ⊎_elim
       (λ l. count_of_push rows (row_of n count) m (λ f. omega (arith, f, l)) ∙ tallied.counts m l)

@@ -1,5 +1,5 @@
 -- Rows that count the list of all words are the tally, which is one, and how much it holds.
-use Rattle.std.proofs.Common.{◌≡◌, ℕ, zero, suc, ◌+◌, ◌^◌, ◌<◌, ◌≤◌, ⊎_elim, cond, eqb, List, [], ◌∷◌, map, length, get_or, sum_by, All, filter, refl, ap, sym, ◌∙◌, subst, arith, eq-eqb, ne_eqb, zero-add, not, le_refl}
+use Rattle.std.proofs.Common.{◌≡◌, ℕ, zero, suc, ◌+◌, ◌^◌, ◌<◌, ◌≤◌, ⊎_elim, cond, eqb, List, [], ◌∷◌, ◌++◌, map, length, get_or, sum_by, All, filter, refl, ap, sym, ◌∙◌, subst, arith, eq-eqb, ne_eqb, zero-add, not, le_refl}
 use Rattle.std.proofs.lemmas.Bool.{cases_lt, cases_eq, cases_order, cond-true, cond-false}
 use Rattle.std.proofs.lemmas.List.{length-map}
 use Rattle.std.proofs.lemmas.List.Sums.{sum_by-cons, length-filter}
@@ -11,8 +11,9 @@ use Rattle.kc_kmer.specs.Rule.{CountingRule}
 use Rattle.kc_kmer.specs.Occurrences.{words_of}
 use Rattle.kc_kmer.proofs.WordCounts.{times, times-words_of, All-words_of, All-forms, occurrences-append, length-words_of}
 use Rattle.kc_tally.specs.declared.row.Row.{Row}
-use Rattle.kc_tally.specs.Tally.{count_of, total_of, AreRows, IsTally, TallySeen, IsTallyOf}
-use Rattle.kc_tally.specs.Laws.{JoinedTally}
+use Rattle.kc_tally.specs.Tally.{count_of, total_of, AreOrderedRows, AreRows, IsTally, TallySeen, IsTallyOf}
+use Rattle.kc_tally.specs.Sum.{IsSum}
+use Rattle.kc_tally.specs.Laws.{JoinedTally, SummedTally, OneSum}
 
 -- rows that count the list of all words are the tally
 pub IsTally-from_words : (rule : CountingRule) (reads : List Read) (rows : List Row) → IsStrictlyIncreasing (map (λ row. row.word) rows) → All (λ row. row.word < 4 ^ rule.k) rows → All (λ row. 1 ≤ row.count) rows
@@ -25,7 +26,7 @@ IsTally-from_words rule reads rows rising words present counts = record {
 -- ---- one tally
 
 -- the rows rise, from a number that is at least `low` on
-RisesFrom : ℕ → List Row → Type 0
+unfoldable pub RisesFrom : ℕ → List Row → Type 0
 RisesFrom low [] = Unit {0}
 RisesFrom low (row ∷ rows) = (low ≤ row.word) × RisesFrom (suc row.word) rows
 
@@ -36,12 +37,12 @@ rises-from low (row ∷ rows) rising first =
     (first (omega arith), rises-from (suc row.word) rows (λ k h. let e : suc k + 1 ≡ suc (k + 1) = omega arith in subst (λ m. get_or (map (λ (r : Row). r.word) rows) k 0 < get_or (row.word ∷ map (λ (r : Row). r.word) rows) m 0) e (rising (suc k) (let l : suc k + 1 < suc (length (map (λ (r : Row). r.word) rows)) = omega (arith, h) in l))) (λ h. rising 0 (let long = length-map rows (λ (r : Row). r.word) in omega (arith, h, long))))
 
 -- the rows of a tally: rising from a number on, with numbers below a bound and counts above 0
-record RiseWithin (low bound : ℕ) (rows : List Row) : Type 0 where
-  rises : RisesFrom low rows
-  below : All (λ row. row.word < bound) rows
-  present : All (λ row. 1 ≤ row.count) rows
+pub record RiseWithin (low bound : ℕ) (rows : List Row) : Type 0 where
+  pub rises : RisesFrom low rows
+  pub below : All (λ row. row.word < bound) rows
+  pub present : All (λ row. 1 ≤ row.count) rows
 
-RiseWithin-rest : (low bound : ℕ) (row : Row) (rows : List Row) → RiseWithin low bound (row ∷ rows) → RiseWithin (suc row.word) bound rows
+pub RiseWithin-rest : (low bound : ℕ) (row : Row) (rows : List Row) → RiseWithin low bound (row ∷ rows) → RiseWithin (suc row.word) bound rows
 unfolding RisesFrom
 RiseWithin-rest low bound row rows is = record {
   rises = is.rises.1;
@@ -49,7 +50,7 @@ RiseWithin-rest low bound row rows is = record {
   present = λ k d h. is.present (suc k) d (omega (arith, h));
 }
 
-count_of-low : (low : ℕ) (rows : List Row) (n : ℕ) → RisesFrom low rows → n < low → count_of rows n ≡ 0
+pub count_of-low : (low : ℕ) (rows : List Row) (n : ℕ) → RisesFrom low rows → n < low → count_of rows n ≡ 0
 unfolding RisesFrom
 count_of-low low [] n rises h = refl
 count_of-low low (row ∷ rows) n rises h =
@@ -134,12 +135,15 @@ one_tally-rows bound low (row ∷ rows) (other ∷ others) is also same =
         (cases_lt n (suc row.word))) in
         (λ i. record { word = e i; count = count i } ∷ tail i)
 
-tally-RiseWithin : (rule : CountingRule) (reads : List Read) (rows : List Row) → IsTally rule reads rows → RiseWithin 0 (4 ^ rule.k) rows
-tally-RiseWithin rule reads rows is = record {
-  rises = rises-from 0 rows is.ordered.rising (λ _. omega arith);
-  below = is.ordered.words;
-  present = is.ordered.present;
+pub ordered-RiseWithin : (bound : ℕ) (rows : List Row) → AreOrderedRows bound rows → RiseWithin 0 bound rows
+ordered-RiseWithin bound rows ordered = record {
+  rises = rises-from 0 rows ordered.rising (λ _. omega arith);
+  below = ordered.words;
+  present = ordered.present;
 }
+
+tally-RiseWithin : (rule : CountingRule) (reads : List Read) (rows : List Row) → IsTally rule reads rows → RiseWithin 0 (4 ^ rule.k) rows
+tally-RiseWithin rule reads rows is = ordered-RiseWithin (4 ^ rule.k) rows is.ordered
 
 -- the tally of given reads is one finite map
 pub one_tally : (rule : CountingRule) (reads : List Read) (rows others : List Row) → IsTally rule reads rows → IsTally rule reads others → rows ≡ others
@@ -149,12 +153,40 @@ one_tally rule reads rows others is also =
 -- ---- the tally of joined reads
 
 pub joined_tally : JoinedTally
-joined_tally rule reads more rows others sums is also both n h =
-    let joined = occurrences-append rule reads more (text rule.k n) in
-    let first = is.counts n h in
-    let second = also.counts n h in
-    let sum = both.counts n h in
-    omega (arith, joined, first, second, sum)
+joined_tally rule reads more rows others sums is also both = record {
+  ordered = both.ordered;
+  counts = λ n h.
+      let joined = occurrences-append rule reads more (text rule.k n) in
+      let first = is.counts n h in
+      let second = also.counts n h in
+      let sum = both.counts n h in
+      omega (arith, joined, first, second, sum);
+}
+
+summed_rows : (rule : CountingRule) (reads more : List Read) (rows others sums : List Row) → IsTally rule reads rows
+    → IsTally rule more others → IsSum rule.k rows others sums → IsTally rule (reads ++ more) sums
+summed_rows rule reads more rows others sums is also sum = record {
+  ordered = sum.ordered;
+  counts = λ n h.
+      let joined = occurrences-append rule reads more (text rule.k n) in
+      let first = is.counts n h in
+      let second = also.counts n h in
+      let whole = sum.counts n h in
+      omega (arith, joined, first, second, whole);
+}
+
+pub summed_tally : SummedTally
+summed_tally rule reads more tally other sum is also both = record {
+  k = both.k ∙ is.k;
+  both = both.both ∙ is.both;
+  rows = summed_rows rule reads more tally.rows other.rows sum.rows is.rows also.rows
+      (subst (λ k. IsSum k tally.rows other.rows sum.rows) is.k both.rows);
+}
+
+pub one_sum : OneSum
+one_sum k rows others sums more is also =
+    one_tally-rows (4 ^ k) 0 sums more (ordered-RiseWithin (4 ^ k) sums is.ordered)
+    (ordered-RiseWithin (4 ^ k) more also.ordered) (λ n h. is.counts n h ∙ sym (also.counts n h))
 
 -- ---- how much a tally holds
 

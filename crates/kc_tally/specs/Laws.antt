@@ -1,10 +1,11 @@
 -- What holds of tallies, whatever the reads are.
-use Rattle.std.specs.Prelude.{◌≡◌, ℕ, ◌+◌, ◌^◌, ◌<◌, ◌≤◌, List, ◌++◌, length}
+use Rattle.std.specs.Prelude.{◌≡◌, ℕ, ◌^◌, ◌≤◌, List, ◌++◌, length}
 use Rattle.kc_fastx.specs.Reads.{Read, base_count}
 use Rattle.kc_kmer.specs.Rule.{CountingRule}
 use Rattle.kc_kmer.specs.Occurrences.{words_of}
 use Rattle.kc_tally.specs.declared.row.Row.{Row}
-use Rattle.kc_tally.specs.Tally.{count_of, total_of, AreRows, IsTally, TallySeen, IsTallyOf}
+use Rattle.kc_tally.specs.Tally.{total_of, AreRows, IsTally, TallySeen, IsTallyOf}
+use Rattle.kc_tally.specs.Sum.{IsSum, IsSumOf}
 
 -- the tally of given reads is one finite map: two lists of rows that are its rows are equal
 abbrev pub OneTally : Type 0
@@ -20,7 +21,17 @@ OneValue = (rule : CountingRule) (reads : List Read) (tally other : TallySeen)
 abbrev pub JoinedTally : Type 0
 JoinedTally = (rule : CountingRule) (reads more : List Read) (rows others sums : List Row)
     → IsTally rule reads rows → IsTally rule more others → IsTally rule (reads ++ more) sums
-    → (n : ℕ) → n < 4 ^ rule.k → count_of sums n ≡ count_of rows n + count_of others n
+    → IsSum rule.k rows others sums
+
+-- the sum of the tallies of two lists of reads is the tally of these reads joined
+abbrev pub SummedTally : Type 0
+SummedTally = (rule : CountingRule) (reads more : List Read) (tally other sum : TallySeen)
+    → IsTallyOf rule reads tally → IsTallyOf rule more other → IsSumOf tally other sum
+    → IsTallyOf rule (reads ++ more) sum
+
+-- the sum of two lists of rows is one finite map
+abbrev pub OneSum : Type 0
+OneSum = (k : ℕ) (rows others sums more : List Row) → IsSum k rows others sums → IsSum k rows others more → sums ≡ more
 
 -- the counts of a tally add up to the number of all words, and are together at most the number of bases
 abbrev pub TallyTotal : Type 0

@@ -1,4 +1,5 @@
 pub mod Tally
 pub mod Histogram
+pub mod Sum
 pub mod Laws
 pub mod Searching

@@ -25,6 +25,7 @@ mod row;
 mod rows;
 mod search;
 pub mod slow_tally;
+mod sums;
 mod tally;
 pub mod tally_laws;
 

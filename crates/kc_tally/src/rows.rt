@@ -32,6 +32,17 @@ impl<'a> Rows<'a> {
             later: parts,
         }
     }
+
+    /// The same rows, so that one may look at those to come.
+    #[inline(always)]
+    pub(crate) fn ahead(&self) -> Rows<'a>
+        ensures { result ≡ self.now }
+    {
+        Rows {
+            part: self.part,
+            later: self.later,
+        }
+    }
 }
 
 impl<'a> Iterator for Rows<'a> {

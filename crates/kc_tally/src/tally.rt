@@ -1,14 +1,16 @@
 //! A tally: the words that occur, in rising order, each with its count.
-ghost use Rattle.std.specs.Prelude.{◌≡◌, ◌≤◌, ◌^◌, All, IfOk, length};
+ghost use Rattle.std.specs.Prelude.{◌≡◌, ◌+◌, ◌≤◌, ◌^◌, All, IfOk, length};
 ghost use Rattle.std.specs.List.{flat_map};
 ghost use Rattle.std.specs.Vec.{vec_capacity};
 ghost use Rattle.kc_tally.specs.Tally.{AreRows, count_of, total_of};
 ghost use Rattle.kc_tally.specs.Histogram.{last_bin, bin_count};
+ghost use Rattle.kc_tally.specs.Sum.{IsSumOf};
 
 use crate::histogram::Histogram;
 use crate::row::Row;
 use crate::rows::Rows;
 use crate::search::{count_in, last_word};
+use crate::sums::summed_rows;
 use kc_kmer::K;
 use std::alloc::{AllocError, Global};
 use std::marker::Model;
@@ -73,6 +75,19 @@ impl Tally {
             histogram,
             total,
         })
+    }
+
+    /// The sum of two tallies: each word that has a row in either, with both counts together. Conditions: the words
+    /// have the same length, both tallies count both strands or neither does, and the totals are together at most
+    /// 2^62.
+    pub fn sum(alloc: Global, first: &Tally, second: &Tally) -> Result<Tally, AllocError>
+        requires k { first.now.k ≡ second.now.k }
+        requires both { first.now.both ≡ second.now.both }
+        requires small { total_of first.now.rows + total_of second.now.rows ≤ 2 ^ 62 }
+        ensures { IfOk result (IsSumOf first.now second.now) }
+    {
+        let rows = summed_rows(alloc, first, second)?;
+        Tally::of_rows(alloc, first.k, first.both, rows)
     }
 
     /// The length of the words.

@@ -1,9 +1,11 @@
 //! Laws of tallies. Each is the contract of a function that does nothing.
 ghost use Rattle.std.specs.Prelude.{◌≡◌, [], ◌∷◌, None, true, codes};
 ghost use Rattle.kc_fastx.specs.Reads.{read_of};
+ghost use Rattle.kc_kmer.specs.Rule.{counting_all, with_list};
 ghost use Rattle.kc_tally.specs.Tally.{row_of, count_of, total_of, IsTally};
 ghost use Rattle.kc_tally.specs.Histogram.{bin_of, bin_count};
-ghost use Rattle.kc_tally.specs.Laws.{OneTally, OneValue, JoinedTally, TallyTotal, BoundedTally, RowsOfTally};
+ghost use Rattle.kc_tally.specs.Laws.{OneTally, OneValue, JoinedTally, SummedTally, OneSum};
+ghost use Rattle.kc_tally.specs.Laws.{TallyTotal, BoundedTally, RowsOfTally};
 
 /// The tally of given reads is one finite map, and one value.
 pub fn one_tally()
@@ -11,9 +13,15 @@ pub fn one_tally()
     ensures value { OneValue }
 {}
 
-/// The tally of reads that are joined is the sum of the tallies of both parts.
+/// The tally of reads that are joined is the sum of the tallies of both parts, and this sum is that tally.
 pub fn joined_tally()
-    ensures { JoinedTally }
+    ensures joined { JoinedTally }
+    ensures summed { SummedTally }
+{}
+
+/// The sum of two lists of rows is one finite map.
+pub fn one_sum()
+    ensures { OneSum }
 {}
 
 /// The counts of a tally add up to the number of all words.
@@ -33,8 +41,10 @@ pub fn rows_of_tally()
 
 /// Worked rows of the definitions.
 pub fn worked_rows()
-    ensures tally { IsTally (record { k = 1; both = true; floor = 33 })
+    ensures tally { IsTally (counting_all 1 true)
         (read_of (codes "AACGT") None ∷ read_of (codes "N") None ∷ []) (row_of 0 3 ∷ row_of 1 2 ∷ []) }
+    ensures listed { IsTally (with_list (counting_all 1 true) (1 ∷ []))
+        (read_of (codes "AACGT") None ∷ []) (row_of 1 2 ∷ []) }
     ensures count { count_of (row_of 0 3 ∷ row_of 1 2 ∷ []) 1 ≡ 2 }
     ensures no_count { count_of (row_of 0 3 ∷ row_of 1 2 ∷ []) 2 ≡ 0 }
     ensures total { total_of (row_of 0 3 ∷ row_of 1 2 ∷ []) ≡ 5 }

@@ -1,5 +1,5 @@
 -- A cleaned read: as long as the read, with the same words at the same positions.
-use Rattle.std.proofs.Common.{◌≡◌, ℕ, zero, suc, ◌+◌, ◌<◌, ◌≤◌, ⊎_elim, Bool, true, false, ◌&&◌, ◌||◌, cond, eqb, leb, List, [], ◌∷◌, ◌++◌, map, length, get_or, take, drop, Some, None, option_map, filter_map, sum_by, count_by, refl, ap, sym, ◌∙◌, arith}
+use Rattle.std.proofs.Common.{◌≡◌, ℕ, zero, suc, ◌+◌, ◌<◌, ◌≤◌, ⊎_elim, Bool, true, false, ◌&&◌, ◌||◌, cond, eqb, leb, List, [], ◌∷◌, ◌++◌, map, length, get_or, take, drop, Some, None, option_map, option_and_then, filter_map, sum_by, count_by, refl, ap, sym, ◌∙◌, arith}
 use Rattle.std.proofs.lemmas.Bool.{cases_Bool, cases_lt, cond-true, cond-false, cond_both, and_parts, and_from, and_left, or_left, lt-leb}
 use Rattle.std.proofs.lemmas.List.{drop_more}
 use Rattle.std.proofs.lemmas.List.Sums.{sum_by-cons}
@@ -12,7 +12,7 @@ use Rattle.kc_fastx.specs.Reads.{Read, read_of}
 use Rattle.kc_kmer.specs.Letter.{is_base}
 use Rattle.kc_kmer.specs.Word.{number, form}
 use Rattle.kc_kmer.specs.Rule.{CountingRule}
-use Rattle.kc_kmer.specs.Occurrences.{is_usable, passes_floor, word_at, form_at, positions, position_count, counts_under, occurrences_in, occurrences, words_in, words_of}
+use Rattle.kc_kmer.specs.Occurrences.{is_usable, passes_floor, word_at, form_at, where_listed, counted_at, positions, position_count, counts_under, occurrences_in, occurrences, words_in, words_of}
 use Rattle.kc_word.specs.Cutting.{unusable, are_piece_bytes, cleaned_base, cleaned, as_reads}
 use Rattle.kc_kmer.proofs.WordLemmas.{at_base}
 
@@ -107,20 +107,22 @@ word_at-cleaned rule read p =
     where_true true false v w same = refl
     where_true false b v w same = refl
 
-pub form_at-cleaned : (rule : CountingRule) (read : Read) (p : ℕ) → form_at rule (read_of (cleaned rule read) None) p ≡ form_at rule read p
+form_at-cleaned : (rule : CountingRule) (read : Read) (p : ℕ) → form_at rule (read_of (cleaned rule read) None) p ≡ form_at rule read p
 unfolding form_at
 form_at-cleaned rule read p = ap (option_map (form rule.both)) (word_at-cleaned rule read p)
 
--- ---- the contract of `clean`
+counted_at-cleaned : (rule : CountingRule) (read : Read) (p : ℕ) → counted_at rule (read_of (cleaned rule read) None) p ≡ counted_at rule read p
+unfolding counted_at
+counted_at-cleaned rule read p = ap (option_and_then (where_listed rule.only)) (form_at-cleaned rule read p)
 
 -- ---- the words and the occurrences of a cleaned read
 
 pub words_in-cleaned : (rule : CountingRule) (read : Read) → words_in rule (read_of (cleaned rule read) None) ≡ words_in rule read
 unfolding words_in
 words_in-cleaned rule read =
-    ap (λ n. filter_map (λ p. option_map number (form_at rule (read_of (cleaned rule read) None) p)) (range_with_len 0 (position_count rule.k n)))
+    ap (λ n. filter_map (λ p. option_map number (counted_at rule (read_of (cleaned rule read) None) p)) (range_with_len 0 (position_count rule.k n)))
     (length-cleaned rule read)
-    ∙ (λ i. filter_map (λ p. option_map number (form_at-cleaned rule read p i)) (positions rule read))
+    ∙ (λ i. filter_map (λ p. option_map number (counted_at-cleaned rule read p i)) (positions rule read))
 
 pub occurrences_in-cleaned : (rule : CountingRule) (read : Read) (word : List ℕ)
     → occurrences_in rule (read_of (cleaned rule read) None) word ≡ occurrences_in rule read word
@@ -128,7 +130,7 @@ unfolding occurrences_in
 occurrences_in-cleaned rule read word =
     ap (λ n. count_by (λ p. counts_under rule (read_of (cleaned rule read) None) word p) (range_with_len 0 (position_count rule.k n)))
     (length-cleaned rule read)
-    ∙ (λ i. count_by (λ p. option_map_or (λ found. bytes_eq found word) (form_at-cleaned rule read p i) false) (positions rule read))
+    ∙ (λ i. count_by (λ p. option_map_or (λ found. bytes_eq found word) (counted_at-cleaned rule read p i) false) (positions rule read))
 
 pub occurrences-cleaned : (rule : CountingRule) (reads : List Read) (word : List ℕ)
     → occurrences rule (as_reads (map (λ read. cleaned rule read) reads)) word ≡ occurrences rule reads word

@@ -9,26 +9,26 @@ use Rattle.kc_fastx.specs.Reads.{read_of}
 use Rattle.kc_kmer.specs.Rule.{CountingRule}
 use Rattle.std.specs.List.{range_with_len, flat_map}
 use Rattle.kc_kmer.specs.Word.{number}
-use Rattle.kc_kmer.specs.Occurrences.{words_in, words_of, form_at}
+use Rattle.kc_kmer.specs.Occurrences.{words_in, words_of, counted_at}
 use Rattle.kc_word.specs.Cutting.{as_reads}
 use Rattle.std.proofs.lemmas.List.Concat.{flat_map-append}
 use Rattle.kc_word.specs.Walking.{last_window, IsRolled}
-use Rattle.kc_word.proofs.Windows.{word_of, words_push, words_in-windows}
+use Rattle.kc_word.proofs.Windows.{counted_word, words_push, words_in-windows}
 use Rattle.kc_word.proofs.Rolling.{IsRolled-forward-lt, IsRolled-backward-lt}
 
 pub words_in-none : (rule : CountingRule) → 1 ≤ rule.k → words_in rule (read_of [] None) ≡ []
 unfolding words_in
-words_in-none rule h = ap (λ n. filter_map (λ p. option_map number (form_at rule (read_of [] None) p)) (range_with_len 0 n)) none
+words_in-none rule h = ap (λ n. filter_map (λ p. option_map number (counted_at rule (read_of [] None) p)) (range_with_len 0 n)) none
   where
     none : 1 - rule.k ≡ 0
     none = omega (arith, h)
 
 pub words_in_push : (rule : CountingRule) (seen : List ℕ) (byte : ℕ)
     → words_in rule (read_of (seen ++ byte ∷ []) None)
-    ≡ words_in rule (read_of seen None) ++ option_to_list (word_of rule.both (last_window rule.k (seen ++ byte ∷ [])))
+    ≡ words_in rule (read_of seen None) ++ option_to_list (counted_word rule (last_window rule.k (seen ++ byte ∷ [])))
 words_in_push rule seen byte =
-    words_in-windows rule (seen ++ byte ∷ []) ∙ words_push rule.k rule.both seen byte
-    ∙ ap (λ xs. xs ++ option_to_list (word_of rule.both (last_window rule.k (seen ++ byte ∷ [])))) (sym (words_in-windows rule seen))
+    words_in-windows rule (seen ++ byte ∷ []) ∙ words_push rule.k rule seen byte
+    ∙ ap (λ xs. xs ++ option_to_list (counted_word rule (last_window rule.k (seen ++ byte ∷ [])))) (sym (words_in-windows rule seen))
 
 -- ---- the numbers as the code has them, where g is k
 

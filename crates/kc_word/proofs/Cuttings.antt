@@ -16,7 +16,7 @@ use Rattle.kc_kmer.specs.Occurrences.{position_count, counts_under, occurrences_
 use Rattle.kc_word.specs.Cutting.{as_reads, NumberedPieces, stretch, position_total, batch_count, batch_of, cutting}
 use Rattle.kc_word.proofs.Stretches.{stretches_from, stretches-are}
 use Rattle.kc_lemmas.proofs.Lists.{take-append, drop-append, length-filter_map, flat_map-range_more}
-use Rattle.kc_word.proofs.Windows.{word_of, windows, words_in-windows, window_form, form_at-window_form}
+use Rattle.kc_word.proofs.Windows.{counted_word, windows, words_in-windows, counted_form, counted_at-window}
 
 -- ---- joined lists, cut
 
@@ -177,29 +177,29 @@ cutting-windows k size pieces some size_some =
 
 -- ---- the words and the occurrences of all batches
 
-words_of-windows : (rule : CountingRule) (pieces : List (List ℕ)) → words_of rule (as_reads pieces) ≡ filter_map (word_of rule.both) (flat_map (λ piece. windows rule.k piece) pieces)
+words_of-windows : (rule : CountingRule) (pieces : List (List ℕ)) → words_of rule (as_reads pieces) ≡ filter_map (counted_word rule) (flat_map (λ piece. windows rule.k piece) pieces)
 unfolding words_of
 words_of-windows rule [] = refl
 words_of-windows rule (piece ∷ pieces) =
     ap (λ xs. xs ++ words_of rule (as_reads pieces)) (words_in-windows rule piece)
-    ∙ ap (λ xs. filter_map (word_of rule.both) (windows rule.k piece) ++ xs) (words_of-windows rule pieces)
-    ∙ sym (filter_map-append (word_of rule.both) (windows rule.k piece) (flat_map (λ p. windows rule.k p) pieces))
+    ∙ ap (λ xs. filter_map (counted_word rule) (windows rule.k piece) ++ xs) (words_of-windows rule pieces)
+    ∙ sym (filter_map-append (counted_word rule) (windows rule.k piece) (flat_map (λ p. windows rule.k p) pieces))
 
-batches-words : (rule : CountingRule) (batches : List NumberedPieces) → flat_map (λ batch. words_of rule (as_reads batch.pieces)) batches ≡ filter_map (word_of rule.both) (flat_map (λ batch. flat_map (λ part. windows rule.k part) batch.pieces) batches)
+batches-words : (rule : CountingRule) (batches : List NumberedPieces) → flat_map (λ batch. words_of rule (as_reads batch.pieces)) batches ≡ filter_map (counted_word rule) (flat_map (λ batch. flat_map (λ part. windows rule.k part) batch.pieces) batches)
 batches-words rule [] = refl
 batches-words rule (batch ∷ batches) =
     ap (λ xs. xs ++ flat_map (λ b. words_of rule (as_reads b.pieces)) batches) (words_of-windows rule batch.pieces)
-    ∙ ap (λ xs. filter_map (word_of rule.both) (flat_map (λ part. windows rule.k part) batch.pieces) ++ xs) (batches-words rule batches)
-    ∙ sym (filter_map-append (word_of rule.both) (flat_map (λ part. windows rule.k part) batch.pieces) (flat_map (λ b. flat_map (λ part. windows rule.k part) b.pieces) batches))
+    ∙ ap (λ xs. filter_map (counted_word rule) (flat_map (λ part. windows rule.k part) batch.pieces) ++ xs) (batches-words rule batches)
+    ∙ sym (filter_map-append (counted_word rule) (flat_map (λ part. windows rule.k part) batch.pieces) (flat_map (λ b. flat_map (λ part. windows rule.k part) b.pieces) batches))
 
 -- the words of all batches of a cutting are those of the pieces, in order
 pub cutting-words : (rule : CountingRule) (size : ℕ) (pieces : List (List ℕ)) → 1 ≤ rule.k → 1 ≤ size → flat_map (λ batch. words_of rule (as_reads batch.pieces)) (cutting rule.k size pieces) ≡ words_of rule (as_reads pieces)
 cutting-words rule size pieces some size_some =
-    batches-words rule (cutting rule.k size pieces) ∙ ap (filter_map (word_of rule.both)) (cutting-windows rule.k size pieces some size_some) ∙ sym (words_of-windows rule pieces)
+    batches-words rule (cutting rule.k size pieces) ∙ ap (filter_map (counted_word rule)) (cutting-windows rule.k size pieces some size_some) ∙ sym (words_of-windows rule pieces)
 
--- whether a window holds this word
-holds : Bool → List ℕ → List ℕ → Bool
-holds both word window = option_map_or (λ found. bytes_eq found word) (window_form both window) false
+-- whether a window holds this word, and the word counts
+holds : CountingRule → List ℕ → List ℕ → Bool
+holds rule word window = option_map_or (λ found. bytes_eq found word) (counted_form rule window) false
 
 count_by-range : (f g : ℕ → Bool) (a n : ℕ) → ((p : ℕ) → p < a + n → f p ≡ g p) → count_by f (range_with_len a n) ≡ count_by g (range_with_len a n)
 count_by-range f g a zero same = refl
@@ -209,34 +209,34 @@ count_by-range f g a (suc n) same =
     ∙ ap (λ m. cond (g a) 1 0 + m) (count_by-range f g (a + 1) n (λ p h. same p (omega (arith, h))))
     ∙ sym (sum_by-cons (λ p. cond (g p) 1 0) a (range_with_len (a + 1) n))
 
-occurrences_in-windows : (rule : CountingRule) (piece word : List ℕ) → occurrences_in rule (read_of piece None) word ≡ count_by (holds rule.both word) (windows rule.k piece)
+occurrences_in-windows : (rule : CountingRule) (piece word : List ℕ) → occurrences_in rule (read_of piece None) word ≡ count_by (holds rule word) (windows rule.k piece)
 unfolding occurrences_in windows holds
 occurrences_in-windows rule piece word =
-    count_by-range (λ p. counts_under rule (read_of piece None) word p) (λ p. option_map_or (λ found. bytes_eq found word) (window_form rule.both (take rule.k (drop p piece))) false) 0 (position_count rule.k (length piece))
-    (λ p h. ap (λ o. option_map_or (λ found. bytes_eq found word) o false) (form_at-window_form rule piece p (omega (arith, h))))
-    ∙ sym (fold-map (λ a window. a + cond (option_map_or (λ found. bytes_eq found word) (window_form rule.both window) false) 1 0) (λ p. take rule.k (drop p piece)) 0 (range_with_len 0 (position_count rule.k (length piece))))
+    count_by-range (λ p. counts_under rule (read_of piece None) word p) (λ p. option_map_or (λ found. bytes_eq found word) (counted_form rule (take rule.k (drop p piece))) false) 0 (position_count rule.k (length piece))
+    (λ p h. ap (λ o. option_map_or (λ found. bytes_eq found word) o false) (counted_at-window rule piece p (omega (arith, h))))
+    ∙ sym (fold-map (λ a window. a + cond (option_map_or (λ found. bytes_eq found word) (counted_form rule window) false) 1 0) (λ p. take rule.k (drop p piece)) 0 (range_with_len 0 (position_count rule.k (length piece))))
 
-occurrences-windows : (rule : CountingRule) (pieces : List (List ℕ)) (word : List ℕ) → occurrences rule (as_reads pieces) word ≡ count_by (holds rule.both word) (flat_map (λ piece. windows rule.k piece) pieces)
+occurrences-windows : (rule : CountingRule) (pieces : List (List ℕ)) (word : List ℕ) → occurrences rule (as_reads pieces) word ≡ count_by (holds rule word) (flat_map (λ piece. windows rule.k piece) pieces)
 unfolding occurrences
 occurrences-windows rule [] word = refl
 occurrences-windows rule (piece ∷ pieces) word =
     sum_by-cons (λ r. occurrences_in rule r word) (read_of piece None) (as_reads pieces)
     ∙ ap (λ n. n + occurrences rule (as_reads pieces) word) (occurrences_in-windows rule piece word)
-    ∙ ap (λ n. count_by (holds rule.both word) (windows rule.k piece) + n) (occurrences-windows rule pieces word)
-    ∙ sym (sum_by-append (λ w. cond (holds rule.both word w) 1 0) (windows rule.k piece) (flat_map (λ p. windows rule.k p) pieces))
+    ∙ ap (λ n. count_by (holds rule word) (windows rule.k piece) + n) (occurrences-windows rule pieces word)
+    ∙ sym (sum_by-append (λ w. cond (holds rule word w) 1 0) (windows rule.k piece) (flat_map (λ p. windows rule.k p) pieces))
 
-batches-occurrences : (rule : CountingRule) (batches : List NumberedPieces) (word : List ℕ) → sum_by (λ batch. occurrences rule (as_reads batch.pieces) word) batches ≡ count_by (holds rule.both word) (flat_map (λ batch. flat_map (λ part. windows rule.k part) batch.pieces) batches)
+batches-occurrences : (rule : CountingRule) (batches : List NumberedPieces) (word : List ℕ) → sum_by (λ batch. occurrences rule (as_reads batch.pieces) word) batches ≡ count_by (holds rule word) (flat_map (λ batch. flat_map (λ part. windows rule.k part) batch.pieces) batches)
 batches-occurrences rule [] word = refl
 batches-occurrences rule (batch ∷ batches) word =
     sum_by-cons (λ (b : NumberedPieces). occurrences rule (as_reads b.pieces) word) batch batches
     ∙ ap (λ n. n + sum_by (λ b. occurrences rule (as_reads b.pieces) word) batches) (occurrences-windows rule batch.pieces word)
-    ∙ ap (λ n. count_by (holds rule.both word) (flat_map (λ part. windows rule.k part) batch.pieces) + n) (batches-occurrences rule batches word)
-    ∙ sym (sum_by-append (λ w. cond (holds rule.both word w) 1 0) (flat_map (λ part. windows rule.k part) batch.pieces) (flat_map (λ b. flat_map (λ part. windows rule.k part) b.pieces) batches))
+    ∙ ap (λ n. count_by (holds rule word) (flat_map (λ part. windows rule.k part) batch.pieces) + n) (batches-occurrences rule batches word)
+    ∙ sym (sum_by-append (λ w. cond (holds rule word w) 1 0) (flat_map (λ part. windows rule.k part) batch.pieces) (flat_map (λ b. flat_map (λ part. windows rule.k part) b.pieces) batches))
 
 -- each word occurs in all batches of a cutting together as often as in the pieces
 pub cutting-occurrences : (rule : CountingRule) (size : ℕ) (pieces : List (List ℕ)) (word : List ℕ) → 1 ≤ rule.k → 1 ≤ size → sum_by (λ batch. occurrences rule (as_reads batch.pieces) word) (cutting rule.k size pieces) ≡ occurrences rule (as_reads pieces) word
 cutting-occurrences rule size pieces word some size_some =
-    batches-occurrences rule (cutting rule.k size pieces) word ∙ ap (count_by (holds rule.both word)) (cutting-windows rule.k size pieces some size_some) ∙ sym (occurrences-windows rule pieces word)
+    batches-occurrences rule (cutting rule.k size pieces) word ∙ ap (count_by (holds rule word)) (cutting-windows rule.k size pieces some size_some) ∙ sym (occurrences-windows rule pieces word)
 
 -- ---- the numbers and the positions of the batches
 
@@ -298,6 +298,6 @@ position_total-le k pieces some = sum_by-le-sum_by (λ piece. position_count k (
 pub length-words_of-pieces : (rule : CountingRule) (pieces : List (List ℕ)) → length (words_of rule (as_reads pieces)) ≤ position_total rule.k pieces
 length-words_of-pieces rule pieces =
     let same = ap length (words_of-windows rule pieces) in
-    let fewer = length-filter_map (word_of rule.both) (flat_map (λ piece. windows rule.k piece) pieces) in
+    let fewer = length-filter_map (counted_word rule) (flat_map (λ piece. windows rule.k piece) pieces) in
     let total = length-all_windows rule.k pieces in
     omega (arith, same, fewer, total)

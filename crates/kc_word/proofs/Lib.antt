@@ -18,3 +18,4 @@ pub mod Appending
 pub mod Joining
 pub mod Readings
 pub mod Splitting
+pub mod OnlyLemmas

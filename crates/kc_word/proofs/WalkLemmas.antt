@@ -8,7 +8,7 @@ use Rattle.kc_kmer.specs.Rule.{CountingRule}
 use Rattle.kc_kmer.specs.Occurrences.{words_in, words_of}
 use Rattle.kc_word.specs.Cutting.{as_reads}
 use Rattle.kc_word.specs.Walking.{last_window, IsRolled, Walking, words_left, IsWalking}
-use Rattle.kc_word.proofs.Windows.{word_of}
+use Rattle.kc_word.proofs.Windows.{counted_word, counted_word-unlisted}
 use Rattle.kc_word.proofs.Rolling.{RollStep, IsRolled-none, IsRolled-more, word_of-rolled, word_of-broken}
 use Rattle.kc_word.proofs.Counting.{words_in-none, words_in_push, words_of-none, forward-masked, top-shifted}
 use Rattle.std.specs.Char.{to_ascii_uppercase}
@@ -18,11 +18,11 @@ use Rattle.kc_kmer.specs.Letter.{is_base, code}
 
 words_in-more : (rule : CountingRule) (bytes : List ℕ) (i : ℕ) → i < length bytes
     → words_in rule (read_of (take (i + 1) bytes) None)
-    ≡ words_in rule (read_of (take i bytes) None) ++ option_to_list (word_of rule.both (last_window rule.k (take (i + 1) bytes)))
+    ≡ words_in rule (read_of (take i bytes) None) ++ option_to_list (counted_word rule (last_window rule.k (take (i + 1) bytes)))
 words_in-more rule bytes i h =
     let more = take_more bytes i 0 h in
     ap (λ xs. words_in rule (read_of xs None)) more ∙ words_in_push rule (take i bytes) (get_or bytes i 0)
-    ∙ ap (λ xs. words_in rule (read_of (take i bytes) None) ++ option_to_list (word_of rule.both (last_window rule.k xs))) (sym more)
+    ∙ ap (λ xs. words_in rule (read_of (take i bytes) None) ++ option_to_list (counted_word rule (last_window rule.k xs))) (sym more)
 
 -- the words of a front of the bytes are a front of the words
 front_of-words : (rule : CountingRule) (bytes : List ℕ) (m i : ℕ) → i + m ≡ length bytes
@@ -32,9 +32,9 @@ front_of-words rule bytes zero i e =
 front_of-words rule bytes (suc m) i e =
     let next = front_of-words rule bytes m (i + 1) (omega (arith, e)) in
     let more = words_in-more rule bytes i (omega (arith, e)) in (
-      option_to_list (word_of rule.both (last_window rule.k (take (i + 1) bytes))) ++ next.0,
+      option_to_list (counted_word rule (last_window rule.k (take (i + 1) bytes))) ++ next.0,
       next.1 ∙ ap (λ xs. xs ++ next.0) more
-          ∙ append_assoc (words_in rule (read_of (take i bytes) None)) (option_to_list (word_of rule.both (last_window rule.k (take (i + 1) bytes)))) next.0,
+          ∙ append_assoc (words_in rule (read_of (take i bytes) None)) (option_to_list (counted_word rule (last_window rule.k (take (i + 1) bytes)))) next.0,
     )
 
 words_left-split : (rule : CountingRule) (bytes : List ℕ) (i : ℕ) → i ≤ length bytes
@@ -49,13 +49,13 @@ words_left-split rule bytes i h =
 
 pub words_left-step : (rule : CountingRule) (bytes : List ℕ) (i : ℕ) → i < length bytes
     → words_left (record { rule = rule; bytes = bytes; taken = i })
-    ≡ option_to_list (word_of rule.both (last_window rule.k (take (i + 1) bytes)))
+    ≡ option_to_list (counted_word rule (last_window rule.k (take (i + 1) bytes)))
     ++ words_left (record { rule = rule; bytes = bytes; taken = i + 1 })
 words_left-step rule bytes i h =
     append_cancel_left (words_in rule (read_of (take i bytes) None)) _ _
     (sym (words_left-split rule bytes i (omega (arith, h))) ∙ words_left-split rule bytes (i + 1) (omega (arith, h))
     ∙ ap (λ xs. xs ++ words_left (record { rule = rule; bytes = bytes; taken = i + 1 })) (words_in-more rule bytes i h)
-    ∙ append_assoc (words_in rule (read_of (take i bytes) None)) (option_to_list (word_of rule.both (last_window rule.k (take (i + 1) bytes)))) _)
+    ∙ append_assoc (words_in rule (read_of (take i bytes) None)) (option_to_list (counted_word rule (last_window rule.k (take (i + 1) bytes)))) _)
 
 pub words_left-start : (rule : CountingRule) (bytes : List ℕ) → 1 ≤ rule.k
     → words_left (record { rule = rule; bytes = bytes; taken = 0 }) ≡ words_in rule (read_of bytes None)
@@ -71,9 +71,10 @@ words_left-end walking h =
 
 -- ---- one byte more
 
-pub IsWalking-none : (rule : CountingRule) (bytes : List ℕ) (backward : ℕ) → backward + 1 ≡ 4 ^ rule.k → length bytes < 2 ^ 64
+pub IsWalking-none : (rule : CountingRule) (bytes : List ℕ) (backward : ℕ) → rule.only ≡ None → backward + 1 ≡ 4 ^ rule.k → length bytes < 2 ^ 64
     → IsWalking (record { rule = rule; bytes = bytes; taken = 0 }) 0 backward 0
-IsWalking-none rule bytes backward e fits = record {
+IsWalking-none rule bytes backward none e fits = record {
+  unlisted = none;
   rolled = IsRolled-none rule.k backward e;
   short = omega arith;
   within = omega arith;
@@ -97,6 +98,7 @@ rolled-on walking s walked =
 pub IsWalking-more : (walking : Walking) (s : WalkStep walking) → IsWalking walking s.roll.forward s.roll.backward s.roll.run
     → IsWalking (record { rule = walking.rule; bytes = walking.bytes; taken = walking.taken + 1 }) s.roll.next_forward s.roll.next_backward s.roll.next_run
 IsWalking-more walking s walked = record {
+  unlisted = walked.unlisted;
   rolled = rolled-on walking s walked;
   short =
       let before = walked.short in
@@ -113,7 +115,8 @@ pub word-taken : (walking : Walking) (s : WalkStep walking) (word : ℕ) → IsW
 word-taken walking s word walked h e =
     words_left-step walking.rule walking.bytes walking.taken s.within
     ∙ ap (λ o. option_to_list o ++ words_left (record { rule = walking.rule; bytes = walking.bytes; taken = walking.taken + 1 }))
-    (word_of-rolled walking.rule.k walking.rule.both (take (walking.taken + 1) walking.bytes) s.roll.next_forward s.roll.next_backward s.roll.next_run
+    (counted_word-unlisted walking.rule (last_window walking.rule.k (take (walking.taken + 1) walking.bytes)) walked.unlisted
+    ∙ word_of-rolled walking.rule.k walking.rule.both (take (walking.taken + 1) walking.bytes) s.roll.next_forward s.roll.next_backward s.roll.next_run
     (rolled-on walking s walked) h ∙ ap Some (sym e))
 
 pub no-word-taken : (walking : Walking) (s : WalkStep walking) → IsWalking walking s.roll.forward s.roll.backward s.roll.run
@@ -122,7 +125,8 @@ pub no-word-taken : (walking : Walking) (s : WalkStep walking) → IsWalking wal
 no-word-taken walking s walked h =
     sym (words_left-step walking.rule walking.bytes walking.taken s.within
     ∙ ap (λ o. option_to_list o ++ words_left (record { rule = walking.rule; bytes = walking.bytes; taken = walking.taken + 1 }))
-    (word_of-broken walking.rule.k walking.rule.both (take (walking.taken + 1) walking.bytes) s.roll.next_forward s.roll.next_backward s.roll.next_run
+    (counted_word-unlisted walking.rule (last_window walking.rule.k (take (walking.taken + 1) walking.bytes)) walked.unlisted
+    ∙ word_of-broken walking.rule.k walking.rule.both (take (walking.taken + 1) walking.bytes) s.roll.next_forward s.roll.next_backward s.roll.next_run
     (rolled-on walking s walked) h))
 
 -- ---- the code that is taken, as the numbers are rolled on by it

@@ -9,3 +9,4 @@ pub mod Walking
 pub mod Gathering
 pub mod PackedBatch
 pub mod OpenCutting
+pub mod Only

@@ -49,8 +49,9 @@ words_left walking =
     drop (length (words_in walking.rule (read_of (take walking.taken walking.bytes) None)))
     (words_in walking.rule (read_of walking.bytes None))
 
--- the numbers and the run are those of the bytes taken
+-- no list of words is given, and the numbers and the run are those of the bytes taken
 pub record IsWalking (walking : Walking) (forward backward run : ℕ) : Type 0 where
+  pub unlisted : walking.rule.only ≡ None
   pub rolled : IsRolled walking.rule.k (take walking.taken walking.bytes) forward backward run
   pub short : run ≤ walking.taken
   pub within : walking.taken ≤ length walking.bytes

@@ -1,6 +1,7 @@
 //! Laws of cleaned reads and of cuttings. Each is the contract of a function that does nothing.
 ghost use Rattle.std.specs.Prelude.{◌≡◌, [], ◌∷◌, Some, false, codes};
 ghost use Rattle.kc_fastx.specs.Reads.{read_of};
+ghost use Rattle.kc_kmer.specs.Rule.{unlisted_rule};
 ghost use Rattle.kc_word.specs.Cutting.{cleaned, cutting};
 ghost use Rattle.kc_word.specs.Laws.{CuttingWords, CuttingOccurrences, CuttingNumbers, CuttingPositions};
 ghost use Rattle.kc_word.specs.Laws.{BatchPositions, PositionsWithinBytes, CleanedLength, CleanedWords};
@@ -47,7 +48,7 @@ pub fn cleaned_words()
 
 /// Worked rows of the definitions.
 pub fn worked_rows()
-    ensures piece { cleaned (record { k = 2; both = false; floor = 35 })
+    ensures piece { cleaned (unlisted_rule 2 false 35)
         (read_of (codes "acgtn") (Some (codes "II!II"))) ≡ codes "ACNTN" }
     ensures cutting { cutting 3 2 (codes "ACGTA" ∷ codes "AC" ∷ codes "NGTN" ∷ [])
         ≡ record { number = 0; pieces = codes "ACGT" ∷ [] }

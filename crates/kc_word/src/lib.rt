@@ -3,7 +3,8 @@
 //! `clean` makes a `Piece` of a read, `cut` makes numbered batches of pieces, of as many positions each, and `words`
 //! gives the words of a batch; `Walk` gives them one by one, and `PieceViews` the batch's pieces. `cutting_laws` says
 //! what holds of pieces and cuttings.
-//! What a word is and how words are counted stands in `kc_kmer`, whose names are here too.
+//! `Only` is a list of the words that occur in reads, to which a count may be kept; `only_laws` says what holds of such
+//! lists. What a word is and how words are counted stands in `kc_kmer`, whose names are here too.
 //!
 //! ```ignore
 //! let rule = Rule::new(k, true, b'!');
@@ -22,6 +23,8 @@ mod batch;
 mod codes;
 mod cutting;
 pub mod cutting_laws;
+mod only;
+pub mod only_laws;
 mod packed_codes;
 mod piece;
 mod piece_views;
@@ -36,6 +39,7 @@ pub use cutting::{Cutting, cut};
 pub use kc_kmer::{
     K, Rule, Word, canonical, pack, reverse_complement, slow_count, text, word_laws,
 };
+pub use only::Only;
 pub use piece::{Piece, clean};
 pub use piece_views::{PieceView, PieceViews};
 pub use roll::{read_words, words};

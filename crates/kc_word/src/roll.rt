@@ -110,6 +110,7 @@ impl<'a> Roll<'a> {
         ensures place { result ≡ record { rule = rule; bytes = codes.entry.bytes; taken = 0 } }
         ensures words { words_left result ≡ words_in rule (read_of codes.entry.bytes None) }
     {
+        rule.has_no_list();
         let k = rule.k().get();
         Roll {
             codes,

@@ -1,8 +1,7 @@
-use Rattle.std.proofs.Common.{◌≡◌, ◌∙◌, ◌≤◌, Vec, Global, ℕ, List, ap, ap₂, map, length, arith}
+use Rattle.std.proofs.Common.{◌≡◌, ◌∙◌, ◌≤◌, Vec, Global, ℕ, List, ap, ap₂, map, length, refl, arith}
 use Rattle.std.proofs.lemmas.Grind.{common_steps}
 use Rattle.std.proofs.lemmas.Result.{IfOk-weaker}
 use Rattle.kc_hash.specs.Product.{product}
-use Rattle.kc_kmer.specs.Rule.{CountingRule}
 use Rattle.kc_kmer.specs.Occurrences.{words_of}
 use Rattle.kc_word.specs.Cutting.{as_reads}
 use Rattle.kc_booking.specs.Setup.{code_of}
@@ -14,10 +13,10 @@ pub hash_all-requires : goal.hash_all-requires
 hash_all-requires c =
     rw c.deref_mut.ensures.value
     (words-fit c.args.setup.now (record {
-      rule = c.rule.result.now;
+      rule = c.args.setup.now.rule;
       words = c.in_ok-codes.codes.items;
       tables = c.forward_tables.result;
-      rule_is = c.rule.ensures;
+      rule_is = refl;
       tables_are = c.forward_tables.ensures ∙ c.hash.ensures;
       bits = c.stripe_bits-stripe_bits.ensures.bits;
       below = c.in_ok-codes.ensures.below;
@@ -28,7 +27,7 @@ returns-clause-keys c =
     let hashed : c.deref.result.now ≡ map (λ word. product c.forward_tables.result word) c.deref_mut.result.now = grind (arith, common_steps) in
     let codes : c.deref.result.now ≡ map (code_of c.args.setup.now) (words_of c.args.setup.now.rule (as_reads c.args.batch.now.pieces)) =
     hashed ∙ ap₂ (λ (columns words : List ℕ). map (product columns) words) (c.forward_tables.ensures ∙ c.hash.ensures)
-    (c.deref_mut.ensures.value ∙ c.in_ok-codes.ensures.words ∙ ap (λ (rule : CountingRule). words_of rule (as_reads c.args.batch.now.pieces)) c.rule.ensures) in
+    (c.deref_mut.ensures.value ∙ c.in_ok-codes.ensures.words) in
     IfOk-weaker c.divided.result (λ (parts : Vec Part Global). map (λ (part : Part). part.items) parts.items ≡ key_parts c.stripe_bits-stripe_bits.result c.deref.result.now)
     (λ (parts : Vec Part Global). map (λ (part : Part). part.items) parts.items ≡ map keys_of (cuts_of c.args.setup.now c.args.batch.now))
     (λ parts divided. divided ∙ ap (λ (s : ℕ). key_parts s c.deref.result.now) c.stripe_bits-stripe_bits.ensures.value ∙ divided-keys c.args.setup.now c.args.batch.now c.deref.result.now codes)

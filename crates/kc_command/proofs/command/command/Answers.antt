@@ -17,5 +17,6 @@ returns c =
     let with_dump = joined c.in_ok-subcommand-2.ensures refl c.in_ok-dump_command.ensures with_count in
     let with_histo = joined c.in_ok-subcommand-3.ensures refl c.in_ok-histo_command.ensures with_dump in
     let with_stats = joined c.in_ok-subcommand-4.ensures refl c.in_ok-stats_command.ensures with_histo in
-    IfOk-weaker c.subcommand-5.result _ _
-    (λ command adds. joined adds refl c.in_ok-query_command.ensures with_stats) c.subcommand-5.ensures
+    let with_query = joined c.in_ok-subcommand-5.ensures refl c.in_ok-query_command.ensures with_stats in
+    IfOk-weaker c.subcommand-6.result _ _
+    (λ command adds. joined adds refl c.in_ok-merge_command.ensures with_query) c.subcommand-6.ensures

@@ -22,6 +22,7 @@ returns c =
     let with_upper_count =
     added c.in_ok-arg-13.ensures c.upper_count.ensures.own c.upper_count.ensures.rule with_lower_count in
     let with_high = added c.in_ok-arg-14.ensures c.high.ensures.own c.high.ensures.rule with_upper_count in
+    let with_only = added c.in_ok-arg-15.ensures c.only.ensures.own c.only.ensures.rule with_high in
     let top = λ (a : App). a.top in
-    IfOk-weaker c.arg-15.result _ _
-    (λ command adds. ap top (added adds c.files.ensures.own c.files.ensures.rule with_high)) c.arg-15.ensures
+    IfOk-weaker c.arg-16.result _ _
+    (λ command adds. ap top (added adds c.files.ensures.own c.files.ensures.rule with_only)) c.arg-16.ensures

@@ -1,6 +1,6 @@
 use Rattle.std.proofs.Common.{refl}
 use Rattle.clap.proofs.OnLiterals.{clap_on_literals}
-use Rattle.kc_command.specs.Laws.{CountsBothStrands, CountsFiles, ReadsTables, Refuses}
+use Rattle.kc_command.specs.Laws.{CountsBothStrands, CountsFiles, CountsListedWords, MergesTables, ReadsTables, Refuses}
 use Rattle.kc_command.proofs.command_laws.command_lines.Goals as goal
 
 counts_both_strands : CountsBothStrands
@@ -27,6 +27,23 @@ counts_files : CountsFiles
 unfolding clap_on_literals
 counts_files = record { taken = refl; files = refl; output = refl }
 
+counts_listed_words : CountsListedWords
+unfolding clap_on_literals
+counts_listed_words = record {
+  taken = refl;
+  good = refl;
+  only = refl;
+  files = refl;
+  absent = refl;
+  empty_taken = refl;
+  empty = refl;
+  empty_good = refl;
+  attached = refl;
+  no_name = refl;
+  twice = refl;
+  of_dump = refl;
+}
+
 reads_tables : ReadsTables
 unfolding clap_on_literals
 reads_tables = record {
@@ -41,6 +58,25 @@ reads_tables = record {
   high = refl;
   no_word = refl;
   words = refl;
+}
+
+merges_tables : MergesTables
+unfolding clap_on_literals
+merges_tables = record {
+  taken = refl;
+  command = refl;
+  first = refl;
+  second = refl;
+  no_output = refl;
+  output_taken = refl;
+  output = refl;
+  first_before = refl;
+  second_behind = refl;
+  long_output = refl;
+  no_table = refl;
+  one_table = refl;
+  three_tables = refl;
+  other_option = refl;
 }
 
 refuses : Refuses
@@ -61,8 +97,14 @@ returns-clause-counts c = counts_both_strands
 pub returns-clause-files : goal.returns-clause-files
 returns-clause-files c = counts_files
 
+pub returns-clause-listed : goal.returns-clause-listed
+returns-clause-listed c = counts_listed_words
+
 pub returns-clause-tables : goal.returns-clause-tables
 returns-clause-tables c = reads_tables
+
+pub returns-clause-merges : goal.returns-clause-merges
+returns-clause-merges c = merges_tables
 
 pub returns-clause-refuses : goal.returns-clause-refuses
 returns-clause-refuses c = refuses

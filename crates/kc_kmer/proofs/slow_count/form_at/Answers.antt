@@ -2,6 +2,7 @@ use Rattle.std.proofs.Common.{◌≡◌, ◌+◌, ◌-◌, length, Some, ap, sym
 use Rattle.std.specs.List.{list_all, range_with_len}
 use Rattle.kc_kmer.specs.Word.{text, canonical}
 use Rattle.kc_kmer.specs.Occurrences.{is_usable}
+use Rattle.kc_kmer.proofs.ListedLemmas.{counted_at-unlisted}
 use Rattle.kc_kmer.proofs.Looking.{usable-more, form_at-broken, form_at-past, form_at-whole, word-packed, counted-both, counted-one}
 use Rattle.kc_kmer.proofs.slow_count.form_at.Goals as goal
 use Rattle.kc_kmer.proofs.slow_count.form_at.Goals.{then-bases-count-via-then-bases-count, then-bases-count-via-else-bases-count+then-bases-count-2}
@@ -9,7 +10,8 @@ use Rattle.kc_kmer.proofs.slow_count.form_at.Goals.{then-bases-count-via-then-ba
 pub returns-then-bases-count-clause-none : goal.returns-then-bases-count-clause-none
 returns-then-bases-count-clause-none c =
     let long : length c.bases-bases.result.now ≡ length c.args.read.now.bases = ap length c.bases-bases.ensures.value in
-    form_at-past c.args.rule.now c.args.read.now c.args.position
+    counted_at-unlisted c.args.rule.now c.args.read.now c.args.position c.has_no_list.ensures
+    ∙ form_at-past c.args.rule.now c.args.read.now c.args.position
     (elim c.then-bases-count.branch [
       | then-bases-count-via-then-bases-count w ↦ omega (arith, long)
       | then-bases-count-via-else-bases-count+then-bases-count-2 w ↦ omega (arith, long)
@@ -17,7 +19,8 @@ returns-then-bases-count-clause-none c =
 
 pub returns-then-not-is_usable-clause-none : goal.returns-then-not-is_usable-clause-none
 returns-then-not-is_usable-clause-none c =
-    form_at-broken c.args.rule.now c.args.read.now c.args.position c.loop-i.i (omega arith) (omega arith)
+    counted_at-unlisted c.args.rule.now c.args.read.now c.args.position c.has_no_list.ensures
+    ∙ form_at-broken c.args.rule.now c.args.read.now c.args.position c.loop-i.i (omega arith) (omega arith)
     (sym c.is_usable.ensures ∙ c.if-not-is_usable.true)
 
 pub loop-i-preserved : goal.loop-i-preserved
@@ -53,7 +56,8 @@ returns-then-both-clause-some c =
           ap (λ m. list_all (λ j. is_usable c.args.rule.now c.args.read.now j) (range_with_len c.args.position (m - c.args.position))) (omega arith)
           ∙ c.loop-i.invariant;
     }) in
-    word-packed c.args.rule.now c.args.read.now c.args.position c.k-k.result c.in_ok-word.word.0 held c.k-k.ensures c.in_ok-word.ensures.spelled
+    counted_at-unlisted c.args.rule.now c.args.read.now c.args.position c.has_no_list.ensures
+    ∙ word-packed c.args.rule.now c.args.read.now c.args.position c.k-k.result c.in_ok-word.word.0 held c.k-k.ensures c.in_ok-word.ensures.spelled
     ∙ ap Some (sym (counted-both c.args.rule.now c.both.result (text c.args.rule.now.k c.canonical-counted.result.0)
     (text c.args.rule.now.k c.in_ok-word.word.0) c.both.ensures c.if-both.true
     (ap (λ j. text j c.canonical-counted.result.0) (sym c.k-k.ensures) ∙ c.canonical-counted.ensures.lesser
@@ -72,6 +76,7 @@ returns-else-both-clause-some c =
           ap (λ m. list_all (λ j. is_usable c.args.rule.now c.args.read.now j) (range_with_len c.args.position (m - c.args.position))) (omega arith)
           ∙ c.loop-i.invariant;
     }) in
-    word-packed c.args.rule.now c.args.read.now c.args.position c.k-k.result c.in_ok-word.word.0 held c.k-k.ensures c.in_ok-word.ensures.spelled
+    counted_at-unlisted c.args.rule.now c.args.read.now c.args.position c.has_no_list.ensures
+    ∙ word-packed c.args.rule.now c.args.read.now c.args.position c.k-k.result c.in_ok-word.word.0 held c.k-k.ensures c.in_ok-word.ensures.spelled
     ∙ ap Some (sym (counted-one c.args.rule.now c.both.result (text c.args.rule.now.k c.in_ok-word.word.0)
     (text c.args.rule.now.k c.in_ok-word.word.0) c.both.ensures c.if-both.false refl))

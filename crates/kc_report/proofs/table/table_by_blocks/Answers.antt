@@ -1,10 +1,29 @@
-use Rattle.std.proofs.Common.{◌<◌, ◌^◌}
+use Rattle.std.proofs.Common.{◌≡◌, ◌++◌, ◌<◌, ◌^◌, All, sym, ◌∙◌, subst, append_assoc}
 use Rattle.std.proofs.lemmas.List.Elements.{All-rest}
 use Rattle.std.proofs.lemmas.Result.{err_from_is_err_and}
-use Rattle.kc_io.proofs.SinksLemmas.{began_front}
-use Rattle.kc_report.specs.Table.{table_text, end_text}
+use Rattle.kc_io.proofs.SinksLemmas.{Pending, begin, began_front}
+use Rattle.kc_report.specs.Table.{header_line, ended, rows_text, table_text, end_text}
 use Rattle.kc_report.proofs.TableLemmas.{TableStep, next_row, written}
 use Rattle.kc_report.proofs.table.table_by_blocks.Goals as goal
+
+pub loop-row-init : goal.loop-row-init
+loop-row-init g c =
+    let seen = g.W.Sink.seen in
+    let tally = c.args.tally.now in
+    let header = ended (header_line tally.k tally.both c.args.origin) in
+    let block : c.push_header.new.block ≡ header = c.push_header.ensures
+    ∙ (λ i. c.new-block.ensures i ++ ended (header_line (c.k.ensures i) (c.both.ensures i) c.args.origin)) in
+    let rows : c.into_iter-row-iterator.result ≡ tally.rows =
+    c.into_iter-row-iterator.ensures.into_iter_gives ∙ c.rows-row-items.ensures.rows in
+    record {
+      can_next = tt;
+      is_finite = tt;
+      pending = subst (λ v. Pending (seen c.args.writer.now) (seen c.args.writer.now) (table_text tally c.args.origin) v)
+          (append_assoc header (rows_text tally.k tally.rows) (end_text tally.rows)
+          ∙ sym (λ i. block i ++ (rows_text tally.k (rows i) ++ end_text tally.rows)))
+          (begin (seen c.args.writer.now) (table_text tally c.args.origin));
+      below = subst (All (λ row. row.word < 4 ^ tally.k)) (sym rows) c.rows-row-items.ensures.lawful.ordered.words;
+    }
 
 pub loop-row-preserved : goal.loop-row-preserved
 loop-row-preserved g c =
@@ -14,7 +33,7 @@ loop-row-preserved g c =
       start = seen c.args.writer.now;
       now = seen c.loop-row.writer;
       next = seen c.make_room.new.writer;
-      text = table_text tally;
+      text = table_text tally c.args.origin;
       block = c.loop-row.block;
       room = c.make_room.new.self;
       pending = c.loop-row.invariant.pending;
@@ -39,7 +58,7 @@ returns g c =
       start = seen c.args.writer.now;
       now = seen c.loop-row.writer;
       next = seen c.make_room-2.new.writer;
-      text = table_text tally;
+      text = table_text tally c.args.origin;
       block = c.loop-row.block;
       room = c.make_room-2.new.self;
       pending = c.loop-row.invariant.pending;

@@ -30,8 +30,9 @@ lines-init g c =
     let found = rw c.in-Some.is at c.in_ok-count.ensures in
     let head = c.in-Some-header_of in
     rw (c.use_up.ensures, c.new-rows.ensures)
-    (header_used _ _ (begun c.in_ok-intake.ensures found.0)
-    (in_front found.2 (ap (take c.in-Some.count) c.as_slice.ensures)) head.ensures.least head.ensures.most
+    (header_used _ _ _ (begun c.in_ok-intake.ensures found.0)
+    (in_front found.2 (ap (take c.in-Some.count) c.as_slice.ensures))
+    (record { some = head.ensures.least; most = head.ensures.most; said = head.ensures.origin })
     head.ensures.some)
 
 pub returns-in_err-count-2-clause-fault : goal.returns-in_err-count-2-clause-fault

@@ -21,12 +21,15 @@ returns-then-bits-word_bits-clause-some c =
     )
 
 pub invariant_of-result : goal.invariant_of-result
-invariant_of-result c = record {
-  word_bits = sym c.bits.ensures.columns ∙ c.if-bits-word_bits.false ∙ ap (λ n. 2 * n) (search rules);
-  at_most = search rules;
-  stripe_bits_at_most = few_stripe_bits c.args.stripes c.ilog2-stripe_bits.result (omega arith) c.ilog2-stripe_bits.ensures.power_le;
-  stripe_bits_few = search rules;
-}
+invariant_of-result c = (
+  record {
+    word_bits = sym c.bits.ensures.columns ∙ c.if-bits-word_bits.false ∙ ap (λ n. 2 * n) (search rules);
+    at_most = search rules;
+    stripe_bits_at_most = few_stripe_bits c.args.stripes c.ilog2-stripe_bits.result (omega arith) c.ilog2-stripe_bits.ensures.power_le;
+    stripe_bits_few = search rules;
+  },
+  tt,
+)
 
 pub returns-clause-some : goal.returns-clause-some
 returns-clause-some c =

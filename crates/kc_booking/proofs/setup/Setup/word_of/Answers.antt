@@ -13,4 +13,4 @@ pub returns-clause-only : goal.returns-clause-only
 returns-clause-only c = λ word at.
     let here = rw (← c.self.view_is) at at in
     let hashed = rw (← c.self.view_is) at c.code_at.ensures.hashed in
-    c.back.ensures.only word (word-StandsAt _ _ _ word c.self.invariant here) (hashed word here)
+    c.back.ensures.only word (word-StandsAt _ _ _ word c.self.invariant.0 here) (hashed word here)

@@ -15,4 +15,4 @@ invariant_of-result g c =
       bits_are = ap g.C.Counts.bits table ∙ c.requires.key_bits;
       known_are = λ n. ap (list_any (nat_eq n)) c.new-3.ensures.empty;
     } in
-    rw nothing (IsLawful-none kept c.in_ok-new.ensures.counted (ap g.C.Counts.counts table ∙ c.requires.empty), kept)
+    rw (nothing, c.in_ok-setup.ensures.cases) (IsLawful-none kept c.in_ok-new.ensures.counted (ap g.C.Counts.counts table ∙ c.requires.empty), kept)

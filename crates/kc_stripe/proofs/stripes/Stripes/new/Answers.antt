@@ -42,4 +42,5 @@ invariant_of-stripes g c =
     let end = YieldsList-end (YieldsList-from_vec {s = c.into_iter-table-iterator.result} c.args.tables.items (search rules) (search rules)) c.loop-table.yielded c.loop-table.table-iterator c.loop-table.yielded_by c.next.result c.next.new.self c.in-None.is c.next.ensures.steps in
     let tables : length c.args.tables.items ≡ stripe_count c.args.setup.now = search rules in
     let locks : vec_len c.loop-table.locks ≡ length c.loop-table.locks.items = search rules in
-    omega (arith, end.1, tables, locks, c.loop-table.invariant.counted)
+    let kept = ap stripe_count c.in_ok-kept.ensures.cases in
+    omega (arith, end.1, tables, locks, c.loop-table.invariant.counted, kept)

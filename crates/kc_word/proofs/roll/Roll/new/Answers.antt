@@ -8,7 +8,7 @@ pub invariant_of-result : goal.invariant_of-result
 invariant_of-result c =
     subst (λ n. IsWalking (record { rule = c.args.rule; bytes = c.args.codes.bytes; taken = n }) 0 (1 * 2 ^ (2 * c.get-k.result) % 2 ^ 64 - 1) 0)
     (sym c.requires.front)
-    (IsWalking-none c.args.rule c.args.codes.bytes _
+    (IsWalking-none c.args.rule c.args.codes.bytes _ c.has_no_list.ensures
     (backward-start c.args.rule.k c.get-k.result (c.get-k.ensures.value ∙ c.k.ensures) (omega arith)) c.requires.fits)
 
 pub returns-clause-words : goal.returns-clause-words

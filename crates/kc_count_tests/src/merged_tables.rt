@@ -1,0 +1,116 @@
+//! Tables put together.
+use kc_io::{FromBytes, ToVec};
+use kc_report::{ReportFault, merge, read_table, write_table};
+use std::alloc::Global;
+use std::process::Abort;
+
+// The text of both tables together, each of which has at most 100 bytes.
+fn merged_text(alloc: Global, first: &[u8], second: &[u8]) -> Result<Vec<u8>, ReportFault> {
+    let (one, origin) = read_table(alloc, &mut FromBytes::new(first), 100)?;
+    let (two, other) = read_table(alloc, &mut FromBytes::new(second), 100)?;
+    let (sum, told) = merge(alloc, &one, origin.as_ref(), &two, other.as_ref())?;
+    let mut sink = ToVec::new(Vec::new(alloc));
+    write_table(&mut sink, &sum, told.as_ref())?;
+    Ok(sink.into_inner())
+}
+
+const ACGTA: &[u8] = b"KCT 2 3 s a 33 1\nACG 1\nCGT 1\nGTA 1\nEND 3 3\n";
+
+const ACG: &[u8] = b"KCT 2 3 s a 33 1\nACG 1\nEND 1 1\n";
+
+const OLD: &[u8] = b"KCT 1 3 s\nACG 1\nEND 1 1\n";
+
+const NONE: &[u8] = b"KCT 2 3 s a 33 0\nEND 0 0\n";
+
+const BOTH: &[u8] = b"KCT 1 3 s\nACG 2\nCGT 1\nGTA 1\nEND 3 4\n";
+
+const MOST: &[u8] = b"KCT 1 3 s\nACG 4611686018427387904\nEND 1 4611686018427387904\n";
+
+// Two tables, and what they are together.
+const MERGED: &[(&[u8], &[u8], &[u8])] = &[
+    (
+        ACGTA,
+        ACG,
+        b"KCT 2 3 s a 33 2\nACG 2\nCGT 1\nGTA 1\nEND 3 4\n",
+    ),
+    (ACGTA, OLD, BOTH),
+    (OLD, ACGTA, BOTH),
+    (ACGTA, NONE, ACGTA),
+    (NONE, ACGTA, ACGTA),
+    (
+        ACGTA,
+        ACGTA,
+        b"KCT 2 3 s a 33 2\nACG 2\nCGT 2\nGTA 2\nEND 3 6\n",
+    ),
+    (
+        b"KCT 1 3 c\nACG 2\nGTA 1\nEND 2 3\n",
+        b"KCT 1 3 c\nAAA 1\nCCC 5\nEND 2 6\n",
+        b"KCT 1 3 c\nAAA 1\nACG 2\nCCC 5\nGTA 1\nEND 4 9\n",
+    ),
+    (
+        b"KCT 1 3 s\nACG 4611686018427387903\nEND 1 4611686018427387903\n",
+        OLD,
+        MOST,
+    ),
+    (
+        b"KCT 2 3 s a 33 4611686018427387903\nEND 0 0\n",
+        ACG,
+        b"KCT 2 3 s a 33 4611686018427387904\nACG 1\nEND 1 1\n",
+    ),
+    (b"KCT 2 3 s a 33 4611686018427387904\nEND 0 0\n", OLD, OLD),
+];
+
+#[test]
+fn tables_together(rt: HostRuntime) -> Result<(), ReportFault> {
+    for (first, second, want) in MERGED {
+        let text = merged_text(rt.alloc(), *first, *second)?;
+        assert!(rt; text.as_slice() == *want);
+    }
+    Ok(())
+}
+
+// Two tables, and why they can't be put together.
+const REFUSED: &[(&[u8], &[u8], ReportFault)] = &[
+    (
+        ACG,
+        b"KCT 2 3 s a 35 1\nACG 1\nEND 1 1\n",
+        ReportFault::Unlike,
+    ),
+    (
+        ACG,
+        b"KCT 2 3 c a 33 1\nACG 1\nEND 1 1\n",
+        ReportFault::Unlike,
+    ),
+    (
+        b"KCT 2 3 s o 33 1\nACG 1\nEND 1 1\n",
+        ACG,
+        ReportFault::Unlike,
+    ),
+    (
+        OLD,
+        b"KCT 2 3 s o 33 1\nACG 1\nEND 1 1\n",
+        ReportFault::Unlike,
+    ),
+    (OLD, b"KCT 1 4 s\nACGT 1\nEND 1 1\n", ReportFault::Unlike),
+    (MOST, MOST, ReportFault::TooLarge),
+    (MOST, OLD, ReportFault::TooLarge),
+    (MOST, b"KCT 1 3 c\nACG 1\nEND 1 1\n", ReportFault::Unlike),
+    (
+        b"KCT 2 3 s a 33 4611686018427387904\nEND 0 0\n",
+        ACG,
+        ReportFault::TooLarge,
+    ),
+];
+
+// Asserts that the tables can't be put together, and why.
+fn assert_refused<H: Abort + AllocGlobal>(rt: &H, first: &[u8], second: &[u8], want: ReportFault) {
+    let outcome = merged_text(rt.alloc(), first, second);
+    assert_eq!(rt; outcome.err(), Some(want));
+}
+
+#[test]
+fn tables_that_do_not_match(rt: HostRuntime) {
+    for (first, second, want) in REFUSED {
+        assert_refused(&rt, *first, *second, *want);
+    }
+}

@@ -1,0 +1,96 @@
+//! Worked rows of lists of words.
+use crate::assertions::assert_same;
+use crate::sample_reads::{k_of, read_of, reads_of, rule_of};
+use kc_word::{Only, Rule, pack};
+use std::process::Abort;
+use std::test::Fail;
+
+// Whether a list holds the word that these letters are.
+fn is_held(only: &Only, letters: &[u8]) -> Result<bool, Fail> {
+    match pack(letters, only.k()) {
+        Some(word) => Ok(only.holds(word)),
+        None => Err(Fail::from("no word")),
+    }
+}
+
+// Reads, whether both strands count, a word, and whether the list of the reads holds it.
+const HELD: &[(&[&[u8]], bool, &[u8], bool)] = &[
+    (&[b"CGT"], false, b"CGT", true),
+    (&[b"CGT"], false, b"ACG", false),
+    (&[b"CGT"], true, b"ACG", true),
+    (&[b"CGT"], true, b"CGT", false),
+    (&[b"cgta"], false, b"CGT", true),
+    (&[b"cgta"], false, b"GTA", true),
+    (&[b"cgta"], false, b"GTC", false),
+    (&[b"TTT", b"CGTAA", b"GGG"], false, b"TTT", true),
+    (&[b"TTT", b"CGTAA", b"GGG"], false, b"TAA", true),
+    (&[b"TTT", b"CGTAA", b"GGG"], false, b"GGG", true),
+    (&[b"TTT", b"CGTAA", b"GGG"], false, b"AAG", false),
+    (&[b"CGNTA", b"CG"], false, b"CGT", false),
+    (&[], false, b"AAA", false),
+    (&[b"AAAAAAAA"], false, b"AAA", true),
+    (&[b"AAAAAAAA"], false, b"AAC", false),
+    (
+        &[b"TTTTTTTTTTTTTTTTTTTTTTTTTTTTTTT"],
+        false,
+        b"TTTTTTTTTTTTTTTTTTTTTTTTTTTTTTT",
+        true,
+    ),
+    (
+        &[b"TTTTTTTTTTTTTTTTTTTTTTTTTTTTTTT"],
+        true,
+        b"TTTTTTTTTTTTTTTTTTTTTTTTTTTTTTT",
+        false,
+    ),
+];
+
+#[test]
+fn words_held(rt: HostRuntime) -> Result<(), Fail> {
+    for (row, (texts, both, word, want)) in HELD.iter().enumerate() {
+        let rule = rule_of(word.len().min(31) as u32, *both)?;
+        let reads = reads_of(rt.alloc(), *texts)?;
+        let only = Only::of(rt.alloc(), &reads, &rule)?;
+        assert_same(&rt, row, &only.k(), &rule.k());
+        assert_same(&rt, row, &only.both(), both);
+        assert_same(&rt, row, &is_held(&only, *word)?, want);
+    }
+    Ok(())
+}
+
+// Words, and whether the list of a read with a base of low quality holds them.
+const PASSED: &[(&[u8], bool)] = &[(b"AC", true), (b"CG", false), (b"GT", false)];
+
+#[test]
+fn words_of_low_quality_are_not_held(rt: HostRuntime) -> Result<(), Fail> {
+    let read = read_of(rt.alloc(), b"ACGT", Some(b"II!I"))?;
+    let mut reads = Vec::new(rt.alloc());
+    reads.push(read)?;
+    let only = Only::of(rt.alloc(), &reads, &Rule::new(k_of(2)?, false, b'#'))?;
+    for (row, (word, want)) in PASSED.iter().enumerate() {
+        assert_same(&rt, row, &is_held(&only, *word)?, want);
+    }
+    Ok(())
+}
+
+// Reads, the length of words and the strands of a list, and whether it is the list of `CGTA` for words of 3 bases on
+// one strand.
+const EQUAL: &[(&[&[u8]], u32, bool, bool)] = &[
+    (&[b"CGTA"], 3, false, true),
+    (&[b"GTA", b"N", b"CGTA", b"CGT"], 3, false, true),
+    (&[b"CGT"], 3, false, false),
+    (&[b"CGTA", b"AAA"], 3, false, false),
+    (&[b"CGTA"], 3, true, false),
+    (&[b"CGTA"], 4, false, false),
+];
+
+#[test]
+fn lists_are_equal_by_value(rt: HostRuntime) -> Result<(), Fail> {
+    let reads = reads_of(rt.alloc(), &[b"CGTA"])?;
+    let only = Only::of(rt.alloc(), &reads, &rule_of(3, false)?)?;
+    for (row, (texts, k, both, want)) in EQUAL.iter().enumerate() {
+        let reads = reads_of(rt.alloc(), *texts)?;
+        let other = Only::of(rt.alloc(), &reads, &rule_of(*k, *both)?)?;
+        assert_same(&rt, row, &(only == other), want);
+    }
+    Ok(())
+}

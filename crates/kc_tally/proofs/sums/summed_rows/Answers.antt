@@ -1,0 +1,59 @@
+use Rattle.std.proofs.Common.{◌≡◌, sym, ◌∙◌, subst, arith}
+use Rattle.std.specs.Prelude.{Some}
+use Rattle.kc_tally.specs.Tally.{AreRows}
+use Rattle.kc_tally.specs.Sum.{first_word, lesser}
+use Rattle.kc_tally.proofs.Parts.{rows-few}
+use Rattle.kc_tally.proofs.SumLemmas.{Reaches, merged-none, merged-more, reaches, step, step-fits}
+use Rattle.kc_tally.proofs.sums.summed_rows.Goals as goal
+use Rattle.kc_tally.proofs.sums.summed_rows.Goals.{After-take_count-in-Some}
+
+pub overflow_add-room : goal.overflow_add-room
+overflow_add-room c =
+    let first = rows-few c.args.first.now.k c.args.first.now.both c.args.first.now.rows c.row_count.ensures.lawful in
+    let second = rows-few c.args.second.now.k c.args.second.now.both c.args.second.now.rows c.row_count-2.ensures.lawful in
+    let one = c.row_count.ensures.value in
+    let other = c.row_count-2.ensures.value in
+    record { fits = omega (arith, first, second, one, other) }
+
+pub words-init : goal.words-init
+words-init c =
+    let second = c.args.second.now in
+    let k = c.requires.k in
+    let both = c.requires.both in
+    let also = subst (λ k. AreRows k c.args.first.now.both second.rows) (sym k) (subst (λ both. AreRows second.k both second.rows) (sym both) c.row_count-2.ensures.lawful) in
+    let one = c.row_count.ensures.value in
+    let other = c.row_count-2.ensures.value in
+    let least = c.in_ok-sums.ensures.capacity in
+    let exact = c.in_ok-sums.ensures.exact in
+    record {
+      merged = rw (c.in_ok-sums.ensures.items, c.rows-firsts.ensures.rows, c.rows-seconds.ensures.rows) (merged-none c.row_count.ensures.lawful also);
+      room = grind (arith, one, other, least);
+      bounded = grind (arith, one, other, exact);
+    }
+
+reached : (c : After-take_count-in-Some) → Reaches c.args.first.now.k c.words.invariant.merged.low c.in-Some.word c.args.first.now.both c.words.firsts c.words.seconds
+reached c =
+    let first = c.first_word.ensures in
+    let second = c.first_word-in-words.ensures in
+    let is : lesser (first_word c.words.firsts) (first_word c.words.seconds) ≡ Some c.in-Some.word =
+    sym (c.lesser.ensures ∙ (λ i. lesser (first i) (second i))) ∙ c.in-Some.is in
+    let m = c.words.invariant.merged in
+    reaches c.in-Some.word c.words.firsts c.words.seconds m.first m.second is
+
+pub overflow_add-count : goal.overflow_add-count
+overflow_add-count c =
+    let s = step (reached c) c.take_count.ensures c.take_count-in-Some.ensures in
+    record { fits = step-fits c.requires.small c.words.invariant.merged s }
+
+pub words-preserved : goal.words-preserved
+words-preserved c =
+    let r = reached (goal.at.words-preserved c).After-take_count-in-Some in
+    let s = step r c.take_count.ensures c.take_count-in-Some.ensures in
+    let same = c.push_reserved.ensures.capacity in
+    let room = c.words.invariant.room in
+    let bounded = c.words.invariant.bounded in
+    record {
+      merged = rw c.push_reserved.ensures.items (merged-more c.words.invariant.merged r s);
+      room = rw same room;
+      bounded = rw same bounded;
+    }

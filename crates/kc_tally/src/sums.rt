@@ -1,0 +1,73 @@
+//! The rows of the sum of two tallies.
+ghost use Rattle.std.specs.Prelude.{◌≡◌, ◌+◌, ◌≤◌, ◌^◌, IfOk, length};
+ghost use Rattle.std.specs.Vec.{vec_capacity};
+ghost use Rattle.kc_tally.specs.Tally.{AreRows, total_of};
+ghost use Rattle.kc_tally.specs.Sum.{IsSum, TakesCount};
+ghost use Rattle.kc_tally.specs.Sum as summing;
+
+use crate::row::Row;
+use crate::rows::Rows;
+use crate::tally::Tally;
+use std::alloc::{AllocError, Global};
+
+// The rows of the sum, in room for at most the rows of both. Both tallies are gone over once, in the order of words.
+pub(crate) fn summed_rows(
+    alloc: Global,
+    first: &Tally,
+    second: &Tally,
+) -> Result<Vec<Row>, AllocError>
+    requires k { first.now.k ≡ second.now.k }
+    requires both { first.now.both ≡ second.now.both }
+    requires small { total_of first.now.rows + total_of second.now.rows ≤ 2 ^ 62 }
+    ensures sum { IfOk result (λ sums. IsSum first.now.k first.now.rows second.now.rows sums.items) }
+    ensures lawful { IfOk result (λ sums. AreRows first.now.k first.now.both sums.items) }
+    ensures bounded { IfOk result (λ sums. vec_capacity sums ≤ length first.now.rows + length second.now.rows) }
+{
+    let room = first.row_count() + second.row_count();
+    let mut sums = Vec::with_capacity(alloc, room as usize)?;
+    let (mut firsts, mut seconds) = (first.rows(), second.rows());
+    'words: while let Some(word) = lesser(first_word(&firsts), first_word(&seconds)) {
+        let count = take_count(&mut firsts, word) + take_count(&mut seconds, word);
+        sums.push_reserved(Row { word, count });
+    }
+    Ok(sums)
+}
+
+// The word of the next row.
+#[inline(always)]
+fn first_word(rows: &Rows<'_>) -> Option<u64>
+    ensures { result ≡ summing.first_word rows.now }
+{
+    match rows.ahead().next() {
+        Some(row) => Some(row.word),
+        None => None,
+    }
+}
+
+// The lesser of two words, where there are two.
+#[inline(always)]
+fn lesser(word: Option<u64>, other: Option<u64>) -> Option<u64>
+    ensures { result ≡ summing.lesser word other }
+{
+    match (word, other) {
+        (None, other) => other,
+        (Some(word), None) => Some(word),
+        (Some(word), Some(other)) => Some(word.min(other)),
+    }
+}
+
+// The count of the next row, which is used up, where that row has the word; else 0.
+#[inline(always)]
+fn take_count(rows: &mut Rows<'_>, word: u64) -> u64
+    ensures { TakesCount rows.old rows.new word result }
+{
+    let mut later = rows.ahead();
+    let Some(row) = later.next() else {
+        return 0;
+    };
+    if row.word != word {
+        return 0;
+    }
+    *rows = later;
+    row.count
+}

@@ -1,0 +1,56 @@
+-- A list of words, to which a count may be kept.
+-- Source: the option --if of the Jellyfish user guide.
+use Rattle.std.specs.Prelude.{◌≡◌, ℕ, Bool, ◌+◌, ◌*◌, ◌<◌, ◌≤◌, ◌^◌, ◌/◌, ◌↔◌, ◌==◌, ◌&&◌, List, length, slice_index}
+use Rattle.std.specs.Prelude.{All, Contains}
+use Rattle.std.specs.Bool.{beq}
+use Rattle.std.specs.List.Sorted.{IsStrictlyIncreasing}
+use Rattle.std.specs.Str.{bytes_eq}
+use Rattle.kc_fastx.specs.Reads.{Read}
+use Rattle.kc_kmer.specs.Word.{text}
+use Rattle.kc_kmer.specs.Rule.{CountingRule}
+use Rattle.kc_kmer.specs.Occurrences.{occurrences}
+
+-- a list of words as a value: their length, whether both strands count, and the numbers of the words
+pub record WordList : Type 0 where
+  pub k : ℕ
+  pub both : Bool
+  pub words : List ℕ
+
+-- numbers of words of k bases, in rising order: so each stands there once, and two lists are equal where they have the
+-- same words
+pub record AreListed (k : ℕ) (words : List ℕ) : Type 0 where
+  pub rising : IsStrictlyIncreasing words
+  pub below : All (λ word. word < 4 ^ k) words
+
+-- the list has exactly the words that occur in the reads, at one position of a read or more
+pub record IsListOf (rule : CountingRule) (reads : List Read) (list : WordList) : Type 0 where
+  pub k : list.k ≡ rule.k
+  pub both : list.both ≡ rule.both
+  pub listed : AreListed rule.k list.words
+  pub words : (n : ℕ) → n < 4 ^ rule.k → Contains list.words n ↔ (1 ≤ occurrences rule reads (text rule.k n))
+
+-- whether two lists have the same words, of the same length and counted on as many strands
+abbrev pub is_same_list : WordList → WordList → Bool
+is_same_list list other = (list.k == other.k) && (beq list.both other.both && bytes_eq list.words other.words)
+
+-- where the words begin that have the same bits above the low ones: the start of each number is how many words have
+-- lesser ones
+pub record AreStarts (words : List ℕ) (low_bits : ℕ) (starts : List ℕ) : Type 0 where
+  pub within : (high : ℕ) → high < length starts → slice_index starts high ≤ length words
+  pub lesser : (high i : ℕ) → high < length starts → i < slice_index starts high
+      → slice_index words i / 2 ^ low_bits < high
+  pub others : (high i : ℕ) → high < length starts → slice_index starts high ≤ i → i < length words
+      → high ≤ slice_index words i / 2 ^ low_bits
+
+-- what a list keeps: each word has a start, and one stands behind it
+pub record IsIndexed (k : ℕ) (words : List ℕ) (low_bits : ℕ) (starts : List ℕ) : Type 0 where
+  pub listed : AreListed k words
+  pub low_bits_at_most : low_bits ≤ 2 * k
+  pub word_bits_at_most : 2 * k ≤ 62
+  pub enough : (word : ℕ) → word < 4 ^ k → word / 2 ^ low_bits + 1 < length starts
+  pub starts_are : AreStarts words low_bits starts
+
+-- the words that occur in reads have one list
+abbrev pub OneList : Type 0
+OneList = (rule : CountingRule) (reads : List Read) (list other : WordList) → IsListOf rule reads list
+    → IsListOf rule reads other → list ≡ other
