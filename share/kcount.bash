@@ -4,17 +4,17 @@ _kcount() {
     local options=
     COMPREPLY=()
     if [ "$COMP_CWORD" = 1 ]; then
-        mapfile -t COMPREPLY < <(compgen -W 'count dump histo stats query help -h --help -V --version' -- "$word")
+        mapfile -t COMPREPLY < <(compgen -W 'count dump histo stats query merge help -h --help -V --version' -- "$word")
         return
     fi
     case $command in
         count)
             options='-m --mer-len -s --size -t --threads -C --canonical -o --output --min-qual-char --stripes --batch
-                --print --column --tab --lower-count --upper-count --high -h --help'
+                --print --column --tab --lower-count --upper-count --high --only -h --help'
             ;;
         dump) options='-c --column -t --tab -L --lower-count -U --upper-count -o --output -h --help' ;;
         histo) options='--high -o --output -h --help' ;;
-        stats | query) options='-o --output -h --help' ;;
+        stats | query | merge) options='-o --output -h --help' ;;
     esac
     case $before in
         --print) mapfile -t COMPREPLY < <(compgen -W 'table dump histo stats' -- "$word") ;;

@@ -5,6 +5,7 @@ complete -c kcount -n __fish_use_subcommand -a dump -d 'Write the k-mers of a ta
 complete -c kcount -n __fish_use_subcommand -a histo -d 'Write how many k-mers of a table have which count'
 complete -c kcount -n __fish_use_subcommand -a stats -d 'Write four numbers about the k-mers of a table'
 complete -c kcount -n __fish_use_subcommand -a query -d 'Look k-mers up in a table'
+complete -c kcount -n __fish_use_subcommand -a merge -d 'Write the sum of two tables'
 complete -c kcount -n __fish_use_subcommand -a help -d 'Write help'
 complete -c kcount -n __fish_use_subcommand -s V -l version -d 'Write the version'
 complete -c kcount -s h -l help -d 'Write help'
@@ -23,6 +24,7 @@ complete -c kcount -n '__fish_seen_subcommand_from count' -l tab -d 'With --colu
 complete -c kcount -n '__fish_seen_subcommand_from count' -l lower-count -x -d 'Dump no lesser counts'
 complete -c kcount -n '__fish_seen_subcommand_from count' -l upper-count -x -d 'Dump no greater counts'
 complete -c kcount -n '__fish_seen_subcommand_from count' -l high -x -d 'Greatest count with a line of its own'
+complete -c kcount -n '__fish_seen_subcommand_from count' -l only -r -d 'Count only the k-mers of this file'
 
 complete -c kcount -n '__fish_seen_subcommand_from dump' -s c -l column -d 'A k-mer and its count in one line'
 complete -c kcount -n '__fish_seen_subcommand_from dump' -s t -l tab -d 'With --column, put a tab between them'
@@ -36,3 +38,5 @@ complete -c kcount -n '__fish_seen_subcommand_from histo' -s o -l output -r -d '
 complete -c kcount -n '__fish_seen_subcommand_from stats' -s o -l output -r -d 'Write to this file'
 
 complete -c kcount -n '__fish_seen_subcommand_from query' -s o -l output -r -d 'Write to this file'
+
+complete -c kcount -n '__fish_seen_subcommand_from merge' -s o -l output -r -d 'Write to this file'

@@ -1,6 +1,6 @@
 #!/bin/bash
-# Runs the program over files that are missing, that are directories, or that the output empties, into a closed pipe, and on a
-# terminal, and compares what it says, how it ends and what it leaves in the file of its output:
+# Runs the program over files that are missing, that are directories, or that the output empties, into a closed pipe,
+# and on a terminal, and compares what it says, how it ends and what it leaves in the file of its output:
 #   tests/files.sh
 # No contract tells what a file holds, so this is seen here alone. It needs bin/kcount.
 set -euo pipefail
@@ -12,18 +12,23 @@ trap 'rm -rf "$work"' EXIT
 mkdir "$work/here" "$work/here/a-directory"
 cd "$work/here"
 
-# The files that each command line finds: two sources, a table of the first, and an output with an old text.
+# The files that each command line finds: two good sources and a bad one, a table of each good one, three that can't be
+# added to the first of these, and an output with an old text.
 set_up() {
     printf '>r1\nACGTA\n' > one.fa
     printf '@r2\nCCC\n+\nIII\n' > two.fq
     printf '>r1\nA@C\n' > bad.fa
-    printf 'KCT 1 3 s\nACG 1\nCGT 1\nGTA 1\nEND 3 3\n' > one.kct
+    printf 'KCT 2 3 s a 33 1\nACG 1\nCGT 1\nGTA 1\nEND 3 3\n' > one.kct
+    printf 'KCT 2 3 s a 33 1\nCCC 1\nEND 1 1\n' > two.kct
+    printf 'KCT 2 3 s a 33 1\nACG\nEND 1 1\n' > row.kct
+    printf 'KCT 2 3 s a 35 1\nACG 1\nEND 1 1\n' > floor.kct
+    printf 'KCT 2 3 s a 33 1\nACG 4611686018427387904\nEND 1 4611686018427387904\n' > most.kct
     printf 'old\n' > out
 }
 
 ran=0
-# Runs `kcount` with these arguments, and compares its status, its output, its errors and the file `out`, each of which is
-# written without the line feed at its end.
+# Runs `kcount` with these arguments, and compares its status, its output, its errors and the file `out`, each of which
+# is written without the line feed at its end.
 wants() {
     local status=$1 output=$2 errors=$3 left=$4 got=0
     shift 4
@@ -44,7 +49,8 @@ same() {
 }
 
 one=$'ACG 1\nCGT 1\nGTA 1'
-table=$'KCT 1 3 s\nACG 1\nCGT 1\nGTA 1\nEND 3 3'
+table=$'KCT 2 3 s a 33 1\nACG 1\nCGT 1\nGTA 1\nEND 3 3'
+both=$'KCT 2 3 s a 33 2\nACG 1\nCCC 1\nCGT 1\nGTA 1\nEND 4 4'
 count=(count -m 3 --print dump --column)
 
 # files are read in order, and standard input only where none is named
@@ -55,18 +61,41 @@ wants 0 'CCC 2' '' old "${count[@]}" two.fq two.fq
 wants 1 '' 'kcount: 2: bad base, source 2, line 2' old "${count[@]}" one.fa bad.fa two.fq
 wants 0 "$one" '' old dump -c one.kct
 wants 0 'CGT 1' '' old query one.kct cgt
+wants 0 "$both" '' old merge one.kct two.kct
+wants 0 $'KCT 2 3 s a 33 2\nACG 2\nCGT 2\nGTA 2\nEND 3 6' '' old merge one.kct one.kct
+# a list is no source, and standard input is read beside it where no source is named
+wants 0 "$one" '' old "${count[@]}" --only one.fa
+wants 0 '' '' old "${count[@]}" --only two.fq
+wants 0 "$one" '' old "${count[@]}" --only one.fa one.fa
+wants 0 'CCC 1' '' old "${count[@]}" --only two.fq one.fa two.fq
+# its fault is told before those of the sources
+wants 1 '' 'kcount: 2: bad base, source 0, line 2' old "${count[@]}" --only bad.fa bad.fa
+wants 1 '' 'kcount: 2: bad base, source 1, line 2' old "${count[@]}" --only one.fa bad.fa
+# FIRST is read before SECOND
+wants 1 '' 'kcount: 41: bad header' old merge one.fa a-directory
+wants 1 '' 'kcount: 45: table read failed' old merge a-directory one.fa
 
 # the file of the output has what would have been printed
 wants 0 '' '' "$one" "${count[@]}" -o out one.fa
 wants 0 '' '' "$table" count -m 3 -o out one.fa
 wants 0 '' '' "$one" dump -c -o out one.kct
 wants 0 '' '' 'ACG 1' query -o out one.kct ACG
+wants 0 '' '' "$both" merge -o out two.kct one.kct
+wants 0 '' '' $'KCT 2 3 s o 33 2\nCCC 1\nEND 1 1' count -m 3 --only two.fq -o out one.fa two.fq
 # a fault of the work comes behind its creation
 wants 1 '' 'kcount: 2: bad base, source 1, line 2' '' "${count[@]}" -o out bad.fa
+wants 1 '' 'kcount: 2: bad base, source 0, line 2' '' "${count[@]}" --only bad.fa -o out one.fa
 wants 1 '' 'kcount: 41: bad header' '' dump -o out one.fa
+wants 1 '' 'kcount: 41: bad header' '' merge -o out one.kct one.fa
+wants 1 '' 'kcount: 42: bad row, line 2' '' merge -o out row.kct one.kct
+wants 1 '' 'kcount: 61: tables do not match' '' merge -o out one.kct floor.kct
+wants 1 '' 'kcount: 62: sums too large' '' merge -o out one.kct most.kct
 # a file that is read and written is emptied before it is read
-wants 0 '' '' $'KCT 1 3 s\nEND 0 0' count -m 3 -o out out
+wants 0 '' '' $'KCT 2 3 s a 33 0\nEND 0 0' count -m 3 -o out out
+wants 0 '' '' $'KCT 2 3 s o 33 1\nEND 0 0' count -m 3 --only out -o out one.fa
 wants 1 '' 'kcount: 41: bad header' '' dump -o out out
+wants 1 '' 'kcount: 41: bad header' '' merge -o out out one.kct
+wants 1 '' 'kcount: 41: bad header' '' merge -o out one.kct out
 
 # a file that can't be opened is told, the first of several, before the file of the output is emptied
 wants 1 '' 'kcount: 54: cannot open missing' old "${count[@]}" missing
@@ -74,23 +103,40 @@ wants 1 '' 'kcount: 54: cannot open missing' old "${count[@]}" -o out one.fa mis
 wants 1 '' 'kcount: 54: cannot open missing' old stats -o out missing
 wants 1 '' 'kcount: 54: cannot open missing' old query -o out missing ACG
 wants 1 '' 'kcount: 54: cannot open ' old "${count[@]}" ''
+wants 1 '' 'kcount: 54: cannot open missing' old merge -o out missing lost
+wants 1 '' 'kcount: 54: cannot open missing' old merge -o out one.kct missing
+wants 1 '' 'kcount: 54: cannot open missing' old merge -o out one.fa missing
+# the list is opened before the sources
+wants 1 '' 'kcount: 54: cannot open missing' old "${count[@]}" --only missing -o out one.fa
+wants 1 '' 'kcount: 54: cannot open missing' old "${count[@]}" --only missing -o out lost
+wants 1 '' 'kcount: 54: cannot open lost' old "${count[@]}" --only bad.fa -o out lost
+wants 1 '' 'kcount: 54: cannot open missing' old "${count[@]}" --only missing
+wants 1 '' 'kcount: 54: cannot open ' old "${count[@]}" --only= -o out one.fa
 # so is a file that can't be created, before anything is read
 wants 1 '' 'kcount: 54: cannot open no-such/out' old "${count[@]}" -o no-such/out bad.fa
 wants 1 '' 'kcount: 54: cannot open a-directory' old "${count[@]}" -o a-directory bad.fa
 wants 1 '' 'kcount: 54: cannot open missing' old "${count[@]}" -o no-such/out missing
+wants 1 '' 'kcount: 54: cannot open no-such/out' old "${count[@]}" --only bad.fa -o no-such/out one.fa
+wants 1 '' 'kcount: 54: cannot open no-such/out' old merge -o no-such/out one.fa two.kct
+wants 1 '' 'kcount: 54: cannot open missing' old merge -o no-such/out one.kct missing
 # a directory opens, and then can't be read
 wants 1 '' 'kcount: 7: read failed, source 1' old "${count[@]}" a-directory
 wants 1 '' 'kcount: 7: read failed, source 2' '' "${count[@]}" -o out one.fa a-directory
+wants 1 '' 'kcount: 7: read failed, source 0' old "${count[@]}" --only a-directory bad.fa
+wants 1 '' 'kcount: 7: read failed, source 0' '' "${count[@]}" --only a-directory -o out one.fa
 wants 1 '' 'kcount: 45: table read failed' old stats a-directory
+wants 1 '' 'kcount: 45: table read failed' old merge one.kct a-directory
 
 # a bad option is told before a file is looked for
 wants 2 '' 'kcount: 51: bad option --mer-len' old count -m 32 -o out missing
+wants 2 '' 'kcount: 51: bad option --high' old count -m 3 --high 0 --only missing -o out one.fa
 # an argument that is not UTF-8 refuses the command line
 wants 2 '' 'kcount: an argument is not UTF-8' old "${count[@]}" -o out $'\xff'
 
 # an output that takes nothing
 if [ -c /dev/full ]; then
     wants 1 '' 'kcount: 53: write failed' old "${count[@]}" -o /dev/full one.fa
+    wants 1 '' 'kcount: 53: write failed' old merge -o /dev/full one.kct two.kct
 fi
 # a pipe whose reader goes after one line, while far more is to be written than a pipe holds
 awk 'BEGIN { srand(1); print ">r"; for (i = 0; i < 60000; i++) print substr("ACGT", int(rand() * 4) + 1, 1) }' > many.fa
@@ -108,8 +154,8 @@ slowly | "$kcount" "${count[@]}" > "$work/output" 2> "$work/errors"
 same "its output" "$one" "$(cat "$work/output")" "of a slow source"
 same "its errors" '' "$(cat "$work/errors")" "of a slow source"
 ran=$((ran + 1))
-# Runs `kcount` on a slow source with its errors, and its output where that goes to no file, on a terminal. What it shows there
-# has to begin with how far it has come, and to be taken away before the wanted text.
+# Runs `kcount` on a slow source with its errors, and its output where that goes to no file, on a terminal. What it
+# shows there has to begin with how far it has come, and to be taken away before the wanted text.
 shows() {
     local wanted=$1 source=$2 to=$3 shown
     shown=$(script -qec "{ $source; } | '$kcount' ${count[*]} $to" /dev/null < /dev/null) || true

@@ -1,9 +1,10 @@
 #!/bin/bash
 # Refuses each growth in turn, and looks at what is answered:
 #   tests/memory.sh
-# Each run of the program, over FASTA and over FASTQ, either does without that growth and writes the whole dump, or writes
-# nothing, says on standard error that there is no memory, and ends with status 1. Tickets, a growing table, a stripe and a
-# gathering are asked the same by a test. It needs bin/kcount, the crates of tests as built, and a C compiler.
+# Each run of the program, a count over FASTA, over FASTQ and of listed k-mers, and a merge, either does without that
+# growth and writes all that it should, or writes nothing, says on standard error that there is no memory, and ends with
+# status 1. Tickets, a growing table, a stripe and a gathering are asked the same by a test. It needs bin/kcount, the
+# crates of tests as built, and a C compiler.
 set -euo pipefail
 here=$(cd "$(dirname "$0")" && pwd)
 kcount=$here/../bin/kcount
@@ -13,37 +14,48 @@ cc -O2 -shared -fPIC -o "$work/refuse.so" "$here/refuse_memory.c" -ldl
 # The dump is the same of both: in the second the G of CG stands below the floor.
 printf '>a\nACGTA\n>b\nAC\n>c\nNGTN\n' > "$work/reads.fa"
 printf '@a\nACG\nTA\n+\nIIIII\n@b\nACGTN\n+a\nII"\nII\n' > "$work/reads.fq"
-printf 'ACG 2\nGTA 1\n' > "$work/wanted"
+printf '>x\nNACG\n>y\nTTT\n' > "$work/list.fa"
+printf 'KCT 2 3 c a 33 1\nACG 2\nGTA 1\nEND 2 3\n' > "$work/first.kct"
+printf 'KCT 2 3 c a 33 2\nAAA 4\nGTA 1\nEND 2 5\n' > "$work/second.kct"
 
-# Refuses one growth after the other of a count of this file, until twenty in a row are not missed.
+# Refuses one growth after the other of a command line on this input, until twenty in a row are not missed. These
+# numbers have to be met among the answers, and no others but that of a thread, and that of a file whose name found no
+# room.
 refuse_growths() {
-    local refused=0 passed=0 n number status
+    local what=$1 wanted=$2 numbers=$3 input=$4 refused=0 passed=0 n number status
+    shift 4
+    local allowed="kcount: (${numbers// /|}): no memory|kcount: 33: no thread for worker [0-9]+"
+    allowed+='|kcount: 54: cannot open .*|Error: .*'
+    printf '%s' "$wanted" > "$work/wanted"
     : > "$work/answers"
     for n in $(seq 1 2000); do
         status=0
-        REFUSE=$n LD_PRELOAD="$work/refuse.so" "$kcount" count -m 3 -C --batch 2 --min-qual-char '#' --print dump --column \
-            < "$1" > "$work/got" 2> "$work/said" || status=$?
+        REFUSE=$n LD_PRELOAD="$work/refuse.so" "$kcount" "$@" > "$work/got" 2> "$work/said" < "$input" || status=$?
         if [ "$status" = 0 ]; then
-            cmp -s "$work/got" "$work/wanted" || { echo "growth $n refused: status 0 and another dump"; exit 1; }
+            cmp -s "$work/got" "$work/wanted" || { echo "growth $n of $what refused: status 0 and another text"; exit 1; }
             passed=$((passed + 1))
             [ "$passed" -lt 20 ] || break
         else
-            [ "$status" = 1 ] || { echo "growth $n refused: status $status"; cat "$work/said"; exit 1; }
-            [ ! -s "$work/got" ] || { echo "growth $n refused: something was written"; exit 1; }
-            grep -qxE 'kcount: (8|34|46): no memory|kcount: 33: no thread for worker [0-9]+|Error: .*' "$work/said" || { echo "growth $n refused: $(cat "$work/said")"; exit 1; }
+            [ "$status" = 1 ] || { echo "growth $n of $what refused: status $status"; cat "$work/said"; exit 1; }
+            [ ! -s "$work/got" ] || { echo "growth $n of $what refused: something was written"; exit 1; }
+            grep -qxE "$allowed" "$work/said" || { echo "growth $n of $what refused: $(cat "$work/said")"; exit 1; }
             cat "$work/said" >> "$work/answers"
             refused=$((refused + 1))
             passed=0
         fi
     done
-    [ "$refused" -gt 0 ] && [ "$passed" -ge 20 ] || { echo "no growth was refused, or there is no end of them"; exit 1; }
-    for number in 8 34 46; do
-        grep -q "^kcount: $number:" "$work/answers" || { echo "no growth was answered $number"; exit 1; }
+    [ "$refused" -gt 0 ] && [ "$passed" -ge 20 ] || { echo "no growth of $what was refused, or there is no end of them"; exit 1; }
+    for number in $numbers; do
+        grep -q "^kcount: $number:" "$work/answers" || { echo "no growth of $what was answered $number"; exit 1; }
     done
-    echo "memory: $refused growths refused in turn, each answered as such (${1##*.})"
+    echo "memory: $refused growths of $what refused in turn, each answered as such"
 }
-refuse_growths "$work/reads.fa"
-refuse_growths "$work/reads.fq"
+count=(count -m 3 -C --batch 2 --min-qual-char '#' --print dump --column)
+refuse_growths 'a count of FASTA' $'ACG 2\nGTA 1\n' '8 34 46' "$work/reads.fa" "${count[@]}"
+refuse_growths 'a count of FASTQ' $'ACG 2\nGTA 1\n' '8 34 46' "$work/reads.fq" "${count[@]}"
+refuse_growths 'a count of listed k-mers' $'ACG 2\n' '8 34 46' "$work/reads.fq" "${count[@]}" --only "$work/list.fa"
+refuse_growths 'a merge' $'KCT 2 3 c a 33 3\nAAA 4\nACG 2\nGTA 2\nEND 3 8\n' 46 /dev/null \
+    merge "$work/first.kct" "$work/second.kct"
 
 # one test of a crate, with its n-th growth refused
 refused_test() {
@@ -77,8 +89,8 @@ for n in $(seq 1 40); do
 done
 echo "memory: 40 growths of a table refused in turn, and its numbers stay"
 
-# A stripe that is refused memory while a batch is booked is as it was, and books the batch when there is memory; so is a share
-# that books or looks a word up. Where a growth outside of that is refused, the test ends.
+# A stripe that is refused memory while a batch is booked is as it was, and books the batch when there is memory; so is
+# a share that books or looks a word up. Where a growth outside of that is refused, the test ends.
 booked_again() {
     local test=refusals::$1 held=0 n
     for n in $(seq 1 "$2"); do
@@ -94,8 +106,8 @@ booked_again() {
 booked_again a_refused_growth_leaves_the_stripe 83 "the stripe stays"
 booked_again a_refused_growth_leaves_the_share 32 "the share stays"
 
-# Gathering and a run answer 34, or 33 for a thread, and no tally where memory is refused, and the same tally where they do
-# without, as without a thread of the sorting. Where a growth outside of that is refused, the test ends.
+# Gathering and a run answer 34, or 33 for a thread, and no tally where memory is refused, and the same tally where they
+# do without, as without a thread of the sorting. Where a growth outside of that is refused, the test ends.
 tally_or_refused() {
     local crate=$1 test=$2 answered=0 passed=0 n
     for n in $(seq 1 2000); do

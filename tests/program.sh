@@ -1,9 +1,10 @@
 #!/bin/bash
 # Runs the program as a whole, and compares byte by byte what it writes to each stream, and how it ends:
 #   tests/program.sh
-# The texts of its help stand in tests/texts/. Each range and each default that the help tells has to be the program's, `-t` has
-# to start as many threads, and each fault that can be brought about from outside has its line; `crates/kc_tests` and
-# tests/files.sh have more of these. It needs bin/kcount and a C compiler.
+# The texts of its help stand in tests/texts/. Each range and each default that the help tells has to be the program's,
+# `-t` has to start as many threads, and each fault that can be brought about from outside has its line;
+# `crates/kc_tests` and tests/files.sh have more of these. The parts of an example that are counted apart have to be the
+# whole when they are put together. It needs bin/kcount and a C compiler.
 set -euo pipefail
 here=$(cd "$(dirname "$0")" && pwd)
 program=$here/../bin/kcount
@@ -59,12 +60,15 @@ without_thread() {
 }
 
 reads=$'>r1\nACGTA\n'
-table=$'KCT 1 3 c\nACG 2\nGTA 1\nEND 2 3\n'
+table=$'KCT 2 3 c a 33 1\nACG 2\nGTA 1\nEND 2 3\n'
+older=$'KCT 1 3 c\nACG 2\nGTA 1\nEND 2 3\n'
 printf '%s' "$reads" > reads.fa
 printf '%s' "$table" > two.kct
+printf '%s' "$older" > older.kct
 more=$'\nFor more information, try \'--help\'.\n'
 usage=$'\nUsage: kcount <COMMAND>\n'
 usage_of_count=$'\nUsage: kcount count [OPTIONS] [FILE]...\n'
+usage_of_merge=$'\nUsage: kcount merge <FIRST> <SECOND>\n'
 
 # The help goes to the output, and the version does.
 helps() {
@@ -76,7 +80,7 @@ helps() {
 helps kcount --help
 helps kcount -h
 helps kcount help
-for command in count dump histo stats query; do
+for command in count dump histo stats query merge; do
     helps "$command" "$command" --help
     helps "$command" "$command" -h
     helps "$command" help "$command"
@@ -91,7 +95,7 @@ refuses() {
     shift
     wants 2 '' "error: $text$more" "$reads" kcount "$@"
 }
-refuses $'\'kcount\' requires a subcommand but one was not provided\n  [subcommands: count, dump, histo, stats, query, help]\n'"$usage"
+refuses $'\'kcount\' requires a subcommand but one was not provided\n  [subcommands: count, dump, histo, stats, query, merge, help]\n'"$usage"
 refuses $'unrecognized subcommand \'frob\'\n'"$usage" frob
 refuses $'unrecognized subcommand \'frob\'\n'"$usage" frob --help
 refuses $'unrecognized subcommand \'coun\'\n\n  tip: a similar subcommand exists: \'count\'\n'"$usage" coun -m 3
@@ -100,13 +104,20 @@ refuses $'a value is required for \'--mer-len <K>\' but none was supplied\n' cou
 refuses $'a value is required for \'--output <FILE>\' but none was supplied\n' count -m 3 -o
 refuses $'a value is required for \'--print <WHAT>\' but none was supplied\n' count -m 3 --print
 refuses $'a value is required for \'--high <N>\' but none was supplied\n' histo --high
+refuses $'a value is required for \'--only <FILE>\' but none was supplied\n' count -m 3 --only
+refuses $'the argument \'--only <FILE>\' cannot be used multiple times\n'"$usage_of_count" count -m 3 --only a --only b
 refuses $'the argument \'--mer-len <K>\' cannot be used multiple times\n'"$usage_of_count" count -m 3 -m 4
 refuses $'unexpected argument \'--frob\' found\n\n  tip: to pass \'--frob\' as a value, use \'-- --frob\'\n'"$usage_of_count" count --frob
 refuses $'unexpected argument \'b\' found\n\nUsage: kcount stats [OPTIONS] [FILE]\n' stats a b
 refuses $'the following required arguments were not provided:\n  <TABLE>\n  <WORD>...\n\nUsage: kcount query <TABLE> <WORD>...\n' query
 refuses $'the following required arguments were not provided:\n  <WORD>...\n\nUsage: kcount query <TABLE> <WORD>...\n' query two.kct
+refuses $'the following required arguments were not provided:\n  <FIRST>\n  <SECOND>\n'"$usage_of_merge" merge
+refuses $'the following required arguments were not provided:\n  <SECOND>\n'"$usage_of_merge" merge two.kct
+refuses $'unexpected argument \'c\' found\n\nUsage: kcount merge [OPTIONS] <FIRST> <SECOND>\n' merge two.kct two.kct c
+refuses $'unexpected argument \'-C\' found\n\n  tip: to pass \'-C\' as a value, use \'-- -C\'\n\nUsage: kcount merge [OPTIONS] <FIRST> <SECOND>\n' merge -C two.kct two.kct
 
-# The program hands on what it is given: each report goes to the output, and its input, all of it, and its arguments arrive.
+# The program hands on what it is given: each report goes to the output, and its input, all of it, and its arguments
+# arrive.
 dump=$'>2\nACG\n>1\nGTA\n'
 histo=$'1 1\n2 1\n'
 stats=$'Unique:    1\nDistinct:  2\nTotal:     3\nMax_count: 2\n'
@@ -128,10 +139,18 @@ wants 0 $'ACG 2\nGTA 1\n' '' "$table" kcount dump --column --lower-count 1 --upp
 wants 0 "$histo" '' "$table" kcount histo
 wants 0 "$stats" '' "$table" kcount stats
 wants 0 $'ACG 2\nAAA 0\n' '' '' kcount query two.kct CGT aaa
+wants 0 $'KCT 2 3 c a 33 2\nACG 4\nGTA 2\nEND 2 6\n' '' '' kcount merge two.kct two.kct
+# (a table of the first version says the same to each of them)
+wants 0 "$dump" '' "$older" kcount dump
+wants 0 "$histo" '' "$older" kcount histo
+wants 0 "$stats" '' "$older" kcount stats
+wants 0 $'ACG 2\nAAA 0\n' '' '' kcount query older.kct CGT aaa
+wants 0 $'KCT 1 3 c\nACG 4\nGTA 2\nEND 2 6\n' '' '' kcount merge older.kct older.kct
 mapfile -t words < <(for _ in $(seq 50); do printf 'TAC\naaa\n'; done)
 wants 0 "$(for _ in $(seq 50); do printf 'GTA 1\nAAA 0\n'; done)"$'\n' '' '' kcount query two.kct "${words[@]}"
 
-# The help tells a range of an option, the ends of which are taken and give these outputs; one less and one more are refused.
+# The help tells a range of an option, the ends of which are taken and give these outputs; one less and one more are
+# refused.
 ranges() {
     local command=$1 option=$2 range=$3 low=$4 high=$5 input=$table least most
     local run=(kcount "$command")
@@ -168,11 +187,11 @@ fault() {
     shift 3
     wants "$status" '' "kcount: $line"$'\n' "$input" "$@"
 }
-one=$'KCT 1 3 s\nACG 1\nCGT 1\nGTA 1\nEND 3 3\n'
-ranges count mer-len '1 to 31' $'KCT 1 1 s\nA 2\nC 1\nG 1\nT 1\nEND 4 5\n' $'KCT 1 31 s\nEND 0 0\n'
+one=$'KCT 2 3 s a 33 1\nACG 1\nCGT 1\nGTA 1\nEND 3 3\n'
+ranges count mer-len '1 to 31' $'KCT 2 1 s a 33 1\nA 2\nC 1\nG 1\nT 1\nEND 4 5\n' $'KCT 2 31 s a 33 1\nEND 0 0\n'
 ranges count size '1 to 2^40' "$one" "$one"
 ranges count threads '1 to 64' "$one" "$one"
-ranges count min-qual-char '33 to 126' "$one" "$one"
+ranges count min-qual-char '33 to 126' "$one" "${one/a 33/a 126}"
 ranges count stripes '1, 2, 4, 8, 16, 32 or 64' "$one" "$one"
 ranges count batch '1 to 2^36' "$one" "$one"
 ranges count lower-count '0 to 2^62' "$one" "$one"
@@ -215,7 +234,7 @@ usual() {
     wants 0 "$another" '' "$input" kcount "$@" "--$option=$other"
 }
 letters() { printf '%*s' "$2" '' | tr ' ' "$1"; }
-frequent=$'KCT 1 1 s\nA 9999\nC 10000\nG 10001\nT 10002\nEND 4 40002\n'
+frequent=$'KCT 2 1 s a 33 1\nA 9999\nC 10000\nG 10001\nT 10002\nEND 4 40002\n'
 often=$'>r\n'$(letters A 9999)$(letters C 10000)$(letters G 10001)$(letters T 10002)$'\n'
 greatest=$'KCT 1 1 s\nA 4611686018427387904\nEND 1 4611686018427387904\n'
 usual $'@q\nACG\n+\n!"!\n' min-qual-char '!' $'A 1\nC 1\nG 1\n' '"' $'C 1\n' count -m 1 "${columns[@]}"
@@ -232,7 +251,96 @@ for high in 9999 10001; do
     usual "$frequent" high 10000 $'9999 1\n10000 1\n10001 2\n' "$high" "$another" histo
 done
 
-# Each worker has a thread. Where the last one is refused, the fault names the last worker; one more would be no worker's.
+# Where a list is given, the k-mers of its reads alone are counted, by the rule of the count; the table says that there
+# was one.
+only() {
+    local text=$1 output=$2 input=$3
+    shift 3
+    printf '%s' "$text" > list.fa
+    wants 0 "$output" '' "$input" kcount count --only list.fa "$@"
+}
+printf '>x\nAAA\n' > none.fa
+listed=$'KCT 2 3 s o 33 1\nCGT 1\nEND 1 1\n'
+only $'>w\nCGT\n' $'CGT 1\n' "$reads" -m 3 "${columns[@]}"
+only $'>w\nCGT\n' $'ACG 2\n' "$reads" -m 3 -C "${columns[@]}"
+only $'>w\nCGTA\n' $'CGT 1\nGTA 1\n' "$reads" -m 3 "${columns[@]}"
+only '' $'Unique:    0\nDistinct:  0\nTotal:     0\nMax_count: 0\n' "$reads" -m 3 --print stats
+only $'>w\nCGT\n' "$listed" "$reads" -m 3
+only $'>w\nCGT\n' "$listed" '' -m 3 reads.fa
+only $'>w\nCGT\n' "${listed/o 33 1/o 33 2}" '' -m 3 reads.fa none.fa
+only '' $'KCT 2 3 s o 33 1\nEND 0 0\n' "$reads" -m 3
+# in lower case, with an N, over several reads, in lines, and a k-mer that no read has
+only $'>w\ncgtNac\n' "$listed" "$reads" -m 3
+only $'>w\nACG\n>x\nAAA\n>y\nG\nTA\n' $'ACG 1\nGTA 1\n' "$reads" -m 3 "${columns[@]}"
+# on either strand with -C, and as it stands without
+only $'>w\nTAC\n' $'GTA 1\n' "$reads" -m 3 -C "${columns[@]}"
+only $'>w\nTAC\n' '' "$reads" -m 3 "${columns[@]}"
+# no k-mer is in a list whose reads are shorter
+only $'>w\nCG\n>x\nTA\n' '' "$reads" -m 3 "${columns[@]}"
+# the floor holds for the list too
+only $'@w\nCGTA\n+\nIII!\n' "${listed/33/34}" "$reads" -m 3 --min-qual-char '"'
+only $'@w\nCGTA\n+\nIII!\n' $'CGT 1\nGTA 1\n' "$reads" -m 3 "${columns[@]}"
+long_word=$(letters T 31)
+only $'>w\n'"$long_word"$'\n' "$long_word"$' 2\n' $'>r\nC'"$long_word"$'T\n' -m 31 "${columns[@]}"
+# several threads, stripes and batches ask one list
+only $'>w\nAAA\n' $'AAA 8\n' "$ten" -m 3 -t 4 --stripes 64 --batch 1 "${columns[@]}"
+wants 0 "${one/a 33/o 33}" '' '' kcount count -m 3 --only reads.fa reads.fa
+# its faults come before those of the sources, and have source number 0
+bad_list() {
+    printf '%s' "$2" > list.fa
+    fault 1 "$1" $'>r\nA@C\n' kcount count -m 3 --only list.fa
+}
+bad_list '1: bad start, source 0, line 1' $'ACG\n'
+bad_list '2: bad base, source 0, line 2' $'>w\nA@C\n'
+bad_list '5: truncated, source 0, line 4' $'@w\nACG\n+\nII'
+bad_list '2: bad base, source 1, line 2' $'>w\nACG\n'
+fault 1 '7: read failed, source 0' $'>r\nA@C\n' kcount count -m 3 --only a-directory
+
+# Two tables are put together. Where that can't be, both have been read.
+merges() {
+    printf '%s' "$1" > first.kct
+    printf '%s' "$2" > second.kct
+    wants 0 "$3" '' '' kcount merge first.kct second.kct
+}
+unlike() {
+    printf '%s' "$2" > first.kct
+    printf '%s' "$3" > second.kct
+    fault 1 "$1" '' kcount merge first.kct second.kct
+}
+empty=$'KCT 2 3 s a 33 0\nEND 0 0\n'
+acg=$'KCT 2 3 s a 33 1\nACG 1\nEND 1 1\n'
+old=$'KCT 1 3 s\nACG 1\nEND 1 1\n'
+sum=$'KCT 2 3 s a 33 2\nACG 2\nCGT 1\nGTA 1\nEND 3 4\n'
+merges "$one" "$acg" "$sum"
+merges "$acg" "$one" "$sum"
+merges "$one" "$old" "${sum/2 3 s a 33 2/1 3 s}"
+merges "$old" "$one" "${sum/2 3 s a 33 2/1 3 s}"
+merges "$one" "$empty" "$one"
+merges "$empty" "$one" "$one"
+# (an origin that one of them lacks is not told of both)
+merges "$old" "$old" $'KCT 1 3 s\nACG 2\nEND 1 2\n'
+merges "${acg/33/35}" "$old" $'KCT 1 3 s\nACG 2\nEND 1 2\n'
+unlike '61: tables do not match' "$acg" "${acg/33/35}"
+unlike '61: tables do not match' "$acg" "${acg/3 s/3 c}"
+unlike '61: tables do not match' "$acg" "${acg/ a / o }"
+unlike '61: tables do not match' "${acg/ a / o }" "$acg"
+unlike '61: tables do not match' "${acg/ a / o }" "$old"
+unlike '61: tables do not match' "$acg" $'KCT 2 4 s a 33 1\nEND 0 0\n'
+unlike '61: tables do not match' "${old/s/c}" "$old"
+# a count, and a number of reads, may be 2^62 and no more; what does not match is told first
+most=$'KCT 1 3 s\nACG 4611686018427387904\nEND 1 4611686018427387904\n'
+many_reads=$'KCT 2 3 s a 33 4611686018427387904\nEND 0 0\n'
+merges "${most//904/903}" "$old" "$most"
+merges "${many_reads/904/903}" "$acg" "${acg/ 1/ 4611686018427387904}"
+merges "$many_reads" "$old" "$old"
+unlike '62: sums too large' "$most" "$most"
+unlike '62: sums too large' "$most" "$old"
+unlike '62: sums too large' "$many_reads" "$acg"
+unlike '61: tables do not match' "$most" "${acg/3 s/3 c}"
+unlike '61: tables do not match' "$many_reads" "${acg/33/34}"
+
+# Each worker has a thread. Where the last one is refused, the fault names the last worker; one more would be no
+# worker's.
 for threads in 1 2 4 64; do
     many=(count -m 3 --stripes 64 -t "$threads")
     fault 1 "33: no thread for worker $((threads - 1))" "$reads" without_thread "$threads" "${many[@]}"
@@ -267,6 +375,9 @@ for name in - "$long" 'a b' 'é'; do
     fault 1 "54: cannot open $name" "$table" kcount histo "$name"
     fault 1 "54: cannot open $name" "$table" kcount stats "$name"
     fault 1 "54: cannot open $name" "$table" kcount query "$name" ACG
+    fault 1 "54: cannot open $name" "$reads" kcount count -m 3 --only "$name"
+    fault 1 "54: cannot open $name" "$table" kcount merge "$name" two.kct
+    fault 1 "54: cannot open $name" "$table" kcount merge two.kct "$name"
     fault 1 "54: cannot open no-such/$name" "$table" kcount stats -o "no-such/$name"
 done
 cp two.kct ./-
@@ -275,9 +386,14 @@ wants 0 "$stats" '' "$one" kcount stats -
 # What can't be read, or is too large for the memory there is.
 fault 1 '7: read failed, source 1' '' of_a_directory count -m 3
 fault 1 '45: table read failed' '' of_a_directory dump
+fault 1 '45: table read failed' '' kcount merge a-directory reads.fa
+fault 1 '45: table read failed' '' kcount merge two.kct a-directory
 truncate -s 1T large
 fault 1 '8: no memory' '' in_little_memory count -m 3 large
+fault 1 '8: no memory' "$reads" in_little_memory count -m 3 --only large
 fault 1 '46: no memory' '' in_little_memory stats large
+fault 1 '46: no memory' '' in_little_memory merge large two.kct
+fault 1 '46: no memory' '' in_little_memory merge two.kct large
 fault 1 '46: no memory' "$reads" in_little_memory count -m 31 -s 1000G
 
 # A text that is no table is refused by each command that reads one, also in a file, and before a bad word.
@@ -289,14 +405,25 @@ no_table() {
         fault 1 "$line" "$table" kcount "$command" no.kct
     done
     fault 1 "$line" "$table" kcount query no.kct N
+    fault 1 "$line" '' kcount merge no.kct a-directory
+    fault 1 "$line" '' kcount merge two.kct no.kct
 }
 no_table '41: bad header' ''
 no_table '41: bad header' $'KCT 2 3 s\nEND 0 0\n'
+no_table '41: bad header' $'KCT 2 3 s a 32 1\nEND 0 0\n'
+no_table '41: bad header' $'KCT 2 3 s x 33 1\nEND 0 0\n'
+no_table '41: bad header' $'KCT 2 3 s a 33 01\nEND 0 0\n'
+no_table '41: bad header' $'KCT 2 3 s a 33 4611686018427387905\nEND 0 0\n'
+no_table '41: bad header' $'KCT 2 32 s a 33 0\nEND 0 0\n'
+no_table '41: bad header' $'KCT 3 3 s\nEND 0 0\n'
 no_table '41: bad header' $'KCT 1 32 s\nEND 0 0\n'
 no_table '41: bad header' 'KCT 1 3 s'
 no_table '42: bad row, line 2' $'KCT 1 3 c\nCGT 1\nEND 1 1\n'
 no_table '42: bad row, line 3' $'KCT 1 3 s\nACG 1\nACG 1\nEND 2 2\n'
 no_table '42: bad row, line 4' $'KCT 1 3 s\nACG 1\nCGT 1\n\nEND 2 2\n'
+no_table '42: bad row, line 2' $'KCT 2 3 c a 33 1\nCGT 1\nEND 1 1\n'
+no_table '43: bad end' $'KCT 2 3 s a 33 1\n'
+no_table '43: bad end' $'KCT 2 3 s o 126 4\nACG 1\nEND 1 2\n'
 no_table '43: bad end' $'KCT 1 3 s\nACG 1\n'
 no_table '43: bad end' $'KCT 1 3 s\nACG 1\nEND 1 1'
 no_table '43: bad end' $'KCT 1 3 s\nACG 1\nEND 1 2\n'
@@ -313,7 +440,7 @@ if [ -c /dev/full ]; then
     for report in table dump histo stats; do
         fault 1 '53: write failed' "$reads" into_a_full_device count -m 3 --print "$report"
     done
-    for command in dump histo stats 'query two.kct ACG' --help 'help count' --version; do
+    for command in dump histo stats 'query two.kct ACG' 'merge two.kct two.kct' --help 'help count' --version; do
         # shellcheck disable=SC2086
         fault 1 '53: write failed' "$table" into_a_full_device $command
     done
@@ -332,4 +459,53 @@ wants 2 '' '' '' with_closed_errors frob
 # (a file that is opened while there are no errors doesn't get the line)
 wants 1 '' '' 'ACGT' with_closed_errors count -m 3 -o out
 same "the file out" '' out "a fault without errors"
+
+# The reads of an example are divided before each of them, and behind the last, into two files, which are counted apart:
+# the sum of their tables is the table of the whole.
+examples=$here/../examples
+asked() { "$program" count -m "$length" -s 4k "${asking[@]}" "$@"; }
+halves() {
+    local file=$1 start
+    asked "$file" > whole.kct
+    for start in "${starts[@]}"; do
+        head -n $((start - 1)) "$file" > first.part
+        tail -n "+$start" "$file" > second.part
+        asked first.part > first.kct
+        asked second.part > second.kct
+        "$program" merge first.kct second.kct > sum.kct
+        cmp -s whole.kct sum.kct \
+            || fails "the parts of $file before line $start, counted with ${asking[*]}, are not the whole"
+        ran=$((ran + 1))
+    done
+}
+# Three parts of its reads, from these lines on, give the same bytes in each order, whichever two are put together
+# first.
+thirds() {
+    local file=$1 second=$2 third=$3 order part sum
+    asked "$file" > whole.kct
+    asked <(head -n $((second - 1)) "$file") > 1.kct
+    asked <(sed -n "$second,$((third - 1))p" "$file") > 2.kct
+    asked <(tail -n "+$third" "$file") > 3.kct
+    for order in '1 2 3' '1 3 2' '2 1 3' '2 3 1' '3 1 2' '3 2 1'; do
+        read -r -a part <<< "$order"
+        "$program" merge "${part[0]}.kct" "${part[1]}.kct" -o two-parts.kct
+        "$program" merge two-parts.kct "${part[2]}.kct" > left.kct
+        "$program" merge "${part[2]}.kct" two-parts.kct > right.kct
+        for sum in left.kct right.kct; do
+            cmp -s whole.kct "$sum" || fails "the parts $order of $file, counted with ${asking[*]}, are not the whole"
+        done
+        ran=$((ran + 1))
+    done
+}
+for options in '' -C '--min-qual-char +' '-C --min-qual-char +'; do
+    read -r -a asking <<< "$options"
+    length=4
+    mapfile -t starts < <({ cat "$examples/reads.fa"; echo '>'; } | grep -n '^>' | cut -d : -f 1)
+    halves "$examples/reads.fa"
+    thirds "$examples/reads.fa" 1 4
+    length=15
+    mapfile -t starts < <(seq 1 4 $(($(wc -l < "$examples/shotgun.fq") + 1)))
+    halves "$examples/shotgun.fq"
+    thirds "$examples/shotgun.fq" 333 $((4 * 200 + 1))
+done
 echo "program: $ran command lines wrote and ended as they should; the help tells the program's ranges and defaults"

@@ -146,6 +146,71 @@ fn a_dump_in_lines(rt: HostRuntime) -> Result<(), Fail> {
     answers(&rt, "count -m 3 --print dump", ">r1\nACGTA\n", lines)
 }
 
+// Options of a count, its input, and the table that is written: it tells the floor and the number of all reads.
+const TABLES: &[(&str, &str, &str)] = &[
+    (
+        "-m 3",
+        ">r1\nACGTA\n",
+        "KCT 2 3 s a 33 1\nACG 1\nCGT 1\nGTA 1\nEND 3 3\n",
+    ),
+    (
+        "-m 3 -C",
+        ">r1\nACGTA\n",
+        "KCT 2 3 c a 33 1\nACG 2\nGTA 1\nEND 2 3\n",
+    ),
+    (
+        "-m 2 --min-qual-char #",
+        "@q\nACGT\n+\nII!I\n@r\nAC\n+\nII\n",
+        "KCT 2 2 s a 35 2\nAC 2\nEND 1 2\n",
+    ),
+    // reads without words are reads
+    (
+        "-m 2 --print table",
+        ">a\n\n>b\nA\n>c\nANA\n>d",
+        "KCT 2 2 s a 33 4\nEND 0 0\n",
+    ),
+    (
+        "-m 31 --min-qual-char ~",
+        "@q\n\n+\n",
+        "KCT 2 31 s a 126 1\nEND 0 0\n",
+    ),
+    ("-m 1", "", "KCT 2 1 s a 33 0\nEND 0 0\n"),
+];
+
+#[test]
+fn tables(rt: HostRuntime) -> Result<(), Fail> {
+    for (options, input, output) in TABLES {
+        let line = format!(in rt.alloc(); "count {options}")?;
+        answers(&rt, line.as_str(), *input, *output)?;
+    }
+    Ok(())
+}
+
+// The headers of a table of both versions.
+const HEADERS: &[&str] = &["KCT 1 3 c", "KCT 2 3 c a 33 1", "KCT 2 3 c o 126 0"];
+
+// Commands that read a table of ACG twice and GTA once, and what they write.
+const READINGS: &[(&str, &str)] = &[
+    ("dump", ">2\nACG\n>1\nGTA\n"),
+    ("histo", "1 1\n2 1\n"),
+    (
+        "stats",
+        "Unique:    1\nDistinct:  2\nTotal:     3\nMax_count: 2\n",
+    ),
+];
+
+// What a table was counted from changes no report on it.
+#[test]
+fn tables_of_both_versions_are_read(rt: HostRuntime) -> Result<(), Fail> {
+    for header in HEADERS {
+        let table = format!(in rt.alloc(); "{header}\nACG 2\nGTA 1\nEND 2 3\n")?;
+        for (command, output) in READINGS {
+            answers(&rt, *command, table.as_str(), *output)?;
+        }
+    }
+    Ok(())
+}
+
 // Options of a count, its input, and why it is refused.
 const REFUSALS: &[(&str, &str, &str)] = &[
     ("-m 3", ">r\nA@C\n", "2: bad base, source 1, line 2"),
@@ -250,6 +315,9 @@ const BAD_OPTIONS: &[(&str, &str)] = &[
         "--lower-count",
     ),
     ("-m 3 --high 0 --upper-count x", "--upper-count"),
+    // before the list is looked for
+    ("-m 3 --only missing --high 0", "--high"),
+    ("--only missing", "--mer-len"),
 ];
 
 // A value outside its limits refuses the command line under its option's name, whether the option acts or not, before
@@ -321,6 +389,13 @@ const UNKNOWN: &[&str] = &[
     "stats a b",
     "query",
     "query table",
+    "count -m 3 --only",
+    "count -m 3 --only a --only b",
+    "dump --only a",
+    "merge",
+    "merge first.kct",
+    "merge first.kct second.kct third.kct",
+    "merge -C first.kct second.kct",
 ];
 
 // Command lines that ask for help or for the version.
@@ -333,6 +408,8 @@ const HELP: &[&str] = &[
     "histo -h",
     "stats --help",
     "query --help",
+    "merge --help",
+    "help merge",
     "--version",
 ];
 

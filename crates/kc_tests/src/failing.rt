@@ -13,9 +13,9 @@ use std::thread::Threads;
 
 // A reader of some bytes that gives one byte at a time and fails at its n-th read.
 #[derive(Drop)]
-struct Slow<'a> {
-    left: &'a [u8],
-    reads_until_failure: usize,
+pub(crate) struct Slow<'a> {
+    pub(crate) left: &'a [u8],
+    pub(crate) reads_until_failure: usize,
 }
 
 impl Read for Slow<'_> {
@@ -83,13 +83,13 @@ fn columns(k: u32) -> Option<Options> {
 
 // What a count answered, and what it wrote.
 #[derive(Drop)]
-struct Counted {
-    answer: Result<(), ToolFault>,
-    written: Vec<u8>,
+pub(crate) struct Counted {
+    pub(crate) answer: Result<(), ToolFault>,
+    pub(crate) written: Vec<u8>,
 }
 
 // Asserts that a count answered this and wrote this. A failure tells the number of its row, its reads or its room.
-fn assert_counted<H: Abort>(
+pub(crate) fn assert_counted<H: Abort>(
     rt: &H,
     number: usize,
     counted: &Counted,
@@ -101,7 +101,7 @@ fn assert_counted<H: Abort>(
 }
 
 // The fault of a source, by its number.
-fn fault_of(source: u64, fault: FastxFault) -> ToolFault {
+pub(crate) fn fault_of(source: u64, fault: FastxFault) -> ToolFault {
     ToolFault::Fastx { source, fault }
 }
 
@@ -117,7 +117,7 @@ fn count<H: Threads + Wait + Sync + AllocGlobal>(
         sources.push(FromBytes::new(input.as_bytes()))?;
     }
     let mut writer = ToVec::new(Vec::new(alloc));
-    let answer = count_reads(rt, alloc, sources, options, &mut writer);
+    let answer = count_reads(rt, alloc, None::<FromBytes>, sources, options, &mut writer);
     let written = writer.into_inner();
     Ok(Counted { answer, written })
 }
@@ -175,7 +175,7 @@ fn count_slowly<H: Threads + Wait + Sync + AllocGlobal>(
         reads_until_failure,
     }))?;
     let mut writer = ToVec::new(Vec::new(alloc));
-    let answer = count_reads(rt, alloc, sources, &options, &mut writer);
+    let answer = count_reads(rt, alloc, None::<FromBytes>, sources, &options, &mut writer);
     let written = writer.into_inner();
     Ok(Counted { answer, written })
 }
@@ -213,7 +213,7 @@ fn count_into<H: Threads + Wait + Sync + AllocGlobal>(
         is_silent,
         is_stuck,
     });
-    let answer = count_reads(rt, alloc, sources, &options, &mut writer);
+    let answer = count_reads(rt, alloc, None::<FromBytes>, sources, &options, &mut writer);
     let written = writer.into_inner().taken;
     Ok(Counted { answer, written })
 }
@@ -338,7 +338,7 @@ fn lines_of_source_faults(rt: HostRuntime) -> Result<(), Fail> {
     Ok(())
 }
 
-// So has each fault of a table, of a query, of the writer and of memory.
+// So has each fault of a table, of two tables, of a query, of the writer and of memory.
 #[test]
 fn lines_of_table_and_query_faults(rt: HostRuntime) -> Result<(), Fail> {
     for (fault, line, text) in [
@@ -362,6 +362,16 @@ fn lines_of_table_and_query_faults(rt: HostRuntime) -> Result<(), Fail> {
             ToolFault::TableRead,
             "kcount: 45: table read failed\n",
             "table read failed",
+        ),
+        (
+            ToolFault::Unlike,
+            "kcount: 61: tables do not match\n",
+            "tables do not match",
+        ),
+        (
+            ToolFault::TooLarge,
+            "kcount: 62: sums too large\n",
+            "sums too large",
         ),
         (
             ToolFault::BadWord(20),
@@ -440,4 +450,12 @@ fn lines_of_other_faults(rt: HostRuntime) -> Result<(), Fail> {
         line,
         "cannot open no such file",
     )
+}
+
+// The list of a count is source 0.
+#[test]
+fn a_line_of_a_list(rt: HostRuntime) -> Result<(), Fail> {
+    let fault = fault_of(0, FastxFault::BadStart(1));
+    let line = "kcount: 1: bad start, source 0, line 1\n";
+    assert_line(&rt, &fault, line, "bad start, line 1, source 0")
 }

@@ -1,4 +1,5 @@
-//! Tests that cross the crates: whole command lines, lists of sources, and sources and writers that fail.
+//! Tests that cross the crates: whole command lines, lists of sources and of words, tables that are put together, and
+//! sources and writers that fail.
 #![tactic(auto)]
 
 #[cfg(test)]
@@ -6,6 +7,10 @@ mod command_lines;
 #[cfg(test)]
 mod failing;
 #[cfg(test)]
+mod listed_reads;
+#[cfg(test)]
 mod progress_line;
+#[cfg(test)]
+mod tables_together;
 #[cfg(test)]
 mod tool_examples;

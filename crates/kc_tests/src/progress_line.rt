@@ -307,7 +307,7 @@ const RUNS: &[(&str, &str, &str, &str, u64, u64, u64)] = &[
     ),
     (
         "kcount dump -c",
-        "KCT 1 3 s\nACG 1\nEND 1 1\n",
+        "KCT 2 3 s a 33 1\nACG 1\nEND 1 1\n",
         "ACG 1\n",
         "",
         0,

@@ -12,7 +12,14 @@ fn a_read_is_counted_and_dumped(rt: HostRuntime) -> Result<(), Fail> {
         .with_dump(Dump::in_columns());
     let sources = vec![in alloc; FromBytes::new(b">r1\nACGTA\n")]?;
     let mut writer = ToVec::new(Vec::new(alloc));
-    count_reads(&rt, alloc, sources, &options, &mut writer)?;
+    count_reads(
+        &rt,
+        alloc,
+        None::<FromBytes>,
+        sources,
+        &options,
+        &mut writer,
+    )?;
     assert_eq!(rt; writer.as_slice(), b"ACG 1\nCGT 1\nGTA 1\n".as_slice());
     Ok(())
 }

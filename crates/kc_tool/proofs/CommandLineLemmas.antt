@@ -33,6 +33,8 @@ use Rattle.kc_tool.specs.declared.tool_faults.ToolFault.TheVariants.{
   Write,
   Run,
   OpenFailed,
+  Unlike,
+  TooLarge,
 }
 use Rattle.kc_tool.specs.declared.command_line.Ending.{Ending}
 use Rattle.kc_tool.specs.declared.command_line.Ending.TheVariants.{Fault, Refused}
@@ -52,7 +54,8 @@ has_verb name (inl is) = (verb.Count, is)
 has_verb name (inr (inl is)) = (verb.Dump, is)
 has_verb name (inr (inr (inl is))) = (verb.Histo, is)
 has_verb name (inr (inr (inr (inl is)))) = (verb.Stats, is)
-has_verb name (inr (inr (inr (inr is)))) = (verb.Query, is)
+has_verb name (inr (inr (inr (inr (inl is))))) = (verb.Query, is)
+has_verb name (inr (inr (inr (inr (inr is))))) = (verb.Merge, is)
 
 -- `clap` takes the arguments where nothing fails
 taken : (arguments : List Text) (matches : ArgMatches) → fault_of kcount_app arguments ≡ [] → subcommand_rows_of matches ≡ subcommand_of kcount_app arguments
@@ -83,6 +86,7 @@ verb_found verb.Dump = refl
 verb_found verb.Histo = refl
 verb_found verb.Stats = refl
 verb_found verb.Query = refl
+verb_found verb.Merge = refl
 
 module _ {Z : Type 0} where
   name_with_rows : (sub : Option (Box SubCommand Z)) → option_map (λ b. (out-SubCommand (box_value b)).name.now) sub ≡ option_map (λ p. p.0) (subcommand_rows sub)
@@ -132,6 +136,8 @@ shown input asked arguments error old new (Err (Fault (BadOption name))) h s = a
 shown input asked arguments error old new (Err (Fault (BadWord number))) h s = absurd s
 shown input asked arguments error old new (Err (Fault (Run fault))) h s = absurd s
 shown input asked arguments error old new (Err (Fault (OpenFailed name))) h s = absurd s
+shown input asked arguments error old new (Err (Fault Unlike)) h s = absurd s
+shown input asked arguments error old new (Err (Fault TooLarge)) h s = absurd s
 shown input asked arguments error old new (Err (Refused text)) h s = (
   record {
     reason = kind_of error;
@@ -161,6 +167,8 @@ some_status (BadWord number) = omega arith
 some_status Write = omega arith
 some_status (Run fault) = omega arith
 some_status (OpenFailed name) = omega arith
+some_status Unlike = omega arith
+some_status TooLarge = omega arith
 
 pub small_status : (fault : ToolFault) → status_of fault ≤ 2
 small_status (BadOption name) = omega arith
@@ -175,3 +183,5 @@ small_status (BadWord number) = omega arith
 small_status Write = omega arith
 small_status (Run fault) = omega arith
 small_status (OpenFailed name) = omega arith
+small_status Unlike = omega arith
+small_status TooLarge = omega arith

@@ -1,32 +1,32 @@
 -- The commands and their tasks.
-use Rattle.std.proofs.Common.{suc, ◌≡◌, ◌∙◌, ◌++◌, List, [], ◌∷◌, Option, Some, None, length, map, take, refl, sym, ap, ap₂, subst, inl, inr, Result, Ok, Err, IfOk, IfErr, ℕ, true, false, arith}
+use Rattle.std.proofs.Common.{◌≡◌, ◌≤◌, ◌∙◌, ◌++◌, List, [], ◌∷◌, Option, Some, None, length, map, take, refl, sym, ap, ap₂, subst, inl, inr, Result, Ok, Err, ℕ, true, false, arith}
 use Rattle.std.proofs.Common.{append_assoc, append-nil}
-use Rattle.std.specs.Prelude.{◌==◌, ◌⊎◌, unwrap_or, All, string_bytes}
-use Rattle.std.proofs.lemmas.List.{nil_from_length, map-append}
+use Rattle.std.specs.Prelude.{◌==◌, ◌⊎◌, unwrap_or, All}
+use Rattle.std.proofs.lemmas.List.{length-map, nil_from_length}
 use Rattle.std.proofs.lemmas.Bool.Decides.{nat_tests}
 use Rattle.clap.specs.Words.{Row, Text}
 use Rattle.kc_io.specs.History.{no_history}
 use Rattle.kc_io.specs.Sinks.{Written}
 use Rattle.kc_io.specs.Sources.{Seen}
-use Rattle.kc_tally.specs.Tally.{TallySeen}
 use Rattle.kc_report.specs.TableReading.{RefusesTable}
+use Rattle.kc_report.specs.Merging.{Merges}
 use Rattle.kc_report.specs.declared.report_faults.ReportFault.{ReportFault}
 use Rattle.kc_report.specs.declared.report_faults.ReportFault.TheVariants as report
 use Rattle.kc_command.specs.Settings.{Settings}
 use Rattle.kc_tool.specs.Faults.{report_fault}
-use Rattle.kc_tool.specs.Tallies.{RefusesSources, TalliesSources}
+use Rattle.kc_tool.specs.Tallies.{Given, RefusesCount, TableSeen}
 use Rattle.kc_tool.specs.FileEvents.{FileEvent, created, not_created, opened, wrote}
 use Rattle.kc_tool.specs.NamedSources.{names_of, seen_of}
-use Rattle.kc_tool.specs.Files.{AreOf, AreOpened, FailsToOpen, FileRead, FileWritten, LacksFile, OpensAll, OpensNotAll, TellsName}
+use Rattle.kc_tool.specs.Files.{AreOf, AreOpened, FailsToOpen, FileRead, LacksFile, OpensAll, TellsName}
 use Rattle.kc_tool.specs.Files.{files_named, given_back, openings, output_of, returned, unread}
-use Rattle.kc_tool.specs.Commands.{Answers, Does, HasNoTallyFor, HasSourcesFor, IsTallyFor, Stage, TellNoTable, most_table_bytes, sources_from}
-use Rattle.kc_tool.specs.Commands.{AsksForTask, DoesTask, DoesTaskInto, EndsSo, IsLeft, IsRefused, IsRefusedOption, KeepsInput, LacksOutput}
-use Rattle.kc_tool.specs.Commands.{Surroundings, files_of, first_refused, stage_after, stage_before}
+use Rattle.kc_tool.specs.Commands.{Answers, Does, HasFilesFor, HasNoTallyFor, IsTallyFor, TellNoSum, TellNoTable, behind_list, given_of, most_table_bytes, sources_from, sources_in}
+use Rattle.kc_tool.specs.Commands.{AsksForTask, DoesTask, DoesTaskInto, EndsSo, IsRefused, IsRefusedOption, KeepsInput, LacksOutput}
+use Rattle.kc_tool.specs.Commands.{Surroundings, files_of, first_refused, stage_after}
 use Rattle.kc_tool.specs.declared.named_sources.NamedSource.{NamedSource}
 use Rattle.kc_tool.specs.declared.tool_faults.ToolFault.{ToolFault}
-use Rattle.kc_tool.specs.declared.tool_faults.ToolFault.TheVariants.{Fastx, BadHeader, BadRow, BadEnd, TableTooLong, TableRead, Memory, BadOption, BadWord, Write, Run, OpenFailed}
+use Rattle.kc_tool.specs.declared.tool_faults.ToolFault.TheVariants.{Fastx, BadHeader, BadRow, BadEnd, TableTooLong, TableRead, Memory, BadOption, BadWord, Write, Run, OpenFailed, Unlike, TooLarge}
 use Rattle.kc_tool.specs.declared.commands.Task.{Task}
-use Rattle.kc_tool.specs.declared.commands.Task.TheVariants.{Count, Report, Query}
+use Rattle.kc_tool.specs.declared.commands.Task.TheVariants.{Count, CountListed, Report, Query, Merge}
 use Rattle.kc_tool.specs.declared.commands.Verb.{Verb}
 use Rattle.kc_tool.specs.declared.commands.Verb.TheVariants as verb
 use Rattle.kc_tool.proofs.FilesLemmas.{PairedTo, unread_back}
@@ -39,43 +39,63 @@ texts_found e = ap (λ found. unwrap_or found []) e
 pub none_found : {found : Option (List Text)} → None ≡ found → [] ≡ unwrap_or found []
 none_found e = ap (λ found. unwrap_or found []) e
 
-module _ (rows : List Row) (input : Seen) where
+module _ (rows : List Row) where
   -- Not more than one file is read.
-  one_of : (names : List Text) (sources : List (NamedSource Seen)) → names_of sources ≡ take 1 names → length (sources_from input (seen_of (λ seen. seen) sources)) ≡ 1
-  one_of names [] are = refl
-  one_of names (source ∷ []) are = refl
+  one_of : (names : List Text) (sources : List (NamedSource Seen)) → names_of sources ≡ take 1 names → length (seen_of (λ seen. seen) sources) ≤ 1
+  one_of names [] are = omega arith
+  one_of names (source ∷ []) are = omega arith
   one_of [] (source ∷ other ∷ sources) are = let none : ⊥ = cc in absurd none
   one_of (name ∷ names) (source ∷ other ∷ sources) are = let none : ⊥ = cc in absurd none
 
-  -- A command has the sources that its task wants.
-  pub has_sources : (command : Verb) (task : Task) (sources : List (NamedSource Seen)) → AsksForTask command rows task
-      → names_of sources ≡ files_of command rows → HasSourcesFor task (sources_from input (seen_of (λ seen. seen) sources))
-  has_sources verb.Count (Count settings) sources asks are = tt
-  has_sources verb.Count (Report report) sources asks are = absurd asks
-  has_sources verb.Count (Query words) sources asks are = absurd asks
-  has_sources verb.Dump (Count settings) sources asks are = absurd asks
-  has_sources verb.Dump (Report report) sources asks are = one_of (files_named rows) sources are
-  has_sources verb.Dump (Query words) sources asks are = absurd asks
-  has_sources verb.Histo (Count settings) sources asks are = absurd asks
-  has_sources verb.Histo (Report report) sources asks are = one_of (files_named rows) sources are
-  has_sources verb.Histo (Query words) sources asks are = absurd asks
-  has_sources verb.Stats (Count settings) sources asks are = absurd asks
-  has_sources verb.Stats (Report report) sources asks are = one_of (files_named rows) sources are
-  has_sources verb.Stats (Query words) sources asks are = absurd asks
-  has_sources verb.Query (Count settings) sources asks are = absurd asks
-  has_sources verb.Query (Report report) sources asks are = absurd asks
-  has_sources verb.Query (Query words) sources asks are = one_of (files_named rows) sources are
+  -- A list is read where one is named.
+  has_list : (name : Text) (files : List Text) (sources : List (NamedSource Seen)) → names_of sources ≡ name ∷ files
+      → 1 ≤ length (seen_of (λ seen. seen) sources)
+  has_list name files [] are = let none : ⊥ = cc in absurd none
+  has_list name files (source ∷ sources) are = omega arith
 
-module _ (old new : List Seen) {task : Task} (settings : Settings) (is : task ≡ Count settings) where
-  -- The tally of a count.
-  pub is_counted : (r : Result TallySeen ToolFault) → IfOk r (TalliesSources old new settings) → IfOk r (IsTallyFor old new task)
-  is_counted (Ok tally) h = rw is h
-  is_counted (Err fault) h = tt
+  -- Two tables are read for their sum.
+  has_tables : (first second : Text) (sources : List (NamedSource Seen)) → names_of sources ≡ first ∷ second ∷ []
+      → length (seen_of (λ seen. seen) sources) ≡ 2
+  has_tables first second sources are =
+      let two : length (names_of sources) ≡ 2 = ap length are in
+      let named = length-map sources (λ (source : NamedSource Seen). source.name.now) in
+      let seen = length-map sources (λ (source : NamedSource Seen). source.source) in
+      omega (arith, two, named, seen)
 
-  -- Why a count has none.
-  pub is_uncounted : (r : Result TallySeen ToolFault) → IfErr r (RefusesSources old new) → IfErr r (HasNoTallyFor old new task)
-  is_uncounted (Ok tally) h = tt
-  is_uncounted (Err fault) h = rw is h
+  -- A command has the files that its task wants.
+  pub has_files : (command : Verb) (task : Task) (sources : List (NamedSource Seen)) → AsksForTask command rows task
+      → names_of sources ≡ files_of command rows → HasFilesFor task (seen_of (λ seen. seen) sources)
+  has_files verb.Count (Count settings) sources asks are = tt
+  has_files verb.Count (CountListed settings) sources asks are =
+      has_list asks.1.0 (files_named rows) sources (are ∙ ap (λ only. behind_list only (files_named rows)) asks.1.1)
+  has_files verb.Count (Report report) sources asks are = absurd asks
+  has_files verb.Count (Query words) sources asks are = absurd asks
+  has_files verb.Count Merge sources asks are = absurd asks
+  has_files verb.Dump (Count settings) sources asks are = absurd asks
+  has_files verb.Dump (CountListed settings) sources asks are = absurd asks
+  has_files verb.Dump (Report report) sources asks are = one_of (files_named rows) sources are
+  has_files verb.Dump (Query words) sources asks are = absurd asks
+  has_files verb.Dump Merge sources asks are = absurd asks
+  has_files verb.Histo (Count settings) sources asks are = absurd asks
+  has_files verb.Histo (CountListed settings) sources asks are = absurd asks
+  has_files verb.Histo (Report report) sources asks are = one_of (files_named rows) sources are
+  has_files verb.Histo (Query words) sources asks are = absurd asks
+  has_files verb.Histo Merge sources asks are = absurd asks
+  has_files verb.Stats (Count settings) sources asks are = absurd asks
+  has_files verb.Stats (CountListed settings) sources asks are = absurd asks
+  has_files verb.Stats (Report report) sources asks are = one_of (files_named rows) sources are
+  has_files verb.Stats (Query words) sources asks are = absurd asks
+  has_files verb.Stats Merge sources asks are = absurd asks
+  has_files verb.Query (Count settings) sources asks are = absurd asks
+  has_files verb.Query (CountListed settings) sources asks are = absurd asks
+  has_files verb.Query (Report report) sources asks are = absurd asks
+  has_files verb.Query (Query words) sources asks are = one_of (files_named rows) sources are
+  has_files verb.Query Merge sources asks are = absurd asks
+  has_files verb.Merge (Count settings) sources asks are = absurd asks
+  has_files verb.Merge (CountListed settings) sources asks are = absurd asks
+  has_files verb.Merge (Report report) sources asks are = absurd asks
+  has_files verb.Merge (Query words) sources asks are = absurd asks
+  has_files verb.Merge Merge sources asks are = has_tables _ _ sources are
 
 -- No table is refused since a writer failed.
 no_write : (why : ReportFault) (source later : Seen) → RefusesTable source later most_table_bytes why → Write ≡ report_fault why → ⊥
@@ -87,6 +107,8 @@ no_write report.TableRead source later h e = cc
 no_write report.Memory source later h e = cc
 no_write (report.BadWord number) source later h e = cc
 no_write report.Write source later h e = h.2
+no_write report.Unlike source later h e = cc
+no_write report.TooLarge source later h e = cc
 
 told_table : (old new : List Seen) → TellNoTable old new Write → ⊥
 told_table (old ∷ []) (new ∷ []) h = no_write h.0 old new h.1 h.2
@@ -95,15 +117,45 @@ told_table (old ∷ other ∷ olds) new h = h
 told_table (old ∷ []) [] h = h
 told_table (old ∷ []) (new ∷ other ∷ news) h = h
 
-read_before : (task : Task) (old new : List Seen) → HasNoTallyFor old new task Write → ⊥
-read_before (Count settings) old new h = h
-read_before (Report report) old new h = told_table old new h
-read_before (Query words) old new h = told_table old new h
+-- Nor are two put together.
+no_sum : (why : ReportFault) (table other : TableSeen) → Merges table.0 other.0 table.1 other.1 (Err why) → Write ≡ report_fault why → ⊥
+no_sum report.BadHeader table other h e = cc
+no_sum (report.BadRow line) table other h e = cc
+no_sum report.BadEnd table other h e = cc
+no_sum report.TableTooLong table other h e = cc
+no_sum report.TableRead table other h e = cc
+no_sum report.Memory table other h e = cc
+no_sum (report.BadWord number) table other h e = cc
+no_sum report.Write table other h e = h
+no_sum report.Unlike table other h e = cc
+no_sum report.TooLarge table other h e = cc
 
-module _ (old new : List Seen) (task : Task) where
+told_sum : (old new : List Seen) → TellNoSum old new Write → ⊥
+told_sum (first ∷ second ∷ []) (first_after ∷ second_after ∷ []) (inl h) = no_write h.0.0 first first_after h.0.1 h.0.2
+told_sum (first ∷ second ∷ []) (first_after ∷ second_after ∷ []) (inr (inl h)) = no_write h.2.0 second second_after h.2.1 h.2.2
+told_sum (first ∷ second ∷ []) (first_after ∷ second_after ∷ []) (inr (inr h)) = no_sum h.3.0 h.0 h.1 h.3.1 h.3.2
+told_sum [] new h = h
+told_sum (first ∷ []) new h = h
+told_sum (first ∷ second ∷ third ∷ olds) new h = h
+told_sum (first ∷ second ∷ []) [] h = h
+told_sum (first ∷ second ∷ []) (after ∷ []) h = h
+told_sum (first ∷ second ∷ []) (after ∷ other ∷ third ∷ news) h = h
+
+not_counted : (old new : Given) (settings : Settings) → RefusesCount old new settings Write → ⊥
+not_counted old new settings (inl h) = h
+not_counted old new settings (inr h) = h.refused
+
+read_before : (task : Task) (old new : Given) → HasNoTallyFor old new task Write → ⊥
+read_before (Count settings) old new h = not_counted old new settings h
+read_before (CountListed settings) old new h = not_counted old new settings h
+read_before (Report report) old new h = told_table old.sources new.sources h
+read_before (Query words) old new h = told_table old.sources new.sources h
+read_before Merge old new h = told_sum old.sources new.sources h
+
+module _ (old new : Given) (task : Task) where
   -- Without a tally nothing is written.
   pub unanswered : (output : Written) (fault : ToolFault) → HasNoTallyFor old new task fault
-      → Does task (record { sources = old; output = output }) (record { sources = new; output = output }) (Err fault)
+      → Does task (record { given = old; output = output }) (record { given = new; output = output }) (Err fault)
   unanswered output Write h = absurd (read_before task old new h)
   unanswered output (Fastx number fault) h = (refl, inl h)
   unanswered output BadHeader h = (refl, inl h)
@@ -116,39 +168,43 @@ module _ (old new : List Seen) (task : Task) where
   unanswered output (BadWord number) h = (refl, inl h)
   unanswered output (Run fault) h = (refl, inl h)
   unanswered output (OpenFailed name) h = (refl, inl h)
+  unanswered output Unlike h = (refl, inl h)
+  unanswered output TooLarge h = (refl, inl h)
 
   -- The answer about the tally was written, or a beginning of it, or nothing.
-  pub answered : (before after : Written) (tally : TallySeen) (outcome : Result (Unit {0}) ToolFault) → IsTallyFor old new task tally
-      → Answers task tally before after outcome → Does task (record { sources = old; output = before }) (record { sources = new; output = after }) outcome
-  answered before after tally (Ok done) is h = (h.0, (tally, is, h.1), h.2)
-  answered before after tally (Err Write) is h = (h.0, (tally, is, h.1), h.2)
-  answered before after tally (Err (Fastx number fault)) is h = (h.0, inr (tally, is, h.1))
-  answered before after tally (Err BadHeader) is h = (h.0, inr (tally, is, h.1))
-  answered before after tally (Err (BadRow line)) is h = (h.0, inr (tally, is, h.1))
-  answered before after tally (Err BadEnd) is h = (h.0, inr (tally, is, h.1))
-  answered before after tally (Err TableTooLong) is h = (h.0, inr (tally, is, h.1))
-  answered before after tally (Err TableRead) is h = (h.0, inr (tally, is, h.1))
-  answered before after tally (Err Memory) is h = (h.0, inr (tally, is, h.1))
-  answered before after tally (Err (BadOption name)) is h = (h.0, inr (tally, is, h.1))
-  answered before after tally (Err (BadWord number)) is h = (h.0, inr (tally, is, h.1))
-  answered before after tally (Err (Run fault)) is h = (h.0, inr (tally, is, h.1))
-  answered before after tally (Err (OpenFailed name)) is h = (h.0, inr (tally, is, h.1))
+  pub answered : (before after : Written) (table : TableSeen) (outcome : Result (Unit {0}) ToolFault) → IsTallyFor old new task table
+      → Answers task table before after outcome → Does task (record { given = old; output = before }) (record { given = new; output = after }) outcome
+  answered before after table (Ok done) is h = (h.0, (table, is, h.1), h.2)
+  answered before after table (Err Write) is h = (h.0, (table, is, h.1), h.2)
+  answered before after table (Err (Fastx number fault)) is h = (h.0, inr (table, is, h.1))
+  answered before after table (Err BadHeader) is h = (h.0, inr (table, is, h.1))
+  answered before after table (Err (BadRow line)) is h = (h.0, inr (table, is, h.1))
+  answered before after table (Err BadEnd) is h = (h.0, inr (table, is, h.1))
+  answered before after table (Err TableTooLong) is h = (h.0, inr (table, is, h.1))
+  answered before after table (Err TableRead) is h = (h.0, inr (table, is, h.1))
+  answered before after table (Err Memory) is h = (h.0, inr (table, is, h.1))
+  answered before after table (Err (BadOption name)) is h = (h.0, inr (table, is, h.1))
+  answered before after table (Err (BadWord number)) is h = (h.0, inr (table, is, h.1))
+  answered before after table (Err (Run fault)) is h = (h.0, inr (table, is, h.1))
+  answered before after table (Err (OpenFailed name)) is h = (h.0, inr (table, is, h.1))
+  answered before after table (Err Unlike) is h = (h.0, inr (table, is, h.1))
+  answered before after table (Err TooLarge) is h = (h.0, inr (table, is, h.1))
 
--- The sources of a task were read, and are given back.
+-- The files of a task were read, and are given back.
 pub task_done : {sources later : List (NamedSource Seen)} {task : Task} {old new : Surroundings} {outcome : Result (Unit {0}) ToolFault} (files : List FileRead)
-    → PairedTo sources later files → KeepsInput (seen_of (λ seen. seen) sources) old.input new.input → new.asked ≡ old.asked ++ given_back later
-    → Does task (record { sources = sources_from old.input (seen_of (λ seen. seen) sources); output = old.output })
-    (record { sources = sources_from new.input (seen_of (λ seen. seen) later); output = new.output }) outcome
+    → PairedTo sources later files → KeepsInput (sources_in task (seen_of (λ seen. seen) sources)) old.input new.input → new.asked ≡ old.asked ++ given_back later
+    → Does task (record { given = given_of task old.input (seen_of (λ seen. seen) sources); output = old.output })
+    (record { given = given_of task new.input (seen_of (λ seen. seen) later); output = new.output }) outcome
     → DoesTask sources task old new outcome
 task_done {sources} {later} {task} {old} {new} {outcome} files paired kept log done = record {
   files = files;
   are = paired.are;
-  input = subst (λ v. KeepsInput v old.input new.input) (sym paired.are.before) kept;
+  input = subst (λ v. KeepsInput (sources_in task v) old.input new.input) (sym paired.are.before) kept;
   log = log ∙ ap (λ v. old.asked ++ v) (sym paired.log);
-  done = subst (λ v. Does task v (stage_after new.input files new.output) outcome)
-      (ap (λ (v : List Seen). record { sources = sources_from old.input v; output = old.output }) (sym paired.are.before))
-      (subst (λ v. Does task (record { sources = sources_from old.input (seen_of (λ seen. seen) sources); output = old.output }) v outcome)
-      (ap (λ (v : List Seen). record { sources = sources_from new.input v; output = new.output }) (sym paired.after)) done);
+  done = subst (λ v. Does task v (stage_after task new.input files new.output) outcome)
+      (ap (λ (v : List Seen). record { given = given_of task old.input v; output = old.output }) (sym paired.are.before))
+      (subst (λ v. Does task (record { given = given_of task old.input (seen_of (λ seen. seen) sources); output = old.output }) v outcome)
+      (ap (λ (v : List Seen). record { given = given_of task new.input v; output = new.output }) (sym paired.after)) done);
 }
 
 module _ (command : Verb) (rows : List Row) where
@@ -177,6 +233,8 @@ module _ (command : Verb) (rows : List Row) where
     unasked Write refused = absurd refused
     unasked (Run fault) refused = absurd refused
     unasked (OpenFailed name) refused = absurd refused
+    unasked Unlike refused = absurd refused
+    unasked TooLarge refused = absurd refused
 
   told_so : (name : Text) (asked : List FileEvent) (fault : ToolFault) → first_refused command rows ≡ None → LacksFile (files_of command rows) (output_of rows) name asked
       → TellsName name fault → IsRefused command rows asked fault
@@ -193,6 +251,8 @@ module _ (command : Verb) (rows : List Row) where
   told_so name asked (BadWord number) lawful lacks tells = absurd tells
   told_so name asked Write lawful lacks tells = absurd tells
   told_so name asked (Run fault) lawful lacks tells = absurd tells
+  told_so name asked Unlike lawful lacks tells = absurd tells
+  told_so name asked TooLarge lawful lacks tells = absurd tells
 
   -- A file that is to be read can't be opened.
   pub file_left : {old : Surroundings} {log : List FileEvent} {outcome : Result (Unit {0}) ToolFault} (fault : ToolFault) → outcome ≡ Err fault

@@ -1,6 +1,6 @@
 -- Files that are opened one after another, and given back.
 use Rattle.std.proofs.Common.{◌≡◌, ◌<◌, ◌+◌, ◌++◌, ℕ, suc, List, [], ◌∷◌, length, map, take, drop, get_or, Bor, sym, ◌∙◌, ap, ap₂}
-use Rattle.std.proofs.Common.{refl, append_assoc, append-nil, subst, inl, arith}
+use Rattle.std.proofs.Common.{refl, append_assoc, append-nil, subst, inl}
 use Rattle.std.specs.Prelude.{All}
 use Rattle.std.proofs.lemmas.List.{map-append, take_more, take-append-drop}
 use Rattle.std.proofs.lemmas.List.Elements.{All-head, All-nil, All-push, All-tail}

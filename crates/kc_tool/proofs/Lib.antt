@@ -4,6 +4,8 @@ pub mod CommandsLemmas
 pub mod FaultLinesLemmas
 pub mod FilesLemmas
 pub mod InputsLemmas
+pub mod ReadCountLemmas
 pub mod ReportsLemmas
 pub mod SourcesLemmas
+pub mod TablesLemmas
 pub mod TalliesLemmas

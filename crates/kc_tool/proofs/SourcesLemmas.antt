@@ -1,37 +1,128 @@
--- Sources whose reads were cut, and what is counted of them.
-use Rattle.std.proofs.Common.{List}
-use Rattle.std.specs.Prelude.{Result, Ok, Err, IfOk, IfErr}
+-- Sources whose reads were cut, and what is counted of them, with a list and without one.
+use Rattle.std.proofs.Common.{◌≡◌, ◌≤◌, ◌∙◌, ℕ, List, [], ◌∷◌, refl, sym, ap, ap₂, subst, inl, inr}
+use Rattle.std.specs.Prelude.{Option, Some, None, is_some}
 use Rattle.kc_io.specs.Sources.{Seen}
+use Rattle.kc_fastx.specs.Parsing.{most_bytes}
 use Rattle.kc_fastx.specs.Reads.{Read}
+use Rattle.kc_word.specs.Cutting.{cleaned, cutting}
 use Rattle.kc_word.specs.OpenCutting.{OpenCutting}
+use Rattle.kc_word.specs.Only.{WordList}
+use Rattle.kc_kmer.specs.Rule.{CountingRule, with_list}
+use Rattle.kc_kmer.specs.Occurrences.{is_usable}
 use Rattle.kc_tally.specs.Tally.{IsTallyOf, TallySeen}
+use Rattle.kc_booking.specs.Stripe.{reads_in}
+use Rattle.kc_gather.specs.Laws.{TallyOfCutting}
+use Rattle.kc_report.specs.declared.origin.Origin.{Origin}
 use Rattle.kc_command.specs.Settings.{Settings, rule_of}
-use Rattle.kc_tool.specs.Tallies.{CutsSources, IsCuttingOf, IsUncounted, RefusesSources, TalliesSources}
+use Rattle.kc_tool.specs.Tallies.{Counts, CutsSources, GivesList, IsCuttingOf, ListFailsIn, IsUncounted, RefusesCount, RefusesSource, RefusesSources, TableSeen, TalliesSources}
+use Rattle.kc_tool.specs.Tallies.{Given, given, kept_to, origin_of, pieces_of, words_of}
 use Rattle.kc_tool.specs.declared.tool_faults.ToolFault.{ToolFault}
-use Rattle.kc_tool.specs.declared.tool_faults.ToolFault.TheVariants.{Fastx, BadHeader, BadRow, BadEnd, TableTooLong, TableRead, Memory, BadOption, BadWord, Write, Run, OpenFailed}
+use Rattle.kc_tool.specs.declared.tool_faults.ToolFault.TheVariants.{Fastx, BadHeader, BadRow, BadEnd, TableTooLong, TableRead, Memory, BadOption, BadWord, Write, Run, OpenFailed, Unlike, TooLarge}
 
-module _ {old new : List Seen} (settings : Settings) {cutting : OpenCutting} (cut : CutsSources old new (rule_of settings) settings.batch cutting) where
-  -- The tally of the cutting is that of the sources.
-  pub counted : (r : Result TallySeen ToolFault) → IfOk r (λ tally. (reads : List Read) → IsCuttingOf (rule_of settings) settings.batch reads cutting → IsTallyOf (rule_of settings) reads tally)
-      → IfOk r (TalliesSources old new settings)
-  counted (Ok tally) h = (cut.reads, cut.are, h cut.reads cut.cut)
-  counted (Err fault) h = tt
+-- A list has its words.
+pub listed_or_not : (list : Option WordList) → is_some list ≡ is_some (words_of list)
+listed_or_not None = refl
+listed_or_not (Some list) = refl
 
-  why : (fault : ToolFault) → IsUncounted fault → RefusesSources old new fault
-  why (Run fault) h = (cut.reads, cut.are)
-  why Memory h = tt
-  why (Fastx number fault) h = absurd h
-  why BadHeader h = absurd h
-  why (BadRow line) h = absurd h
-  why BadEnd h = absurd h
-  why TableTooLong h = absurd h
-  why TableRead h = absurd h
-  why (BadOption name) h = absurd h
-  why (BadWord number) h = absurd h
-  why Write h = absurd h
-  why (OpenFailed name) h = absurd h
+-- A list changes neither the length of the words nor the pieces.
+pub k-kept : (list : Option (List ℕ)) (rule : CountingRule) → (kept_to list rule).k ≡ rule.k
+k-kept None rule = refl
+k-kept (Some words) rule = refl
+
+cleaned-kept : (words : List ℕ) (rule : CountingRule) (read : Read) → cleaned (with_list rule words) read ≡ cleaned rule read
+unfolding cleaned is_usable
+cleaned-kept words rule read = refl
+
+pieces_of-kept : (words : List ℕ) (rule : CountingRule) (reads : List Read)
+    → pieces_of (with_list rule words) reads ≡ pieces_of rule reads
+pieces_of-kept words rule [] = refl
+pieces_of-kept words rule (read ∷ reads) =
+    ap₂ (λ piece pieces. piece ∷ pieces) (cleaned-kept words rule read) (pieces_of-kept words rule reads)
+
+-- The tally of a cutting is that of the reads, under a list or not.
+pub tally_kept : TallyOfCutting → (list : Option (List ℕ)) (rule : CountingRule) (size : ℕ) (reads : List Read)
+    (tally : TallySeen) → 1 ≤ rule.k → 1 ≤ size
+    → IsTallyOf (kept_to list rule) (reads_in (cutting rule.k size (pieces_of rule reads))) tally
+    → IsTallyOf (kept_to list rule) reads tally
+tally_kept law None rule size reads tally some room h = law rule size reads tally some room h
+tally_kept law (Some words) rule size reads tally some room h =
+    let listed = with_list rule words in
+    law listed size reads tally some room
+    (subst (λ pieces. IsTallyOf listed (reads_in (cutting rule.k size pieces)) tally) (sym (pieces_of-kept words rule reads)) h)
+
+module _ {old new : List Seen} (settings : Settings) {cutting : OpenCutting} {count : ℕ}
+    (cut : CutsSources old new (rule_of settings) settings.batch cutting count) where
+  -- The tally of the cutting is that of the sources, with its origin.
+  pub tallied : (list : Option (List ℕ)) (tally : TallySeen) (origin : Origin)
+      → ((reads : List Read) → IsCuttingOf (rule_of settings) settings.batch reads cutting
+      → IsTallyOf (kept_to list (rule_of settings)) reads tally)
+      → origin ≡ origin_of settings list count → TalliesSources old new settings list (tally, Some origin)
+  tallied list tally origin h told =
+      (cut.reads, cut.are, h cut.reads cut.cut, ap Some (told ∙ ap (λ n. origin_of settings list n) cut.counted))
 
   -- Why it was not counted.
-  pub uncounted : (r : Result TallySeen ToolFault) → IfErr r IsUncounted → IfErr r (RefusesSources old new)
-  uncounted (Ok tally) h = tt
-  uncounted (Err fault) h = why fault h
+  pub uncounted : (fault : ToolFault) → IsUncounted fault → RefusesSources old new fault
+  uncounted (Run fault) h = (cut.reads, cut.are)
+  uncounted Memory h = tt
+  uncounted (Fastx number fault) h = absurd h
+  uncounted BadHeader h = absurd h
+  uncounted (BadRow line) h = absurd h
+  uncounted BadEnd h = absurd h
+  uncounted TableTooLong h = absurd h
+  uncounted TableRead h = absurd h
+  uncounted (BadOption name) h = absurd h
+  uncounted (BadWord number) h = absurd h
+  uncounted Write h = absurd h
+  uncounted (OpenFailed name) h = absurd h
+  uncounted Unlike h = absurd h
+  uncounted TooLarge h = absurd h
+
+-- The list, where one is given, was read, and then the sources were.
+module _ (list : Option (List ℕ)) (before after : Option Seen) (old new : List Seen) (settings : Settings)
+    (listed : GivesList (rule_of settings) before after list) where
+  pub sources_counted : (table : TableSeen) → TalliesSources old new settings list table
+      → Counts (given before old) (given after new) settings table
+  sources_counted table h = record { list = list; listed = listed; tallied = h }
+
+  pub sources_refused : (fault : ToolFault) → RefusesSources old new fault
+      → RefusesCount (given before old) (given after new) settings fault
+  sources_refused Memory h = tt
+  sources_refused (Fastx number fault) h = inr (record { list = list; listed = listed; refused = h })
+  sources_refused BadHeader h = inr (record { list = list; listed = listed; refused = h })
+  sources_refused (BadRow line) h = inr (record { list = list; listed = listed; refused = h })
+  sources_refused BadEnd h = inr (record { list = list; listed = listed; refused = h })
+  sources_refused TableTooLong h = inr (record { list = list; listed = listed; refused = h })
+  sources_refused TableRead h = inr (record { list = list; listed = listed; refused = h })
+  sources_refused (BadOption name) h = inr (record { list = list; listed = listed; refused = h })
+  sources_refused (BadWord number) h = inr (record { list = list; listed = listed; refused = h })
+  sources_refused Write h = inr (record { list = list; listed = listed; refused = h })
+  sources_refused (Run fault) h = inr (record { list = list; listed = listed; refused = h })
+  sources_refused (OpenFailed name) h = inr (record { list = list; listed = listed; refused = h })
+  sources_refused Unlike h = inr (record { list = list; listed = listed; refused = h })
+  sources_refused TooLarge h = inr (record { list = list; listed = listed; refused = h })
+
+-- The list has no reads.
+pub list_refused : (before after : Seen) (sources : List Seen) (settings : Settings) (fault : ToolFault)
+    → RefusesSource before after 0 most_bytes fault
+    → RefusesCount (given (Some before) sources) (given (Some after) sources) settings fault
+list_refused before after sources settings Memory h = tt
+list_refused before after sources settings (Fastx number fault) h = inl (before, after, refl, refl, h.0, h.1, refl)
+list_refused before after sources settings BadHeader h = absurd h
+list_refused before after sources settings (BadRow line) h = absurd h
+list_refused before after sources settings BadEnd h = absurd h
+list_refused before after sources settings TableTooLong h = absurd h
+list_refused before after sources settings TableRead h = absurd h
+list_refused before after sources settings (BadOption name) h = absurd h
+list_refused before after sources settings (BadWord number) h = absurd h
+list_refused before after sources settings Write h = absurd h
+list_refused before after sources settings (Run fault) h = absurd h
+list_refused before after sources settings (OpenFailed name) h = absurd h
+list_refused before after sources settings Unlike h = absurd h
+list_refused before after sources settings TooLarge h = absurd h
+
+-- The same, where the list was read for good.
+pub list_left : (source : Option Seen) (sources : List Seen) (settings : Settings) (fault : ToolFault) → ListFailsIn source fault
+    → (later : Given) × RefusesCount (given source sources) later settings fault
+list_left None sources settings fault h = absurd h
+list_left (Some source) sources settings fault h =
+    (given (Some h.0) sources, list_refused source h.0 sources settings fault h.1)

@@ -1,16 +1,18 @@
 -- What a command comes to: its task, its sources, and what is written.
 -- Source: the README ("The commands") and our formats page.
-use Rattle.std.specs.Prelude.{◌≡◌, ◌⊎◌, ◌^◌, ℕ, List, [], ◌∷◌, ◌++◌, Option, Some, None, All, map, length, take}
-use Rattle.std.specs.Prelude.{Result, Ok, Err, if◌then◌else◌, codes, string_bytes, ⊤}
+use Rattle.std.specs.Prelude.{◌≡◌, ◌⊎◌, ◌^◌, ◌≤◌, ℕ, List, [], ◌∷◌, ◌++◌, Option, Some, None, All, map, length, take, drop}
+use Rattle.std.specs.Prelude.{Result, Ok, Err, if◌then◌else◌, codes, string_bytes, unwrap_or, ⊤}
 use Rattle.std.specs.Str.{bytes_eq}
 use Rattle.clap.specs.Words.{Row, Text}
 use Rattle.kc_io.specs.Sinks.{Written, HasWritten, HasBegun}
 use Rattle.kc_io.specs.Sources.{Seen}
-use Rattle.kc_tally.specs.Tally.{TallySeen}
 use Rattle.kc_report.specs.declared.report_faults.ReportFault.{ReportFault}
 use Rattle.kc_report.specs.Querying.{IsAskable, IsFirstBadWord, query_text}
+use Rattle.kc_report.specs.Table.{table_text}
 use Rattle.kc_report.specs.TableReading.{GivesTable, RefusesTable}
+use Rattle.kc_report.specs.Merging.{Merges}
 use Rattle.kc_command.specs.Arguments.{AsksFor, AsksForDump, first_bad, first_bad_of_dump, first_bad_of_histo, high_of}
+use Rattle.kc_command.specs.Arguments.{first_table_of, only_of, second_table_of}
 use Rattle.kc_command.specs.declared.option_name.OptionName.{OptionName}
 use Rattle.kc_command.specs.declared.settings.Print.TheVariants as print
 use Rattle.kc_tool.specs.Faults.{report_fault}
@@ -20,11 +22,11 @@ use Rattle.kc_tool.specs.Files.{files_named, given_back, log_with_output, log_wi
 use Rattle.kc_tool.specs.Files.{words_asked}
 use Rattle.kc_tool.specs.declared.named_sources.NamedSource.{NamedSource}
 use Rattle.kc_tool.specs.Reports.{IsWritable, report_of, report_text}
-use Rattle.kc_tool.specs.Tallies.{RefusesSources, TalliesSources}
+use Rattle.kc_tool.specs.Tallies.{Counts, Given, RefusesCount, TableSeen, given}
 use Rattle.kc_tool.specs.declared.tool_faults.ToolFault.{ToolFault}
 use Rattle.kc_tool.specs.declared.tool_faults.ToolFault.TheVariants.{Memory, BadOption, BadWord, OpenFailed, Write}
 use Rattle.kc_tool.specs.declared.commands.Task.{Task}
-use Rattle.kc_tool.specs.declared.commands.Task.TheVariants.{Count, Report, Query}
+use Rattle.kc_tool.specs.declared.commands.Task.TheVariants.{Count, CountListed, Report, Query, Merge}
 use Rattle.kc_tool.specs.declared.commands.Verb.{Verb}
 use Rattle.kc_tool.specs.declared.commands.Verb.TheVariants as verb
 
@@ -34,20 +36,61 @@ most_table_bytes = 2 ^ 42
 
 -- the one source of a task gave the table text of this tally in this call, up to the end that it told. Of each source
 -- the first list has what is seen before the call, the second what is seen after it
-abbrev pub TellOneTable : List Seen → List Seen → TallySeen → Type 0
-TellOneTable (old ∷ []) (new ∷ []) tally = GivesTable old new most_table_bytes tally
-TellOneTable old new tally = ⊥
+abbrev pub TellOneTable : List Seen → List Seen → TableSeen → Type 0
+TellOneTable (old ∷ []) (new ∷ []) table = GivesTable old new most_table_bytes table
+TellOneTable old new table = ⊥
 
 -- it gave no table, for this reason
-abbrev pub TellNoTable : List Seen → List Seen → ToolFault → Type 0
-TellNoTable (old ∷ []) (new ∷ []) fault =
+abbrev pub TellsNoTable : Seen → Seen → ToolFault → Type 0
+TellsNoTable old new fault =
     (why : ReportFault) × RefusesTable old new most_table_bytes why × (fault ≡ report_fault why)
+
+abbrev pub TellNoTable : List Seen → List Seen → ToolFault → Type 0
+TellNoTable (old ∷ []) (new ∷ []) fault = TellsNoTable old new fault
 TellNoTable old new fault = ⊥
+
+-- two sources gave the table texts of these tallies
+pub record TellTables (first second first_after second_after : Seen) (table other : TableSeen) : Type 0 where
+  pub told : GivesTable first first_after most_table_bytes table
+  pub other_told : GivesTable second second_after most_table_bytes other
+
+-- two sources gave tables whose sum is this one
+abbrev pub TellSum : List Seen → List Seen → TableSeen → Type 0
+TellSum (first ∷ second ∷ []) (first_after ∷ second_after ∷ []) sum =
+    (table : TableSeen) × (other : TableSeen) × TellTables first second first_after second_after table other
+    × Merges table.0 other.0 table.1 other.1 (Ok sum)
+TellSum old new sum = ⊥
+
+-- why two sources gave no sum: the first gave no table, and the second is as it was; or the second gave none; or their
+-- tables can't be added
+abbrev pub TellNoSum : List Seen → List Seen → ToolFault → Type 0
+TellNoSum (first ∷ second ∷ []) (first_after ∷ second_after ∷ []) fault =
+    (TellsNoTable first first_after fault × (second_after ≡ second))
+    ⊎ ((table : TableSeen) × GivesTable first first_after most_table_bytes table
+    × TellsNoTable second second_after fault)
+    ⊎ ((table : TableSeen) × (other : TableSeen) × TellTables first second first_after second_after table other
+    × ((why : ReportFault) × Merges table.0 other.0 table.1 other.1 (Err why) × (fault ≡ report_fault why)))
+TellNoSum old new fault = ⊥
 
 -- the sources of a command: the files that were opened, or the given input where there are none
 abbrev pub sources_from : Seen → List Seen → List Seen
 sources_from input [] = input ∷ []
 sources_from input (file ∷ files) = file ∷ files
+
+-- of the files of a task the first is its list, where it has one, and the others are sources
+abbrev pub sources_in : Task → List Seen → List Seen
+sources_in (CountListed settings) files = drop 1 files
+sources_in task files = files
+
+-- what a count with a list is given: the first file is its list
+abbrev pub given_listed : Seen → List Seen → Given
+given_listed input [] = given None (input ∷ [])
+given_listed input (list ∷ files) = given (Some list) (sources_from input files)
+
+-- what a task is given
+abbrev pub given_of : Task → Seen → List Seen → Given
+given_of (CountListed settings) input files = given_listed input files
+given_of task input files = given None (sources_from input files)
 
 -- where there are files, the given input is as it was
 abbrev pub KeepsInput : List Seen → Seen → Seen → Type 0
@@ -59,74 +102,84 @@ abbrev pub HasWritableReport : Task → Type 0
 HasWritableReport (Report report) = IsWritable report
 HasWritableReport task = ⊤
 
--- a task over a table has one source
-abbrev pub HasSourcesFor : Task → List Seen → Type 0
-HasSourcesFor (Count settings) sources = ⊤
-HasSourcesFor (Report report) sources = length sources ≡ 1
-HasSourcesFor (Query words) sources = length sources ≡ 1
+-- a task has files: a list where it is to have one, at most one source where it is about a table, and two tables for
+-- their sum
+abbrev pub HasFilesFor : Task → List Seen → Type 0
+HasFilesFor (Count settings) files = ⊤
+HasFilesFor (CountListed settings) files = 1 ≤ length files
+HasFilesFor (Report report) files = length files ≤ 1
+HasFilesFor (Query words) files = length files ≤ 1
+HasFilesFor Merge files = length files ≡ 2
 
--- the tally that a task is about: that of the reads that its sources gave, or that of the table that its source told
-abbrev pub IsTallyFor : List Seen → List Seen → Task → TallySeen → Type 0
-IsTallyFor old new (Count settings) tally = TalliesSources old new settings tally
-IsTallyFor old new (Report report) tally = TellOneTable old new tally
-IsTallyFor old new (Query words) tally = TellOneTable old new tally
+-- the tally that a task is about, and its origin where that is told: of the reads that were given, of the table that
+-- its source told, or of the two that were told together
+abbrev pub IsTallyFor : Given → Given → Task → TableSeen → Type 0
+IsTallyFor old new (Count settings) table = Counts old new settings table
+IsTallyFor old new (CountListed settings) table = Counts old new settings table
+IsTallyFor old new (Report report) table = TellOneTable old.sources new.sources table
+IsTallyFor old new (Query words) table = TellOneTable old.sources new.sources table
+IsTallyFor old new Merge table = TellSum old.sources new.sources table
 
--- why its sources have no tally for a task; of want of memory outside the readers of reads nothing is said
-abbrev pub HasNoTallyFor : List Seen → List Seen → Task → ToolFault → Type 0
-HasNoTallyFor old new (Count settings) fault = RefusesSources old new fault
-HasNoTallyFor old new (Report report) fault = TellNoTable old new fault
-HasNoTallyFor old new (Query words) fault = TellNoTable old new fault
+-- why there is no tally for a task; of want of memory outside the readers of reads nothing is said
+abbrev pub HasNoTallyFor : Given → Given → Task → ToolFault → Type 0
+HasNoTallyFor old new (Count settings) fault = RefusesCount old new settings fault
+HasNoTallyFor old new (CountListed settings) fault = RefusesCount old new settings fault
+HasNoTallyFor old new (Report report) fault = TellNoTable old.sources new.sources fault
+HasNoTallyFor old new (Query words) fault = TellNoTable old.sources new.sources fault
+HasNoTallyFor old new Merge fault = TellNoSum old.sources new.sources fault
 
 -- the text is what a task writes about a tally
-abbrev pub IsAnswer : Task → TallySeen → List ℕ → Type 0
-IsAnswer (Count settings) tally text = text ≡ report_text (report_of settings) tally
-IsAnswer (Report report) tally text = text ≡ report_text report tally
-IsAnswer (Query words) tally text =
-    All (IsAskable tally.k) (map string_bytes words.items) × (text ≡ query_text tally (map string_bytes words.items))
+abbrev pub IsAnswer : Task → TableSeen → List ℕ → Type 0
+IsAnswer (Count settings) table text = text ≡ report_text (report_of settings) table
+IsAnswer (CountListed settings) table text = text ≡ report_text (report_of settings) table
+IsAnswer (Report report) table text = text ≡ report_text report table
+IsAnswer (Query words) table text = All (IsAskable table.0.k) (map string_bytes words.items)
+    × (text ≡ query_text table.0 (map string_bytes words.items))
+IsAnswer Merge table text = text ≡ table_text table.0 table.1
 
 -- why a task has no answer about a tally; of want of memory for a report nothing is said
-abbrev pub HasNoAnswer : Task → TallySeen → ToolFault → Type 0
-HasNoAnswer (Query words) tally (BadWord number) = IsFirstBadWord tally.k (map string_bytes words.items) number
-HasNoAnswer (Query words) tally fault = ⊥
-HasNoAnswer task tally Memory = ⊤
-HasNoAnswer task tally fault = ⊥
+abbrev pub HasNoAnswer : Task → TableSeen → ToolFault → Type 0
+HasNoAnswer (Query words) table (BadWord number) = IsFirstBadWord table.0.k (map string_bytes words.items) number
+HasNoAnswer (Query words) table fault = ⊥
+HasNoAnswer task table Memory = ⊤
+HasNoAnswer task table fault = ⊥
 
 -- what a task does about a tally: its answer was written; or a beginning of it, where writing failed; or nothing
-abbrev pub Answers : Task → TallySeen → Written → Written → Result (Unit {0}) ToolFault → Type 0
-Answers task tally old new (Ok done) = (text : List ℕ) × IsAnswer task tally text × HasWritten old new text
-Answers task tally old new (Err Write) = (text : List ℕ) × IsAnswer task tally text × HasBegun old new text
-Answers task tally old new (Err fault) = (new ≡ old) × HasNoAnswer task tally fault
+abbrev pub Answers : Task → TableSeen → Written → Written → Result (Unit {0}) ToolFault → Type 0
+Answers task table old new (Ok done) = (text : List ℕ) × IsAnswer task table text × HasWritten old new text
+Answers task table old new (Err Write) = (text : List ℕ) × IsAnswer task table text × HasBegun old new text
+Answers task table old new (Err fault) = (new ≡ old) × HasNoAnswer task table fault
 
--- the sources of a task, before it and after it, and where it writes
+-- what a task is given, and where it writes
 pub record Stage : Type 0 where
-  pub sources : List Seen
+  pub given : Given
   pub output : Written
 
--- with these files, or with the given input where there are none
-abbrev pub stage_before : Seen → List FileRead → Written → Stage
-stage_before input files output =
-    record { sources = sources_from input (map (λ file. file.before) files); output = output }
+-- with these files, and with the given input where no source is a file
+abbrev pub stage_before : Task → Seen → List FileRead → Written → Stage
+stage_before task input files output =
+    record { given = given_of task input (map (λ file. file.before) files); output = output }
 
-abbrev pub stage_after : Seen → List FileRead → Written → Stage
-stage_after input files output =
-    record { sources = sources_from input (map (λ file. file.after) files); output = output }
+abbrev pub stage_after : Task → Seen → List FileRead → Written → Stage
+stage_after task input files output =
+    record { given = given_of task input (map (λ file. file.after) files); output = output }
 
--- the text is what the task writes, from what its sources gave
-abbrev pub IsTextFor : List Seen → List Seen → Task → List ℕ → Type 0
-IsTextFor old new task text = (tally : TallySeen) × IsTallyFor old new task tally × IsAnswer task tally text
+-- the text is what the task writes, from what it was given
+abbrev pub IsTextFor : Given → Given → Task → List ℕ → Type 0
+IsTextFor old new task text = (table : TableSeen) × IsTallyFor old new task table × IsAnswer task table text
 
--- why the task writes nothing, with these sources: they have no tally, or it has no answer about their tally
-abbrev pub HasFaultFor : List Seen → List Seen → Task → ToolFault → Type 0
+-- why the task writes nothing, with what it was given: that has no tally, or the task has no answer about its tally
+abbrev pub HasFaultFor : Given → Given → Task → ToolFault → Type 0
 HasFaultFor old new task fault = HasNoTallyFor old new task fault
-    ⊎ ((tally : TallySeen) × IsTallyFor old new task tally × HasNoAnswer task tally fault)
+    ⊎ ((table : TableSeen) × IsTallyFor old new task table × HasNoAnswer task table fault)
 
 -- what a task does: its text was written; or a beginning of it, where writing failed; or nothing
 abbrev pub Does : Task → Stage → Stage → Result (Unit {0}) ToolFault → Type 0
 Does task old new (Ok done) =
-    (text : List ℕ) × IsTextFor old.sources new.sources task text × HasWritten old.output new.output text
+    (text : List ℕ) × IsTextFor old.given new.given task text × HasWritten old.output new.output text
 Does task old new (Err Write) =
-    (text : List ℕ) × IsTextFor old.sources new.sources task text × HasBegun old.output new.output text
-Does task old new (Err fault) = (new.output ≡ old.output) × HasFaultFor old.sources new.sources task fault
+    (text : List ℕ) × IsTextFor old.given new.given task text × HasBegun old.output new.output text
+Does task old new (Err fault) = (new.output ≡ old.output) × HasFaultFor old.given new.given task fault
 
 -- the name of a command
 abbrev pub name_of : Verb → Text
@@ -135,6 +188,7 @@ name_of verb.Dump = codes "dump"
 name_of verb.Histo = codes "histo"
 name_of verb.Stats = codes "stats"
 name_of verb.Query = codes "query"
+name_of verb.Merge = codes "merge"
 
 -- the command of a name
 abbrev pub verb_named : Text → Option Verb
@@ -143,15 +197,19 @@ verb_named name = if bytes_eq name (name_of verb.Count) then Some verb.Count
     else if bytes_eq name (name_of verb.Histo) then Some verb.Histo
     else if bytes_eq name (name_of verb.Stats) then Some verb.Stats
     else if bytes_eq name (name_of verb.Query) then Some verb.Query
+    else if bytes_eq name (name_of verb.Merge) then Some verb.Merge
     else None
 
 -- a command with these options asks for this task
 abbrev pub AsksForTask : Verb → List Row → Task → Type 0
-AsksForTask verb.Count rows (Count settings) = AsksFor rows settings
+AsksForTask verb.Count rows (Count settings) = AsksFor rows settings × (only_of rows ≡ None)
+AsksForTask verb.Count rows (CountListed settings) =
+    AsksFor rows settings × ((name : Text) × (only_of rows ≡ Some name))
 AsksForTask verb.Dump rows (Report report) = (report.print ≡ print.Dump) × AsksForDump rows report.dump
 AsksForTask verb.Histo rows (Report report) = (report.print ≡ print.Histo) × (high_of rows ≡ Some report.high)
 AsksForTask verb.Stats rows (Report report) = report.print ≡ print.Stats
 AsksForTask verb.Query rows (Query words) = map string_bytes words.items ≡ words_asked rows
+AsksForTask verb.Merge rows Merge = ⊤
 AsksForTask verb rows task = ⊥
 
 -- the first option of a command whose value is outside its limits
@@ -161,9 +219,16 @@ first_refused verb.Dump rows = first_bad_of_dump rows
 first_refused verb.Histo rows = first_bad_of_histo rows
 first_refused verb rows = None
 
--- the files that a command reads, in order: a count all that are named, any other the first
+-- the list of a count in front of its files, where one is named
+abbrev pub behind_list : Option Text → List Text → List Text
+behind_list None names = names
+behind_list (Some list) names = list ∷ names
+
+-- the files that a command reads, in order: a count its list and all that are named, a sum its two tables, any other the
+-- first that is named. A table that a sum lacks, which `clap` lets none, has an empty name
 abbrev pub files_of : Verb → List Row → List Text
-files_of verb.Count rows = files_named rows
+files_of verb.Count rows = behind_list (only_of rows) (files_named rows)
+files_of verb.Merge rows = unwrap_or (first_table_of rows) [] ∷ unwrap_or (second_table_of rows) [] ∷ []
 files_of verb rows = take 1 (files_named rows)
 
 -- what a command has: the given input, the given output, and what was asked of the files so far
@@ -177,20 +242,20 @@ pub record DoesTask (sources : List (NamedSource Seen)) (task : Task) (old new :
     (outcome : Result (Unit {0}) ToolFault) : Type 0 where
   pub files : List FileRead
   pub are : AreOf sources files
-  pub input : KeepsInput (map (λ file. file.before) files) old.input new.input
+  pub input : KeepsInput (sources_in task (map (λ file. file.before) files)) old.input new.input
   pub log : new.asked ≡ old.asked ++ returned files
-  pub done : Does task (stage_before old.input files old.output) (stage_after new.input files new.output) outcome
+  pub done : Does task (stage_before task old.input files old.output) (stage_after task new.input files new.output) outcome
 
 -- the same, and it writes to a file of this name, which is created before and given back too
 pub record DoesTaskInto (name : Text) (sources : List (NamedSource Seen)) (task : Task) (input input_after : Seen)
     (asked asked_after : List FileEvent) (outcome : Result (Unit {0}) ToolFault) : Type 0 where
   pub files : List FileRead
   pub are : AreOf sources files
-  pub input_kept : KeepsInput (map (λ file. file.before) files) input input_after
+  pub input_kept : KeepsInput (sources_in task (map (λ file. file.before) files)) input input_after
   pub file : FileWritten
   pub is_created : IsCreated name file
   pub log : asked_after ≡ asked ++ created name ∷ returned files ++ wrote name file.after.history ∷ []
-  pub done : Does task (stage_before input files file.before) (stage_after input_after files file.after) outcome
+  pub done : Does task (stage_before task input files file.before) (stage_after task input_after files file.after) outcome
 
 -- the file of this name can't be created, which is told, and the sources are given back as they were
 pub record LacksOutput (name : Text) (sources : List (NamedSource Seen)) (input input_after : Seen)
@@ -204,12 +269,13 @@ pub record LacksOutput (name : Text) (sources : List (NamedSource Seen)) (input 
 -- a task is done with these files, which were opened for it, or with the given input where there are none. It writes to
 -- the given output; or, where a file is named for the output, to that file, which was created behind the opening, and
 -- the given output is as it was. That is all that is asked of files
-abbrev pub DoesWith : Option Text → Surroundings → Surroundings → List FileRead → (Stage → Stage → Type 0) → Type 0
-DoesWith None old new files DoesTask = (new.asked ≡ old.asked ++ log_without_output files)
-    × DoesTask (stage_before old.input files old.output) (stage_after new.input files new.output)
-DoesWith (Some name) old new files DoesTask = (new.output ≡ old.output)
+abbrev pub DoesWith : Option Text → Task → Surroundings → Surroundings → List FileRead → Result (Unit {0}) ToolFault
+    → Type 0
+DoesWith None task old new files outcome = (new.asked ≡ old.asked ++ log_without_output files)
+    × Does task (stage_before task old.input files old.output) (stage_after task new.input files new.output) outcome
+DoesWith (Some name) task old new files outcome = (new.output ≡ old.output)
     × (file : FileWritten) × IsCreated name file × (new.asked ≡ old.asked ++ log_with_output files file)
-    × DoesTask (stage_before old.input files file.before) (stage_after new.input files file.after)
+    × Does task (stage_before task old.input files file.before) (stage_after task new.input files file.after) outcome
 
 -- a command comes to its task, with its files, and this is the outcome
 pub record ComesToTask (command : Verb) (rows : List Row) (old new : Surroundings)
@@ -218,8 +284,8 @@ pub record ComesToTask (command : Verb) (rows : List Row) (old new : Surrounding
   pub asks : AsksForTask command rows task
   pub files : List FileRead
   pub opened : AreOpened (files_of command rows) files
-  pub input : KeepsInput (map (λ file. file.before) files) old.input new.input
-  pub done : DoesWith (output_of rows) old new files (λ before after. Does task before after outcome)
+  pub input : KeepsInput (sources_in task (map (λ file. file.before) files)) old.input new.input
+  pub done : DoesWith (output_of rows) task old new files outcome
 
 -- an option is refused, or there was no memory for what the options say
 abbrev pub IsRefusedOption : Verb → List Row → ToolFault → Type 0

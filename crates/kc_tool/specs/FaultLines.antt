@@ -17,6 +17,8 @@ use Rattle.kc_tool.specs.declared.tool_faults.ToolFault.TheVariants.{
   Write,
   Run,
   OpenFailed,
+  Unlike,
+  TooLarge,
 }
 use Rattle.kc_run.specs.declared.run_fault.RunFault.{RunFault}
 use Rattle.kc_run.specs.declared.run_fault.RunFault.TheVariants as run
@@ -61,6 +63,8 @@ fault_front (BadWord number) = codes "52: bad word " ++ decimal number
 fault_front Write = codes "53: write failed"
 fault_front (Run fault) = run_text fault
 fault_front (OpenFailed name) = codes "54: cannot open "
+fault_front Unlike = codes "61: tables do not match"
+fault_front TooLarge = codes "62: sums too large"
 
 -- the name of the file that a refusal names at its end
 abbrev pub fault_name : ToolFault → List ℕ

@@ -11,6 +11,8 @@ use Rattle.kc_tool.specs.declared.tool_faults.ToolFault.TheVariants.{
   Memory,
   BadWord,
   Write,
+  Unlike,
+  TooLarge,
 }
 
 -- the fault that says why a report could not be written, or a table not be read
@@ -23,3 +25,5 @@ report_fault report.TableRead = TableRead
 report_fault report.Memory = Memory
 report_fault (report.BadWord number) = BadWord number
 report_fault report.Write = Write
+report_fault report.Unlike = Unlike
+report_fault report.TooLarge = TooLarge

@@ -1,5 +1,4 @@
 -- What is asked of the files of a command line, in order: this project's own.
-use Rattle.std.specs.Prelude.{ℕ, List}
 use Rattle.clap.specs.Words.{Text}
 use Rattle.kc_io.specs.History.{History, no_history}
 use Rattle.kc_tool.specs.declared.file_acts.FileAct.{FileAct}

@@ -1,5 +1,5 @@
 -- The files that a command line names: source, the README ("The commands").
-use Rattle.std.specs.Prelude.{◌≡◌, ◌⊎◌, List, [], ◌∷◌, ◌++◌, map, All, Option, Some, None, codes, string_bytes}
+use Rattle.std.specs.Prelude.{◌≡◌, ◌⊎◌, List, [], ◌∷◌, ◌++◌, map, All, Option, Some, codes, string_bytes}
 use Rattle.std.specs.Prelude.{unwrap_or, ⊤}
 use Rattle.clap.specs.Words.{Row, Text, all_of, first_of}
 use Rattle.kc_io.specs.History.{no_history}

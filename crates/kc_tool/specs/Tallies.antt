@@ -1,5 +1,6 @@
--- The reads of all sources of one count, and their tally: source, our formats page.
-use Rattle.std.specs.Prelude.{◌≡◌, ◌≤◌, ◌+◌, ◌-◌, ℕ, List, [], ◌∷◌, ◌++◌, length, map, sum_by, ⊤}
+-- The reads of all sources of one count, the words of its list, and their tally: source, our formats page.
+use Rattle.std.specs.Prelude.{◌≡◌, ◌≤◌, ◌⊎◌, ◌+◌, ◌-◌, ℕ, List, [], ◌∷◌, ◌++◌, length, map, sum_by, ⊤}
+use Rattle.std.specs.Prelude.{Option, Some, None, IfSome, is_some, option_map}
 use Rattle.std.specs.List.{concat}
 use Rattle.kc_io.specs.Sources.{Seen}
 use Rattle.kc_io.specs.Intakes.{TakesAll}
@@ -8,8 +9,10 @@ use Rattle.kc_fastx.specs.Reads.{Read}
 use Rattle.kc_fastx.specs.declared.read_faults.FastxFault.{FastxFault}
 use Rattle.kc_word.specs.Cutting.{cleaned}
 use Rattle.kc_word.specs.OpenCutting.{OpenCutting, HasTaken}
-use Rattle.kc_kmer.specs.Rule.{CountingRule}
+use Rattle.kc_word.specs.Only.{WordList, IsListOf}
+use Rattle.kc_kmer.specs.Rule.{CountingRule, with_list}
 use Rattle.kc_tally.specs.Tally.{TallySeen, IsTallyOf}
+use Rattle.kc_report.specs.declared.origin.Origin.{Origin}
 use Rattle.kc_command.specs.Settings.{Settings, rule_of}
 use Rattle.kc_tool.specs.declared.tool_faults.ToolFault.{ToolFault}
 use Rattle.kc_tool.specs.declared.tool_faults.ToolFault.TheVariants.{Fastx, Memory, Run}
@@ -44,11 +47,14 @@ pub record IsCuttingOf (rule : CountingRule) (batch : ℕ) (reads : List Read) (
   pub taken : HasTaken cutting (pieces_of rule reads)
   pub few : sum_by (λ piece. length piece) (pieces_of rule reads) ≤ most_bytes
 
--- the sources gave reads, and their pieces were cut
-pub record CutsSources (old new : List Seen) (rule : CountingRule) (batch : ℕ) (cutting : OpenCutting) : Type 0 where
+-- the sources gave `count` reads, and their pieces were cut
+pub record CutsSources (old new : List Seen) (rule : CountingRule) (batch : ℕ) (cutting : OpenCutting) (count : ℕ)
+    : Type 0 where
   pub reads : List Read
   pub are : ReadsSources old new reads
   pub cut : IsCuttingOf rule batch reads cutting
+  pub counted : count ≡ length reads
+  pub few : count ≤ most_bytes
 
 -- why the words of a cutting were not counted: the run over it was refused, or memory was
 abbrev pub IsUncounted : ToolFault → Type 0
@@ -56,11 +62,13 @@ IsUncounted (Run fault) = ⊤
 IsUncounted Memory = ⊤
 IsUncounted _ = ⊥
 
--- the source gave `count` bytes, and the pieces of their reads were cut behind those that were cut before
-pub record CutsPieces (old new : Seen) (limit : ℕ) (rule : CountingRule) (count : ℕ) (before after : OpenCutting)
+-- the source gave `bytes` bytes with `count` reads, whose pieces were cut behind those that were cut before
+pub record CutsPieces (old new : Seen) (limit : ℕ) (rule : CountingRule) (bytes count : ℕ) (before after : OpenCutting)
     : Type 0 where
   pub reads : List Read
-  pub given : GivesReads old new limit reads count
+  pub given : GivesReads old new limit reads bytes
+  pub counted : count ≡ length reads
+  pub few : count ≤ bytes
   pub length_of_words : after.k ≡ before.k
   pub size : after.size ≡ before.size
   pub behind : (pieces : List (List ℕ)) → HasTaken before pieces → HasTaken after (pieces ++ pieces_of rule reads)
@@ -95,7 +103,86 @@ RefusesSources old new (Run fault) = (reads : List Read) × ReadsSources old new
 RefusesSources old new Memory = ⊤
 RefusesSources old new _ = ⊥
 
--- the tally is that of all reads that the sources gave
-abbrev pub TalliesSources : List Seen → List Seen → Settings → TallySeen → Type 0
-TalliesSources old new settings tally =
-    (reads : List Read) × ReadsSources old new reads × IsTallyOf (rule_of settings) reads tally
+-- a tally, and what it was counted from where that is told
+abbrev pub TableSeen : Type 0
+TableSeen = TallySeen × Option Origin
+
+-- the rule of a count that is kept to a list of words, where one is given
+abbrev pub kept_to : Option (List ℕ) → CountingRule → CountingRule
+kept_to None rule = rule
+kept_to (Some words) rule = with_list rule words
+
+-- a list is one under a rule: its words are as long, and in the forms under which words count
+pub record IsListUnder (rule : CountingRule) (list : WordList) : Type 0 where
+  pub k : list.k ≡ rule.k
+  pub both : list.both ≡ rule.both
+
+-- the words of a list, where one is given
+abbrev pub words_of : Option WordList → Option (List ℕ)
+words_of list = option_map (λ list. list.words) list
+
+-- what is told of a count: its floor, the number of all reads, and whether a list was given
+abbrev pub origin_of : Settings → Option (List ℕ) → ℕ → Origin
+origin_of settings list count = record { floor = settings.floor; reads = count; listed = is_some list }
+
+-- the tally is that of all reads that the sources gave, of the words of the list where one is given, with its origin
+abbrev pub TalliesSources : List Seen → List Seen → Settings → Option (List ℕ) → TableSeen → Type 0
+TalliesSources old new settings list table = (reads : List Read) × ReadsSources old new reads
+    × IsTallyOf (kept_to list (rule_of settings)) reads table.0
+    × (table.1 ≡ Some (origin_of settings list (length reads)))
+
+-- ---- a list
+
+-- what a count is given: the source of the list of words to which it is kept, where there is one, and its sources
+pub record Given : Type 0 where
+  pub list : Option Seen
+  pub sources : List Seen
+
+abbrev pub given : Option Seen → List Seen → Given
+given list sources = record { list = list; sources = sources }
+
+-- the words are those that occur under the rule in the reads that the source of the list gave
+pub record GivesWords (rule : CountingRule) (old new : Seen) (list : WordList) : Type 0 where
+  pub reads : List Read
+  pub bytes : ℕ
+  pub given : GivesReads old new most_bytes reads bytes
+  pub is_list : IsListOf rule reads list
+
+-- the words of the list, where one is given
+abbrev pub GivesList : CountingRule → Option Seen → Option Seen → Option (List ℕ) → Type 0
+GivesList rule None None None = ⊤
+GivesList rule (Some old) (Some new) (Some words) = (list : WordList) × GivesWords rule old new list × (list.words ≡ words)
+GivesList rule _ _ _ = ⊥
+
+-- the same of a list, with a later state of its source
+abbrev pub GivesListOf : CountingRule → Option Seen → Option WordList → Type 0
+GivesListOf rule source list = (later : Option Seen) × GivesList rule source later (words_of list)
+    × IfSome list (IsListUnder rule)
+
+-- the source of the list is refused for this reason, which a later state of it shows; it is number 0
+abbrev pub ListFailsIn : Option Seen → ToolFault → Type 0
+ListFailsIn None fault = ⊥
+ListFailsIn (Some source) fault = (later : Seen) × RefusesSource source later 0 most_bytes fault
+
+-- the table that is counted: the list, where one is given, and then the sources gave their reads
+pub record Counts (old new : Given) (settings : Settings) (table : TableSeen) : Type 0 where
+  pub list : Option (List ℕ)
+  pub listed : GivesList (rule_of settings) old.list new.list list
+  pub tallied : TalliesSources old.sources new.sources settings list table
+
+-- the source of the list has no reads: its number is 0, and the sources are as they were
+abbrev pub ListFails : Given → Given → ToolFault → Type 0
+ListFails old new (Fastx number fault) = (before : Seen) × (after : Seen) × (old.list ≡ Some before)
+    × (new.list ≡ Some after) × (number ≡ 0) × RefusesFor before after most_bytes fault × (new.sources ≡ old.sources)
+ListFails old new _ = ⊥
+
+-- the list, where one is given, gave its reads, and the sources were not counted
+pub record SourcesFail (old new : Given) (settings : Settings) (fault : ToolFault) : Type 0 where
+  pub list : Option (List ℕ)
+  pub listed : GivesList (rule_of settings) old.list new.list list
+  pub refused : RefusesSources old.sources new.sources fault
+
+-- why nothing was counted. Of want of memory outside the readers nothing is said
+abbrev pub RefusesCount : Given → Given → Settings → ToolFault → Type 0
+RefusesCount old new settings Memory = ⊤
+RefusesCount old new settings fault = ListFails old new fault ⊎ SourcesFail old new settings fault

@@ -1,5 +1,5 @@
-//! The commands: what a command is to do, the sources that it reads, the tally that it is about, and what it writes.
-ghost use Rattle.std.specs.Prelude.{◌≡◌, ◌⊎◌, [], ◌∷◌, IfErr, IfOk, None, length, map, string_bytes, unwrap_or};
+//! The commands: what a command is to do, the files that it reads, and what it writes.
+ghost use Rattle.std.specs.Prelude.{◌≡◌, ◌⊎◌, [], ◌∷◌, IfErr, IfOk, None, map, string_bytes, unwrap_or};
 ghost use Rattle.clap.specs.Words.{all_of, found_of, rows_of};
 ghost use Rattle.kc_tool.specs.NamedSources.{names_of, seen_of};
 ghost use Rattle.kc_tool.specs.Commands.{
@@ -9,42 +9,36 @@ ghost use Rattle.kc_tool.specs.Commands.{
   DoesTask,
   DoesTaskInto,
   EndsSo,
-  HasNoTallyFor,
-  HasSourcesFor,
+  HasFilesFor,
   HasWritableReport,
   IsRefusedOption,
-  IsTallyFor,
   KeepsInput,
   LacksOutput,
-  TellNoTable,
-  TellOneTable,
   files_of,
   first_refused,
-  sources_from,
+  given_of,
+  sources_in,
   verb_named,
 };
-ghost use Rattle.kc_tool.specs.Tallies.{RefusesSources, TalliesSources};
+ghost use Rattle.kc_report.specs.Table.{MaySay};
 
 use crate::count_progress::Progress;
-use crate::counted_sources::{count_input, count_sources};
 use crate::files::{FileSource, NamedFiles, open_failed, open_files, take_sources};
 use crate::given_options::{dump_options, high_of, options};
 use crate::named_sources::NamedSource;
 use crate::reports::{Report, report_of, write_report};
+use crate::task_tallies::tally_for;
 use crate::tool_faults::ToolFault;
 use clap::ArgMatches;
-use kc_command::command::{COUNT, DUMP, HISTO, QUERY, STATS};
+use kc_command::command::{COUNT, DUMP, HISTO, MERGE, QUERY, STATS};
 use kc_command::{Options, Print, text_of};
 use kc_io::{Sink, Source};
-use kc_report::{Dump, query, read_table};
+use kc_report::{Dump, Origin, query, write_table};
 use kc_tally::Tally;
 use std::alloc::{AllocError, Global};
 use std::rt::Files;
 use std::sync::Wait;
 use std::thread::Threads;
-
-/// The most bytes that a table may have.
-const MOST_TABLE_BYTES: u64 = 1 << 42;
 
 /// The greatest count that would have a line of its own in a report that is no histogram.
 const USUAL_HIGH: u64 = 10_000;
@@ -62,6 +56,8 @@ pub(crate) enum Verb {
     Stats,
     /// Writes the counts of words from a table.
     Query,
+    /// Writes the sum of two tables.
+    Merge,
 }
 
 /// The command of this name.
@@ -74,19 +70,24 @@ pub(crate) fn verb_named(name: &str) -> Option<Verb>
         HISTO => Some(Verb::Histo),
         STATS => Some(Verb::Stats),
         QUERY => Some(Verb::Query),
+        MERGE => Some(Verb::Merge),
         _ => None,
     }
 }
 
 /// What a command is to do.
 #[derive(Drop)]
-enum Task {
+pub(crate) enum Task {
     /// To count the words of sequence reads, and write a report on them.
     Count(Options),
+    /// To count those words that occur in the reads of a list, which is the first file, and write a report on them.
+    CountListed(Options),
     /// To read a table, and write a report on its tally.
     Report(Report),
     /// To read a table, and write the counts of these words.
     Query(Vec<String>),
+    /// To read two tables, and write the table of both together.
+    Merge,
 }
 
 /// Runs a command with its options: opens its files, takes the tally that it is about, and writes its answer. Files are
@@ -127,8 +128,8 @@ pub(crate) fn run_command<
     }
 }
 
-// Does a task with files that were opened, or with the given input where there are none, and gives the files back.
-// Condition: a task over a table has one source, and a histogram is for counts up to 1 to 10,000,000.
+// Does a task with files that were opened, and with the given input where no source is a file, and gives the files back.
+// Conditions: the task has such files as it is to have, and a histogram is for counts up to 1 to 10,000,000.
 fn do_task<H: Threads + Wait + Sync, S: Files, R: Source, W: Sink, P: Progress + Sync>(
     rt: &H,
     alloc: Global,
@@ -139,7 +140,7 @@ fn do_task<H: Threads + Wait + Sync, S: Files, R: Source, W: Sink, P: Progress +
     output: &mut W,
     progress: &P,
 ) -> Result<(), ToolFault>
-    requires sources { HasSourcesFor task.now (sources_from (R.seen input.old) (seen_of (λ s. s) sources.items)) }
+    requires files { HasFilesFor task.now (seen_of (λ s. s) sources.items) }
     requires writable { HasWritableReport task.now }
     ensures { DoesTask sources.entry.items task.now
         (record { input = R.seen input.old; output = W.seen output.old; asked = files.old })
@@ -162,7 +163,7 @@ fn do_task_into<H: Threads + Wait + Sync, S: Files, R: Source, P: Progress + Syn
     name: &str,
     progress: &P,
 ) -> Result<(), ToolFault>
-    requires sources { HasSourcesFor task.now (sources_from (R.seen input.old) (seen_of (λ s. s) sources.items)) }
+    requires files { HasFilesFor task.now (seen_of (λ s. s) sources.items) }
     requires writable { HasWritableReport task.now }
     ensures { DoesTaskInto name.now sources.entry.items task.now (R.seen input.old) (R.seen input.new) files.old files.new result
         ⊎ LacksOutput name.now sources.entry.items (R.seen input.old) (R.seen input.new) files.old files.new result }
@@ -185,7 +186,7 @@ fn do_task_into<H: Threads + Wait + Sync, S: Files, R: Source, P: Progress + Syn
     outcome
 }
 
-// Takes the tally that a task is about, and writes its answer. The sources keep their names.
+// Takes the tally that a task is about, and writes its answer. The files keep their names.
 fn answer<H: Threads + Wait + Sync, R: Source, F: Source, W: Sink, P: Progress + Sync>(
     rt: &H,
     alloc: Global,
@@ -195,17 +196,17 @@ fn answer<H: Threads + Wait + Sync, R: Source, F: Source, W: Sink, P: Progress +
     output: &mut W,
     progress: &P,
 ) -> Result<(), ToolFault>
-    requires sources { HasSourcesFor task.now (sources_from (R.seen input.old) (seen_of F.seen files.old)) }
+    requires files { HasFilesFor task.now (seen_of F.seen files.old) }
     requires writable { HasWritableReport task.now }
     ensures done { Does task.now
-        (record { sources = sources_from (R.seen input.old) (seen_of F.seen files.old); output = W.seen output.old })
-        (record { sources = sources_from (R.seen input.new) (seen_of F.seen files.new); output = W.seen output.new })
+        (record { given = given_of task.now (R.seen input.old) (seen_of F.seen files.old); output = W.seen output.old })
+        (record { given = given_of task.now (R.seen input.new) (seen_of F.seen files.new); output = W.seen output.new })
         result }
-    ensures input { KeepsInput (seen_of F.seen files.old) (R.seen input.old) (R.seen input.new) }
+    ensures input { KeepsInput (sources_in task.now (seen_of F.seen files.old)) (R.seen input.old) (R.seen input.new) }
     ensures names { names_of files.new ≡ names_of files.old }
 {
-    let tally = tally_for(rt, alloc, task, files, input, progress)?;
-    write_answer(alloc, task, &tally, output)
+    let (tally, origin) = tally_for(rt, alloc, task, files, input, progress)?;
+    write_answer(alloc, task, &tally, origin, output)
 }
 
 // The task of a command: what it asks for with these options.
@@ -216,7 +217,13 @@ fn task_of(alloc: Global, verb: Verb, matches: &ArgMatches<'_>) -> Result<Task, 
     ensures refused { IfErr result (IsRefusedOption verb (rows_of (found_of matches.now))) }
 {
     match verb {
-        Verb::Count => Ok(Task::Count(options(alloc, matches)?)),
+        Verb::Count => {
+            let options = options(alloc, matches)?;
+            match text_of(matches, "only") {
+                None => Ok(Task::Count(options)),
+                Some(_) => Ok(Task::CountListed(options)),
+            }
+        }
         Verb::Dump => Ok(Task::Report(Report {
             print: Print::Dump,
             dump: dump_options(matches)?,
@@ -236,10 +243,12 @@ fn task_of(alloc: Global, verb: Verb, matches: &ArgMatches<'_>) -> Result<Task, 
             let words = texts_of(alloc, matches, "word")?;
             Ok(Task::Query(owned_texts(alloc, &words)?))
         }
+        Verb::Merge => Ok(Task::Merge),
     }
 }
 
-// The names of the files that a command reads: a count reads all that are named, any other command the first.
+// The names of the files that a command reads: a count reads its list and all that are named, a sum its two tables, and
+// any other command the first that is named.
 fn file_names<'a>(
     alloc: Global,
     verb: Verb,
@@ -248,10 +257,36 @@ fn file_names<'a>(
     ensures { IfOk result (λ names. map (λ name. name.now) names.items
         ≡ files_of verb (rows_of (found_of matches.now))) }
 {
-    let mut names = texts_of(alloc, matches, "file")?;
-    if verb != Verb::Count {
-        names.truncate(1);
+    match verb {
+        Verb::Count => {
+            let files = texts_of(alloc, matches, "file")?;
+            match text_of(matches, "only") {
+                None => Ok(files),
+                Some(list) => behind(alloc, list, &files),
+            }
+        }
+        Verb::Merge => {
+            let mut names = Vec::with_capacity(alloc, 2)?;
+            names.push(text_of(matches, "first").unwrap_or(""))?;
+            names.push(text_of(matches, "second").unwrap_or(""))?;
+            Ok(names)
+        }
+        _ => {
+            let mut names = texts_of(alloc, matches, "file")?;
+            names.truncate(1);
+            Ok(names)
+        }
     }
+}
+
+// The name, and the others behind it.
+fn behind<'a>(alloc: Global, first: &'a str, others: &[&'a str]) -> Result<Vec<&'a str>, AllocError>
+    ensures { IfOk result (λ names. map (λ name. name.now) names.items
+        ≡ first.entry.now ∷ map (λ name. name.now) others.now) }
+{
+    let mut names = Vec::with_capacity(alloc, others.len())?;
+    names.push(first)?;
+    names.extend_from_slice(others)?;
     Ok(names)
 }
 
@@ -281,95 +316,25 @@ fn owned_texts(alloc: Global, texts: &[&str]) -> Result<Vec<String>, AllocError>
     Ok(strings)
 }
 
-// The tally that a task is about, from the files or, where there are none, from the given input: that of the reads,
-// whose counting is told, or that of a table. The sources keep their names. Condition: a task over a table has one source.
-fn tally_for<H: Threads + Wait + Sync, R: Source, F: Source, P: Progress + Sync>(
-    rt: &H,
-    alloc: Global,
-    task: &Task,
-    files: &mut [NamedSource<'_, F>],
-    input: &mut R,
-    progress: &P,
-) -> Result<Tally, ToolFault>
-    requires { HasSourcesFor task.now (sources_from (R.seen input.old) (seen_of F.seen files.old)) }
-    ensures tally { let Tallies = IsTallyFor (sources_from (R.seen input.old) (seen_of F.seen files.old))
-        (sources_from (R.seen input.new) (seen_of F.seen files.new)) in IfOk result (Tallies task.now) }
-    ensures fault { let HasNone = HasNoTallyFor (sources_from (R.seen input.old) (seen_of F.seen files.old))
-        (sources_from (R.seen input.new) (seen_of F.seen files.new)) in IfErr result (HasNone task.now) }
-    ensures input { KeepsInput (seen_of F.seen files.old) (R.seen input.old) (R.seen input.new) }
-    ensures names { names_of files.new ≡ names_of files.old }
-{
-    let Task::Count(options) = task else {
-        return table_of(alloc, files, input);
-    };
-    let counted = count_of(rt, alloc, options, files, input, progress);
-    progress.ends();
-    counted
-}
-
-// The tally of the reads of the files, or where there are none, of those of the given input.
-fn count_of<H: Threads + Wait + Sync, R: Source, F: Source, P: Progress + Sync>(
-    rt: &H,
-    alloc: Global,
-    options: &Options,
-    files: &mut [NamedSource<'_, F>],
-    input: &mut R,
-    progress: &P,
-) -> Result<Tally, ToolFault>
-    ensures tally { let Tallies = TalliesSources (sources_from (R.seen input.old) (seen_of F.seen files.old)) in
-        IfOk result (Tallies (sources_from (R.seen input.new) (seen_of F.seen files.new)) options.now) }
-    ensures fault { let Refuses = RefusesSources (sources_from (R.seen input.old) (seen_of F.seen files.old)) in
-        IfErr result (Refuses (sources_from (R.seen input.new) (seen_of F.seen files.new))) }
-    ensures input { KeepsInput (seen_of F.seen files.old) (R.seen input.old) (R.seen input.new) }
-    ensures names { names_of files.new ≡ names_of files.old }
-{
-    if files.is_empty() {
-        return count_input(rt, alloc, input, options, progress);
-    }
-    count_sources(rt, alloc, files, options, progress)
-}
-
-// The tally that the table text of the file says, or where there is none, that of the given input.
-fn table_of<R: Source, F: Source>(
-    alloc: Global,
-    files: &mut [NamedSource<'_, F>],
-    input: &mut R,
-) -> Result<Tally, ToolFault>
-    requires { length (sources_from (R.seen input.old) (seen_of F.seen files.old)) ≡ 1 }
-    ensures table { let Tells = TellOneTable (sources_from (R.seen input.old) (seen_of F.seen files.old)) in
-        IfOk result (Tells (sources_from (R.seen input.new) (seen_of F.seen files.new))) }
-    ensures fault { let TellsNone = TellNoTable (sources_from (R.seen input.old) (seen_of F.seen files.old)) in
-        IfErr result (TellsNone (sources_from (R.seen input.new) (seen_of F.seen files.new))) }
-    ensures input { KeepsInput (seen_of F.seen files.old) (R.seen input.old) (R.seen input.new) }
-    ensures names { names_of files.new ≡ names_of files.old }
-{
-    if files.is_empty() {
-        return table_from(alloc, input);
-    }
-    table_from(alloc, &mut files[0].source)
-}
-
-// The tally that the table text of this source says.
-fn table_from<R: Source>(alloc: Global, source: &mut R) -> Result<Tally, ToolFault>
-    ensures table { IfOk result (TellOneTable (R.seen source.old ∷ []) (R.seen source.new ∷ [])) }
-    ensures fault { IfErr result (TellNoTable (R.seen source.old ∷ []) (R.seen source.new ∷ [])) }
-{
-    Ok(read_table(alloc, source, MOST_TABLE_BYTES)?)
-}
-
-// Writes what a task is to write about its tally. Condition: a histogram is for counts up to 1 to 10,000,000.
+// Writes what a task is to write about its tally. Conditions: a histogram is for counts up to 1 to 10,000,000, and the
+// origin is one that a header can say.
 fn write_answer<W: Sink>(
     alloc: Global,
     task: &Task,
     tally: &Tally,
+    origin: Option<Origin>,
     writer: &mut W,
 ) -> Result<(), ToolFault>
-    requires { HasWritableReport task.now }
-    ensures { Answers task.now tally.now (W.seen writer.old) (W.seen writer.new) result }
+    requires writable { HasWritableReport task.now }
+    requires origin { MaySay origin }
+    ensures { Answers task.now (tally.now, origin) (W.seen writer.old) (W.seen writer.new) result }
 {
     match task {
-        Task::Count(options) => write_report(alloc, writer, tally, report_of(options)),
-        Task::Report(report) => write_report(alloc, writer, tally, *report),
+        Task::Count(options) | Task::CountListed(options) => {
+            write_report(alloc, writer, tally, origin, report_of(options))
+        }
+        Task::Report(report) => write_report(alloc, writer, tally, origin, *report),
         Task::Query(words) => Ok(query(writer, tally, words)?),
+        Task::Merge => Ok(write_table(writer, tally, origin.as_ref())?),
     }
 }

@@ -1,19 +1,26 @@
 //! The tally of the reads of all sources: they are read, cleaned and cut into batches, and the words of the batches are
-//! counted by as many threads as are asked for.
-ghost use Rattle.std.specs.Prelude.{◌≡◌, ◌≤◌, List, [], ◌∷◌, IfOk, IfErr};
+//! counted by as many threads as are asked for, all of them or those of a list.
+ghost use Rattle.std.specs.Prelude.{◌≡◌, ◌≤◌, ℕ, List, [], ◌∷◌, IfOk, IfErr, IfSome, option_map};
 ghost use Rattle.kc_fastx.specs.Parsing.{most_bytes};
 ghost use Rattle.kc_booking.specs.Setup.{stripe_count};
 ghost use Rattle.kc_tool.specs.NamedSources.{names_of, seen_of};
 ghost use Rattle.kc_fastx.specs.Reads.{Read};
 ghost use Rattle.kc_tally.specs.Tally.{IsTallyOf};
+ghost use Rattle.kc_report.specs.Table.{IsOrigin, MaySay};
+ghost use Rattle.kc_word.specs.Only.{WordList};
 ghost use Rattle.kc_tool.specs.Tallies.{
   CutsPieces,
   CutsSources,
+  GivesWords,
   IsCuttingOf,
+  IsListUnder,
   IsUncounted,
   RefusesSource,
   RefusesSources,
   TalliesSources,
+  kept_to,
+  origin_of,
+  words_of,
 };
 ghost use Rattle.kc_command.specs.Settings.{rule_of};
 
@@ -21,25 +28,50 @@ use crate::count_progress::{Progress, ToldGate};
 use crate::named_sources::NamedSource;
 use crate::tool_faults::ToolFault;
 use kc_command::Options;
-use kc_fastx::{FastxFault, Reading, Source};
+use kc_fastx::{FastxFault, Reading, Source, read_all};
 use kc_gather::gather_laws;
 use kc_hash::Hash;
+use kc_report::Origin;
 use kc_run::{quotient_tables, run};
 use kc_stripe::Setup;
 use kc_tally::Tally;
-use kc_word::{Cutting, Rule, clean};
-use std::alloc::Global;
-use std::sync::Wait;
+use kc_word::{Cutting, Only, Rule, clean};
+use std::alloc::{AllocError, Global};
+use std::sync::{Arc, Wait};
 use std::thread::Threads;
 
-/// The most bytes that the sources of one count may have together.
+/// The most bytes that the sources of one count may have together, and that its list may have.
 pub const MOST_BYTES: u64 = 1 << 36;
 
 /// The seed of the hash that divides the words among the stripes. No report depends on it.
 const SEED: u64 = 1;
 
-/// The tally of the reads of all sources, in order, counted as the options say. How many bytes each read gave is told,
-/// how many batches there are, and each that was booked. The sources keep their names.
+/// The list of the words that occur in the reads of this source, under the rule of the count. How many bytes it gave is
+/// told.
+///
+/// # Errors
+/// `Fastx` with the fault of the source, whose number is 0. `Memory` where a growth was refused behind the reading.
+pub(crate) fn read_list<R: Source, P: Progress>(
+    alloc: Global,
+    source: &mut R,
+    rule: &Rule,
+    progress: &P,
+) -> Result<Only, ToolFault>
+    ensures list { IfOk result (GivesWords rule.now (R.seen source.old) (R.seen source.new)) }
+    ensures fault { IfErr result (RefusesSource (R.seen source.old) (R.seen source.new) 0 most_bytes) }
+{
+    match read_all(alloc, source, MOST_BYTES) {
+        Ok((reads, count)) => {
+            progress.bytes_read(count);
+            Ok(Only::of(alloc, &reads, rule)?)
+        }
+        Err(fault) => Err(ToolFault::Fastx { source: 0, fault }),
+    }
+}
+
+/// The tally of the reads of all sources, in order, counted as the options say, and what it was counted from. Where a
+/// list is given, its words alone are counted. How many bytes each read gave is told, how many batches there are, and
+/// each that was booked. The sources keep their names. Condition: the list is one under the rule of the options.
 ///
 /// # Errors
 /// `Fastx` with the fault of the first source that has one, and its number from 1; the sources behind it are as they
@@ -48,17 +80,22 @@ const SEED: u64 = 1;
 pub(crate) fn count_sources<H: Threads + Wait + Sync, R: Source, P: Progress + Sync>(
     rt: &H,
     alloc: Global,
+    list: Option<Only>,
     sources: &mut [NamedSource<'_, R>],
     options: &Options,
     progress: &P,
-) -> Result<Tally, ToolFault>
-    ensures tally { IfOk result
-        (TalliesSources (seen_of R.seen sources.old) (seen_of R.seen sources.new) options.now) }
+) -> Result<(Tally, Option<Origin>), ToolFault>
+    requires list { IfSome list (IsListUnder (rule_of options.now)) }
+    ensures tally { let Tallies = TalliesSources (seen_of R.seen sources.old) (seen_of R.seen sources.new) options.now in
+        IfOk result (λ table. Tallies (words_of list) (table.0, table.1)) }
+    ensures origin { IfOk result (λ table. MaySay table.1) }
     ensures fault { IfErr result (RefusesSources (seen_of R.seen sources.old) (seen_of R.seen sources.new)) }
     ensures names { names_of sources.new ≡ names_of sources.old }
 {
-    let cutting = cut_sources(alloc, sources, options, progress)?;
-    count_cutting(rt, alloc, cutting, options, progress)
+    let is_listed = list.is_some();
+    let (cutting, count) = cut_sources(alloc, sources, options, progress)?;
+    let tally = count_cutting(rt, alloc, cutting, list, options, progress)?;
+    Ok((tally, Some(origin_of(options, count, is_listed))))
 }
 
 /// The tally of the reads of one source, the input. The rest is as with a list of sources.
@@ -68,30 +105,52 @@ pub(crate) fn count_sources<H: Threads + Wait + Sync, R: Source, P: Progress + S
 pub(crate) fn count_input<H: Threads + Wait + Sync, R: Source, P: Progress + Sync>(
     rt: &H,
     alloc: Global,
+    list: Option<Only>,
     input: &mut R,
     options: &Options,
     progress: &P,
-) -> Result<Tally, ToolFault>
-    ensures tally { IfOk result
-        (TalliesSources (R.seen input.old ∷ []) (R.seen input.new ∷ []) options.now) }
+) -> Result<(Tally, Option<Origin>), ToolFault>
+    requires list { IfSome list (IsListUnder (rule_of options.now)) }
+    ensures tally { let Tallies = TalliesSources (R.seen input.old ∷ []) (R.seen input.new ∷ []) options.now in
+        IfOk result (λ table. Tallies (words_of list) (table.0, table.1)) }
+    ensures origin { IfOk result (λ table. MaySay table.1) }
     ensures fault { IfErr result (RefusesSources (R.seen input.old ∷ []) (R.seen input.new ∷ [])) }
 {
-    let cutting = cut_input(alloc, input, options, progress)?;
-    count_cutting(rt, alloc, cutting, options, progress)
+    let is_listed = list.is_some();
+    let (cutting, count) = cut_input(alloc, input, options, progress)?;
+    let tally = count_cutting(rt, alloc, cutting, list, options, progress)?;
+    Ok((tally, Some(origin_of(options, count, is_listed))))
 }
 
-// The tally of the reads whose pieces were cut. Condition: the cutting is that of some reads.
+// What is told of a count of so many reads. Condition: they are at most 2^36.
+fn origin_of(options: &Options, reads: u64, listed: bool) -> Origin
+    requires { reads ≤ most_bytes }
+    ensures told { result ≡ record { floor = options.now.floor; reads = reads; listed = listed } }
+    ensures lawful { IsOrigin result }
+{
+    let floor = options.rule().floor();
+    Origin {
+        floor,
+        reads,
+        listed,
+    }
+}
+
+// The tally of the reads whose pieces were cut, of the words of the list alone where one is given. Conditions: the
+// cutting is that of some reads, and the list is one under the rule of the options.
 fn count_cutting<H: Threads + Wait + Sync, P: Progress + Sync>(
     rt: &H,
     alloc: Global,
     cutting: Cutting,
+    list: Option<Only>,
     options: &Options,
     progress: &P,
 ) -> Result<Tally, ToolFault>
-    requires { (reads : List Read) × IsCuttingOf (rule_of options.now) options.now.batch reads cutting }
+    requires cut { (reads : List Read) × IsCuttingOf (rule_of options.now) options.now.batch reads cutting }
+    requires list { IfSome list (IsListUnder (rule_of options.now)) }
     ensures tally { IfOk result (λ tally. (reads : List Read)
         → IsCuttingOf (rule_of options.now) options.now.batch reads cutting
-        → IsTallyOf (rule_of options.now) reads tally) }
+        → IsTallyOf (kept_to (words_of list) (rule_of options.now)) reads tally) }
     ensures fault { IfErr result IsUncounted }
 {
     let rule = options.rule();
@@ -101,7 +160,7 @@ fn count_cutting<H: Threads + Wait + Sync, P: Progress + Sync>(
     gather_laws::tally_of_cutting();
     let batches = cutting.finish(alloc)?;
     progress.counting_begins(batches.len() as u64);
-    let setup = setup_of(options);
+    let setup = setup_of(alloc, list, options)?;
     let tables = quotient_tables(alloc, &setup, options.size())?;
     let tally = run(
         rt,
@@ -115,7 +174,7 @@ fn count_cutting<H: Threads + Wait + Sync, P: Progress + Sync>(
     Ok(tally)
 }
 
-// The cutting of the reads of all sources, in order. Each source is read whole before the next one, and each read is
+// The cutting of the reads of all sources, in order, and how many reads there are. Each source is read whole before the next one, and each read is
 // cleaned and cut before the next one is read, so that the text of one read is in memory at a time. A fault is that of
 // the first source that has one, with its number from 1, or `Memory` where a growth was refused outside the reading.
 fn cut_sources<R: Source, P: Progress>(
@@ -123,9 +182,9 @@ fn cut_sources<R: Source, P: Progress>(
     sources: &mut [NamedSource<'_, R>],
     options: &Options,
     progress: &P,
-) -> Result<Cutting, ToolFault>
+) -> Result<(Cutting, u64), ToolFault>
     ensures cut { let Cuts = CutsSources (seen_of R.seen sources.old) (seen_of R.seen sources.new) in
-        IfOk result (Cuts (rule_of options.now) options.now.batch) }
+        IfOk result (λ cut. Cuts (rule_of options.now) options.now.batch cut.0 cut.1) }
     ensures fault { IfErr result (RefusesSources (seen_of R.seen sources.old) (seen_of R.seen sources.new)) }
     ensures names { names_of sources.new ≡ names_of sources.old }
 {
@@ -133,34 +192,44 @@ fn cut_sources<R: Source, P: Progress>(
     let mut cutting = Cutting::new(alloc, rule.k(), options.batch());
     let mut left = MOST_BYTES;
     let mut number = 0u64;
+    let mut count = 0u64;
     let _fits = sources.len();
     for source in sources.iter_mut() {
         number += 1;
         let source = &mut source.source;
-        left -= cut_source(alloc, source, number, left, &rule, &mut cutting, progress)?;
+        let taken = cut_source(alloc, source, number, left, &rule, &mut cutting, progress)?;
+        left -= taken.bytes;
+        count += taken.reads;
     }
-    Ok(cutting)
+    Ok((cutting, count))
 }
 
-// The cutting of the reads of one source, the input.
+// The cutting of the reads of one source, the input, and how many they are.
 fn cut_input<R: Source, P: Progress>(
     alloc: Global,
     input: &mut R,
     options: &Options,
     progress: &P,
-) -> Result<Cutting, ToolFault>
+) -> Result<(Cutting, u64), ToolFault>
     ensures cut { let Cuts = CutsSources (R.seen input.old ∷ []) (R.seen input.new ∷ []) in
-        IfOk result (Cuts (rule_of options.now) options.now.batch) }
+        IfOk result (λ cut. Cuts (rule_of options.now) options.now.batch cut.0 cut.1) }
     ensures fault { IfErr result (RefusesSources (R.seen input.old ∷ []) (R.seen input.new ∷ [])) }
 {
     let rule = options.rule();
     let mut cutting = Cutting::new(alloc, rule.k(), options.batch());
-    let _count = cut_source(alloc, input, 1, MOST_BYTES, &rule, &mut cutting, progress)?;
-    Ok(cutting)
+    let taken = cut_source(alloc, input, 1, MOST_BYTES, &rule, &mut cutting, progress)?;
+    Ok((cutting, taken.reads))
 }
 
-// Reads this source whole and cuts the pieces of its reads behind those that were cut. It answers how many bytes the
-// source gave, and tells of them read by read. A fault of the lines is told where the rest was read too.
+// What a source gave.
+#[derive(Clone, Copy, Debug)]
+struct Taken {
+    bytes: u64,
+    reads: u64,
+}
+
+// Reads this source whole and cuts the pieces of its reads behind those that were cut. It answers what the source gave,
+// and tells of its bytes read by read. A fault of the lines is told where the rest was read too.
 fn cut_source<R: Source, P: Progress>(
     alloc: Global,
     source: &mut R,
@@ -169,10 +238,10 @@ fn cut_source<R: Source, P: Progress>(
     rule: &Rule,
     cutting: &mut Cutting,
     progress: &P,
-) -> Result<u64, ToolFault>
+) -> Result<Taken, ToolFault>
     requires { limit ≤ most_bytes }
     ensures pieces { let Cuts = CutsPieces (R.seen source.old) (R.seen source.new) limit rule.now in
-        IfOk result (λ count. Cuts count cutting.old cutting.new) }
+        IfOk result (λ taken. Cuts taken.bytes taken.reads cutting.old cutting.new) }
     ensures fault { IfErr result (RefusesSource (R.seen source.old) (R.seen source.new) number limit) }
 {
     let mut reading = match Reading::new(alloc, limit) {
@@ -185,14 +254,22 @@ fn cut_source<R: Source, P: Progress>(
         }
     };
     let mut told = 0u64;
+    let mut count = 0u64;
     'reads: loop {
         match reading.next_read(alloc, source) {
             Ok(Some(read)) => {
                 told = tell_bytes(progress, told, reading.byte_count());
                 let piece = clean(alloc, &read, rule)?;
                 cutting.push(alloc, &piece)?;
+                count += 1;
             }
-            Ok(None) => return Ok(tell_bytes(progress, told, reading.byte_count())),
+            Ok(None) => {
+                let bytes = tell_bytes(progress, told, reading.byte_count());
+                return Ok(Taken {
+                    bytes,
+                    reads: count,
+                });
+            }
             Err(fault) => {
                 return Err(ToolFault::Fastx {
                     source: number,
@@ -214,8 +291,25 @@ fn tell_bytes<P: Progress>(progress: &P, told: u64, count: u64) -> u64
     count
 }
 
-// The setup that the options ask for: how words are divided among the stripes.
-fn setup_of(options: &Options) -> Setup
+// The setup that the options ask for: how words are divided among the stripes, and which count. Condition: the list is
+// one under the rule of the options.
+fn setup_of(alloc: Global, list: Option<Only>, options: &Options) -> Result<Setup, AllocError>
+    requires { IfSome list (IsListUnder (rule_of options.now)) }
+    ensures rule { IfOk result (λ setup. setup.rule ≡ kept_to (words_of list) (rule_of options.now)) }
+    ensures stripes { IfOk result (λ setup. stripe_count setup ≡ options.now.stripes) }
+{
+    let setup = unlisted_setup_of(options);
+    let Some(list) = list else {
+        return Ok(setup);
+    };
+    let Some(setup) = setup.listed(Arc::new(alloc, list)?) else {
+        unreachable!()
+    };
+    Ok(setup)
+}
+
+// The setup that the options ask for where all words count.
+fn unlisted_setup_of(options: &Options) -> Setup
     ensures rule { result.rule ≡ rule_of options.now }
     ensures stripes { stripe_count result ≡ options.now.stripes }
 {

@@ -83,6 +83,8 @@ fn push_front(line: &mut Block, fault: &ToolFault)
         ToolFault::Write => line.push(b"53: write failed"),
         ToolFault::Run(fault) => push_run_fault(line, *fault),
         ToolFault::OpenFailed(_) => line.push(b"54: cannot open "),
+        ToolFault::Unlike => line.push(b"61: tables do not match"),
+        ToolFault::TooLarge => line.push(b"62: sums too large"),
     }
 }
 

@@ -5,14 +5,14 @@
 //! refusal is a `ToolFault`, and `write_fault` writes its line.
 //!
 //! `write_dump`, `write_histo`, `write_stats` and `write_table` write a `Tally`, and `query` the counts of some words;
-//! `read_table` reads what `write_table` writes.
+//! `read_table` reads what `write_table` writes, with the `Origin` that it tells, and `merge` adds two of these.
 //!
 //! ```text
 //! let k = K::new(3).ok_or("a length")?;
 //! let options = Options::new(k).with_print(Print::Dump).with_dump(Dump::in_columns());
 //! let sources = vec![in alloc; FromBytes::new(b">r1\nACGTA\n")]?;
 //! let mut writer = ToVec::new(Vec::new(alloc));
-//! count_reads(&rt, alloc, sources, &options, &mut writer)?;
+//! count_reads(&rt, alloc, None::<FromBytes>, sources, &options, &mut writer)?;
 //! assert_eq!(rt; writer.as_slice(), b"ACG 1\nCGT 1\nGTA 1\n".as_slice());
 //! ```
 #![tactic(auto)]
@@ -29,6 +29,7 @@ mod given_options;
 mod named_sources;
 mod process;
 mod reports;
+mod task_tallies;
 mod tool_faults;
 
 pub use command_line::run;
@@ -40,8 +41,8 @@ pub use given_options::{dump_options, high_of, options};
 pub use kc_command::{OptionName, Options, Print, command_laws};
 pub use kc_io::{Sink, ToVec, ToWrite};
 pub use kc_report::{
-    Dump, GREATEST_HIGH, ReportFault, query, read_table, write_dump, write_histo, write_stats,
-    write_table,
+    Dump, GREATEST_HIGH, Origin, ReportFault, merge, query, read_table, write_dump, write_histo,
+    write_stats, write_table,
 };
 pub use kc_run::RunFault;
 pub use kc_tally::{Row, Tally};

@@ -1,17 +1,21 @@
 //! Reports on a tally: which one is written, and from sources of reads to the report on their tally.
-ghost use Rattle.std.specs.Prelude.{◌≡◌, ◌≢◌, OnOk, IfErr, IfOk, IsErrOf, map};
+ghost use Rattle.std.specs.Prelude.{◌≡◌, ◌≢◌, OnOk, IfErr, IfOk, IsErrOf, map, option_map};
 ghost use Rattle.kc_tool.specs.NamedSources.{seen_of};
 ghost use Rattle.kc_tool.specs.Reports.{BeginsReport, IsWritable, LeavesUnwritten, WritesReport, WritesText};
 ghost use Rattle.kc_tool.specs.Reports.{report_of, report_text};
+ghost use Rattle.kc_tool.specs.Tallies.{GivesListOf, ListFailsIn, given};
+ghost use Rattle.kc_report.specs.Table.{MaySay};
+ghost use Rattle.kc_command.specs.Settings.{rule_of};
 
 use crate::count_progress::NoProgress;
-use crate::counted_sources::count_sources;
+use crate::counted_sources::{count_sources, read_list};
 use crate::named_sources::NamedSource;
 use crate::tool_faults::ToolFault;
 use kc_command::{Options, Print};
 use kc_io::{Sink, Source};
-use kc_report::{Dump, write_dump, write_histo, write_stats, write_table};
+use kc_report::{Dump, Origin, write_dump, write_histo, write_stats, write_table};
 use kc_tally::Tally;
+use kc_word::Only;
 use std::alloc::{AllocError, Global};
 use std::sync::Wait;
 use std::thread::Threads;
@@ -28,31 +32,52 @@ pub(crate) struct Report {
     pub high: u64,
 }
 
-/// Reads all sources in order, counts their words, and writes the report that the options ask for. Nothing is written
-/// before all sources were read and counted. The sources have at most 2^36 bytes together.
+/// Reads all sources in order, counts their words, and writes the report that the options ask for. Where `only` is given,
+/// it is read before the sources, and no word counts that does not occur in its reads, under the rule of the options.
+/// Nothing is written before all was read and counted. The sources have at most 2^36 bytes together, and `only` as many.
 ///
 /// # Errors
-/// `Fastx` with the fault of the first source that has one, and its number from 1; so it is also where a growth was
-/// refused while that source was read. `Run` where the counting was refused, and `Memory` where a growth was refused
-/// elsewhere. After all these nothing was written.
+/// `Fastx` with the fault of `only`, and number 0; the sources are as they were. Else with the fault of the first source
+/// that has one, and its number from 1. So it is also where a growth was refused while one of them was read. `Run` where
+/// the counting was refused, and `Memory` where a growth was refused elsewhere. After all these nothing was written.
 /// `Write` where the writer failed or took no byte; a beginning of the report was written.
-pub fn count_reads<H: Threads + Wait + Sync, R: Source + Drop, W: Sink>(
+pub fn count_reads<H: Threads + Wait + Sync, Q: Source + Drop, R: Source + Drop, W: Sink>(
     rt: &H,
     alloc: Global,
+    only: Option<Q>,
     sources: Vec<R>,
     options: &Options,
     writer: &mut W,
 ) -> Result<(), ToolFault>
-    ensures written { OnOk result
-        (WritesReport (map R.seen sources.items) options.now (W.seen writer.old) (W.seen writer.new)) }
+    ensures written { let Writes = WritesReport (given (option_map Q.seen only) (map R.seen sources.items)) in
+        OnOk result (Writes options.now (W.seen writer.old) (W.seen writer.new)) }
     ensures begun { IsErrOf result ToolFault.Write
-        → BeginsReport (map R.seen sources.items) options.now (W.seen writer.old) (W.seen writer.new) }
-    ensures refused { IfErr result (λ fault. fault ≢ ToolFault.Write
-        → LeavesUnwritten (map R.seen sources.items) (W.seen writer.old) (W.seen writer.new) fault) }
+        → BeginsReport (given (option_map Q.seen only) (map R.seen sources.items)) options.now
+        (W.seen writer.old) (W.seen writer.new) }
+    ensures refused { let Leaves = LeavesUnwritten (given (option_map Q.seen only) (map R.seen sources.items)) in
+        IfErr result (λ fault. fault ≢ ToolFault.Write
+        → Leaves options.now (W.seen writer.old) (W.seen writer.new) fault) }
 {
     let mut sources = unnamed(alloc, sources)?;
-    let tally = count_sources(rt, alloc, &mut sources, options, &NoProgress)?;
-    write_report(alloc, writer, &tally, report_of(options))
+    let list = list_of(alloc, only, options)?;
+    let (tally, origin) = count_sources(rt, alloc, list, &mut sources, options, &NoProgress)?;
+    write_report(alloc, writer, &tally, origin, report_of(options))
+}
+
+// The list of the words that occur in the reads of this source, where there is one.
+fn list_of<Q: Source + Drop>(
+    alloc: Global,
+    only: Option<Q>,
+    options: &Options,
+) -> Result<Option<Only>, ToolFault>
+    ensures list { IfOk result (GivesListOf (rule_of options.now) (option_map Q.seen only)) }
+    ensures fault { IfErr result (ListFailsIn (option_map Q.seen only)) }
+{
+    let Some(mut source) = only else {
+        return Ok(None);
+    };
+    let list = read_list(alloc, &mut source, &options.rule(), &NoProgress)?;
+    Ok(Some(list))
 }
 
 // The sources, without names.
@@ -81,22 +106,25 @@ pub(crate) fn report_of(options: &Options) -> Report
     }
 }
 
-/// Writes a report on a tally. Condition: a histogram is for counts up to 1 to 10,000,000.
+/// Writes a report on a tally; a table says what it was counted from, where that is told. Conditions: a histogram is for
+/// counts up to 1 to 10,000,000, and the origin is one that a header can say.
 ///
 /// # Errors
-/// `Write` where the writer failed or took no byte; a beginning of the report was written. `Memory` where a growth was
+/// `Write` where the writer failed or took no byte; a beginning of the text was written. `Memory` where a growth was
 /// refused; nothing was written.
 pub(crate) fn write_report<W: Sink>(
     alloc: Global,
     writer: &mut W,
     tally: &Tally,
+    origin: Option<Origin>,
     report: Report,
 ) -> Result<(), ToolFault>
-    requires { IsWritable report }
-    ensures { WritesText (report_text report tally.now) (W.seen writer.old) (W.seen writer.new) result }
+    requires writable { IsWritable report }
+    requires origin { MaySay origin }
+    ensures { WritesText (report_text report (tally.now, origin)) (W.seen writer.old) (W.seen writer.new) result }
 {
     match report.print {
-        Print::Table => write_table(writer, tally)?,
+        Print::Table => write_table(writer, tally, origin.as_ref())?,
         Print::Dump => write_dump(writer, tally, &report.dump)?,
         Print::Histo => write_histo(alloc, writer, tally, report.high)?,
         Print::Stats => write_stats(writer, tally)?,

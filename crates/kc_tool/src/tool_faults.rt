@@ -14,7 +14,7 @@ use thiserror::Error;
 /// Why a command could not be carried out.
 #[derive(Debug, Drop, PartialEq, Eq, Error)]
 pub enum ToolFault {
-    /// A source could not be read as sequence reads. Sources are numbered from 1.
+    /// A source could not be read as sequence reads. Sources are numbered from 1, and the list of a count is number 0.
     #[error("{fault}, source {source}")]
     Fastx {
         /// The number of the source.
@@ -55,6 +55,12 @@ pub enum ToolFault {
     /// The file of this name could not be opened, or not be created.
     #[error("cannot open {0}")]
     OpenFailed(String),
+    /// The tables that are to be added do not match.
+    #[error("tables do not match")]
+    Unlike,
+    /// The counts of two tables together, or their reads together, are above 2^62.
+    #[error("sums too large")]
+    TooLarge,
 }
 
 impl From<AllocError> for ToolFault {
@@ -110,6 +116,8 @@ impl From<ReportFault> for ToolFault {
             ReportFault::Memory => ToolFault::Memory,
             ReportFault::BadWord(number) => ToolFault::BadWord(number),
             ReportFault::Write => ToolFault::Write,
+            ReportFault::Unlike => ToolFault::Unlike,
+            ReportFault::TooLarge => ToolFault::TooLarge,
         }
     }
 }

@@ -1,4 +1,4 @@
-use Rattle.std.proofs.Common.{◌∙◌, sym, inl, inr, refl, arith}
+use Rattle.std.proofs.Common.{◌∙◌, sym, inl, inr, arith}
 use Rattle.kc_tool.proofs.CommandLineLemmas.{small_status, some_status, told}
 use Rattle.kc_tool.proofs.command_line.run.Goals as goal
 

@@ -3,7 +3,7 @@ use Rattle.std.specs.Prelude.{option_map}
 use Rattle.std.proofs.lemmas.Result.{err_from_is_err_and}
 use Rattle.clap.specs.Words.{found_of, rows_of}
 use Rattle.kc_tool.specs.Files.{FailsToOpen, OpensAll}
-use Rattle.kc_tool.proofs.CommandsLemmas.{file_left, has_sources, into_ends, option_left, to_output}
+use Rattle.kc_tool.proofs.CommandsLemmas.{file_left, has_files, into_ends, option_left, to_output}
 use Rattle.kc_tool.specs.declared.tool_faults.ToolFault.TheVariants.{Memory}
 use Rattle.kc_tool.proofs.commands.run_command.Goals as goal
 
@@ -41,14 +41,14 @@ returns g c =
     let output = sym c.text_of.ensures ∙ ap (option_map (λ (name : Bor (List ℕ)). name.now)) c.in-Some.is in
     into_ends c.args.verb rows c.in_ok-task.task c.in_ok-task.ensures.asked opens output c.in_ok-task.ensures.lawful c.do_task_into.ensures
 
-pub do_task-requires-clause-sources : goal.do_task-requires-clause-sources
-do_task-requires-clause-sources g c κs within =
+pub do_task-requires-clause-files : goal.do_task-requires-clause-files
+do_task-requires-clause-files g c κs within =
     let named = ap (map (λ (name : Bor (List ℕ)). name.now)) c.deref.ensures.value ∙ c.in_ok-names.ensures in
-    has_sources (rows_of (found_of c.args.matches.now)) (g.R.Source.seen c.args.input.now) c.args.verb c.in_ok-task.task c.in_ok-sources.sources.items
+    has_files (rows_of (found_of c.args.matches.now)) c.args.verb c.in_ok-task.task c.in_ok-sources.sources.items
     c.in_ok-task.ensures.asked (c.in_ok-sources.ensures.opened.named ∙ named)
 
-pub do_task_into-requires-clause-sources : goal.do_task_into-requires-clause-sources
-do_task_into-requires-clause-sources g c κs within =
+pub do_task_into-requires-clause-files : goal.do_task_into-requires-clause-files
+do_task_into-requires-clause-files g c κs within =
     let named = ap (map (λ (name : Bor (List ℕ)). name.now)) c.deref.ensures.value ∙ c.in_ok-names.ensures in
-    has_sources (rows_of (found_of c.args.matches.now)) (g.R.Source.seen c.args.input.now) c.args.verb c.in_ok-task.task c.in_ok-sources.sources.items
+    has_files (rows_of (found_of c.args.matches.now)) c.args.verb c.in_ok-task.task c.in_ok-sources.sources.items
     c.in_ok-task.ensures.asked (c.in_ok-sources.ensures.opened.named ∙ named)

@@ -2,14 +2,16 @@ use Rattle.std.proofs.Common.{◌∙◌, ap, sym, length, arith}
 use Rattle.std.proofs.lemmas.List.{length-map}
 use Rattle.kc_tool.specs.Tallies.{pieces_of}
 use Rattle.kc_command.specs.Settings.{rule_of}
+use Rattle.kc_tool.specs.Tallies.{words_of}
+use Rattle.kc_tool.proofs.SourcesLemmas.{k-kept, tally_kept}
 use Rattle.kc_tool.proofs.TalliesLemmas.{few_batches, small_cutting}
 use Rattle.kc_tool.proofs.counted_sources.count_cutting.Goals as goal
 
 pub run-requires-clause-few : goal.run-requires-clause-few
 run-requires-clause-few g c κs within =
     let rule = rule_of c.args.options.now in
-    let reads = c.requires.0 in
-    let cut = c.requires.1 in
+    let reads = c.requires.cut.0 in
+    let cut = c.requires.cut.1 in
     let some = rw (c.k.ensures, c.rule-rule.ensures) at c.get-bases.ensures.some in
     let batches = few_batches rule.k c.args.options.now.batch (pieces_of rule reads) some c.batch-positions.ensures.some in
     let raw = c.in_ok-batches.ensures.cutting (pieces_of rule reads) cut.taken in
@@ -20,13 +22,13 @@ run-requires-clause-few g c κs within =
 pub run-requires-clause-small : goal.run-requires-clause-small
 run-requires-clause-small g c κs within =
     let rule = rule_of c.args.options.now in
-    let reads = c.requires.0 in
-    let cut = c.requires.1 in
+    let reads = c.requires.cut.0 in
+    let cut = c.requires.cut.1 in
     let some = rw (c.k.ensures, c.rule-rule.ensures) at c.get-bases.ensures.some in
     let raw = c.in_ok-batches.ensures.cutting (pieces_of rule reads) cut.taken in
     let is = rw (cut.length_of_words, cut.size) at raw in
     let small = small_cutting rule.k c.args.options.now.batch (pieces_of rule reads) some c.batch-positions.ensures.some in
-    rw (c.setup_of-setup.ensures.rule, c.deref.ensures.value, is) (omega (arith, small, cut.few))
+    rw (c.in_ok-setup.ensures.rule, k-kept (words_of c.args.list) rule, c.deref.ensures.value, is) (omega (arith, small, cut.few))
 
 pub returns-clause-tally : goal.returns-clause-tally
 returns-clause-tally g c = λ reads cut.
@@ -34,5 +36,5 @@ returns-clause-tally g c = λ reads cut.
     let some = rw (c.k.ensures, c.rule-rule.ensures) at c.get-bases.ensures.some in
     let raw = c.in_ok-batches.ensures.cutting (pieces_of rule reads) cut.taken in
     let is = rw (cut.length_of_words, cut.size) at raw in
-    let gathered = rw (c.setup_of-setup.ensures.rule, c.deref.ensures.value, is) at c.in_ok-tally.ensures.tally in
-    c.tally_of_cutting.ensures rule c.args.options.now.batch reads _ some c.batch-positions.ensures.some gathered
+    let gathered = rw (c.in_ok-setup.ensures.rule, c.deref.ensures.value, is) at c.in_ok-tally.ensures.tally in
+    tally_kept c.tally_of_cutting.ensures (words_of c.args.list) rule c.args.options.now.batch reads _ some c.batch-positions.ensures.some gathered

@@ -2,6 +2,7 @@ use Rattle.std.proofs.Common.{refl, arith, inl}
 use Rattle.kc_fastx.proofs.ReadingLemmas.{used_within}
 use Rattle.kc_io.proofs.IntakesLemmas.{taken_in_vain, taken_none}
 use Rattle.kc_word.specs.Cutting.{cleaned}
+use Rattle.kc_tool.proofs.ReadCountLemmas.{read_count-gives}
 use Rattle.kc_tool.proofs.CleaningLemmas.{TakesPiece, no_piece, one_more_piece}
 use Rattle.kc_tool.proofs.counted_sources.cut_source.Goals as goal
 
@@ -32,7 +33,8 @@ reads-preserved-in_ok-push-in-Ok-Some g c =
       size = c.push.ensures.size;
       more = λ pieces taken. rw piece at c.in_ok-push-in-Ok-Some.ensures.more pieces taken;
     } in
-    one_more_piece c.in-Ok-Some.read so_far next pushed
+    let more = rw c.in-Ok-Some.field-0-is at c.in-Ok-Some.ensures.used in
+    one_more_piece c.in-Ok-Some.read so_far next more pushed
 
 pub reads-smaller : goal.reads-smaller
 reads-smaller g c =
@@ -56,7 +58,8 @@ reads-preserved g c =
       size = c.push.ensures.size;
       more = λ pieces taken. rw piece at c.in_ok-push-in-Ok-Some.ensures.more pieces taken;
     } in
-    one_more_piece c.in-Ok-Some.read so_far next pushed
+    let more = rw c.in-Ok-Some.field-0-is at c.in-Ok-Some.ensures.used in
+    one_more_piece c.in-Ok-Some.read so_far next more pushed
 
 pub byte_count-requires : goal.byte_count-requires
 byte_count-requires g c =
@@ -86,7 +89,10 @@ returns-in-Ok-None-clause-pieces g c =
     c.in-Ok-None.ensures.given start c.args.limit so_far.reads so_far.given in
     record {
       reads = so_far.reads;
-      given = rw (c.tell_bytes.ensures, c.byte_count-in-Ok-None.ensures) end.1;
+      given = rw (c.tell_bytes-bytes.ensures, c.byte_count-in-Ok-None.ensures) end.1;
+      counted = so_far.counted;
+      few = rw (c.tell_bytes-bytes.ensures, c.byte_count-in-Ok-None.ensures, so_far.counted)
+          (read_count-gives start _ c.args.limit so_far.reads _ end.1);
       length_of_words = so_far.length_of_words;
       size = so_far.size;
       behind = so_far.behind;

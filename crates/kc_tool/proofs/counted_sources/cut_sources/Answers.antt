@@ -1,8 +1,8 @@
-use Rattle.std.proofs.Common.{◌≡◌, ◌∙◌, ◌≤◌, ◌<◌, ◌+◌, length, get_or, ap, arith, refl}
+use Rattle.std.proofs.Common.{◌∙◌, ◌≤◌, ◌<◌, ◌+◌, length, get_or, ap, arith, refl}
 use Rattle.std.proofs.lemmas.List.{length-map}
 use Rattle.std.proofs.lemmas.Result.{err_from_is_err_and}
 use Rattle.std.proofs.Math.Seq.{map-set_same}
-use Rattle.kc_tool.specs.NamedSources.{names_of, seen_of}
+use Rattle.kc_tool.specs.NamedSources.{seen_of}
 use Rattle.kc_tool.proofs.CleaningLemmas.{all_cut, cutting_begun, one_more_kept, refused_kept}
 use Rattle.kc_tool.proofs.counted_sources.cut_sources.Goals as goal
 
@@ -25,14 +25,14 @@ loop-source-preserved g c =
     let read = record item { source = c.cut_source.new.source } in
     record {
       so_far = one_more_kept (λ source. g.R.Source.seen source.source) loop.sources item read is within
-          loop.invariant.counted loop.invariant.so_far c.in_ok-left.field-0 c.in_ok-left.ensures.pieces;
+          loop.invariant.counted loop.invariant.so_far c.in_ok-taken.taken.bytes c.in_ok-taken.taken.reads c.in_ok-taken.ensures.pieces;
       counted = ap (λ n. n + 1) loop.invariant.counted;
       names = map-set_same (λ source. source.name.now) loop.sources loop.source-index read item
           (ap (λ source. source.name.now) is) ∙ loop.invariant.names;
     }
 
-pub returns-in_err-left-clause-fault : goal.returns-in_err-left-clause-fault
-returns-in_err-left-clause-fault g c =
+pub returns-in_err-taken-clause-fault : goal.returns-in_err-taken-clause-fault
+returns-in_err-taken-clause-fault g c =
     let p = err_from_is_err_and c.from_residual.result c.from_residual.ensures.1 in
     let loop = c.loop-source in
     let item = get_or loop.sources loop.source-index c.source-item.result in
@@ -40,10 +40,10 @@ returns-in_err-left-clause-fault g c =
     let within : loop.source-index < length loop.sources = omega arith in
     let read = record item { source = c.cut_source.new.source } in
     rw (p.1, p.2) (refused_kept (λ source. g.R.Source.seen source.source) loop.sources item read is within
-    loop.invariant.counted loop.invariant.so_far c.in_err-left.field-0.0 c.in_err-left.ensures.fault)
+    loop.invariant.counted loop.invariant.so_far c.in_err-taken.field-0.0 c.in_err-taken.ensures.fault)
 
-pub returns-in_err-left-clause-names : goal.returns-in_err-left-clause-names
-returns-in_err-left-clause-names g c =
+pub returns-in_err-taken-clause-names : goal.returns-in_err-taken-clause-names
+returns-in_err-taken-clause-names g c =
     let loop = c.loop-source in
     let item = get_or loop.sources loop.source-index c.source-item.result in
     let is = ap (λ v. get_or loop.sources loop.source-index v) c.source-item.is in

@@ -1,4 +1,4 @@
-use Rattle.std.proofs.Common.{◌≡◌, length}
+use Rattle.std.proofs.Common.{◌≡◌}
 use Rattle.kc_tool.specs.NamedSources.{names_of, seen_of}
 use Rattle.kc_tool.proofs.CleaningLemmas.{CutSoFar}
 use Rattle.kc_tool.proofs.counted_sources.cut_sources.Given as goal
@@ -7,7 +7,7 @@ abbrev pub invariant-loop-source : goal.invariant-loop-source
 invariant-loop-source g l =
     let seen = seen_of g.R.Source.seen in
     record {
-      so_far : CutSoFar (seen l.fn.sources) (seen l.sources) l.rule l.options.batch l.cutting l.left l.number;
+      so_far : CutSoFar (seen l.fn.sources) (seen l.sources) l.rule l.options.batch l.cutting l.left l.number l.count;
       counted : l.number ≡ l.source-index;
       names : names_of l.sources ≡ names_of l.fn.sources;
     }

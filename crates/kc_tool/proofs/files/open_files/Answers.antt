@@ -1,4 +1,4 @@
-use Rattle.std.proofs.Common.{rules, arith}
+use Rattle.std.proofs.Common.{rules}
 use Rattle.kc_tool.proofs.FilesLemmas.{opened_more, opened_short}
 use Rattle.kc_tool.proofs.files.open_files.Goals as goal
 

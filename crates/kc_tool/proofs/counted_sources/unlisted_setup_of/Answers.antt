@@ -1,6 +1,6 @@
 use Rattle.std.proofs.Common.{◌≡◌, ◌∙◌, ◌*◌, ap, true, false}
 use Rattle.kc_tool.proofs.TalliesLemmas.{seeded_bits}
-use Rattle.kc_tool.proofs.counted_sources.setup_of.Goals as goal
+use Rattle.kc_tool.proofs.counted_sources.unlisted_setup_of.Goals as goal
 
 pub unreachable-requires : goal.unreachable-requires
 unreachable-requires c =

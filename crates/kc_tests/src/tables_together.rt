@@ -1,0 +1,153 @@
+//! Tables of reads that are counted apart and put together.
+use crate::listed_reads::{BOTH, How, PLAIN, count_listed, options_of};
+use kc_fastx::FromBytes;
+use kc_tool::{Print, ToVec, ToolFault, count_reads, merge, read_table, write_table};
+use std::alloc::Global;
+use std::process::Abort;
+use std::sync::Wait;
+use std::test::Fail;
+use std::thread::Threads;
+
+// The table of some inputs and, behind them, some more.
+fn table_of<H: Threads + Wait + Abort + Sync + AllocGlobal>(
+    rt: &H,
+    how: How,
+    inputs: &[&str],
+    more: &[&str],
+) -> Result<Vec<u8>, Fail> {
+    let alloc = rt.alloc();
+    let options = options_of(rt, how, Print::Table)?;
+    let mut sources = Vec::new(alloc);
+    for input in inputs {
+        sources.push(FromBytes::new(input.as_bytes()))?;
+    }
+    for input in more {
+        sources.push(FromBytes::new(input.as_bytes()))?;
+    }
+    let mut writer = ToVec::new(Vec::new(alloc));
+    count_reads(rt, alloc, None::<FromBytes>, sources, &options, &mut writer)?;
+    Ok(writer.into_inner())
+}
+
+// The table of both together.
+fn sum_of(alloc: Global, first: &[u8], second: &[u8]) -> Result<Vec<u8>, ToolFault> {
+    let (one, origin) = read_table(alloc, &mut FromBytes::new(first), 1000)?;
+    let (two, other) = read_table(alloc, &mut FromBytes::new(second), 1000)?;
+    let (sum, told) = merge(alloc, &one, origin.as_ref(), &two, other.as_ref())?;
+    let mut writer = ToVec::new(Vec::new(alloc));
+    write_table(&mut writer, &sum, told.as_ref())?;
+    Ok(writer.into_inner())
+}
+
+const ACGTA: &str = ">r1\nACGTA\n";
+
+const OTHERS: &str = "@q\nACGTN\n+\nII\"II\n@p\nTTTT\n+\nIII!\n";
+
+// Inputs in two parts.
+const PARTS: &[(&[&str], &[&str])] = &[
+    (&[ACGTA], &[">x\nACG\n"]),
+    (&[ACGTA], &[ACGTA]),
+    (&[ACGTA, OTHERS], &[">x\nacgt\n>y\n\n"]),
+    (&[OTHERS], &["", ACGTA, OTHERS]),
+    (&[], &[OTHERS]),
+    (&[ACGTA, ">y"], &[""]),
+    (&[], &[]),
+];
+
+// One strand and both, with a floor of qualities and without.
+const HOWS: &[How] = &[
+    PLAIN,
+    BOTH,
+    How {
+        k: 3,
+        both: false,
+        floor: b'#',
+    },
+    How {
+        k: 2,
+        both: true,
+        floor: b'#',
+    },
+];
+
+// Byte for byte, in either order.
+#[test]
+fn the_tables_of_the_parts_are_the_table_of_the_whole(rt: HostRuntime) -> Result<(), Fail> {
+    let alloc = rt.alloc();
+    for how in HOWS {
+        for (row, (inputs, more)) in PARTS.iter().enumerate() {
+            let first = table_of(&rt, *how, *inputs, &[])?;
+            let second = table_of(&rt, *how, &[], *more)?;
+            let whole = table_of(&rt, *how, *inputs, *more)?;
+            let sum = sum_of(alloc, &first, &second)?;
+            assert_eq!(rt; sum.as_slice(), whole.as_slice(), "{row}");
+            let turned = sum_of(alloc, &second, &first)?;
+            assert_eq!(rt; turned.as_slice(), whole.as_slice(), "{row}");
+        }
+    }
+    Ok(())
+}
+
+#[test]
+fn a_sum_in_letters(rt: HostRuntime) -> Result<(), Fail> {
+    let first = table_of(&rt, PLAIN, &[ACGTA], &[])?;
+    let second = table_of(&rt, PLAIN, &[">x\nACG\n"], &[])?;
+    let sum = sum_of(rt.alloc(), &first, &second)?;
+    let want = b"KCT 2 3 s a 33 2\nACG 2\nCGT 1\nGTA 1\nEND 3 4\n";
+    assert_eq!(rt; sum.as_slice(), want.as_slice());
+    Ok(())
+}
+
+// Ways to count that give no table which matches that of ACGTA in the plain way.
+const UNLIKE: &[How] = &[
+    BOTH,
+    How {
+        k: 3,
+        both: false,
+        floor: b'#',
+    },
+    How {
+        k: 4,
+        both: false,
+        floor: b'!',
+    },
+];
+
+// Asserts that the tables can't be put together in either order, since they do not match.
+fn assert_unlike<H: Abort + AllocGlobal>(rt: &H, first: &[u8], second: &[u8]) {
+    let alloc = rt.alloc();
+    let outcome = sum_of(alloc, first, second);
+    assert_eq!(rt; outcome.err(), Some(ToolFault::Unlike));
+    let outcome = sum_of(alloc, second, first);
+    assert_eq!(rt; outcome.err(), Some(ToolFault::Unlike));
+}
+
+#[test]
+fn tables_that_were_counted_in_other_ways(rt: HostRuntime) -> Result<(), Fail> {
+    let table = table_of(&rt, PLAIN, &[ACGTA], &[])?;
+    for how in UNLIKE {
+        let other = table_of(&rt, *how, &[ACGTA], &[])?;
+        assert_unlike(&rt, &table, &other);
+    }
+    // a list is one, also where it has all words
+    let options = options_of(&rt, PLAIN, Print::Table)?;
+    let listed = count_listed(&rt, ACGTA, &[ACGTA], &options)?.written;
+    assert_unlike(&rt, &table, &listed);
+    assert_unlike(&rt, &listed, &listed);
+    Ok(())
+}
+
+// A table that doesn't tell what it was counted from.
+const OLDER: &[u8] = b"KCT 1 3 s\nACG 1\nEND 1 1\n";
+
+// The sum of a table with one that doesn't tell what it was counted from doesn't tell it either.
+#[test]
+fn a_sum_with_an_older_table(rt: HostRuntime) -> Result<(), Fail> {
+    let table = table_of(&rt, PLAIN, &[ACGTA], &[])?;
+    let want = b"KCT 1 3 s\nACG 2\nCGT 1\nGTA 1\nEND 3 4\n";
+    let sum = sum_of(rt.alloc(), &table, OLDER)?;
+    assert_eq!(rt; sum.as_slice(), want.as_slice());
+    let sum = sum_of(rt.alloc(), OLDER, &table)?;
+    assert_eq!(rt; sum.as_slice(), want.as_slice());
+    Ok(())
+}

@@ -1,0 +1,72 @@
+-- Two tables that are read one after the other, and files of which the first is a list.
+use Rattle.std.proofs.Common.{◌≡◌, ◌∙◌, ◌≤◌, ◌-◌, ◌++◌, ℕ, Bor, List, [], ◌∷◌, length, take, drop, slice_index_or, slice_set, refl, sym, ap, subst, arith, inl, inr, append-nil, take_all}
+use Rattle.std.proofs.lemmas.List.{drop_all}
+use borrow.Rule.Slice.PartMut.{mid_of, put_mid}
+use Rattle.std.specs.Prelude.{Err, Option, Some, None, option_map}
+use Rattle.std.specs.Option.{option_copied}
+use Rattle.kc_report.specs.declared.origin.Origin.{Origin}
+use Rattle.kc_io.specs.Sources.{Seen}
+use Rattle.kc_report.specs.Merging.{Merges}
+use Rattle.kc_report.specs.TableReading.{GivesTable}
+use Rattle.kc_report.specs.declared.report_faults.ReportFault.{ReportFault}
+use Rattle.kc_tool.specs.Commands.{TellNoSum, TellsNoTable, given_listed, most_table_bytes, sources_from}
+use Rattle.kc_tool.specs.Faults.{report_fault}
+use Rattle.kc_tool.specs.NamedSources.{seen_of}
+use Rattle.kc_tool.specs.Tallies.{Given, TableSeen, given}
+use Rattle.kc_tool.specs.declared.named_sources.NamedSource.{NamedSource}
+use Rattle.kc_tool.specs.declared.tool_faults.ToolFault.{ToolFault}
+
+-- An origin that is lent is the origin.
+pub lent_origin : (origin : Option (Bor Origin)) → option_map (λ said. said.now) origin ≡ option_copied origin
+lent_origin None = refl
+lent_origin (Some said) = refl
+
+-- those behind the first, and others in their place
+abbrev behind : {S : Type 0} → List (NamedSource S) → List (NamedSource S)
+behind files = mid_of 1 (length files - 1) files
+
+abbrev with_behind : {S : Type 0} → List (NamedSource S) → List (NamedSource S) → List (NamedSource S)
+with_behind files rest = put_mid 1 (length files - 1) files rest
+
+-- one of the sources has moved on
+abbrev moved : {S : Type 0} → List (NamedSource S) → ℕ → NamedSource S → S → List (NamedSource S)
+moved files i d later = slice_set files i (record { name = (slice_index_or files i d).name; source = later })
+
+module _ {S : Type 0} (seen : S → Seen) where
+  -- The first of two sources tells no table, and the second is as it was.
+  pub first_untold : (files : List (NamedSource S)) → length files ≡ 2 → (d : NamedSource S) (later : S) (fault : ToolFault)
+      → TellsNoTable (seen (slice_index_or files 0 d).source) (seen later) fault → TellNoSum (seen_of seen files) (seen_of seen (moved files 0 d later)) fault
+  first_untold [] two d later fault h = absurd (omega (arith, two))
+  first_untold (a ∷ []) two d later fault h = absurd (omega (arith, two))
+  first_untold (a ∷ b ∷ []) two d later fault h = inl (h, refl)
+  first_untold (a ∷ b ∷ c ∷ files) two d later fault h = absurd (omega (arith, two))
+
+  -- Both tell theirs, and these can't be put together.
+  pub not_added : (files : List (NamedSource S)) → length files ≡ 2 → (d : NamedSource S) (later : S)
+      (e : NamedSource S) (other_later : S) (table other : TableSeen)
+      → GivesTable (seen (slice_index_or files 0 d).source) (seen later) most_table_bytes table
+      → GivesTable (seen (slice_index_or (moved files 0 d later) 1 e).source) (seen other_later) most_table_bytes other
+      → (why : ReportFault) → Merges table.0 other.0 table.1 other.1 (Err why)
+      → TellNoSum (seen_of seen files) (seen_of seen (moved (moved files 0 d later) 1 e other_later)) (report_fault why)
+  not_added [] two d later e other_later table other told other_told why h = absurd (omega (arith, two))
+  not_added (a ∷ []) two d later e other_later table other told other_told why h = absurd (omega (arith, two))
+  not_added (a ∷ b ∷ []) two d later e other_later table other told other_told why h =
+      inr (inr (table, other, record { told = told; other_told = other_told }, (why, h, refl)))
+  not_added (a ∷ b ∷ c ∷ files) two d later e other_later table other told other_told why h = absurd (omega (arith, two))
+
+  -- Of files the first was read as a list, and then the others as sources.
+  pub listed_done : (input input_after : Seen) (files : List (NamedSource S)) → 1 ≤ length files → (d : NamedSource S) (later : S) (rest : List (NamedSource S))
+      → (Holds : Given → Given → Type 0)
+      → Holds (given (Some (seen (slice_index_or files 0 d).source)) (sources_from input (seen_of seen (behind (moved files 0 d later)))))
+      (given (Some (seen later)) (sources_from input_after (seen_of seen rest)))
+      → Holds (given_listed input (seen_of seen files)) (given_listed input_after (seen_of seen (with_behind (moved files 0 d later) rest)))
+  listed_done input input_after [] some d later rest Holds h = absurd (omega (arith, some))
+  listed_done input input_after (f ∷ fs) some d later rest Holds h =
+      let first : NamedSource S = record { name = f.name; source = later } in
+      let n = length (first ∷ fs) - 1 in
+      let few : length fs ≤ n = omega arith in
+      let mid : take n fs ≡ fs = take_all n fs few in
+      let whole : rest ++ drop n fs ≡ rest = ap (λ v. rest ++ v) (drop_all n fs few) ∙ append-nil rest in
+      let After = given (Some (seen later)) (sources_from input_after (seen_of seen rest)) in
+      let before = subst (λ (v : List (NamedSource S)). Holds (given (Some (seen f.source)) (sources_from input (seen_of seen v))) After) mid h in
+      subst (λ (v : List (NamedSource S)). Holds (given (Some (seen f.source)) (sources_from input (seen_of seen fs))) (given (Some (seen later)) (sources_from input_after (seen_of seen v)))) (sym whole) before

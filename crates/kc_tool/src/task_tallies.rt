@@ -1,0 +1,187 @@
+//! The tally that a task is about: that of reads that are counted, of a table that is read, or of two tables together.
+ghost use Rattle.std.specs.Prelude.{◌≡◌, ◌≤◌, IfErr, IfOk, IfSome, drop, length};
+ghost use Rattle.kc_report.specs.Table.{MaySay};
+ghost use Rattle.kc_report.specs.TableReading.{GivesTable};
+ghost use Rattle.kc_command.specs.Settings.{rule_of};
+ghost use Rattle.kc_tool.specs.NamedSources.{names_of, seen_of};
+ghost use Rattle.kc_tool.specs.Tallies.{Counts, IsListUnder, RefusesCount, RefusesSources, TalliesSources, words_of};
+ghost use Rattle.kc_tool.specs.Commands.{
+  HasFilesFor,
+  HasNoTallyFor,
+  IsTallyFor,
+  KeepsInput,
+  TellNoSum,
+  TellNoTable,
+  TellOneTable,
+  TellSum,
+  TellsNoTable,
+  given_listed,
+  given_of,
+  most_table_bytes,
+  sources_from,
+  sources_in,
+};
+
+use crate::commands::Task;
+use crate::count_progress::Progress;
+use crate::counted_sources::{count_input, count_sources, read_list};
+use crate::named_sources::NamedSource;
+use crate::tool_faults::ToolFault;
+use kc_command::Options;
+use kc_io::Source;
+use kc_report::{Origin, merge, read_table};
+use kc_tally::Tally;
+use kc_word::Only;
+use std::alloc::Global;
+use std::sync::Wait;
+use std::thread::Threads;
+
+/// The most bytes that a table may have.
+const MOST_TABLE_BYTES: u64 = 1 << 42;
+
+/// The tally that a task is about, and its origin where that is told: of the reads of the files or, where there are none,
+/// of the given input, whose counting is told; of a table; or of two tables together. The files keep their names.
+/// Condition: the task has such files as it is to have.
+///
+/// # Errors
+/// The fault of the list, of the sources, of the run, of a table, or of two tables that can't be put together.
+pub(crate) fn tally_for<H: Threads + Wait + Sync, R: Source, F: Source, P: Progress + Sync>(
+    rt: &H,
+    alloc: Global,
+    task: &Task,
+    files: &mut [NamedSource<'_, F>],
+    input: &mut R,
+    progress: &P,
+) -> Result<(Tally, Option<Origin>), ToolFault>
+    requires { HasFilesFor task.now (seen_of F.seen files.old) }
+    ensures tally { let Tallies = IsTallyFor (given_of task.now (R.seen input.old) (seen_of F.seen files.old))
+        (given_of task.now (R.seen input.new) (seen_of F.seen files.new)) in
+        IfOk result (λ table. Tallies task.now (table.0, table.1)) }
+    ensures origin { IfOk result (λ table. MaySay table.1) }
+    ensures fault { let HasNone = HasNoTallyFor (given_of task.now (R.seen input.old) (seen_of F.seen files.old))
+        (given_of task.now (R.seen input.new) (seen_of F.seen files.new)) in IfErr result (HasNone task.now) }
+    ensures input { KeepsInput (sources_in task.now (seen_of F.seen files.old)) (R.seen input.old) (R.seen input.new) }
+    ensures names { names_of files.new ≡ names_of files.old }
+{
+    let counted = match task {
+        Task::Count(options) => count_of(rt, alloc, None, options, files, input, progress),
+        Task::CountListed(options) => count_listed(rt, alloc, options, files, input, progress),
+        Task::Merge => return sum_of(alloc, files),
+        Task::Report(_) | Task::Query(_) => return table_of(alloc, files, input),
+    };
+    progress.ends();
+    counted
+}
+
+// The tally of the reads of the files behind the first, or where there are none, of those of the given input, of those
+// words that occur in the reads of the first file. Condition: there is a first file.
+fn count_listed<H: Threads + Wait + Sync, R: Source, F: Source, P: Progress + Sync>(
+    rt: &H,
+    alloc: Global,
+    options: &Options,
+    files: &mut [NamedSource<'_, F>],
+    input: &mut R,
+    progress: &P,
+) -> Result<(Tally, Option<Origin>), ToolFault>
+    requires { 1 ≤ length files.old }
+    ensures tally { let Counted = Counts (given_listed (R.seen input.old) (seen_of F.seen files.old)) in
+        let Tallies = Counted (given_listed (R.seen input.new) (seen_of F.seen files.new)) in
+        IfOk result (λ table. Tallies options.now (table.0, table.1)) }
+    ensures origin { IfOk result (λ table. MaySay table.1) }
+    ensures fault { let Refuses = RefusesCount (given_listed (R.seen input.old) (seen_of F.seen files.old)) in
+        IfErr result (Refuses (given_listed (R.seen input.new) (seen_of F.seen files.new)) options.now) }
+    ensures input { KeepsInput (drop 1 (seen_of F.seen files.old)) (R.seen input.old) (R.seen input.new) }
+    ensures names { names_of files.new ≡ names_of files.old }
+{
+    let list = read_list(alloc, &mut files[0].source, &options.rule(), progress)?;
+    let sources = &mut files[1..];
+    count_of(rt, alloc, Some(list), options, sources, input, progress)
+}
+
+// The tally of the reads of the files, or where there are none, of those of the given input, of the words of the list
+// alone where one is given. Condition: the list is one under the rule of the options.
+fn count_of<H: Threads + Wait + Sync, R: Source, F: Source, P: Progress + Sync>(
+    rt: &H,
+    alloc: Global,
+    list: Option<Only>,
+    options: &Options,
+    files: &mut [NamedSource<'_, F>],
+    input: &mut R,
+    progress: &P,
+) -> Result<(Tally, Option<Origin>), ToolFault>
+    requires { IfSome list (IsListUnder (rule_of options.now)) }
+    ensures tally { let Tallies = TalliesSources (sources_from (R.seen input.old) (seen_of F.seen files.old))
+        (sources_from (R.seen input.new) (seen_of F.seen files.new)) options.now (words_of list) in
+        IfOk result (λ table. Tallies (table.0, table.1)) }
+    ensures origin { IfOk result (λ table. MaySay table.1) }
+    ensures fault { let Refuses = RefusesSources (sources_from (R.seen input.old) (seen_of F.seen files.old)) in
+        IfErr result (Refuses (sources_from (R.seen input.new) (seen_of F.seen files.new))) }
+    ensures input { KeepsInput (seen_of F.seen files.old) (R.seen input.old) (R.seen input.new) }
+    ensures names { names_of files.new ≡ names_of files.old }
+{
+    if files.is_empty() {
+        return count_input(rt, alloc, list, input, options, progress);
+    }
+    count_sources(rt, alloc, list, files, options, progress)
+}
+
+// The tables of two files, put together. The first is read whole before a byte of the second is. Condition: there are
+// two files.
+fn sum_of<F: Source>(
+    alloc: Global,
+    files: &mut [NamedSource<'_, F>],
+) -> Result<(Tally, Option<Origin>), ToolFault>
+    requires { length files.old ≡ 2 }
+    ensures sum { let Tells = TellSum (seen_of F.seen files.old) (seen_of F.seen files.new) in
+        IfOk result (λ sum. Tells (sum.0, sum.1)) }
+    ensures origin { IfOk result (λ sum. MaySay sum.1) }
+    ensures fault { IfErr result (TellNoSum (seen_of F.seen files.old) (seen_of F.seen files.new)) }
+    ensures names { names_of files.new ≡ names_of files.old }
+{
+    let (first, first_origin) = table_from(alloc, &mut files[0].source)?;
+    let (second, second_origin) = table_from(alloc, &mut files[1].source)?;
+    Ok(merge(
+        alloc,
+        &first,
+        first_origin.as_ref(),
+        &second,
+        second_origin.as_ref(),
+    )?)
+}
+
+// What the table text of the file says, or where there is none, that of the given input. Condition: there is one file or
+// none.
+fn table_of<R: Source, F: Source>(
+    alloc: Global,
+    files: &mut [NamedSource<'_, F>],
+    input: &mut R,
+) -> Result<(Tally, Option<Origin>), ToolFault>
+    requires { length files.old ≤ 1 }
+    ensures table { let Tells = TellOneTable (sources_from (R.seen input.old) (seen_of F.seen files.old)) in
+        let Told = Tells (sources_from (R.seen input.new) (seen_of F.seen files.new)) in
+        IfOk result (λ table. Told (table.0, table.1)) }
+    ensures origin { IfOk result (λ table. MaySay table.1) }
+    ensures fault { let TellsNone = TellNoTable (sources_from (R.seen input.old) (seen_of F.seen files.old)) in
+        IfErr result (TellsNone (sources_from (R.seen input.new) (seen_of F.seen files.new))) }
+    ensures input { KeepsInput (seen_of F.seen files.old) (R.seen input.old) (R.seen input.new) }
+    ensures names { names_of files.new ≡ names_of files.old }
+{
+    if files.is_empty() {
+        return table_from(alloc, input);
+    }
+    let file = &mut files[0];
+    table_from(alloc, &mut file.source)
+}
+
+// What the table text of this source says.
+fn table_from<R: Source>(
+    alloc: Global,
+    source: &mut R,
+) -> Result<(Tally, Option<Origin>), ToolFault>
+    ensures table { let Gives = GivesTable (R.seen source.old) (R.seen source.new) most_table_bytes in
+        IfOk result (λ table. Gives (table.0, table.1)) }
+    ensures origin { IfOk result (λ table. MaySay table.1) }
+    ensures fault { IfErr result (TellsNoTable (R.seen source.old) (R.seen source.new)) }
+{
+    Ok(read_table(alloc, source, MOST_TABLE_BYTES)?)
+}
