@@ -1,8 +1,8 @@
 -- The places of a key in a table of 2 ^ log slots, tried one after another (the reprobing of Marçais and Kingsford
 -- 2011), and what was found there.
 use Rattle.std.specs.Prelude.{◌≡◌, ◌≢◌, refl, ℕ, ◌+◌, ◌-◌, ◌*◌, ◌/◌, ◌%◌, ◌^◌, ◌<◌}
-use Rattle.kc_table.specs.declared.reprobes.Reprobing.{Reprobing}
-use Rattle.kc_table.specs.declared.reprobes.Reprobing.TheVariants.{Found, Free, Crowded}
+use Rattle.kc_table.specs.declared.slots.Reprobing.{Reprobing}
+use Rattle.kc_table.specs.declared.slots.Reprobing.TheVariants.{Found, Free, Crowded}
 use Rattle.kc_table.specs.Sizes.{place_count, tag_step}
 
 -- the sum of the numbers up to i

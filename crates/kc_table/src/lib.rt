@@ -19,11 +19,8 @@ mod limited_counts;
 mod packed_slots;
 mod plain_counts;
 mod quotient_table;
-mod reprobes;
-mod sizes;
 mod slots;
 mod table_fault;
-mod tag;
 
 pub use counts::Counts;
 /// Counts the slots that `QuotientTable::find` reads. Contracts alone see how many.

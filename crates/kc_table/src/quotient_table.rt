@@ -10,8 +10,7 @@ ghost use Rattle.kc_table.specs.Reprobing.{IsPlaceOf};
 ghost use Rattle.kc_table.specs.Sizes.{place_count, spread_log, most_bits, least_log, most_log, count_bits};
 
 use crate::counts::Counts;
-use crate::reprobes::Reprobing;
-use crate::slots::Slots;
+use crate::slots::{Reprobing, Slots};
 use crate::table_fault::TableFault;
 use kc_lemmas::Counter;
 use std::alloc::{AllocError, Global};

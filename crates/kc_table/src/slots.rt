@@ -8,13 +8,19 @@ ghost use Rattle.kc_table.specs.Reprobing.{IsFound, IsFree, IsOut, IsReprobing};
 ghost use Rattle.kc_table.specs.Sizes.{most_bits, most_log, remainder_bits, count_bits};
 ghost use Rattle.kc_table.specs.Slot.{key_in, IsSound, tag_at};
 
-use crate::packed_slots::PackedSlots;
-use crate::reprobes::Reprobing;
-use crate::sizes::{PLACES, REMAINDER_BITS};
+use crate::packed_slots::{PLACES, PackedSlots, REMAINDER_BITS, Tag};
 use crate::table_fault::TableFault;
-use crate::tag::Tag;
 use kc_lemmas::Counter;
 use std::alloc::{AllocError, Global};
+
+/// What reprobing, the walk over a key's places, found: the key, the first place that is free with the
+/// key's tag there, or 63 other keys.
+#[derive(Drop)]
+pub(crate) enum Reprobing {
+    Found { place: usize },
+    Free { place: usize, tag: Tag },
+    Crowded,
+}
 
 /// A table of 2^log slots for keys of so many bits. The low bits of a count have what the tag leaves of a slot's word.
 #[derive(Drop)]
