@@ -14,17 +14,12 @@
 //! ```
 #![tactic(auto)]
 
-mod books;
 mod entry;
-mod keeper;
 mod share;
 pub mod share_laws;
 mod sheet;
 mod sheet_rule;
-mod sheet_steps;
 
-pub use crate::books::Books;
 pub use crate::entry::{Booking, Entry, KeptStripe, Plan};
-pub use crate::keeper::Keeper;
-pub use crate::share::Share;
+pub use crate::share::{Books, Keeper, Share};
 pub use crate::sheet::{OpenSheet, Opening, Sheet};

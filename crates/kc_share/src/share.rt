@@ -1,10 +1,26 @@
-//! A share: what one worker has booked, and how much of the whole it stands for.
+//! The two rights to book: a share, which a worker has, and a keeper, which stands behind a stripe's lock. Both carry
+//! the name of their sheet.
 ghost use Rattle.std.specs.Prelude.{◌≡◌, ◌<◌, ◌≤◌, []};
-ghost use Rattle.kc_share.specs.Share.{share_of, word_total_in, entry_total_in};
+ghost use Rattle.atomic_table.specs.Seated.{TableId};
+ghost use Rattle.kc_share.specs.Share.{share_of, kept_stripe, word_total_in, entry_total_in};
+ghost use Rattle.kc_share.specs.Rule.{keeper_view};
 
-use crate::books::Books;
 use crate::sheet_rule::Seat;
-use std::marker::{Model, PhantomData};
+use std::marker::{Brand, Model, PhantomData};
+
+/// The name of one sheet: of the table of its word. What belongs to a sheet carries its name by a type parameter, so
+/// that nothing of another sheet is taken for it. Whoever opens a sheet takes `Brand`, and picks the sheet's own table.
+pub trait Books {
+    ghost use Rattle.atomic_table.specs.Seated.{TableId};
+
+    ghost table: { TableId };
+}
+
+impl Books for Brand {
+    ghost use Rattle.kc_share.specs.Sheet.{no_table};
+
+    ghost table = { no_table };
+}
 
 /// How many stripes there are at most.
 pub(crate) const MOST: usize = 64;
@@ -79,5 +95,54 @@ impl<N: Books> Share<N> {
         ensures { result ≡ entry_total_in stripe self.now.booked }
     {
         self.entries[stripe as usize]
+    }
+}
+
+/// The right to keep a stripe's journal, which belongs behind the stripe's lock. What a contract sees of it is the
+/// stripe's number, and the journal: all that was ever booked into the stripe. The journal has no bytes.
+#[derive(Drop)]
+pub struct Keeper<N: Books> {
+    pub(crate) seat: Seat,
+    pub(crate) stripe: u32,
+    name: PhantomData<N>,
+}
+
+impl<N: Books> Model for Keeper<N> {
+    ghost use Rattle.std.specs.Prelude.{◌≡◌, ◌<◌, []};
+    ghost use Rattle.kc_share.specs.declared.entry.KeptStripe.{KeptStripe};
+    ghost use Rattle.kc_share.specs.Share.{first_kept};
+    ghost use Rattle.kc_share.specs.Rule.{keeper_view};
+
+    ghost Value = { KeptStripe };
+
+    ghost view = { λ k. first_kept k.seat.me.0.kept };
+
+    ghost invariant = { λ k.
+        (k.seat.table_id ≡ N.table)
+        × (k.seat.me ≡ (keeper_view (first_kept k.seat.me.0.kept), []))
+        × (k.stripe ≡ (first_kept k.seat.me.0.kept).stripe)
+        × (k.stripe < 64) };
+}
+
+impl<N: Books> Keeper<N> {
+    // The keeper of a stripe in which nothing was booked.
+    pub(crate) fn of(seat: Seat, stripe: u32) -> Keeper<N>
+        requires table { seat.table_id ≡ N.table }
+        requires view { seat.me ≡ (keeper_view (kept_stripe stripe []), []) }
+        requires stripe { stripe < 64 }
+        ensures { result ≡ kept_stripe stripe [] }
+    {
+        Keeper {
+            seat,
+            stripe,
+            name: PhantomData,
+        }
+    }
+
+    /// The number of the stripe.
+    pub fn stripe(&self) -> u32
+        ensures { result ≡ self.now.stripe }
+    {
+        self.stripe
     }
 }
