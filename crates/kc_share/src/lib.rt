@@ -18,8 +18,7 @@ mod entry;
 mod share;
 pub mod share_laws;
 mod sheet;
-mod sheet_rule;
 
 pub use crate::entry::{Booking, Entry, KeptStripe, Plan};
-pub use crate::share::{Books, Keeper, Share};
-pub use crate::sheet::{OpenSheet, Opening, Sheet};
+pub use crate::share::{Keeper, Share};
+pub use crate::sheet::{Books, OpenSheet, Opening, Sheet};

@@ -1,21 +1,27 @@
-//! Sheets: how one is made and opened, and the steps that its shares and keepers take over it. A share is split or
-//! joined, a batch is noted, a journal looked at.
-ghost use Rattle.std.specs.Prelude.{◌≡◌, ℕ, ◌+◌, ◌^◌, ◌<◌, ◌≤◌, [], length, slice_index, IfOk, MatchBool};
-ghost use Rattle.kc_share.specs.Entries.{entry_of, entries_in, word_total, AreSame, AreAmong};
-ghost use Rattle.kc_share.specs.Share.{share_of, kept_stripe, with_entry, with_booking, with_one_part_less};
-ghost use Rattle.kc_share.specs.Share.{new_share, joined_shares};
+//! Sheets and their names, and how their keepers and their first share are made.
+ghost use Rattle.std.specs.Prelude.{◌≡◌, ◌+◌, ◌<◌, ◌≤◌, [], IfOk, MatchBool};
+ghost use Rattle.atomic_table.specs.Seated.{TableId};
+ghost use Rattle.kc_share.specs.Share.{share_of, kept_stripe};
 ghost use Rattle.kc_share.specs.Sheet.{plan_of, opening_of};
-ghost use Rattle.kc_share.specs.Rule.{blank_view, joined_view, view_without_first, first_kept_view};
 
 use crate::entry::Plan;
-use crate::share::{Books, Keeper, MOST, Share};
-use crate::sheet_rule::{Book, Event, FirstKept, Look, OnePart, Seat, SheetTable, Together, Whole};
-use kc_word::Batch;
+use crate::share::{FirstKept, Keeper, Seat, Share, SheetTable};
 use std::alloc::{AllocError, Global};
 use std::marker::{Brand, Model, PhantomData};
 
-/// The word: how many parts there are.
-const PARTS: usize = 0;
+/// The name of one sheet: of the table of its word. What belongs to a sheet carries its name by a type parameter, so
+/// that nothing of another sheet is taken for it. Whoever opens a sheet takes `Brand`, and picks the sheet's own table.
+pub trait Books {
+    ghost use Rattle.atomic_table.specs.Seated.{TableId};
+
+    ghost table: { TableId };
+}
+
+impl Books for Brand {
+    ghost use Rattle.kc_share.specs.Sheet.{no_table};
+
+    ghost table = { no_table };
+}
 
 /// A sheet that has no name yet. What a contract sees of it is the table of its word, and its plan.
 #[derive(Drop)]
@@ -121,7 +127,7 @@ impl<N: Books> Opening<N> {
 /// contract sees of it is its plan.
 #[derive(Drop)]
 pub struct OpenSheet<N: Books> {
-    table: SheetTable,
+    pub(crate) table: SheetTable,
     name: PhantomData<N>,
 }
 
@@ -161,118 +167,5 @@ impl<N: Books> OpenSheet<N> {
             name: _,
         } = opening;
         Share::of(seat, plan.parts)
-    }
-
-    /// Splits one part off a share, which has two or more: a share that has booked nothing. Takes no memory.
-    pub fn split(&self, share: &mut Share<N>) -> Share<N>
-        requires { 2 ≤ share.old.parts }
-        ensures share { share.new ≡ with_one_part_less share.old }
-        ensures new { result ≡ new_share share.old }
-    {
-        let seat = self.table.shared.split_seat::<OnePart>(&mut share.seat);
-        share.parts -= 1;
-        Share::of(seat, 1)
-    }
-
-    /// Joins two shares: their parts and numbers are added up, and what one booked stands behind what the other did.
-    /// Takes no memory.
-    pub fn join(&self, share: &mut Share<N>, other: Share<N>)
-        ensures { share.new ≡ joined_shares share.old other }
-    {
-        let Share {
-            seat,
-            parts,
-            words,
-            entries,
-            name: _,
-        } = other;
-        let shared = &self.table.shared;
-        shared.join_seat::<Together>(&mut share.seat, seat);
-        shared.load::<Look>(&mut share.seat, PARTS);
-        share.parts += parts;
-        add_each(&mut share.words, &words);
-        add_each(&mut share.entries, &entries);
-    }
-
-    /// Books a batch into the stripe of a keeper: writes it into the keeper's journal and into the share, with how many
-    /// words it has there. Takes no memory.
-    ///
-    /// The words and the entries of the journal stay below 2^64.
-    pub fn note(&self, share: &mut Share<N>, keeper: &mut Keeper<N>, batch: &Batch, words: u64)
-        requires words { word_total keeper.old.journal + words < 2 ^ 64 }
-        requires entries { length keeper.old.journal + 1 < 2 ^ 64 }
-        ensures share { share.new ≡ with_booking share.old keeper.old.stripe (entry_of batch.now words) }
-        ensures keeper { keeper.new ≡ with_entry keeper.old (entry_of batch.now words) }
-    {
-        self.note_as::<Brand>(share, keeper, batch, words);
-    }
-
-    // Notes a booking. Its entry is a type, since what an atomic step tells can't take a value.
-    fn note_as<E: Event>(
-        &self,
-        share: &mut Share<N>,
-        keeper: &mut Keeper<N>,
-        batch: &Batch,
-        words: u64,
-    )
-        requires entry { E.entry ≡ entry_of batch.now words }
-        requires words { word_total keeper.old.journal + words < 2 ^ 64 }
-        requires entries { length keeper.old.journal + 1 < 2 ^ 64 }
-        ensures share { share.new ≡ with_booking share.old keeper.old.stripe (entry_of batch.now words) }
-        ensures keeper { keeper.new ≡ with_entry keeper.old (entry_of batch.now words) }
-    {
-        let stripe = keeper.stripe as usize;
-        self.take_in(&mut share.seat, &mut keeper.seat);
-        self.table.shared.load::<Book<E>>(&mut share.seat, PARTS);
-        keeper.seat = self.give_back(&mut share.seat);
-        share.words[stripe] += words;
-        share.entries[stripe] += 1;
-    }
-
-    /// Tells what a keeper's journal has to do with a share: what was booked with the share into the keeper's stripe is
-    /// among the journal's entries, each as often; and where the share has all parts, it is all of them.
-    pub fn look(&self, share: &mut Share<N>, keeper: &mut Keeper<N>)
-        ensures share { share.new ≡ share.old }
-        ensures keeper { keeper.new ≡ keeper.old }
-        ensures among { AreAmong (entries_in keeper.old.stripe share.old.booked) keeper.old.journal }
-        ensures whole { share.old.parts ≡ share.old.plan.parts
-            → AreSame (entries_in keeper.old.stripe share.old.booked) keeper.old.journal }
-    {
-        self.take_in(&mut share.seat, &mut keeper.seat);
-        self.table.shared.load::<Look>(&mut share.seat, PARTS);
-        keeper.seat = self.give_back(&mut share.seat);
-    }
-
-    // Joins a keeper's view with a share's, so that one atomic step can tell of both.
-    fn take_in(&self, share: &mut Seat, keeper: &mut Seat)
-        requires share { (share.old.table_id ≡ N.table) × (0 < share.old.me.0.parts) × (share.old.me.1 ≡ []) }
-        requires keeper { (keeper.old.table_id ≡ N.table) × (keeper.old.me.1 ≡ []) }
-        ensures share { (share.new.table_id ≡ N.table)
-            × (share.new.me ≡ (joined_view share.old.me.0 keeper.old.me.0, [])) }
-        ensures keeper { (keeper.new.table_id ≡ N.table) × (keeper.new.me ≡ (blank_view, [])) }
-    {
-        let all = self.table.shared.split_seat::<Whole>(keeper);
-        self.table.shared.join_seat::<Together>(share, all);
-    }
-
-    // Parts the keeper's view from the share's again.
-    fn give_back(&self, share: &mut Seat) -> Seat
-        requires { (share.old.table_id ≡ N.table) × (share.old.me.1 ≡ []) }
-        ensures share { (share.new.table_id ≡ N.table) × (share.new.me ≡ (view_without_first share.old.me.0, [])) }
-        ensures keeper { (result.table_id ≡ N.table) × (result.me ≡ (first_kept_view share.old.me.0, [])) }
-    {
-        self.table.shared.split_seat::<FirstKept>(share)
-    }
-}
-
-// Adds up two lists of numbers, one for each stripe.
-fn add_each(numbers: &mut [u64; 64], others: &[u64; 64])
-    requires { (stripe : ℕ) → stripe < 64
-        → slice_index numbers.old stripe + slice_index others.now stripe < 2 ^ 64 }
-    ensures { (stripe : ℕ) → stripe < 64
-        → slice_index numbers.new stripe ≡ slice_index numbers.old stripe + slice_index others.now stripe }
-{
-    for stripe in 0..MOST {
-        numbers[stripe] += others[stripe];
     }
 }

@@ -1,105 +1,13 @@
-//! A slot of a table, packed into one 64-bit word: the tag of its key above the low bits of the key's count. The high
-//! bits of great counts stand beside the words. `specs/Sizes` says how the sizes hang together.
-ghost use Rattle.std.specs.Prelude.{◌≡◌, ◌≢◌, ℕ, ◌+◌, ◌*◌, ◌/◌, ◌%◌, ◌^◌, ◌<◌, ◌≤◌, ◌==◌, max, length, replicate};
+//! The slots of a table packed into one 64-bit word each, with the high bits of great counts beside them.
+ghost use Rattle.std.specs.Prelude.{◌≡◌, ◌≢◌, ℕ, ◌+◌, ◌*◌, ◌/◌, ◌%◌, ◌^◌, ◌<◌, ◌≤◌, max, length, replicate};
 ghost use Rattle.std.specs.Prelude.{IfOk, slice_set, slice_index_or, vec_capacity};
-ghost use Rattle.kc_table.specs.Reprobing.{reprobe_of};
-ghost use Rattle.kc_table.specs.Sizes.{place_count, tag_step, remainder_bits, count_bits};
+ghost use Rattle.kc_table.specs.Sizes.{remainder_bits, count_bits};
 ghost use Rattle.kc_table.specs.Slot.{empty_slot, tag_at, slot_count};
 
+use crate::slots::Tag;
 use kc_lemmas::zeros;
 use std::alloc::{AllocError, Global};
 use std::marker::Model;
-
-/// How many places a key has.
-pub(crate) const PLACES: usize = 63;
-
-/// So many bits of a tag are for the number of reprobes, the others for the remainder.
-const REPROBE_BITS: u32 = 6;
-
-/// A tag is the key's remainder times this, and one more than its number of reprobes.
-const TAG_STEP: u64 = 1 << REPROBE_BITS;
-
-/// A remainder has at most so many bits.
-pub(crate) const REMAINDER_BITS: u32 = 64 - REPROBE_BITS;
-
-const _: () = prove!(PLACES + 1 == TAG_STEP as usize);
-
-/// What a slot says of its key, as a number: 0 where the slot is empty, else the key's remainder times `TAG_STEP` and
-/// one more than its number of reprobes.
-#[derive(Clone, Copy, Eq, PartialEq)]
-pub(crate) struct Tag {
-    number: u64,
-}
-
-impl Model for Tag {
-    ghost use Rattle.std.specs.Prelude.{ℕ};
-
-    ghost Value = { ℕ };
-
-    ghost view = { λ t. t.number };
-
-    ghost inverse = { λ n. record { number = n } };
-}
-
-impl Tag {
-    /// The tag of a key with this remainder, behind so many reprobes.
-    #[inline(always)]
-    pub fn of(remainder: u64, reprobes: usize) -> Tag
-        requires remainder_fits { remainder < 2 ^ remainder_bits }
-        requires few_reprobes { reprobes < place_count }
-        ensures { result ≡ remainder * tag_step + (reprobes + 1) }
-    {
-        Tag {
-            number: remainder * TAG_STEP + (reprobes as u64 + 1),
-        }
-    }
-
-    /// The tag in a word, above so many low bits.
-    #[inline(always)]
-    pub fn of_word(word: u64, low: u32) -> Tag
-        requires { low ≤ remainder_bits }
-        ensures { result ≡ word / 2 ^ low }
-    {
-        Tag {
-            number: word >> low,
-        }
-    }
-
-    /// The word that has this tag above so many low bits, which are 0.
-    #[inline(always)]
-    pub fn to_word(self, low: u32) -> u64
-        requires few { low ≤ remainder_bits }
-        requires fits { self * 2 ^ low < 2 ^ 64 }
-        ensures { result ≡ self * 2 ^ low }
-    {
-        self.number << low
-    }
-
-    /// Whether the slot is empty.
-    #[inline(always)]
-    pub fn is_empty(self) -> bool
-        ensures { result ≡ (self == 0) }
-    {
-        self.number == 0
-    }
-
-    /// The key's remainder.
-    #[inline(always)]
-    pub fn remainder(self) -> u64
-        ensures { result ≡ self / tag_step }
-    {
-        self.number / TAG_STEP
-    }
-
-    /// The number of reprobes behind which the key stands in its slot.
-    #[inline(always)]
-    pub fn reprobes(self) -> usize
-        requires { 1 ≤ self % tag_step }
-        ensures { result ≡ reprobe_of self }
-    {
-        (self.number % TAG_STEP) as usize - 1
-    }
-}
 
 /// A row of slots. A slot's word has the tag in its high bits, and below it the `low` low bits of the count. The high
 /// bits of the count stand in `high` at the slot's own index, and are 0 where `high` ends before it. The room of `high`

@@ -1,6 +1,6 @@
 use Rattle.std.proofs.Common.{◌≡◌, ℕ, ◌+◌, ◌<◌, ◌≤◌}
 use Rattle.std.specs.Prelude.{slice_index}
-use Rattle.kc_share.proofs.sheet.add_each.Given as goal
+use Rattle.kc_share.proofs.share.add_each.Given as goal
 
 abbrev pub invariant-loop-stripe : goal.invariant-loop-stripe
 invariant-loop-stripe l = record {
