@@ -77,6 +77,13 @@ module _ {old new : List Seen} (settings : Settings) {cutting : OpenCutting} {co
   uncounted Unlike h = absurd h
   uncounted TooLarge h = absurd h
 
+-- The size of a batch says nothing of the tally.
+pub tallied_as : {old new : List Seen} (settings other : Settings) → other ≡ record settings { batch = other.batch }
+    → (list : Option (List ℕ)) (table : TableSeen) → TalliesSources old new other list table
+    → TalliesSources old new settings list table
+tallied_as {old} {new} settings other same list table h =
+    subst (λ s. TalliesSources old new s list table) same h
+
 -- The list, where one is given, was read, and then the sources were.
 module _ (list : Option (List ℕ)) (before after : Option Seen) (old new : List Seen) (settings : Settings)
     (listed : GivesList (rule_of settings) before after list) where

@@ -1,6 +1,6 @@
 //! The tally of the reads of all sources: they are read, cleaned and cut into batches, and the words of the batches are
 //! counted by as many threads as are asked for, all of them or those of a list.
-ghost use Rattle.std.specs.Prelude.{◌≡◌, ◌≤◌, ℕ, List, [], ◌∷◌, IfOk, IfErr, IfSome, option_map};
+ghost use Rattle.std.specs.Prelude.{◌≡◌, ◌≤◌, ℕ, List, [], ◌∷◌, IfOk, IfErr, IfSome, max, option_map};
 ghost use Rattle.kc_fastx.specs.Parsing.{most_bytes};
 ghost use Rattle.kc_booking.specs.Setup.{stripe_count};
 ghost use Rattle.kc_tool.specs.NamedSources.{names_of, seen_of};
@@ -42,6 +42,12 @@ use std::thread::Threads;
 
 /// The most bytes that the sources of one count may have together, and that its list may have.
 pub const MOST_BYTES: u64 = 1 << 36;
+
+/// A batch has so many positions at the least for each word of a list, up to `LISTED_POSITIONS`.
+const POSITIONS_A_WORD: u64 = 4;
+
+/// As many positions as make a round of a worker.
+const LISTED_POSITIONS: u64 = 4_000_000;
 
 /// The seed of the hash that divides the words among the stripes. No report depends on it.
 const SEED: u64 = 1;
@@ -93,9 +99,10 @@ pub(crate) fn count_sources<H: Threads + Wait + Sync, R: Source, P: Progress + S
     ensures names { names_of sources.new ≡ names_of sources.old }
 {
     let is_listed = list.is_some();
-    let (cutting, count) = cut_sources(alloc, sources, options, progress)?;
-    let tally = count_cutting(rt, alloc, cutting, list, options, progress)?;
-    Ok((tally, Some(origin_of(options, count, is_listed))))
+    let settings = batches_for(options, &list);
+    let (cutting, count) = cut_sources(alloc, sources, &settings, progress)?;
+    let tally = count_cutting(rt, alloc, cutting, list, &settings, progress)?;
+    Ok((tally, Some(origin_of(&settings, count, is_listed))))
 }
 
 /// The tally of the reads of one source, the input. The rest is as with a list of sources.
@@ -117,9 +124,25 @@ pub(crate) fn count_input<H: Threads + Wait + Sync, R: Source, P: Progress + Syn
     ensures fault { IfErr result (RefusesSources (R.seen input.old ∷ []) (R.seen input.new ∷ [])) }
 {
     let is_listed = list.is_some();
-    let (cutting, count) = cut_input(alloc, input, options, progress)?;
-    let tally = count_cutting(rt, alloc, cutting, list, options, progress)?;
-    Ok((tally, Some(origin_of(options, count, is_listed))))
+    let settings = batches_for(options, &list);
+    let (cutting, count) = cut_input(alloc, input, &settings, progress)?;
+    let tally = count_cutting(rt, alloc, cutting, list, &settings, progress)?;
+    Ok((tally, Some(origin_of(&settings, count, is_listed))))
+}
+
+// The same options, with larger batches where a list is long: each booking of a batch compares the lists, which is to
+// take little beside counting.
+fn batches_for(options: &Options, list: &Option<Only>) -> Options
+    ensures others { result ≡ record options.now { batch = result.batch } }
+    ensures at_least { options.now.batch ≤ result.batch }
+    ensures at_most { result.batch ≤ max options.now.batch 4000000 }
+{
+    let words = match list {
+        None => 0,
+        Some(list) => list.words().len() as u64,
+    };
+    let positions = words.saturating_mul(POSITIONS_A_WORD).min(LISTED_POSITIONS);
+    options.with_batch(positions.max(options.batch()))
 }
 
 // What is told of a count of so many reads. Condition: they are at most 2^36.
