@@ -22,6 +22,7 @@ use Rattle.kc_kmer.specs.Rule.{CountingRule, is_listed}
 use Rattle.kc_kmer.specs.Occurrences.{occurrences, words_in, words_of}
 use Rattle.kc_kmer.proofs.Letters.{pow-four}
 use Rattle.kc_kmer.proofs.WordCounts.{times-words_of, All-words_of}
+use Rattle.kc_word.specs.Marks.{Marking}
 use Rattle.kc_word.specs.Only.{WordList, AreListed, IsListOf, AreStarts, IsIndexed}
 
 -- ---- the words of the reads
@@ -280,10 +281,10 @@ pub record IsRun (words : List ℕ) (low_bits : ℕ) (starts : List ℕ) (word s
   pub rising : IsStrictlyIncreasing words
 
 -- the two starts that are read for a word
-pub run-of : {k low_bits : ℕ} {words starts : List ℕ} (word start end : ℕ) → IsIndexed k words low_bits starts → word < 4 ^ k
+pub run-of : {k low_bits : ℕ} {words starts : List ℕ} {marks : Marking} (word start end : ℕ) → IsIndexed k words low_bits starts marks → word < 4 ^ k
     → start ≡ get_or starts (word / 2 ^ low_bits) start → end ≡ get_or starts (word / 2 ^ low_bits + 1) end
     → IsRun words low_bits starts word start end
-run-of {k} {low_bits} {words} {starts} word start end indexed below first second =
+run-of {k} {low_bits} {words} {starts} {marks} word start end indexed below first second =
     let some = indexed.enough word below in
     record {
       start_is = get_or_read starts (word / 2 ^ low_bits) start (omega (arith, some)) first 0;

@@ -10,3 +10,4 @@ pub mod Gathering
 pub mod PackedBatch
 pub mod OpenCutting
 pub mod Only
+pub mod Marks

@@ -9,6 +9,7 @@ use Rattle.kc_fastx.specs.Reads.{Read}
 use Rattle.kc_kmer.specs.Word.{text}
 use Rattle.kc_kmer.specs.Rule.{CountingRule}
 use Rattle.kc_kmer.specs.Occurrences.{occurrences}
+use Rattle.kc_word.specs.Marks.{Marking, AreMarksOf}
 
 -- a list of words as a value: their length, whether both strands count, and the numbers of the words
 pub record WordList : Type 0 where
@@ -42,13 +43,14 @@ pub record AreStarts (words : List ℕ) (low_bits : ℕ) (starts : List ℕ) : T
   pub others : (high i : ℕ) → high < length starts → slice_index starts high ≤ i → i < length words
       → high ≤ slice_index words i / 2 ^ low_bits
 
--- what a list keeps: each word has a start, and one stands behind it
-pub record IsIndexed (k : ℕ) (words : List ℕ) (low_bits : ℕ) (starts : List ℕ) : Type 0 where
+-- what a list keeps: each word has a start, and one stands behind it; and the marks of its words
+pub record IsIndexed (k : ℕ) (words : List ℕ) (low_bits : ℕ) (starts : List ℕ) (marks : Marking) : Type 0 where
   pub listed : AreListed k words
   pub low_bits_at_most : low_bits ≤ 2 * k
   pub word_bits_at_most : 2 * k ≤ 62
   pub enough : (word : ℕ) → word < 4 ^ k → word / 2 ^ low_bits + 1 < length starts
   pub starts_are : AreStarts words low_bits starts
+  pub marks_are : AreMarksOf (2 * k) words marks
 
 -- the words that occur in reads have one list
 abbrev pub OneList : Type 0

@@ -23,6 +23,7 @@ mod batch;
 mod codes;
 mod cutting;
 pub mod cutting_laws;
+mod marks;
 mod only;
 pub mod only_laws;
 mod packed_codes;

@@ -6,6 +6,7 @@ ghost use Rattle.kc_kmer.specs.Rule.{is_listed};
 ghost use Rattle.kc_kmer.specs.Occurrences.{words_of};
 ghost use Rattle.kc_word.specs.Only.{AreListed, IsListOf, AreStarts};
 
+use crate::marks::Marks;
 use crate::roll::read_words;
 use kc_fastx::SeqRead;
 use kc_kmer::{K, Rule, Word};
@@ -18,7 +19,7 @@ const GATHERED: usize = 65_536;
 /// The words that occur in some reads: a count that is given them counts no other words.
 ///
 /// It is seen as the length of the words, whether both strands count, and the numbers of the words in rising order.
-/// A word has some 16 bytes.
+/// A word has some 18 bytes.
 #[derive(Debug, Drop)]
 pub struct Only {
     k: K,
@@ -29,6 +30,8 @@ pub struct Only {
     starts: Vec<usize>,
     // how many bits of a word are not among its high bits
     low_bits: u32,
+    // tells of most words that they are not in the list, and reads less memory than the starts do
+    marks: Marks,
 }
 
 impl Model for Only {
@@ -38,7 +41,7 @@ impl Model for Only {
 
     ghost view = { λ o. record { k = o.k; both = o.both; words = o.words.items } };
 
-    ghost invariant = { λ o. IsIndexed o.k o.words.items o.low_bits o.starts.items };
+    ghost invariant = { λ o. IsIndexed o.k o.words.items o.low_bits o.starts.items o.marks };
 }
 
 impl Only {
@@ -60,12 +63,14 @@ impl Only {
         let high_bits = words.len().max(1).ilog2().min(word_bits);
         let low_bits = word_bits - high_bits;
         let starts = starts_of(alloc, &words, low_bits, (1 << high_bits) + 1)?;
+        let marks = Marks::of(alloc, &words, word_bits)?;
         Ok(Only {
             k,
             both,
             words,
             starts,
             low_bits,
+            marks,
         })
     }
 
@@ -94,6 +99,17 @@ impl Only {
     /// Whether the word is one of the list. Condition: it is below 4^k.
     #[inline(always)]
     pub fn holds(&self, word: Word) -> bool
+        requires { word.0 < 4 ^ self.now.k }
+        ensures { result ≡ is_listed (Some self.now.words) word.0 }
+    {
+        if !self.marks.may_be(word.0) {
+            return false;
+        }
+        self.finds(word)
+    }
+
+    // Whether the word is found among those with the same high bits. Condition: it is below 4^k.
+    fn finds(&self, word: Word) -> bool
         requires { word.0 < 4 ^ self.now.k }
         ensures { result ≡ is_listed (Some self.now.words) word.0 }
     {

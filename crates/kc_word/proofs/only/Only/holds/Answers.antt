@@ -1,32 +1,19 @@
-use Rattle.std.proofs.Common.{◌^◌, ◌-◌, Some, take, drop, ap, ◌∙◌, subst, arith}
-use Rattle.std.specs.List.Sorted.{IsBinarySearchResult}
-use Rattle.std.specs.Ordering.{nat_cmp}
+use Rattle.std.proofs.Common.{Some, ◌^◌, ap, sym, ◌∙◌, arith}
+use Rattle.kc_kmer.proofs.Letters.{pow-four}
 use Rattle.kc_kmer.specs.Rule.{is_listed}
-use Rattle.kc_word.proofs.OnlyLemmas.{run-of, start-before-end, found-in-run}
+use Rattle.kc_word.proofs.MarksLemmas.{unmarked-unlisted}
 use Rattle.kc_word.proofs.only.Only.holds.Goals as goal
 
-pub slice_bounds-with_the_same_high_bits-count : goal.slice_bounds-with_the_same_high_bits-count
-slice_bounds-with_the_same_high_bits-count c =
+pub may_be-requires : goal.may_be-requires
+may_be-requires c =
     let same = ap (λ l. 4 ^ l.k) c.self.view_is in
     let asked = c.requires in
-    start-before-end (run-of c.args.word.0 c.index-start.result.now c.index-end.result.now c.self.invariant (omega (arith, same, asked))
-    c.index-start.ensures c.index-end.ensures)
+    let four = pow-four c.self.inside.k in
+    let told = c.self.invariant.marks_are.below in
+    omega (arith, same, asked, four, told)
 
-pub slice_bounds-with_the_same_high_bits-start : goal.slice_bounds-with_the_same_high_bits-start
-slice_bounds-with_the_same_high_bits-start c =
-    let same = ap (λ l. 4 ^ l.k) c.self.view_is in
-    let asked = c.requires in
-    start-before-end (run-of c.args.word.0 c.index-start.result.now c.index-end.result.now c.self.invariant (omega (arith, same, asked))
-    c.index-start.ensures c.index-end.ensures)
-
-pub returns : goal.returns
-returns c =
-    let same = ap (λ l. 4 ^ l.k) c.self.view_is in
-    let asked = c.requires in
-    let run = run-of c.args.word.0 c.index-start.result.now c.index-end.result.now c.self.invariant (omega (arith, same, asked))
-    c.index-start.ensures c.index-end.ensures in
-    c.is_ok.ensures.value
-    ∙ found-in-run run c.binary_search.result
-    (subst (λ ws. IsBinarySearchResult (λ n. nat_cmp n c.args.word.0) (take (c.index-end.result.now - c.index-start.result.now) (drop c.index-start.result.now ws)) c.binary_search.result)
-    c.as_slice.ensures.value c.binary_search.ensures.position)
+pub returns-then-not-may_be : goal.returns-then-not-may_be
+returns-then-not-may_be c =
+    sym (unmarked-unlisted c.self.inside.marks.low_bits c.self.inside.words.items c.args.word.0
+    (sym (c.self.invariant.marks_are.exact c.args.word.0) ∙ sym c.may_be.ensures ∙ c.if-not-may_be.true))
     ∙ ap (λ l. is_listed (Some l.words) c.args.word.0) c.self.view_is
