@@ -42,6 +42,31 @@ const HELD: &[(&[&[u8]], bool, &[u8], bool)] = &[
         b"TTTTTTTTTTTTTTTTTTTTTTTTTTTTTTT",
         false,
     ),
+    // words that begin as listed ones do
+    (&[b"CGT"], false, b"CGA", false),
+    (&[b"TTT", b"CGTAA", b"GGG"], false, b"CGG", false),
+    (
+        &[b"TTTTTTTTTTTTTTTTTTTTTTTTTTTTTTT"],
+        false,
+        b"TTTTTTTTTTTTTTTTTTTTTTTTTTTTTTG",
+        false,
+    ),
+    (
+        &[b"TTTTTTTTTTTTTTTTTTTTTTTTTTTTTTT"],
+        false,
+        b"ATTTTTTTTTTTTTTTTTTTTTTTTTTTTTT",
+        false,
+    ),
+    // words of one base
+    (&[b"A"], false, b"A", true),
+    (&[b"A"], false, b"C", false),
+    (&[b"GT"], false, b"T", true),
+    (&[b"GT"], false, b"C", false),
+    (&[b"T"], true, b"A", true),
+    // empty lists
+    (&[], false, b"T", false),
+    (&[b"NNN"], true, b"A", false),
+    (&[], false, b"TTTTTTTTTTTTTTTTTTTTTTTTTTTTTTT", false),
 ];
 
 #[test]
