@@ -27,13 +27,19 @@ parts=71
 fails() {
     echo "workflow: $1"
     [ ! -e "$work/log" ] || tail -n 30 "$work/log"
+    find "$work" -path '*/logs/*' -name '*.log' ! -path '*/cut.log' -size +0 -exec tail -n 3 {} +
     exit 1
 }
 
-# The program that the workflow calls notes its command, takes its time, and then is kcount.
+# The program that the workflow calls notes its command, leaves the file of its output empty for a time, and then is
+# kcount: so a run that is killed has begun files.
 cat > programs/slow <<SLOW
 #!/bin/bash
 echo "\$1" >> "$work/calls"
+options=("\$@")
+for place in "\${!options[@]}"; do
+    [ "\${options[place]}" != -o ] || : > "\${options[place + 1]}"
+done
 sleep 0.1
 exec "$program" "\$@"
 SLOW
@@ -105,6 +111,12 @@ is_right killed "a killed run"
 [ "$(calls count)" -ge $parts ] && [ "$(calls count)" -le $((parts + 2)) ] || fails "$(calls count) counts of $parts parts"
 [ "$(calls merge)" -ge $((parts - 1)) ] && [ "$(calls merge)" -le $((parts + 1)) ] || fails "$(calls merge) merges"
 
+# A file that is newer than its list has to be cut again: the run says so, and goes on when the list is gone.
+mended() {
+    ! flow "$1" "$program" --rerun-incomplete || fails "a run took the old parts of a file that has changed"
+    grep -q "remove $1/parts/reads_shotgun.fq.tsv to count it again" log || fails "nothing tells of a file that has changed"
+    rm "$1/parts/reads_shotgun.fq.tsv"
+}
 # A part that is refused stops the run, with kcount's line; when the file is mended the run goes on to the right table.
 cp reads/shotgun.fq good.fq
 sed -i '82s/./@/5' reads/shotgun.fq
@@ -113,12 +125,14 @@ sed -i '82s/./@/5' reads/shotgun.fq
     || fails "the log of the refused part is another: $(cat refused/logs/reads_shotgun.fq/part_003.fq.log)"
 [ ! -e refused/table.kct ] || fails "a run with a refused part has a table"
 cp good.fq reads/shotgun.fq
+mended refused
 flow refused "$program" --rerun-incomplete || fails "a run with a mended file failed"
 is_right refused "a run with a mended file"
 
 # A file that changes after a run, and one that comes before the others, are counted by the next one.
 sleep 1
 head -n 400 good.fq > reads/shotgun.fq
+mended plain
 flow plain "$program" || fails "a run over a changed file failed"
 is_right plain "a run over a changed file"
 cp good.fq reads/added.fq

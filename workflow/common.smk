@@ -25,15 +25,17 @@ def files_of_reads():
 
 
 FILES = files_of_reads()
+LISTS = {file: f"{RESULTS}/parts/{file}.tsv" for file in FILES}
+for file, listed in LISTS.items():
+    if os.path.exists(listed) and os.path.getmtime(FILES[file]) > os.path.getmtime(listed):
+        raise WorkflowError(f"{FILES[file]} has changed since it was cut: remove {listed} to count it again")
 
 
 def parts_of(file):
     """The parts of a file, as they are listed after it is cut."""
     with checkpoints.list_parts.get(file=file).output[0].open() as listed:
         rows = csv.DictReader(listed, delimiter="\t")
-        return [
-            dict(file=file, part=row["file"], reads=int(row["num_seqs"]), bases=int(row["sum_len"])) for row in rows
-        ]
+        return [dict(file=file, part=row["file"], bases=int(row["sum_len"])) for row in rows]
 
 
 def all_parts():
