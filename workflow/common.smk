@@ -5,6 +5,8 @@ import os
 from glob import glob
 
 RESULTS = config["results"]
+# The tree of the sums has at most so many levels below the whole, which is enough for a million parts.
+LEVELS = 19
 OPTIONS = ["-m", str(config["k"]), "--min-qual-char", str(config["least_quality"])]
 OPTIONS += ["-C"] if config["both_strands"] else []
 
@@ -46,7 +48,7 @@ def all_parts():
 def sum_of(first, last):
     """The table of the parts from `first` to `last`."""
     if first < last:
-        return f"{RESULTS}/sums/{first}-{last}.kct"
+        return f"{RESULTS}/sums/{(last - first).bit_length()}/{first}-{last}.kct"
     part = all_parts()[first]
     return f"{RESULTS}/tables/{part['file']}/{part['part']}.kct"
 
@@ -73,9 +75,9 @@ def megabytes(bytes, attempt):
 
 
 def memory_of_count(wildcards, attempt):
-    """0.4 bytes for each base, and 36 for each different k-mer: that is never more than the bases."""
+    """7 bytes for each base, of which short reads take 0.4, and 36 for each different k-mer, at most one a base."""
     bases = next(part["bases"] for part in parts_of(wildcards.file) if part["part"] == wildcards.part)
-    return megabytes(bases * (0.4 + 36 * config["different_in_a_base"]), attempt)
+    return megabytes(bases * (7 + 36 * config["different_in_a_base"]), attempt)
 
 
 def rows_of(tables):
