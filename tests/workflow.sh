@@ -9,7 +9,8 @@ here=$(cd "$(dirname "$0")" && pwd)
 program=$here/../bin/kcount
 for tool in snakemake seqkit gnuplot; do
     command -v $tool > /dev/null || {
-        echo "workflow: left out, $tool isn't installed: apt-get install --no-install-recommends snakemake seqkit gnuplot-nox"
+        echo "workflow: left out, $tool isn't installed:"
+        echo "  apt-get install --no-install-recommends snakemake seqkit gnuplot-nox"
         exit 0
     }
 done
@@ -69,7 +70,8 @@ is_right() {
 }
 calls() { grep -c "^$1$" calls || true; }
 
-snakemake --snakefile "$here/../workflow/Snakefile" --lint --config "reads=reads/*" > log 2>&1 || fails "its lint complains"
+snakemake --snakefile "$here/../workflow/Snakefile" --lint --config "reads=reads/*" > log 2>&1 \
+    || fails "its lint complains"
 flow plain "$program" --dry-run || fails "its dry run fails"
 [ ! -e plain ] || fails "its dry run made something"
 
@@ -108,13 +110,16 @@ killed_at count 20
 killed_at merge 10
 flow killed "$work/programs/slow" --rerun-incomplete || fails "a killed run did not go on"
 is_right killed "a killed run"
-[ "$(calls count)" -ge $parts ] && [ "$(calls count)" -le $((parts + 2)) ] || fails "$(calls count) counts of $parts parts"
-[ "$(calls merge)" -ge $((parts - 1)) ] && [ "$(calls merge)" -le $((parts + 1)) ] || fails "$(calls merge) merges"
+[ "$(calls count)" -ge $parts ] && [ "$(calls count)" -le $((parts + 2)) ] \
+    || fails "$(calls count) counts of $parts parts"
+[ "$(calls merge)" -ge $((parts - 1)) ] && [ "$(calls merge)" -le $((parts + 1)) ] \
+    || fails "$(calls merge) merges of $parts parts"
 
 # A file that is newer than its list has to be cut again: the run says so, and goes on when the list is gone.
 mended() {
     ! flow "$1" "$program" --rerun-incomplete || fails "a run took the old parts of a file that has changed"
-    grep -q "remove $1/parts/reads_shotgun.fq.tsv to count it again" log || fails "nothing tells of a file that has changed"
+    grep -q "remove $1/parts/reads_shotgun.fq.tsv to count it again" log \
+        || fails "nothing tells of a file that has changed"
     rm "$1/parts/reads_shotgun.fq.tsv"
 }
 # A part that is refused stops the run, with kcount's line; when the file is mended the run goes on to the right table.
@@ -141,6 +146,7 @@ is_right plain "a run with one more file"
 
 # A sum that lacks reads is no result.
 ! flow forgetful "$work/programs/forgetful" || fails "a run whose sums lack reads ended well"
-grep -q '^the table has [0-9]* reads, and the parts have [0-9]*$' forgetful/logs/whole.log || fails "nothing tells of lost reads"
+grep -q '^the table has [0-9]* reads, and the parts have [0-9]*$' forgetful/logs/whole.log \
+    || fails "nothing tells of lost reads"
 [ ! -e forgetful/table.kct ] || fails "a table that lacks reads stayed"
 echo "workflow: $parts parts give the table of all files, also after runs that were killed, refused or changed"

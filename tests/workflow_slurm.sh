@@ -1,6 +1,6 @@
 #!/bin/bash
 # Runs the workflow on a SLURM of one node, by its profile, and compares its table with that of all files counted at
-# once; then a part is refused, and a job is killed by the cluster:
+# once; then a part is refused:
 #   tests/workflow_slurm.sh
 # The daemons stand in a folder of the test and are ended with it; munged needs a user of its own, so this is for root.
 # It needs bin/kcount, and Debian's snakemake, seqkit, gnuplot, SLURM and munge.
@@ -96,8 +96,9 @@ gzip -c reads/shotgun.fq > reads/again.fq.gz
 flow() {
     local results=$1
     shift
-    timeout 300 snakemake --snakefile "$here/../workflow/Snakefile" --profile "$here/../workflow/profiles/slurm" --latency-wait 5 \
-        "$@" --config "reads=reads/*" "results=$results" "kcount=$program" k=15 threads=1 reads_per_part=120 > log 2>&1
+    timeout 300 snakemake --snakefile "$here/../workflow/Snakefile" --profile "$here/../workflow/profiles/slurm" \
+        --latency-wait 5 "$@" --config "reads=reads/*" "results=$results" "kcount=$program" k=15 threads=1 \
+        reads_per_part=120 > log 2>&1
 }
 flow results || fails "a run failed"
 "$program" count -m 15 -C -o at-once.kct reads/*.fa reads/*.fq <(zcat reads/again.fq.gz)
