@@ -1,0 +1,8 @@
+# Draws how many k-mers occur how often: gnuplot -c spectrum.gnuplot HISTOGRAM PICTURE HIGHEST
+set terminal png size 800, 500
+set output ARG2
+set xrange [0:ARG3]
+set logscale y
+set xlabel "times that a k-mer occurs"
+set ylabel "different k-mers"
+plot ARG1 with boxes notitle
