@@ -6,7 +6,8 @@ ARCHIVE ?=
 # The crates of tests that tests/memory.sh runs with each growth refused.
 TESTS_OF_MEMORY = kc_count_tests kc_stripe_tests kc_run_tests
 
-.PHONY: demo build dist verify check edits bodies memory files options program examples documents test bench figures install clean help
+.PHONY: demo build dist verify check edits bodies memory files options program examples documents workflow workflow-slurm
+.PHONY: test bench figures install clean help
 
 demo: ## shows the program at work within two minutes: its source with checks, not yet proved
 	@tools/demo.sh
@@ -45,10 +46,16 @@ program: build ## compares the program's texts, streams and statuses as a whole,
 examples: build ## runs the examples of README.md and docs/USING.md as they are written
 	tests/examples.sh
 
+workflow: build ## runs the Snakemake workflow over the examples, also killed and with a part that is refused
+	tests/workflow.sh
+
+workflow-slurm: build ## the same on a SLURM of one node, as root; no part of the gate
+	tests/workflow_slurm.sh
+
 documents: ## compares what the documents name with what is there
 	tests/documents.py
 
-test: ## the gate: all proofs from nothing, the tests, the stored run, the edits that must fail; then memory, files, options, program, examples
+test: ## the gate: all proofs from nothing, the tests, the stored run, the edits that must fail; then memory, files, options, program, examples, workflow
 	tests/gate.sh
 
 bench: build ## runs the benchmarks and prints the tables of docs/BENCHMARKS.md
@@ -68,4 +75,4 @@ clean: ## removes what was built
 	rm -rf bin dist crates/*/out
 
 help: ## lists the targets
-	@sed -n 's/^\([a-z]*\):.*## \(.*\)/\1	\2/p' Makefile | expand -t 12
+	@sed -n 's/^\([a-z-]*\):.*## \(.*\)/\1	\2/p' Makefile | expand -t 16

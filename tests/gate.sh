@@ -3,8 +3,8 @@
 #   tests/gate.sh
 # What the documents name is there. All other edits have to be refused, each by the function that it names; beside that each growth of memory is
 # refused, files are missing or directories, the man page and the completions are compared with the help, the program's texts, streams and
-# statuses with what they should be, and the examples of the documents are run. Where all of it passed, the last line is `N passed, 0 failed`, N
-# counting proofs and edits.
+# statuses with what they should be, and the examples of the documents and the workflow over them are run. Where all of it passed, the last line is
+# `N passed, 0 failed`, N counting proofs and edits.
 set -euo pipefail
 cd "$(dirname "$0")/.."
 work=$(mktemp -d)
@@ -45,6 +45,7 @@ tests/files.sh
 tests/options.sh
 tests/program.sh
 tests/examples.sh
+tests/workflow.sh
 wait "$edits" || { cat "$work/edits"; exit 1; }
 cat "$work/edits"
 kill "$costs"
