@@ -12,7 +12,7 @@ use Rattle.kc_kmer.specs.Rule.{CountingRule}
 use Rattle.kc_kmer.specs.Occurrences.{words_of}
 use Rattle.kc_word.specs.Cutting.{NumberedPieces, as_reads}
 use Rattle.kc_booking.specs.Setup.{StripeSetup, HasBits, stripe_count, code_of}
-use Rattle.kc_booking.specs.Cut.{StripeCut, cut_at, cuts_of, keys_of, key_parts, keys_among}
+use Rattle.kc_booking.specs.Cut.{cut_at, cuts_of, keys_of, key_parts, keys_among}
 use Rattle.kc_booking.proofs.Codes.{low-bits, stripes-few, word-fits}
 
 -- ---- a function applied in place

@@ -1,5 +1,5 @@
 -- The cuts of several batches in one stripe: their keys, and the stripe when they are booked.
-use Rattle.std.proofs.Common.{◌≡◌, ◌≢◌, ◌⊎◌, ℕ, ◌+◌, ◌/◌, ◌%◌, ◌^◌, ◌<◌, ◌≤◌, Bool, true, false, cond, eqb, nat_eq, List, [], ◌∷◌, ◌++◌, length, get_or, take, drop, map, filter, count_by, sum_by, All, Contains, append-nil, append_assoc, refl, ap, ap₂, sym, subst, ◌∙◌, arith, ⊎_elim, below_more}
+use Rattle.std.proofs.Common.{◌≡◌, ◌≢◌, ◌⊎◌, ℕ, ◌+◌, ◌/◌, ◌^◌, ◌<◌, ◌≤◌, Bool, true, false, cond, eqb, nat_eq, List, [], ◌∷◌, ◌++◌, length, get_or, take, drop, map, filter, count_by, All, Contains, append-nil, append_assoc, refl, ap, ap₂, sym, subst, ◌∙◌, arith, ⊎_elim, below_more}
 use Rattle.std.specs.Bool.{MatchBool}
 use Rattle.std.specs.declared.sync.Arc.{Arc}
 use Rattle.std.specs.declared.alloc.Global.{Global}

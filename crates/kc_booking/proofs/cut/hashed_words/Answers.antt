@@ -1,7 +1,4 @@
-use Rattle.std.proofs.Common.{◌≡◌, ◌∙◌, ℕ, List, ap₂, map, refl, arith}
-use Rattle.std.proofs.lemmas.Grind.{common_steps}
-use Rattle.kc_hash.specs.Product.{product}
-use Rattle.kc_booking.specs.Cut.{batch_codes}
+use Rattle.std.proofs.Common.{◌∙◌, refl}
 use Rattle.kc_booking.proofs.Parts.{words-fit}
 use Rattle.kc_booking.proofs.cut.hashed_words.Goals as goal
 

@@ -1,4 +1,4 @@
-use Rattle.std.proofs.Common.{◌≡◌, ◌∙◌, ◌≤◌, Vec, Global, ℕ, ap, ap₂, map, length}
+use Rattle.std.proofs.Common.{◌≡◌, ◌∙◌, ◌≤◌, Vec, Global, ℕ, ap, map, length}
 use Rattle.std.proofs.lemmas.Result.{IfOk-weaker}
 use Rattle.kc_booking.specs.Cut.{batch_codes, key_parts, keys_of, cuts_of}
 use Rattle.kc_booking.proofs.Parts.{Part, divided-keys, few-parts}
