@@ -164,8 +164,8 @@ fn column(alloc: Global, rows: &[[usize; 64]], place: usize) -> Result<Vec<usize
     Ok(column)
 }
 
-// The batches of a list, in a list of their own. No batch is copied.
-pub(crate) fn shared(alloc: Global, batches: &[Arc<Batch>]) -> Result<Vec<Arc<Batch>>, AllocError>
+/// The batches of a list, in a list of their own. No batch is copied.
+pub fn shared(alloc: Global, batches: &[Arc<Batch>]) -> Result<Vec<Arc<Batch>>, AllocError>
     ensures { IfOk result (λ more. values more.items ≡ values batches.now) }
 {
     let mut more = room_for_each(alloc, batches)?;

@@ -35,12 +35,6 @@ module _ {setup : StripeSetup} {round : Round} {stripe : ℕ} (found : IsCutIn s
 
 -- ---- what is booked by one call
 
--- the share's parts and plan stay
-pub kept_by_bookings : (share : ShareSeen) (cuts : List StripeCut)
-    → ((with_bookings share cuts).parts ≡ share.parts) × ((with_bookings share cuts).plan ≡ share.plan)
-kept_by_bookings share [] = (refl, refl)
-kept_by_bookings share (cut ∷ cuts) = kept_by_bookings (with_booking share cut.stripe (cut_entry cut)) cuts
-
 -- a booking more for each batch
 more_for_each : {old : List Booking} (setup : StripeSetup) (stripe n : ℕ) (batches : List NumberedPieces) (share : ShareSeen)
     → HaveMoreIn stripe (stripe + 1) n old share.booked

@@ -1,5 +1,5 @@
-//! A round of a worker: batches that are cut up together, and then booked stripe by stripe, into each by one call, so that
-//! the lines of a stripe that one batch has fetched are still near for the next.
+//! A round of a worker: batches that are cut up together, and then booked stripe by stripe, by one call each, so that the
+//! lines of a stripe that one batch has fetched are still near for the next.
 ghost use Rattle.std.specs.Prelude.{◌≡◌, ◌+◌, ◌*◌, ◌%◌, ◌^◌, ◌≤◌, ◌<◌, ◌⊎◌, OnOk, IfErr, length};
 ghost use Rattle.kc_booking.specs.Setup.{stripe_count};
 ghost use Rattle.kc_run.specs.Runs.{IsCutUp, HaveMore, HaveMoreIn, IsOfBooking, IsWorkerFault};
@@ -88,7 +88,7 @@ fn book_range<H: Wait, C: Counts, N: Books>(
     Ok(())
 }
 
-// Books the batches of a round into the stripe of this number. A refusal ends the run with the stripe's number.
+// Books the batches of a round into the stripe of this number, with which a refusal ends the run.
 fn book_stripe<H: Wait, C: Counts, N: Books>(
     rt: &H,
     stripes: &Stripes<C, N>,

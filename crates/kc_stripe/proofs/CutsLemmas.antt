@@ -1,5 +1,5 @@
 -- Several batches that are booked into a stripe by one call, on the sheet of the shares.
-use Rattle.std.proofs.Common.{◌≡◌, ◌⊎◌, ℕ, ◌+◌, ◌^◌, ◌<◌, ◌≤◌, List, [], ◌∷◌, ◌++◌, All, length, get_or, map, take, append_assoc, refl, sym, ap, ap₂, ◌∙◌, subst, arith, ⊎_elim}
+use Rattle.std.proofs.Common.{◌≡◌, ◌⊎◌, ℕ, ◌+◌, ◌^◌, ◌<◌, ◌≤◌, List, [], ◌∷◌, ◌++◌, All, length, get_or, map, take, append_assoc, Result, Ok, Err, OnOk, OnErr, refl, sym, ap, ap₂, ◌∙◌, subst, arith, ⊎_elim}
 use Rattle.std.specs.List.{flat_map}
 use Rattle.std.proofs.lemmas.List.{length-map, get_or-map, map-append, map_push, take_more}
 use Rattle.std.proofs.lemmas.List.Concat.{length-flat_map}
@@ -28,6 +28,20 @@ pub with_bookings-push : (share : ShareSeen) (cuts : List StripeCut) (cut : Stri
     → with_bookings share (cuts ++ cut ∷ []) ≡ with_booking (with_bookings share cuts) cut.stripe (cut_entry cut)
 with_bookings-push share [] cut = refl
 with_bookings-push share (first ∷ cuts) cut = with_bookings-push (with_booking share first.stripe (cut_entry first)) cuts cut
+
+-- the share's parts and plan stay
+kept_by_bookings : (share : ShareSeen) (cuts : List StripeCut)
+    → ((with_bookings share cuts).parts ≡ share.parts) × ((with_bookings share cuts).plan ≡ share.plan)
+kept_by_bookings share [] = (refl, refl)
+kept_by_bookings share (cut ∷ cuts) = kept_by_bookings (with_booking share cut.stripe (cut_entry cut)) cuts
+
+-- also where they may be refused
+pub kept_by_booking : {T E : Type 0} (result : Result T E) (share new : ShareSeen) (cuts : List StripeCut) → OnOk result (new ≡ with_bookings share cuts)
+    → OnErr result (new ≡ share) → (new.parts ≡ share.parts) × (new.plan ≡ share.plan)
+kept_by_booking (Ok x) share new cuts booked refused =
+    let kept = kept_by_bookings share cuts in
+    (ap (λ (s : ShareSeen). s.parts) booked ∙ kept.0, ap (λ (s : ShareSeen). s.plan) booked ∙ kept.1)
+kept_by_booking (Err e) share new cuts booked refused = (ap (λ (s : ShareSeen). s.parts) refused, ap (λ (s : ShareSeen). s.plan) refused)
 
 pub with_entries-push : (it : KeptStripe) (cuts : List StripeCut) (cut : StripeCut) → with_entries it (cuts ++ cut ∷ []) ≡ with_entry (with_entries it cuts) (cut_entry cut)
 with_entries-push it cuts cut =

@@ -77,7 +77,8 @@ impl<C: Counts, N: Books> Locked<C, N> {
         Ok(())
     }
 
-    /// Books several batches into the stripe, and into a share, all or none. A refused booking leaves both as they were.
+    /// Books several batches into the stripe, and into a share, all or none. A refused booking leaves both as they
+    /// were.
     pub(crate) fn book_all(
         &mut self,
         sheet: &OpenSheet<N>,

@@ -138,8 +138,8 @@ impl<C: Counts, N: Books> Stripes<C, N> {
             .book(&self.sheet, share, cut)
     }
 
-    /// Books several batches into one stripe by one call, under that stripe's lock, and into a share, all or none: with a
-    /// booking more for each batch, in their order.
+    /// Books several batches into one stripe by one call, under that stripe's lock, and into a share, all or none. The
+    /// share has a booking more for each batch, in their order.
     ///
     /// The stripe of the cuts is one of these. A refused booking leaves the share as it was.
     pub fn book_all<R: Wait>(
@@ -150,6 +150,7 @@ impl<C: Counts, N: Books> Stripes<C, N> {
     ) -> Result<(), BookFault>
         requires { cuts.now.stripe < stripe_count self.now.setup }
         ensures booked { OnOk result (share.new ≡ with_bookings share.old (cuts_in cuts.now)) }
+        ensures kept { (share.new.parts ≡ share.old.parts) × (share.new.plan ≡ share.old.plan) }
         ensures refused { OnErr result (share.new ≡ share.old) }
     {
         self.locks[cuts.stripe() as usize]

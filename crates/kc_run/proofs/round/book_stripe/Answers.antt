@@ -5,7 +5,7 @@ use Rattle.kc_share.specs.Share.{ShareSeen}
 use Rattle.kc_booking.specs.Cuts.{RoundCut, cuts_in, round_at}
 use Rattle.kc_stripe.specs.Locked.{with_bookings}
 use Rattle.kc_run.specs.Runs.{HaveMoreIn}
-use Rattle.kc_run.proofs.RoundLemmas.{IsCutIn, cuts_there, cuts_of_stripe, kept_by_bookings, all_booked}
+use Rattle.kc_run.proofs.RoundLemmas.{IsCutIn, cuts_there, cuts_of_stripe, all_booked}
 use Rattle.kc_run.proofs.round.book_stripe.Goals as goal
 
 pub index-requires : goal.index-requires
@@ -19,13 +19,6 @@ book_all-requires g c =
     let found : IsCutIn c.args.stripes.now.setup c.args.round.now c.args.stripe = record { cut_up = c.requires.cut_up; less = c.requires.stripe } in
     let here = cuts_of_stripe found c.index.result.now c.index.ensures in
     omega (arith, ap (λ (cuts : RoundCut). cuts.stripe) here, c.requires.stripe)
-
-pub returns-in-Ok-clause-kept : goal.returns-in-Ok-clause-kept
-returns-in-Ok-clause-kept g c =
-    let kept = kept_by_bookings c.args.share.now (cuts_in c.index.result.now) in (
-      ap (λ (share : ShareSeen). share.parts) c.in-Ok.ensures.booked ∙ kept.0,
-      ap (λ (share : ShareSeen). share.plan) c.in-Ok.ensures.booked ∙ kept.1,
-    )
 
 pub returns-in-Ok-clause-booked : goal.returns-in-Ok-clause-booked
 returns-in-Ok-clause-booked g c =
