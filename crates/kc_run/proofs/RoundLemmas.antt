@@ -1,6 +1,5 @@
 -- The cuts of a round's batches, and the shares into which they are booked.
-use Rattle.std.proofs.Common.{◌≡◌, ℕ, ◌+◌, ◌<◌, List, [], ◌∷◌, All, length, get_or, ap, map, sym, ◌∙◌, subst, arith, refl}
-use Rattle.std.proofs.lemmas.List.{length-map}
+use Rattle.std.proofs.Common.{◌≡◌, ℕ, ◌+◌, ◌<◌, List, [], ◌∷◌, length, get_or, ap, ◌∙◌, subst, arith, refl}
 use Rattle.std.proofs.lemmas.List.FromFn.{length-map-range_with_len, get_or-map-range_with_len}
 use Rattle.kc_word.specs.Cutting.{NumberedPieces}
 use Rattle.kc_word.specs.Shared.{values}
@@ -8,7 +7,7 @@ use Rattle.kc_share.specs.declared.entry.Booking.{Booking}
 use Rattle.kc_share.specs.Share.{ShareSeen, with_booking}
 use Rattle.kc_booking.specs.Setup.{StripeSetup, stripe_count}
 use Rattle.kc_booking.specs.Cut.{StripeCut, cut_at}
-use Rattle.kc_booking.specs.Cuts.{RoundCut, cuts_in, round_at, rounds_of}
+use Rattle.kc_booking.specs.Cuts.{RoundCut, cuts_in, round_at}
 use Rattle.kc_stripe.specs.Locked.{cut_entry, with_bookings}
 use Rattle.kc_run.specs.declared.round.Round.{Round}
 use Rattle.kc_run.specs.Runs.{IsCutUp, HaveMoreIn}

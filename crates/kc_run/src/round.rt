@@ -6,9 +6,9 @@ ghost use Rattle.kc_run.specs.Runs.{IsCutUp, HaveMore, HaveMoreIn, IsOfBooking, 
 
 use crate::run_fault::RunFault;
 use kc_share::{Books, Share};
-use kc_stripe::{Cuts, Stripes};
+use kc_stripe::{Cuts, Setup, Stripes};
 use kc_table::Counts;
-use kc_word::{Batch, K};
+use kc_word::Batch;
 use std::sync::{Arc, Wait};
 
 // How many positions make a round.
@@ -24,9 +24,10 @@ pub(crate) struct Round {
     pub cuts: Vec<Cuts>,
 }
 
-/// How many batches make a round, where all have as many positions as the first: some 4 million positions, or fewer,
-/// so that each worker has four rounds; one at the least.
-pub(crate) fn round_len(batches: &[Arc<Batch>], k: K, workers: u32) -> u64
+/// How many batches make a round, where all have as many positions as the first: some 4 million positions, and as many
+/// at least as the list has words, since each booking compares the lists; or fewer, so that each worker has four rounds;
+/// one at the least.
+pub(crate) fn round_len(batches: &[Arc<Batch>], setup: &Setup, workers: u32) -> u64
     requires { 1 ≤ workers }
     ensures some { 1 ≤ result }
     ensures four { (result ≡ 1) ⊎ (result * (4 * workers) ≤ length batches.now) }
@@ -35,7 +36,12 @@ pub(crate) fn round_len(batches: &[Arc<Batch>], k: K, workers: u32) -> u64
         return 1;
     };
     let most = batches.len() as u64 / (ROUNDS * u64::from(workers));
-    let wanted = POSITIONS / (first.position_count(k) as u64).max(1);
+    let listed = match setup.list() {
+        Some(list) => list.words().len() as u64,
+        None => 0,
+    };
+    let positions = first.position_count(setup.rule().k()) as u64;
+    let wanted = POSITIONS.max(listed) / positions.max(1);
     wanted.min(most).max(1)
 }
 
