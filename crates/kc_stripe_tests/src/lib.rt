@@ -19,6 +19,8 @@ mod meetings;
 #[cfg(test)]
 mod refusals;
 #[cfg(test)]
+mod rounds;
+#[cfg(test)]
 mod sample_batches;
 #[cfg(test)]
 mod sharings;
