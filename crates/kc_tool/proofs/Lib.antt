@@ -4,6 +4,7 @@ pub mod CommandsLemmas
 pub mod FaultLinesLemmas
 pub mod FilesLemmas
 pub mod InputsLemmas
+pub mod MergedReportsLemmas
 pub mod ReadCountLemmas
 pub mod ReportsLemmas
 pub mod SourcesLemmas

@@ -10,7 +10,7 @@ use Rattle.kc_fastx.specs.Reads.{Read}
 use Rattle.kc_fastx.specs.Records.{RecordForm, Records}
 use Rattle.kc_fastx.specs.Fasta.{IsFastaRecord, greater_than}
 use Rattle.kc_fastx.specs.Fastq.{IsFastqRecord}
-use Rattle.kc_fastx.specs.Parsing.{GivesReads, IsFastq, text_lines}
+use Rattle.kc_fastx.specs.Parsing.{GivesReads, HasReads, IsFastq, text_lines}
 use Rattle.kc_fastx.proofs.FastaLemmas.{fasta_shorter}
 use Rattle.kc_fastx.proofs.FastqLemmas.{fastq_shorter, length-skip_blanks}
 
@@ -53,7 +53,11 @@ count-either true bytes reads h =
 count-either false bytes reads h =
     omega (arith, few_lines bytes, length-skip_blanks (lines bytes), count-Records IsFastqRecord fastq_shorter (text_lines bytes) reads h.rest h.records)
 
+-- No bytes say more reads than they are.
+pub read_count-within : (bytes : List ℕ) (reads : List Read) → HasReads bytes reads → length reads ≤ length bytes
+read_count-within bytes reads h = count-either (next_begins_with greater_than (text_lines bytes)) bytes reads h
+
 pub read_count-gives : (start now : Seen) (limit : ℕ) (reads : List Read) (count : ℕ) → GivesReads start now limit reads count → length reads ≤ count
 read_count-gives start now limit reads count gives =
-    let fits = count-either (next_begins_with greater_than (text_lines gives.bytes)) gives.bytes reads gives.has_reads in
+    let fits = read_count-within gives.bytes reads gives.has_reads in
     omega (arith, gives.counted, fits)

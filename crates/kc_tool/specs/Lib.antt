@@ -4,6 +4,7 @@ pub mod FaultLines
 pub mod Faults
 pub mod FileEvents
 pub mod Files
+pub mod MergedReports
 pub mod NamedSources
 pub mod Process
 pub mod Progress

@@ -5,7 +5,8 @@
 //! refusal is a `ToolFault`, and `write_fault` writes its line.
 //!
 //! `write_dump`, `write_histo`, `write_stats` and `write_table` write a `Tally`, and `query` the counts of some words;
-//! `read_table` reads what `write_table` writes, with the `Origin` that it tells, and `merge` adds two of these.
+//! `read_table` reads what `write_table` writes, with the `Origin` that it tells, and `merge` adds two of these;
+//! `report_laws` says what becomes of the tables that `count_reads` wrote.
 //!
 //! ```text
 //! let k = K::new(3).ok_or("a length")?;
@@ -28,6 +29,7 @@ mod files;
 mod given_options;
 mod named_sources;
 mod process;
+pub mod report_laws;
 mod reports;
 mod task_tallies;
 mod tool_faults;

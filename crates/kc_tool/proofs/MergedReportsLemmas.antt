@@ -1,0 +1,364 @@
+-- Reports that are merged tell the reads of both.
+use Rattle.std.proofs.Common.{◌≡◌, ℕ, zero, suc, ◌+◌, ◌-◌, ◌^◌, ◌≤◌, Bool, true, false, List, [], ◌∷◌, ◌++◌}
+use Rattle.std.proofs.Common.{length, map, drop, append_assoc, get_or, eqb, refl, sym, ◌∙◌, ap, subst, arith}
+use Rattle.std.proofs.Common.{eq-eqb, ne_eqb, ⊎_elim}
+use Rattle.std.specs.Prelude.{All, MatchBool, Option, Some, None, IfSome, Ok, Result}
+use Rattle.std.specs.List.{concat}
+use Rattle.std.proofs.lemmas.Bool.{cases_eq, cases_lt, cond-false, cond-true}
+use Rattle.std.proofs.lemmas.List.{length-append}
+use Rattle.std.proofs.lemmas.Grind.{flat_map-append}
+use Rattle.std.proofs.lemmas.List.Elements.{All-head, All-tail}
+use Rattle.std.proofs.lemmas.List.Sums.{sum_by-append}
+use Rattle.std.proofs.KnownBytes.{Consumes-whole}
+use Rattle.kc_io.specs.Sources.{Seen}
+use Rattle.kc_io.specs.Intakes.{TakesAll}
+use Rattle.kc_fastx.specs.declared.read_faults.FastxFault.{FastxFault}
+use Rattle.kc_fastx.specs.Reads.{Read, base_count}
+use Rattle.kc_fastx.specs.Lines.{next_begins_with}
+use Rattle.kc_fastx.specs.Records.{Records}
+use Rattle.kc_fastx.specs.Fasta.{IsFastaRecord, greater_than}
+use Rattle.kc_fastx.specs.Parsing.{HaveReads, IsFastq, most_bytes, text_lines}
+use Rattle.kc_fastx.proofs.LawsOfAll.{same_answer_of_all}
+use Rattle.kc_fastx.proofs.ReadsLemmas.{base_count-fasta, base_count-fastq}
+use Rattle.kc_kmer.specs.Word.{text as text_of, form}
+use Rattle.kc_kmer.specs.Rule.{CountingRule}
+use Rattle.kc_kmer.specs.Occurrences.{words_in, words_of}
+use Rattle.kc_tally.specs.declared.row.Row.{Row}
+use Rattle.kc_tally.specs.Tally.{AreRows, IsTallyOf, TallySeen, count_of, total_of}
+use Rattle.kc_tally.specs.Sum.{IsSum}
+use Rattle.kc_tally.proofs.Tallies.{one_value, summed_tally, tally-AreRows, tally_total}
+use Rattle.kc_report.specs.Table.{table_text}
+use Rattle.kc_report.specs.TableReading.{IsTable, IsTableOf}
+use Rattle.kc_report.specs.Merging.{IsCountRead, counted_from, joined_origin, reads_together}
+use Rattle.kc_report.proofs.MergingLemmas.{counts_match}
+use Rattle.kc_report.proofs.TableAnswers.{same_tally}
+use Rattle.kc_command.specs.declared.settings.Print.TheVariants as print
+use Rattle.kc_command.specs.Settings.{Settings, rule_of}
+use Rattle.kc_tool.specs.MergedReports.{ApartIsTogether, IsReportOn, MergeWritesMerged, MergedReports}
+use Rattle.kc_tool.specs.MergedReports.{OneReport, ReportTellsReads, ReportsMatch, TellsReads}
+use Rattle.kc_tool.specs.Reports.{printed_text}
+use Rattle.kc_tool.specs.Tallies.{GaveInputs, GivesList, TableSeen, TalliesSources}
+use Rattle.kc_tool.proofs.ReadCountLemmas.{read_count-within}
+
+-- ---- how much reads are
+
+bases-either : (is_fasta : Bool) (bytes : List ℕ) (reads : List Read)
+    → MatchBool is_fasta (Records IsFastaRecord (text_lines bytes) reads []) (IsFastq (text_lines bytes) reads)
+    → base_count reads ≤ length bytes
+bases-either true bytes reads h = base_count-fasta bytes reads h
+bases-either false bytes reads h = base_count-fastq bytes reads h
+
+-- There are at most so many reads, and they have at most so many bases.
+record AreFew (reads : List Read) (most : ℕ) : Type 0 where
+  count : length reads ≤ most
+  bases : base_count reads ≤ most
+
+few_of : (inputs : List (List ℕ)) (reads : List Read) → HaveReads inputs reads → AreFew reads (length (concat inputs))
+few_of [] reads none = record {
+  count = rw none (omega arith);
+  bases = rw none (omega arith);
+}
+few_of (bytes ∷ inputs) reads h =
+    let here = h.0 in
+    let others = h.1 in
+    let rest = few_of inputs others h.3 in
+    let long = length-append bytes (concat inputs) in
+    let bases : base_count (here ++ others) ≡ base_count here + base_count others =
+    sum_by-append (λ read. length read.bases) here others in
+    let bases_here = bases-either (next_begins_with greater_than (text_lines bytes)) bytes here h.2 in
+    record {
+      count = rw h.4 (omega (arith, read_count-within bytes here h.2, rest.count, long, length-append here others));
+      bases = rw h.4 (omega (arith, bases_here, rest.bases, long, bases));
+    }
+
+-- ---- what a count tells
+
+-- Settings for which the words have a length, and the floor is one of a quality line.
+pub record AreSettings (settings : Settings) : Type 0 where
+  pub some : 1 ≤ settings.k
+  pub most : settings.k ≤ 31
+  pub low : 33 ≤ settings.floor
+  pub high : settings.floor ≤ 126
+
+rows_under : {k m : ℕ} {both other : Bool} (rows : List Row) → k ≡ m → both ≡ other → AreRows k both rows
+    → AreRows m other rows
+rows_under {k} {m} {both} {other} rows same same_ h =
+    subst (λ both. AreRows m both rows) same_ (subst (λ k. AreRows k both rows) same h)
+
+counted_table : (settings : Settings) → AreSettings settings → (reads : List Read) → AreFew reads most_bytes
+    → (tally : TallySeen) → IsTallyOf (rule_of settings) reads tally
+    → IsTable tally (counted_from (rule_of settings) reads)
+counted_table settings are reads few tally counted =
+    let k : tally.k ≡ settings.k = counted.k in
+    record {
+      some = omega (arith, k, are.some);
+      most = omega (arith, k, are.most);
+      rows = rows_under tally.rows (sym counted.k) (sym counted.both)
+          (tally-AreRows (rule_of settings) reads tally.rows are.some (omega (arith, few.bases)) counted.rows);
+      said = record { floor_least = are.low; floor_most = are.high; reads = omega (arith, few.count) };
+    }
+
+no_list : (rule : CountingRule) (later : Option Seen) (list : Option (List ℕ)) → GivesList rule None later list
+    → list ≡ None
+no_list rule None None h = refl
+no_list rule None (Some words) h = absurd h
+no_list rule (Some later) None h = absurd h
+no_list rule (Some later) (Some words) h = absurd h
+
+pub report_tells : (settings : Settings) → AreSettings settings → ReportTellsReads settings
+report_tells settings are sources text is_table report =
+    let later = report.later in
+    let table = report.table in
+    let counted = report.counted in
+    let none = no_list (rule_of settings) later.list counted.list counted.listed in
+    let tallied : TalliesSources sources later.sources settings None table =
+    subst (λ list. TalliesSources sources later.sources settings list table) none counted.tallied in
+    let reads = tallied.0 in
+    let gave = tallied.1.1 in
+    let all = few_of tallied.1.0 reads gave.has_reads in
+    let few : AreFew reads most_bytes = record {
+      count = omega (arith, all.count, gave.within);
+      bases = omega (arith, all.bases, gave.within);
+    } in
+    let is_text : text ≡ table_text table.0 (counted_from (rule_of settings) reads) = report.is_text
+    ∙ ap (λ which. printed_text which settings.dump settings.high table) is_table
+    ∙ ap (λ origin. table_text table.0 origin) tallied.3 in (
+      reads,
+      tallied.1,
+      record {
+        tally = table.0;
+        counted = tallied.2;
+        told = record {
+          lawful = counted_table settings are reads few table.0 tallied.2;
+          whole = is_text;
+        };
+      },
+    )
+
+-- ---- texts that tell reads
+
+-- The text is read as the table that tells the reads.
+record IsRead (rule : CountingRule) (reads : List Read) (table : TableSeen) : Type 0 where
+  counted : IsTallyOf rule reads table.0
+  origin : table.1 ≡ counted_from rule reads
+
+is_read : {rule : CountingRule} {reads : List Read} {text : List ℕ} (table : TableSeen) → TellsReads rule reads text
+    → IsTableOf text (Ok table) → IsRead rule reads table
+is_read {rule} {reads} table tells read =
+    let same = same_tally tells.tally table.0 (counted_from rule reads) table.1 tells.told.lawful read.lawful
+    (sym tells.told.whole ∙ read.whole) in
+    record { counted = subst (IsTallyOf rule reads) same.0 tells.counted; origin = sym same.1 }
+
+count_read : {rule : CountingRule} {reads : List Read} {text : List ℕ} {table : TableSeen} → TellsReads rule reads text
+    → IsTableOf text (Ok table) → IsCountRead rule reads table
+count_read {rule} {reads} {text} {table} tells read = record {
+  tally = tells.tally;
+  counted = tells.counted;
+  lawful = tells.told.lawful;
+  told = subst (λ bytes. IsTableOf bytes (Ok table)) tells.told.whole read;
+}
+
+pub reports_match : ReportsMatch
+reports_match rule reads more first second table other tells tells_ read read_ =
+    counts_match rule reads more table other (count_read tells read) (count_read tells_ read_)
+
+pub one_report : OneReport
+one_report rule reads text other tells tells_ =
+    let same = one_value rule reads tells.tally tells_.tally tells.counted tells_.counted in
+    tells.told.whole ∙ ap (λ tally. table_text tally (counted_from rule reads)) same ∙ sym tells_.told.whole
+
+-- ---- the rows of a sum
+
+count_of-here : (row : Row) (rows : List Row) (n : ℕ) → row.word ≡ n → count_of (row ∷ rows) n ≡ row.count
+count_of-here row rows n e = cond-true (eqb row.word n) row.count (count_of rows n) (eq-eqb row.word n e)
+
+count_of-past : (row : Row) (rows : List Row) (n : ℕ) → (row.word ≡ n → ⊥) → count_of (row ∷ rows) n ≡ count_of rows n
+count_of-past row rows n ne = cond-false (eqb row.word n) row.count (count_of rows n) (ne_eqb row.word n ne)
+
+-- A word that has a count stands in a row.
+counted_stands : (P : ℕ → Type 0) (rows : List Row) (n : ℕ) → All (λ row. P row.word) rows → 1 ≤ count_of rows n → P n
+counted_stands P [] n all some = absurd (omega (arith, some))
+counted_stands P (row ∷ rows) n all some =
+    ⊎_elim (λ e. subst P e (All-head (λ (row : Row). P row.word) row rows all))
+    (λ ne. counted_stands P rows n (All-tail (λ (row : Row). P row.word) row rows all)
+    (omega (arith, some, count_of-past row rows n ne)))
+    (cases_eq row.word n)
+
+-- The word of a row has a count.
+stands_counted : (rows : List Row) → All (λ row. 1 ≤ row.count) rows → All (λ row. 1 ≤ count_of rows row.word) rows
+stands_counted [] present i d h = absurd (omega (arith, h))
+stands_counted (row ∷ rows) present zero d h =
+    let some : 1 ≤ row.count = present zero d h in
+    omega (arith, some, count_of-here row rows row.word refl)
+stands_counted (row ∷ rows) present (suc i) d h =
+    let next : Row = get_or rows i d in
+    let rest = All-tail (λ (row : Row). 1 ≤ row.count) row rows present in
+    let there : 1 ≤ count_of rows next.word = stands_counted rows rest i d (omega (arith, h)) in
+    let some : 1 ≤ row.count = All-head (λ (row : Row). 1 ≤ row.count) row rows present in
+    ⊎_elim (λ e. let here = count_of-here row rows next.word e in omega (arith, some, here))
+    (λ ne. let past = count_of-past row rows next.word ne in omega (arith, there, past))
+    (cases_eq row.word next.word)
+
+module _ {k : ℕ} {both : Bool} {rows others sums : List Row} (first : AreRows k both rows)
+    (second : AreRows k both others) (sum : IsSum k rows others sums) where
+  -- Each word of the sum is one of the addends'.
+  sum_forms : All (λ row. form both (text_of k row.word) ≡ text_of k row.word) sums
+  sum_forms i d h =
+      let row : Row = get_or sums i d in
+      let formed : ℕ → Type 0 = λ n. form both (text_of k n) ≡ text_of k n in
+      let some : 1 ≤ count_of sums row.word = stands_counted sums sum.ordered.present i d h in
+      let counts = sum.counts row.word (sum.ordered.words i d h) in
+      ⊎_elim (λ none. counted_stands formed others row.word second.forms (omega (arith, some, counts, none)))
+      (λ counted. counted_stands formed rows row.word first.forms counted)
+      (cases_lt (count_of rows row.word) 1)
+
+  sum_rows : total_of sums ≤ 2 ^ 62 → AreRows k both sums
+  sum_rows small = record { ordered = sum.ordered; forms = sum_forms; small = small }
+
+words-append : (rule : CountingRule) (reads more : List Read)
+    → length (words_of rule (reads ++ more)) ≡ length (words_of rule reads) + length (words_of rule more)
+unfolding words_of
+words-append rule reads more =
+    ap length (flat_map-append (λ read. words_in rule read) reads more)
+    ∙ length-append (words_of rule reads) (words_of rule more)
+
+-- ---- merged texts
+
+pub merged_reports : MergedReports
+merged_reports rule reads more first second text tells tells_ are =
+    let one = is_read are.table tells are.told in
+    let two = is_read are.other tells_ are.other_told in
+    let merged = are.merged in
+    let merges = are.merges in
+    let counted : IsTallyOf rule (reads ++ more) merged.0 =
+    summed_tally rule reads more are.table.0 are.other.0 merged.0 one.counted two.counted merges.2 in
+    let long : length reads + length more ≡ length (reads ++ more) = sym (length-append reads more) in
+    let origin : merged.1 ≡ counted_from rule (reads ++ more) = merges.3
+    ∙ (λ i. joined_origin (one.origin i) (two.origin i))
+    ∙ (λ i. Some (record { floor = rule.floor; reads = long i; listed = false })) in
+    let together : length reads + length more ≤ 2 ^ 62 =
+    subst (λ origin. reads_together origin (counted_from rule more) ≤ 2 ^ 62) one.origin
+    (subst (λ origin. reads_together are.table.1 origin ≤ 2 ^ 62) two.origin merges.1.reads) in
+    let said = tells.told.lawful.said in
+    let totals = merges.1.totals in
+    let total : total_of merged.0.rows ≤ 2 ^ 62 = omega (
+      arith,
+      totals,
+      tally_total rule (reads ++ more) merged.0.rows counted.rows,
+      tally_total rule reads are.table.0.rows one.counted.rows,
+      tally_total rule more are.other.0.rows two.counted.rows,
+      words-append rule reads more,
+    ) in
+    let rows = sum_rows (rows_under are.table.0.rows one.counted.k one.counted.both are.told.lawful.rows)
+    (rows_under are.other.0.rows two.counted.k two.counted.both are.other_told.lawful.rows)
+    (subst (λ k. IsSum k are.table.0.rows are.other.0.rows merged.0.rows) one.counted.k merges.2.rows) total in
+    record {
+      tally = merged.0;
+      counted = counted;
+      told = record {
+        lawful = record {
+          some = omega (arith, merges.2.k, are.told.lawful.some);
+          most = omega (arith, merges.2.k, are.told.lawful.most);
+          rows = rows_under merged.0.rows (sym counted.k) (sym counted.both) rows;
+          said = record {
+            floor_least = said.floor_least;
+            floor_most = said.floor_most;
+            reads = omega (arith, together, long);
+          };
+        };
+        whole = are.is_text ∙ ap (λ origin. table_text merged.0 origin) origin;
+      };
+    }
+
+-- ---- sources that tell their bytes
+
+-- A source that was read to its end gave the bytes that it told.
+gave_told : (old new : Seen) (limit : ℕ) (input bytes : List ℕ) → TakesAll old new limit input → old.left ≡ Some bytes
+    → input ≡ bytes
+gave_told old new limit input bytes taken tells =
+    subst (λ left. IfSome left (λ bytes. input ≡ bytes)) tells
+    (Consumes-whole old.left new.left input (λ bytes. input ≡ bytes) taken.taken.consumed taken.at_end refl)
+
+gave_inputs : (limit : ℕ) (old new : List Seen) (inputs told : List (List ℕ)) → GaveInputs limit old new inputs
+    → map (λ source. source.left) old ≡ map (λ input. Some input) told → inputs ≡ told
+gave_inputs limit [] [] [] [] gave tell = refl
+gave_inputs limit [] [] [] (bytes ∷ told) gave tell = absurd (let long = ap length tell in omega (arith, long))
+gave_inputs limit (source ∷ old) (later ∷ new) (input ∷ inputs) [] gave tell =
+    absurd (let long = ap length tell in omega (arith, long))
+gave_inputs limit (source ∷ old) (later ∷ new) (input ∷ inputs) (bytes ∷ told) gave tell =
+    let here : source.left ≡ Some bytes = cc in
+    let rest : map (λ source. source.left) old ≡ map (λ input. Some input) told = ap (drop 1) tell in
+    let same = gave_told source later limit input bytes gave.0 here in
+    let others = gave_inputs (limit - length input) old new inputs told gave.1 rest in
+    λ i. same i ∷ others i
+gave_inputs limit [] [] (input ∷ inputs) told gave tell = absurd gave
+gave_inputs limit [] (later ∷ new) [] told gave tell = absurd gave
+gave_inputs limit [] (later ∷ new) (input ∷ inputs) told gave tell = absurd gave
+gave_inputs limit (source ∷ old) [] [] told gave tell = absurd gave
+gave_inputs limit (source ∷ old) [] (input ∷ inputs) told gave tell = absurd gave
+gave_inputs limit (source ∷ old) (later ∷ new) [] told gave tell = absurd gave
+
+HaveReads-append : (inputs more : List (List ℕ)) (reads others : List Read) → HaveReads inputs reads
+    → HaveReads more others → HaveReads (inputs ++ more) (reads ++ others)
+HaveReads-append [] more reads others none h = subst (λ v. HaveReads more (v ++ others)) (sym none) h
+HaveReads-append (bytes ∷ inputs) more reads others h behind = (
+  h.0,
+  h.1 ++ others,
+  h.2,
+  HaveReads-append inputs more h.1 others h.3 behind,
+  ap (λ v. v ++ others) h.4 ∙ append_assoc h.0 h.1 others,
+)
+
+same_reads : (inputs : List (List ℕ)) (reads others : List Read) → HaveReads inputs reads → HaveReads inputs others
+    → reads ≡ others
+same_reads inputs reads others h h_ =
+    let same : ◌≡◌ {A = Result (List Read) (ℕ × FastxFault)} (Ok reads) (Ok others) =
+    same_answer_of_all inputs (Ok reads) (Ok others) h h_ in
+    cc
+
+-- What a report tells of sources that tell their bytes: the reads of these.
+record TellsInputs (settings : Settings) (inputs : List (List ℕ)) (text : List ℕ) : Type 0 where
+  reads : List Read
+  have : HaveReads inputs reads
+  tells : TellsReads (rule_of settings) reads text
+
+tells_inputs : (settings : Settings) → AreSettings settings → (inputs : List (List ℕ)) (text : List ℕ)
+    → settings.print ≡ print.Table → IsReportOn settings inputs text → TellsInputs settings inputs text
+tells_inputs settings are inputs text is_table on =
+    let told = report_tells settings are on.sources text is_table on.report in
+    let gave = told.1.1 in
+    let same = gave_inputs most_bytes on.sources on.report.later.sources told.1.0 inputs gave.gave on.tell in
+    record { reads = told.0; have = subst (λ v. HaveReads v told.0) same gave.has_reads; tells = told.2 }
+
+pub apart_is_together : (settings : Settings) → AreSettings settings → ApartIsTogether settings
+apart_is_together settings are inputs more first second merged whole is_table one two put all =
+    let rule = rule_of settings in
+    let front = tells_inputs settings are inputs first is_table one in
+    let back = tells_inputs settings are more second is_table two in
+    let both = tells_inputs settings are (inputs ++ more) whole is_table all in
+    let same = same_reads (inputs ++ more) both.reads (front.reads ++ back.reads) both.have
+    (HaveReads-append inputs more front.reads back.reads front.have back.have) in
+    one_report rule (front.reads ++ back.reads) merged whole
+    (merged_reports rule front.reads back.reads first second merged front.tells back.tells put)
+    (subst (λ reads. TellsReads rule reads whole) same both.tells)
+
+-- ---- the command
+
+pub merge_writes : MergeWritesMerged
+merge_writes first second first_after second_after text is =
+    let sum = is.1 in
+    let tables = sum.2 in (
+      tables.told.bytes,
+      tables.other_told.bytes,
+      tables.told.taken,
+      tables.other_told.taken,
+      record {
+        table = sum.0;
+        other = sum.1;
+        merged = is.0;
+        told = tables.told.has_table;
+        other_told = tables.other_told.has_table;
+        merges = sum.3;
+        is_text = is.2;
+      },
+    )

@@ -1,0 +1,29 @@
+//! What holds of reports that are merged. It is the contract of a function that does nothing.
+ghost use Rattle.kc_tool.specs.MergedReports.{
+  ApartIsTogether,
+  MergeWritesMerged,
+  MergedReports,
+  OneReport,
+  ReportTellsReads,
+  ReportsMatch,
+};
+
+use kc_command::Options;
+
+/// Where `count_reads` has no list and writes a table, its text tells the reads that the sources gave. Two such texts
+/// under one rule match, so that they are never refused as unlike. What the command `merge` writes of them tells the
+/// reads of both, and one text alone does. So of sources that tell their bytes, the tables of two inputs that were
+/// counted apart, merged, are byte for byte the table of both counted together.
+pub fn merged_reports(options: &Options)
+    ensures report { ReportTellsReads options.now }
+    ensures matched { ReportsMatch }
+    ensures merged { MergedReports }
+    ensures only { OneReport }
+    ensures together { ApartIsTogether options.now }
+    ensures command { MergeWritesMerged }
+{
+    // what is known of a length and of a floor
+    let rule = options.rule();
+    let _bases = rule.k().get();
+    let _floor = rule.floor();
+}
