@@ -16,7 +16,7 @@ use std::sync::{Arc, Wait};
 use std::test::Fail;
 
 // The batches of these places, in their order, as one list.
-fn picked(
+pub(crate) fn picked(
     alloc: Global,
     batches: &[Arc<Batch>],
     places: &[usize],
