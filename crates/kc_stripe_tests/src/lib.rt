@@ -5,7 +5,7 @@
 #[cfg(test)]
 mod bookings;
 #[cfg(test)]
-mod cuts;
+mod cut_rows;
 #[cfg(test)]
 mod gathered_tallies;
 #[cfg(test)]
