@@ -44,7 +44,7 @@ unfolding reverse_complement
 length-reversed_text k n = length-reverse (map complement (text k n)) ∙ length-map (text k n) complement ∙ length-text k n
 
 -- the letter at index i of the other strand's text: the partner of the i-th last
-get_or-reversed_text : (k n i j d : ℕ) → i + suc j ≡ k → get_or (reverse_complement (text k n)) i d ≡ base (3 - digit n i)
+pub get_or-reversed_text : (k n i j d : ℕ) → i + suc j ≡ k → get_or (reverse_complement (text k n)) i d ≡ base (3 - digit n i)
 unfolding reverse_complement
 get_or-reversed_text k n i j d e =
     let long : length (map complement (text k n)) ≡ k = length-map (text k n) complement ∙ length-text k n in

@@ -12,7 +12,7 @@ use crate::dump::GREATEST_COUNT;
 use crate::fields::{count_of, word_of};
 use crate::table::push_end;
 use kc_io::Block;
-use kc_kmer::{K, Word, canonical};
+use kc_kmer::{K, Word};
 use kc_tally::{Row, Tally};
 use std::alloc::{AllocError, Global};
 use std::marker::Model;
@@ -126,16 +126,24 @@ impl TableRows {
     }
 }
 
-// Whether a word stands in the form under which it counts.
+// Whether a word stands in the form under which it counts. On both strands the first letter that differs from what the
+// other strand reads decides, nearly always one of the first.
 fn is_form(word: Word, k: K, both: bool) -> bool
     requires { word.0 < 4 ^ k }
     ensures { IsTrue result ↔ (form both (text k word.0) ≡ text k word.0) }
 {
-    if both {
-        canonical(word, k).0 == word.0
-    } else {
-        true
+    if !both {
+        return true;
     }
+    let count = k.get() as usize;
+    for i in 0..count {
+        let letter = (word.0 >> (2 * (count - 1 - i))) & 3;
+        let opposite = 3 - ((word.0 >> (2 * i)) & 3);
+        if letter != opposite {
+            return letter < opposite;
+        }
+    }
+    true
 }
 
 // The row in front of the bytes, and how many bytes it has.
