@@ -43,7 +43,7 @@ options: build ## compares the options of the man page and the completions with 
 program: build ## compares the program's texts, streams and statuses as a whole, and the help's ranges and defaults with what it does
 	tests/program.sh
 
-examples: build ## runs the examples of README.md and docs/USING.md as they are written
+examples: build ## runs the examples of README.md, docs/USING.md and docs/TUTORIAL.md as they are written
 	tests/examples.sh
 
 workflow: build ## runs the Snakemake workflow over the examples, also killed and with a part that is refused

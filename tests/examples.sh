@@ -1,7 +1,7 @@
 #!/bin/bash
 # Runs the examples of the documents as they are written, and compares what they print:
 #   tests/examples.sh
-# An example is a line that begins with "$ " in a block of README.md or docs/USING.md; what it prints, to either stream,
+# An example is a line that begins with "$ " in a block of README.md, docs/USING.md or docs/TUTORIAL.md; what it prints, to either stream,
 # stands below it, up to the next one or the end of the block. All run one after the other in one directory, which has
 # examples/ in it. A line that names a tool that isn't installed here is left out, and it is said so. A block that isn't
 # closed, and a line that begins with "$ " and was not reached, fail the test.
@@ -45,7 +45,7 @@ run_example() {
     ran=$((ran + 1))
 }
 
-for document in README.md docs/USING.md; do
+for document in README.md docs/USING.md docs/TUTORIAL.md; do
     fences=$(grep -c '^```' "$top/$document")
     [ $((fences % 2)) = 0 ] || { echo "examples: a block of $document isn't closed: it has $fences lines of \`\`\`"; exit 1; }
     before=$((ran + left_out))
