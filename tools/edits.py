@@ -9,10 +9,9 @@ has a line `refused:` with the function that has to be refused by it, as the che
 
 A function is proved against the contracts of those that it calls, so edits of different functions don't hide one another. The edits of a
 crate are put together into few groups, never two of one function in one group; an edit that changes more than bodies of functions is tried
-alone. Each group is made in a copy of the crate and checked once, over a copy of what was kept of the crate's proof, so that only edited
-functions are tried again. Of each function that an edit names a goal or an answer of its own has to be open: that it calls what is not proved
-doesn't count, nor that the edited text can't be read, nor that the checker could not tell. What isn't refused so in its group is tried once
-more alone, and that decides.
+alone. Each group is made in a copy of the crate, and its functions are checked by one check, over a copy of what was kept of the crate's proof.
+Of each function that an edit names a goal or an answer of its own has to be open: that it calls what is not proved doesn't count, nor that the
+edited text can't be read, nor that the checker could not tell. What isn't refused so in its group is tried once more alone, and that decides.
 
 The last line is `N refused, M failed`.
 """
@@ -202,10 +201,6 @@ def own_refusal(crate, function, said):
     return next((it for it in errors if not re.search(NAMES, it)), None)
 
 
-def is_there(crate, function, said):
-    return re.search(rf"(?m)^fn {re.escape(f'{crate}::{function}')}: ", said)
-
-
 def kept_files(crate, kept):
     """Returns the paths of what the folder has of the crate, below it."""
     found = []
@@ -239,16 +234,17 @@ def judge(rt, crate, group, kept):
 def judge_over(rt, crate, group, kept):
     """The same over this very folder, which then has what was proved beside the edits."""
     texts = made(crate.folder, group)
-    ran = rt.checked(crate, texts, ["--jobs", "1"], kept)
+    only = [word for it in sorted({edit.refused for edit in group}) for word in ("--only", it)]
+    ran = rt.checked(crate, texts, ["--jobs", "1", *only], kept)
     unread = next((it for it in ran.stdout.split("\n") if rt.unread(it, texts)), None)
     failed = {}
     for edit in group:
         if unread:
             failed[edit.name] = f"the edited text can't be read: {unread[:200]}"
+        elif f"`{crate.name}` has no function `{edit.refused}`" in ran.stdout:
+            failed[edit.name] = f"there is no function {edit.refused}"
         elif ran.returncode not in (0, 1) or rt.rtlib.STALE.search(ran.stdout):
             failed[edit.name] = "the checker could not tell: " + ran.stdout.strip().split("\n")[-1][:200]
-        elif ran.returncode and not is_there(crate.name, edit.refused, ran.stdout):
-            failed[edit.name] = f"there is no function {edit.refused}"
         elif not own_refusal(crate.name, edit.refused, ran.stdout):
             failed[edit.name] = f"{edit.refused} is not refused for a goal or an answer of its own"
         else:
@@ -286,8 +282,8 @@ def try_group(rt, crate, group, kept, is_first):
 
 def try_crates(rt, crates, kept):
     """Tries the edits of these crates, groups side by side, over what that folder has of them, or each over its own. Where the folder has
-    nothing of a crate its smallest group comes first, and the others are tried over what that check proved. Returns for each crate how many
-    groups it has, and for each of its edits why it failed, or None."""
+    nothing of a crate its smallest group comes first, and the others are tried over what that check proved beside the edits. Returns for each
+    crate how many groups it has, and for each of its edits why it failed, or None."""
     tasks, tried = {}, {}
     for crate in (it for it in crates if any(names_in(it.folder))):
         edits, failed = read_all(rt, crate)
