@@ -37,7 +37,8 @@ pub(crate) fn summed_rows(
 fn take_sum(firsts: &mut Rows<'_>, seconds: &mut Rows<'_>) -> Option<Row>
     requires { total_of firsts.old + total_of seconds.old ≤ 2 ^ 62 }
     ensures some { IfSome result (TakesSum firsts.old firsts.new seconds.old seconds.new) }
-    ensures none { IfNone result (summing.lesser (summing.first_word firsts.old) (summing.first_word seconds.old) ≡ None) }
+    ensures none { IfNone result
+        (summing.lesser (summing.first_word firsts.old) (summing.first_word seconds.old) ≡ None) }
 {
     // nearly always both rows are at hand
     match firsts.take_sum(seconds) {
@@ -51,7 +52,8 @@ fn take_sum(firsts: &mut Rows<'_>, seconds: &mut Rows<'_>) -> Option<Row>
 fn take_counts(firsts: &mut Rows<'_>, seconds: &mut Rows<'_>) -> Option<Row>
     requires { total_of firsts.old + total_of seconds.old ≤ 2 ^ 62 }
     ensures some { IfSome result (TakesSum firsts.old firsts.new seconds.old seconds.new) }
-    ensures none { IfNone result (summing.lesser (summing.first_word firsts.old) (summing.first_word seconds.old) ≡ None) }
+    ensures none { IfNone result
+        (summing.lesser (summing.first_word firsts.old) (summing.first_word seconds.old) ≡ None) }
 {
     let Some(word) = lesser(first_word(firsts), first_word(seconds)) else {
         return None;
