@@ -9,7 +9,7 @@ use Rattle.std.specs.Str.Parse.{AllDigits, digits_value}
 use Rattle.std.proofs.Math.Nat.{pow-le-pow_right}
 use Rattle.std.proofs.Math.Seq.{take-add, take-append_seam, drop-append_seam}
 use Rattle.std.proofs.lemmas.Bool.{eqb-true, cases_Bool, cases_lt, cond-true, cond-false, and_from}
-use Rattle.std.proofs.lemmas.Fmt.{decimal_is_IsNumeral, decimal-digits_value, first_decimal, length-decimal-le}
+use Rattle.std.proofs.lemmas.Fmt.{decimal_is_IsNumeral, decimal-digits_value, decimal_digit, first_decimal, length-decimal-le}
 use Rattle.std.proofs.lemmas.Int.Digits.{digits_push, digits_value_more}
 use Rattle.std.proofs.lemmas.List.{length-append, take_more, take_all, get_or-take, get_or-drop}
 use Rattle.std.proofs.lemmas.List.{length-take-le, take-append-drop, length-drop, get_or_append_left}
@@ -346,6 +346,16 @@ fields_said {digits} {n} {many} fields e inside end c =
     ap (λ m. take m fields) plus ∙ ap (take (suc (many + 1))) e
     ∙ ap (λ v. 32 ∷ v) (take_more digits many 0 inside ∙ ap (λ v. v ++ get_or digits many 0 ∷ []) c.said
     ∙ ap (λ b. decimal n ++ b ∷ []) end)
+
+-- a count of one digit
+pub digit_said : (fields : List ℕ) (d : ℕ) → 3 ≤ length fields → get_or fields 0 0 ≡ 32 → get_or fields 1 0 ≡ 48 + d
+    → get_or fields 2 0 ≡ 10 → d < 10 → take 3 fields ≡ count_text d
+digit_said [] d long blank digit end small = absurd (omega (arith, long))
+digit_said (a ∷ []) d long blank digit end small = absurd (omega (arith, long))
+digit_said (a ∷ b ∷ []) d long blank digit end small = absurd (omega (arith, long))
+digit_said (a ∷ b ∷ c ∷ rest) d long blank digit end small =
+    ap (λ x. x ∷ b ∷ c ∷ []) blank ∙ ap (λ x. 32 ∷ x ∷ c ∷ []) digit ∙ ap (λ x. 32 ∷ (48 + d) ∷ x ∷ []) end
+    ∙ ap (λ ds. 32 ∷ ds ++ 10 ∷ []) (sym (decimal_digit d small))
 
 -- ---- rows
 

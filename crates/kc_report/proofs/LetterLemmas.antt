@@ -45,7 +45,7 @@ pushed_four front a b c d =
     ∙ append_assoc front (a ∷ []) (b ∷ c ∷ d ∷ [])
 
 -- four letters more
-text-four : (k n : ℕ) → text (suc (suc (suc (suc k)))) n ≡ text k (n / 256) ++ four_bases (n % 256)
+pub text-four : (k n : ℕ) → text (suc (suc (suc (suc k)))) n ≡ text k (n / 256) ++ four_bases (n % 256)
 unfolding text
 text-four k n =
     let front : n / 4 / 4 / 4 / 4 ≡ n / 256 = omega arith in
@@ -58,7 +58,7 @@ text-four k n =
     ∙ ap (λ xs. text k (n / 256) ++ xs) (same_four (ap base a) (ap base b) (ap base c) (ap base d))
 
 -- the first letters of a text are the text of the number without the last digits
-take-text : (m k n l : ℕ) → l ≡ k + m → take k (text l n) ≡ text k (n / 4 ^ m)
+pub take-text : (m k n l : ℕ) → l ≡ k + m → take k (text l n) ≡ text k (n / 4 ^ m)
 unfolding text
 take-text zero k n l e =
     let long = length-text k n in

@@ -8,6 +8,7 @@ pub mod TableAnswers
 pub mod TableSearch
 pub mod LineLemmas
 pub mod FieldLemmas
+pub mod FormLemmas
 pub mod HeaderLemmas
 pub mod NextRowLemmas
 pub mod TableReadingLemmas

@@ -112,6 +112,39 @@ pub(crate) fn count_of(fields: &[u8]) -> Option<(u64, usize)>
     ensures none { IfNone result ((count : ℕ) → 1 ≤ count → count ≤ 2 ^ 62
         → ¬ BeginsWith fields.now (count_text count)) }
 {
+    // most counts are so small
+    match digit_of(fields) {
+        Some(digit) => Some((digit, 3)),
+        None => long_count_of(fields),
+    }
+}
+
+// The count that stands so in front of bytes, where it has one digit.
+#[inline(always)]
+fn digit_of(fields: &[u8]) -> Option<u64>
+    ensures within { IfSome result (λ digit. 3 ≤ length fields.now) }
+    ensures small { IfSome result (λ digit. digit < 10) }
+    ensures some { IfSome result (λ digit. take 3 fields.now ≡ count_text digit) }
+{
+    if fields.len() < 3 || fields[0] != b' ' || fields[2] != b'\n' {
+        return None;
+    }
+    let digit = fields[1].wrapping_sub(b'0');
+    if digit > 9 {
+        return None;
+    }
+    Some(digit as u64)
+}
+
+// The count that stands so in front of bytes, of however many digits.
+#[inline(always)]
+fn long_count_of(fields: &[u8]) -> Option<(u64, usize)>
+    ensures within { IfSome result (λ found. found.1 ≤ length fields.now) }
+    ensures small { IfSome result (λ found. found.0 < 2 ^ 64) }
+    ensures some { IfSome result (λ found. take found.1 fields.now ≡ count_text found.0) }
+    ensures none { IfNone result ((count : ℕ) → 1 ≤ count → count ≤ 2 ^ 62
+        → ¬ BeginsWith fields.now (count_text count)) }
+{
     let [b' ', digits @ ..] = fields else {
         return None;
     };

@@ -1,6 +1,6 @@
 //! The letters of words, four at a time: what the writing of a word and the reading of one share.
 ghost use Rattle.std.specs.Prelude.{◌≡◌, ℕ, ◌<◌};
-ghost use Rattle.kc_kmer.specs.Word.{text};
+ghost use Rattle.kc_kmer.specs.Word.{number, text, reverse_complement};
 ghost use Rattle.kc_report.specs.TableRows.{four_letters};
 
 // The letters of four bases with these codes as a number of 32 bits, the first letter lowest; the codes are two bits
@@ -59,6 +59,36 @@ pub(crate) fn codes_of_four(letters: u32) -> usize
     // the two bits of each letter's code, and then these one beside the other
     let codes = ((letters >> 1) ^ (letters >> 2)) & 0x0303_0303;
     (codes.wrapping_mul(0x4010_0401) >> 24) as usize
+}
+
+// The codes of what the other strand reads of four bases with these codes.
+#[rattlefmt::skip]
+static TURNED: [u8; 256] = [
+    255, 191, 127, 63, 239, 175, 111, 47, 223, 159, 95, 31, 207, 143, 79, 15,
+    251, 187, 123, 59, 235, 171, 107, 43, 219, 155, 91, 27, 203, 139, 75, 11,
+    247, 183, 119, 55, 231, 167, 103, 39, 215, 151, 87, 23, 199, 135, 71, 7,
+    243, 179, 115, 51, 227, 163, 99, 35, 211, 147, 83, 19, 195, 131, 67, 3,
+    254, 190, 126, 62, 238, 174, 110, 46, 222, 158, 94, 30, 206, 142, 78, 14,
+    250, 186, 122, 58, 234, 170, 106, 42, 218, 154, 90, 26, 202, 138, 74, 10,
+    246, 182, 118, 54, 230, 166, 102, 38, 214, 150, 86, 22, 198, 134, 70, 6,
+    242, 178, 114, 50, 226, 162, 98, 34, 210, 146, 82, 18, 194, 130, 66, 2,
+    253, 189, 125, 61, 237, 173, 109, 45, 221, 157, 93, 29, 205, 141, 77, 13,
+    249, 185, 121, 57, 233, 169, 105, 41, 217, 153, 89, 25, 201, 137, 73, 9,
+    245, 181, 117, 53, 229, 165, 101, 37, 213, 149, 85, 21, 197, 133, 69, 5,
+    241, 177, 113, 49, 225, 161, 97, 33, 209, 145, 81, 17, 193, 129, 65, 1,
+    252, 188, 124, 60, 236, 172, 108, 44, 220, 156, 92, 28, 204, 140, 76, 12,
+    248, 184, 120, 56, 232, 168, 104, 40, 216, 152, 88, 24, 200, 136, 72, 8,
+    244, 180, 116, 52, 228, 164, 100, 36, 212, 148, 84, 20, 196, 132, 68, 4,
+    240, 176, 112, 48, 224, 160, 96, 32, 208, 144, 80, 16, 192, 128, 64, 0,
+];
+
+/// The codes of what the other strand reads of four bases with these codes.
+#[inline(always)]
+pub(crate) fn turned_four(codes: usize) -> u8
+    requires { codes < 256 }
+    ensures { result ≡ number (reverse_complement (text 4 codes)) }
+{
+    TURNED[codes]
 }
 
 /// How many letters `letters_of` gives, one more than a word may have.

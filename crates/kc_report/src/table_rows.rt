@@ -1,5 +1,5 @@
 //! The header and the rows of a table text, as far as they were read.
-ghost use Rattle.std.specs.Prelude.{◌≡◌, ◌↔◌, ◌+◌, ◌<◌, ◌≤◌, ◌^◌, ◌++◌, [], ◌∷◌, false, length, take};
+ghost use Rattle.std.specs.Prelude.{◌≡◌, ◌↔◌, ◌+◌, ◌<◌, ◌≤◌, ◌^◌, ◌++◌, [], ◌∷◌, true, false, length, take};
 ghost use Rattle.std.specs.Prelude.{IsTrue, IfSome, IfNone, IfOk, OnOk};
 ghost use Rattle.kc_tally.specs.declared.row.Row.{Row};
 ghost use Rattle.kc_kmer.specs.Word.{text, form};
@@ -10,6 +10,7 @@ ghost use Rattle.kc_report.specs.TableRows.{RisesTo};
 
 use crate::dump::GREATEST_COUNT;
 use crate::fields::{count_of, word_of};
+use crate::letters::turned_four;
 use crate::table::push_end;
 use kc_io::Block;
 use kc_kmer::{K, Word, canonical};
@@ -127,15 +128,39 @@ impl TableRows {
 }
 
 // Whether a word stands in the form under which it counts.
+#[inline(always)]
 fn is_form(word: Word, k: K, both: bool) -> bool
     requires { word.0 < 4 ^ k }
     ensures { IsTrue result ↔ (form both (text k word.0) ≡ text k word.0) }
 {
-    if both {
-        canonical(word, k).0 == word.0
-    } else {
-        true
+    if both { is_lesser(word, k) } else { true }
+}
+
+// Whether a word does not come behind what the other strand reads. Nearly always the first four letters of both differ,
+// and tell.
+#[inline(always)]
+fn is_lesser(word: Word, k: K) -> bool
+    requires { word.0 < 4 ^ k }
+    ensures { IsTrue result ↔ (form true (text k word.0) ≡ text k word.0) }
+{
+    let bases = k.get();
+    if bases < 4 {
+        return is_canonical(word, k);
     }
+    let first = word.0 >> (2 * bases - 8);
+    let opposite = turned_four((word.0 & 255) as usize) as u64;
+    if first == opposite {
+        return is_canonical(word, k);
+    }
+    first < opposite
+}
+
+// Whether a word is its canonical form.
+fn is_canonical(word: Word, k: K) -> bool
+    requires { word.0 < 4 ^ k }
+    ensures { IsTrue result ↔ (form true (text k word.0) ≡ text k word.0) }
+{
+    canonical(word, k).0 == word.0
 }
 
 // The row in front of the bytes, and how many bytes it has.

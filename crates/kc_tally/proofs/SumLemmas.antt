@@ -8,7 +8,7 @@ use Rattle.std.proofs.lemmas.List.Sums.{sum_by-cons, sum_by_push}
 use Rattle.kc_kmer.specs.Word.{text, form}
 use Rattle.kc_tally.specs.declared.row.Row.{Row}
 use Rattle.kc_tally.specs.Tally.{row_of, count_of, total_of, AreOrderedRows, AreRows}
-use Rattle.kc_tally.specs.Sum.{IsSum, first_word, lesser, TakesCount}
+use Rattle.kc_tally.specs.Sum.{IsSum, first_word, lesser, TakesCount, TakesSum}
 use Rattle.kc_tally.proofs.Tallies.{RisesFrom, RiseWithin, RiseWithin-rest, ordered-RiseWithin, count_of-low}
 use Rattle.kc_tally.proofs.TalliedRows.{count_of_push, count_of_pushed, count_of-absent, ordered_push}
 
@@ -301,3 +301,121 @@ step-fits small m s =
     let one = s.first.total in
     let other = s.second.total in
     omega (arith, small, total, one, other)
+
+-- ---- a step that takes the sum at once
+
+pub taken-sum : {k : ℕ} {both : Bool} {rows others sums later laters after afters : List Row} {row : Row}
+    (m : IsMerged k both rows others sums later laters) → (t : TakesSum later after laters afters row)
+    → Reaches k m.low row.word both later laters × Step k row.word both later laters after afters t.count t.more
+taken-sum {k} {both} {rows} {others} {sums} {later} {laters} {after} {afters} {row} m t =
+    let r = reaches row.word later laters m.first m.second t.word in
+    (r, step r t.first t.second)
+
+pub merged-sum : {k : ℕ} {both : Bool} {rows others sums later laters after afters : List Row} {row : Row}
+    → IsMerged k both rows others sums later laters → TakesSum later after laters afters row
+    → IsMerged k both rows others (sums ++ row ∷ []) after afters
+merged-sum {k} {both} {rows} {others} {sums} {later} {laters} {after} {afters} {row} m t =
+    let s = taken-sum m t in
+    subst (λ count. IsMerged k both rows others (sums ++ row_of row.word count ∷ []) after afters) (sym t.whole)
+    (merged-more m s.0 s.1)
+
+pub shorter-sum : {k : ℕ} {both : Bool} {rows others sums later laters after afters : List Row} {row : Row}
+    → IsMerged k both rows others sums later laters → TakesSum later after laters afters row
+    → length after + length afters < length later + length laters
+shorter-sum m t = (taken-sum m t).1.shorter
+
+-- the totals of what is left are small
+pub left-small : {k : ℕ} {both : Bool} {rows others sums later laters : List Row} → IsMerged k both rows others sums later laters
+    → total_of rows + total_of others ≤ 2 ^ 62 → total_of later + total_of laters ≤ 2 ^ 62
+left-small m small = let total = m.total in omega (arith, total, small)
+
+-- ---- two rows, of which the one with the lesser word is taken, or both
+
+not-other : {word : ℕ} (row : Row) (rows : List Row) → (row.word ≡ word → ⊥) → first_word (row ∷ rows) ≢ Some word
+not-other row rows apart e = apart (some-inj e)
+
+pub sum-first : (first second : Row) (rest rests : List Row) → first.word < second.word
+    → TakesSum (first ∷ rest) rest (second ∷ rests) (second ∷ rests) first
+sum-first first second rest rests less = record {
+  count = first.count;
+  more = 0;
+  word = let least : min first.word second.word ≡ first.word = omega (arith, less) in ap Some least;
+  first = inl refl;
+  second = inr (refl, refl, not-other second rests (λ e. omega (arith, e, less)));
+  whole = omega arith;
+}
+
+pub sum-second : (first second : Row) (rest rests : List Row) → second.word < first.word
+    → TakesSum (first ∷ rest) (first ∷ rest) (second ∷ rests) rests second
+sum-second first second rest rests less = record {
+  count = 0;
+  more = second.count;
+  word = let least : min first.word second.word ≡ second.word = omega (arith, less) in ap Some least;
+  first = inr (refl, refl, not-other first rest (λ e. omega (arith, e, less)));
+  second = inl refl;
+  whole = omega arith;
+}
+
+pub sum-both : (first second : Row) (rest rests : List Row) → first.word ≡ second.word
+    → TakesSum (first ∷ rest) rest (second ∷ rests) rests (row_of first.word (first.count + second.count))
+sum-both first second rest rests same = record {
+  count = first.count;
+  more = second.count;
+  word = let least : min first.word second.word ≡ first.word = omega (arith, same) in ap Some least;
+  first = inl refl;
+  second = inl (ap (λ word. row_of word second.count ∷ rests) (sym same));
+  whole = refl;
+}
+
+-- what the code knows of the row that it makes of two
+pub record IsJoined (first second row : Row) : Type 0 where
+  pub lesser : first.word < second.word → row ≡ first
+  pub greater : second.word < first.word → row ≡ second
+  pub same : first.word ≡ second.word → row ≡ row_of first.word (first.count + second.count)
+
+-- the lesser one alone is taken, or both
+pub sum-lesser : {first second row : Row} {rest rests : List Row} → IsJoined first second row → first.word < second.word
+    → TakesSum (first ∷ rest) rest (second ∷ rests) (second ∷ rests) row
+sum-lesser {first} {second} {row} {rest} {rests} is less =
+    rw (is.lesser less) (sum-first first second rest rests less)
+
+pub sum-greater : {first second row : Row} {rest rests : List Row} → IsJoined first second row → second.word < first.word
+    → TakesSum (first ∷ rest) (first ∷ rest) (second ∷ rests) rests row
+sum-greater {first} {second} {row} {rest} {rests} is less =
+    rw (is.greater less) (sum-second first second rest rests less)
+
+pub sum-same : {first second row : Row} {rest rests : List Row} → IsJoined first second row → first.word ≡ second.word
+    → TakesSum (first ∷ rest) rest (second ∷ rests) rests row
+sum-same {first} {second} {row} {rest} {rests} is same =
+    rw (is.same same) (sum-both first second rest rests same)
+
+-- the counts of both rows together fit
+pub pair-fits : (first second : Row) (rest rests : List Row)
+    → total_of (first ∷ rest) + total_of (second ∷ rests) ≤ 2 ^ 62 → first.count + second.count < 2 ^ 64
+pair-fits first second rest rests small =
+    let a = sum_by-cons (λ (row : Row). row.count) first rest in
+    let b = sum_by-cons (λ (row : Row). row.count) second rests in
+    omega (arith, a, b, small)
+
+-- rows of parts that were begun
+pub record InParts (rows part x : List Row) (first : Row) (rest : List Row) : Type 0 where
+  pub whole : rows ≡ part ++ x
+  pub front : part ≡ first ∷ rest
+
+begun : {rows part x rest : List Row} {first : Row} → InParts rows part x first rest → rows ≡ first ∷ (rest ++ x)
+begun {rows} {part} {x} {rest} {first} at = at.whole ∙ ap (λ p. p ++ x) at.front
+
+pub lesser-in_parts : {rows others part part_ x y rest rests : List Row} {first second row : Row}
+    → InParts rows part x first rest → InParts others part_ y second rests → IsJoined first second row
+    → first.word < second.word → TakesSum rows (rest ++ x) others others row
+lesser-in_parts {rows} {others} at at_ is less = rw (begun at, begun at_) (sum-lesser is less)
+
+pub greater-in_parts : {rows others part part_ x y rest rests : List Row} {first second row : Row}
+    → InParts rows part x first rest → InParts others part_ y second rests → IsJoined first second row
+    → second.word < first.word → TakesSum rows rows others (rests ++ y) row
+greater-in_parts {rows} {others} at at_ is less = rw (begun at, begun at_) (sum-greater is less)
+
+pub same-in_parts : {rows others part part_ x y rest rests : List Row} {first second row : Row}
+    → InParts rows part x first rest → InParts others part_ y second rests → IsJoined first second row
+    → first.word ≡ second.word → TakesSum rows (rest ++ x) others (rests ++ y) row
+same-in_parts {rows} {others} at at_ is same = rw (begun at, begun at_) (sum-same is same)

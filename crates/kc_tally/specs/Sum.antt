@@ -30,3 +30,12 @@ lesser (Some word) (Some other) = Some (min word other)
 abbrev pub TakesCount : List Row → List Row → ℕ → ℕ → Type 0
 TakesCount before after word count = (before ≡ row_of word count ∷ after)
     ⊎ ((before ≡ after) × (count ≡ 0) × (first_word before ≢ Some word))
+
+-- the lesser of the first words is used up in both lists, and the row has its counts together
+pub record TakesSum (rows after others afters : List Row) (row : Row) : Type 0 where
+  pub count : ℕ
+  pub more : ℕ
+  pub word : lesser (first_word rows) (first_word others) ≡ Some row.word
+  pub first : TakesCount rows after row.word count
+  pub second : TakesCount others afters row.word more
+  pub whole : row.count ≡ count + more

@@ -1,6 +1,8 @@
 //! The rows of a tally, one after another, without memory.
-ghost use Rattle.std.specs.Prelude.{◌≡◌};
+ghost use Rattle.std.specs.Prelude.{◌≡◌, ◌+◌, ◌<◌, ◌≤◌, ◌^◌, IfSome, IfNone};
 ghost use Rattle.std.specs.List.{flat_map};
+ghost use Rattle.kc_tally.specs.Tally.{row_of, total_of};
+ghost use Rattle.kc_tally.specs.Sum.{TakesSum};
 
 use crate::row::Row;
 use std::marker::Model;
@@ -41,6 +43,52 @@ impl<'a> Rows<'a> {
         Rows {
             part: self.part,
             later: self.later,
+        }
+    }
+
+    /// The sum of the next rows of both, of which the one with the lesser word is used up, or both where the words are
+    /// the same. None where a part has to be begun first. Nobody can guess which word is the lesser one, and so no
+    /// branch depends on it.
+    #[inline(always)]
+    pub(crate) fn take_sum(&mut self, other: &mut Rows<'_>) -> Option<Row>
+        requires { total_of self.old + total_of other.old ≤ 2 ^ 62 }
+        ensures some { IfSome result (TakesSum self.old self.new other.old other.new) }
+        ensures none { IfNone result ((self.new ≡ self.old) × (other.new ≡ other.old)) }
+    {
+        let Some((first, rest)) = self.part.split_first() else {
+            return None;
+        };
+        let Some((second, others)) = other.part.split_first() else {
+            return None;
+        };
+        let row = joined_row(*first, *second);
+        if first.word <= second.word {
+            self.part = rest;
+        }
+        if second.word <= first.word {
+            other.part = others;
+        }
+        Some(row)
+    }
+}
+
+// The row with the lesser word, or of both together where the words are the same.
+#[inline(always)]
+fn joined_row(first: Row, second: Row) -> Row
+    requires { first.count + second.count < 2 ^ 64 }
+    ensures lesser { first.word < second.word → result ≡ first }
+    ensures greater { second.word < first.word → result ≡ second }
+    ensures same { first.word ≡ second.word → result ≡ row_of first.word (first.count + second.count) }
+{
+    let count = first.count + second.count;
+    if first.word < second.word {
+        first
+    } else if second.word < first.word {
+        second
+    } else {
+        Row {
+            word: first.word,
+            count,
         }
     }
 }

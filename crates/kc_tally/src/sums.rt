@@ -1,8 +1,8 @@
 //! The rows of the sum of two tallies.
-ghost use Rattle.std.specs.Prelude.{◌≡◌, ◌+◌, ◌≤◌, ◌^◌, IfOk, length};
+ghost use Rattle.std.specs.Prelude.{◌≡◌, ◌+◌, ◌≤◌, ◌^◌, IfOk, IfSome, IfNone, None, length};
 ghost use Rattle.std.specs.Vec.{vec_capacity};
 ghost use Rattle.kc_tally.specs.Tally.{AreRows, total_of};
-ghost use Rattle.kc_tally.specs.Sum.{IsSum, TakesCount};
+ghost use Rattle.kc_tally.specs.Sum.{IsSum, TakesCount, TakesSum};
 ghost use Rattle.kc_tally.specs.Sum as summing;
 
 use crate::row::Row;
@@ -26,11 +26,40 @@ pub(crate) fn summed_rows(
     let room = first.row_count() + second.row_count();
     let mut sums = Vec::with_capacity(alloc, room as usize)?;
     let (mut firsts, mut seconds) = (first.rows(), second.rows());
-    'words: while let Some(word) = lesser(first_word(&firsts), first_word(&seconds)) {
-        let count = take_count(&mut firsts, word) + take_count(&mut seconds, word);
-        sums.push_reserved(Row { word, count });
+    'words: while let Some(row) = take_sum(&mut firsts, &mut seconds) {
+        sums.push_reserved(row);
     }
     Ok(sums)
+}
+
+// The row of the lesser of the next words, which is used up in both.
+#[inline(always)]
+fn take_sum(firsts: &mut Rows<'_>, seconds: &mut Rows<'_>) -> Option<Row>
+    requires { total_of firsts.old + total_of seconds.old ≤ 2 ^ 62 }
+    ensures some { IfSome result (TakesSum firsts.old firsts.new seconds.old seconds.new) }
+    ensures none { IfNone result
+        (summing.lesser (summing.first_word firsts.old) (summing.first_word seconds.old) ≡ None) }
+{
+    // nearly always both rows are at hand
+    match firsts.take_sum(seconds) {
+        Some(row) => Some(row),
+        None => take_counts(firsts, seconds),
+    }
+}
+
+// The same, where parts may have to be begun, or no rows are left.
+#[inline(always)]
+fn take_counts(firsts: &mut Rows<'_>, seconds: &mut Rows<'_>) -> Option<Row>
+    requires { total_of firsts.old + total_of seconds.old ≤ 2 ^ 62 }
+    ensures some { IfSome result (TakesSum firsts.old firsts.new seconds.old seconds.new) }
+    ensures none { IfNone result
+        (summing.lesser (summing.first_word firsts.old) (summing.first_word seconds.old) ≡ None) }
+{
+    let Some(word) = lesser(first_word(firsts), first_word(seconds)) else {
+        return None;
+    };
+    let count = take_count(firsts, word) + take_count(seconds, word);
+    Some(Row { word, count })
 }
 
 // The word of the next row.

@@ -1,11 +1,8 @@
-use Rattle.std.proofs.Common.{◌≡◌, sym, ◌∙◌, subst, arith}
-use Rattle.std.specs.Prelude.{Some}
+use Rattle.std.proofs.Common.{sym, subst, arith}
 use Rattle.kc_tally.specs.Tally.{AreRows}
-use Rattle.kc_tally.specs.Sum.{first_word, lesser}
 use Rattle.kc_tally.proofs.Parts.{rows-few}
-use Rattle.kc_tally.proofs.SumLemmas.{Reaches, merged-none, merged-more, reaches, step, step-fits}
+use Rattle.kc_tally.proofs.SumLemmas.{merged-none, merged-sum}
 use Rattle.kc_tally.proofs.sums.summed_rows.Goals as goal
-use Rattle.kc_tally.proofs.sums.summed_rows.Goals.{After-take_count-in-Some}
 
 pub overflow_add-room : goal.overflow_add-room
 overflow_add-room c =
@@ -31,29 +28,13 @@ words-init c =
       bounded = grind (arith, one, other, exact);
     }
 
-reached : (c : After-take_count-in-Some) → Reaches c.args.first.now.k c.words.invariant.merged.low c.in-Some.word c.args.first.now.both c.words.firsts c.words.seconds
-reached c =
-    let first = c.first_word.ensures in
-    let second = c.first_word-in-words.ensures in
-    let is : lesser (first_word c.words.firsts) (first_word c.words.seconds) ≡ Some c.in-Some.word =
-    sym (c.lesser.ensures ∙ (λ i. lesser (first i) (second i))) ∙ c.in-Some.is in
-    let m = c.words.invariant.merged in
-    reaches c.in-Some.word c.words.firsts c.words.seconds m.first m.second is
-
-pub overflow_add-count : goal.overflow_add-count
-overflow_add-count c =
-    let s = step (reached c) c.take_count.ensures c.take_count-in-Some.ensures in
-    record { fits = step-fits c.requires.small c.words.invariant.merged s }
-
 pub words-preserved : goal.words-preserved
 words-preserved c =
-    let r = reached (goal.at.words-preserved c).After-take_count-in-Some in
-    let s = step r c.take_count.ensures c.take_count-in-Some.ensures in
     let same = c.push_reserved.ensures.capacity in
     let room = c.words.invariant.room in
     let bounded = c.words.invariant.bounded in
     record {
-      merged = rw c.push_reserved.ensures.items (merged-more c.words.invariant.merged r s);
+      merged = rw c.push_reserved.ensures.items (merged-sum c.words.invariant.merged c.in-Some.ensures.some);
       room = rw same room;
       bounded = rw same bounded;
     }

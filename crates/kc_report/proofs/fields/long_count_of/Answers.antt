@@ -1,8 +1,8 @@
 use Rattle.std.proofs.Common.{◌≡◌, get_or, refl, arith}
 use Rattle.kc_report.proofs.FieldLemmas.{behind_first, first_is, tells, counted, fields_said}
-use Rattle.kc_report.proofs.fields.count_of.Goals as goal
-use Rattle.kc_report.proofs.fields.count_of.Goals.{then-digits-eq48-via-then-digits-eq48}
-use Rattle.kc_report.proofs.fields.count_of.Goals.{then-digits-eq48-via-else-digits-eq48+then-digits-many-ne10}
+use Rattle.kc_report.proofs.fields.long_count_of.Goals as goal
+use Rattle.kc_report.proofs.fields.long_count_of.Goals.{then-digits-eq48-via-then-digits-eq48}
+use Rattle.kc_report.proofs.fields.long_count_of.Goals.{then-digits-eq48-via-else-digits-eq48+then-digits-many-ne10}
 
 pub returns-then-many-lt1-clause-none : goal.returns-then-many-lt1-clause-none
 returns-then-many-lt1-clause-none c = λ count least greatest at.
