@@ -6,6 +6,7 @@ ghost use Rattle.kc_booking.specs.Setup.{stripe_count, word_count};
 use crate::bookings::{Held, NOTHING, assert_held, map_stripe, quotient_stripe};
 use crate::sample_batches::{cuts_of, made_setup};
 use crate::sharings::stripes_of;
+use crate::stripe_assertions::assert_same;
 use kc_share::{Books, Share, Sheet};
 use kc_stripe::{BookFault, Cut, Setup, Stripe, Stripes};
 use kc_table::{Counts, PlainCounts};
@@ -24,7 +25,7 @@ fn is_booked_again<C: Counts>(
     before: &Held<'_>,
 ) -> Result<(), Fail> {
     if let Err(fault) = stripe.book(cut) {
-        assert_eq!(rt; fault, BookFault::Memory);
+        assert_same(rt, "a fault", &fault, &BookFault::Memory);
         assert_held(rt, stripe, before);
         stripe.book(cut)?;
     }
@@ -112,8 +113,8 @@ fn is_shared_again<N: Books, R: Wait + Abort>(
     match stripes.book(rt, share, cut) {
         Ok(()) => Ok(()),
         Err(fault) => {
-            assert_eq!(rt; fault, BookFault::Memory);
-            assert_eq!(rt; told(share), before);
+            assert_same(rt, "a fault", &fault, &BookFault::Memory);
+            assert_same(rt, "a share", &told(share), &before);
             match stripes.book(rt, share, cut) {
                 Ok(()) => Ok(()),
                 Err(fault) => Err(Fail::from(fault)),
@@ -138,8 +139,8 @@ fn is_seen_again<N: Books, R: Wait + Abort>(
     match stripes.look(rt, alloc, share, word) {
         Ok(seen) => Ok(seen.count()),
         Err(fault) => {
-            assert_eq!(rt; fault, BookFault::Memory);
-            assert_eq!(rt; told(share), before);
+            assert_same(rt, "a fault", &fault, &BookFault::Memory);
+            assert_same(rt, "a share", &told(share), &before);
             Ok(stripes.look(rt, alloc, share, word)?.count())
         }
     }
@@ -180,6 +181,7 @@ fn a_refused_growth_leaves_the_share(rt: HostRuntime) -> Result<(), Fail> {
     }
     let sheet = Sheet::new(alloc, 1, 1)?;
     let (count, share) = share_at_last::<Brand, _>(&rt, alloc, &setup, sheet, (forty, one))?;
-    assert_eq!(rt; (count, share), (1, [41, 2, 1]));
+    assert_same(&rt, "a count", &count, &1);
+    assert_same(&rt, "a share", &share, &[41, 2, 1]);
     Ok(())
 }
