@@ -1,5 +1,5 @@
 //! Worked rows of setups and cuts.
-use crate::sample_batches::{count_in, cuts_in, made_setup, plain_stripe, setup_of};
+use crate::sample_batches::{book_at, count_in, cuts_in, made_setup, plain_stripe, setup_of};
 use crate::stripe_assertions::{assert_items, assert_same};
 use kc_hash::{Hash, Matrix};
 use kc_stripe::{Cut, Setup, Stripe};
@@ -100,12 +100,9 @@ fn cuts_of_a_batch(rt: HostRuntime) -> Result<(), Fail> {
 
 // Stripe 2 of four, in which the one batch of this text is booked.
 fn stripe_of_text(alloc: Global, setup: &Setup, text: &[u8]) -> Result<Stripe<PlainCounts>, Fail> {
-    let mut stripe = plain_stripe(alloc, setup, 2)?;
     let cuts = cuts_in(alloc, setup, text)?;
-    match cuts.get(2) {
-        Some(cut) => stripe.book(cut)?,
-        None => return Err(Fail::from("no stripe")),
-    }
+    let mut stripe = plain_stripe(alloc, setup, 2)?;
+    book_at(&mut stripe, &cuts, 2)?;
     Ok(stripe)
 }
 

@@ -122,9 +122,19 @@ fn stripe_of(
 ) -> Result<Stripe<PlainCounts>, Fail> {
     let mut stripe = plain_stripe(alloc, setup, number)?;
     for batch in batches {
-        stripe.book(&cut_of(alloc, setup, batch, number as usize)?)?;
+        book_batch(alloc, &mut stripe, batch)?;
     }
     Ok(stripe)
+}
+
+// Books the batch in the stripe.
+fn book_batch(
+    alloc: Global,
+    stripe: &mut Stripe<PlainCounts>,
+    batch: &Arc<Batch>,
+) -> Result<(), Fail> {
+    let cut = cut_of(alloc, stripe.setup(), batch, stripe.number() as usize)?;
+    Ok(stripe.book(&cut)?)
 }
 
 // A stripe of each number in which the batches were booked.

@@ -1,5 +1,7 @@
 //! Counts that are kept to a list of words: setups with a list, their cuts and their stripes.
-use crate::sample_batches::{count_in, cuts_in, made_setup, plain_stripe, reads_of, setup_with};
+use crate::sample_batches::{
+    book_at, count_in, cuts_in, made_setup, plain_stripe, reads_of, setup_with,
+};
 use crate::stripe_assertions::{assert_items, assert_same};
 use kc_stripe::{BookFault, Cut, Setup, Stripe};
 use kc_table::PlainCounts;
@@ -46,12 +48,9 @@ const LISTED: &[(bool, &[&[u8]], &[Row])] = &[
 
 // The stripe of the setup, in which ACGTA is booked.
 fn booked(alloc: Global, setup: &Setup) -> Result<Stripe<PlainCounts>, Fail> {
-    let mut stripe = plain_stripe(alloc, setup, 0)?;
     let cuts = cuts_in(alloc, setup, b"ACGTA")?;
-    match cuts.first() {
-        Some(cut) => stripe.book(cut)?,
-        None => return Err(Fail::from("no cut")),
-    }
+    let mut stripe = plain_stripe(alloc, setup, 0)?;
+    book_at(&mut stripe, &cuts, 0)?;
     Ok(stripe)
 }
 

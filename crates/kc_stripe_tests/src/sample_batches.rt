@@ -132,6 +132,18 @@ fn cuts_of_batches(alloc: Global, setup: &Setup, batches: &[Arc<Batch>]) -> Resu
     Ok(cuts)
 }
 
+// Books the cut at this index in the stripe.
+pub(crate) fn book_at<C: Counts>(
+    stripe: &mut Stripe<C>,
+    cuts: &[Cut],
+    index: usize,
+) -> Result<(), Fail> {
+    match cuts.get(index) {
+        Some(cut) => Ok(stripe.book(cut)?),
+        None => Err(Fail::from("no cut")),
+    }
+}
+
 // An empty stripe over a `BTreeMap`.
 pub(crate) fn plain_stripe(
     alloc: Global,

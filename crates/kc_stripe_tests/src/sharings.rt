@@ -347,9 +347,18 @@ fn book_look_and_end<N: Books, R: Wait>(
     let (stripes, mut share) = stripes_of::<N>(alloc, setup, sheet)?;
     book_batch(rt, alloc, &stripes, &mut share, batch)?;
     let counts = counts_of(rt, alloc, &stripes, &mut share, words)?;
-    let (stripes, _) = stripes.into_stripes(alloc, share)?;
-    let totals = totals_of(alloc, &stripes)?;
+    let totals = totals_at_end(alloc, stripes, share)?;
     Ok((counts, totals))
+}
+
+// The sharing ends: the numbers and the totals of the stripes, as they come.
+fn totals_at_end<N: Books>(
+    alloc: Global,
+    stripes: Stripes<PlainCounts, N>,
+    share: Share<N>,
+) -> Result<Vec<(u32, u64)>, AllocError> {
+    let (stripes, _) = stripes.into_stripes(alloc, share)?;
+    totals_of(alloc, &stripes)
 }
 
 // The numbers and the totals of stripes.
