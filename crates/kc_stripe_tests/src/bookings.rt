@@ -1,10 +1,13 @@
 //! Batches that are booked in a stripe, over a `BTreeMap` and over a table.
-use crate::sample_batches::{count_in, cuts_of, made_setup, plain_stripe};
+use crate::sample_batches::{book_at, count_in, cuts_of, made_setup, plain_stripe};
+use crate::stripe_assertions::{assert_items, assert_same};
 use kc_stripe::{BookFault, Cut, Stripe};
 use kc_table::{Counts, LimitedCounts, PlainCounts, QuotientTable, TableFault};
 use kc_tally::Row;
+use kc_word::Batch;
 use std::alloc::{AllocError, Global};
 use std::process::Abort;
+use std::sync::Arc;
 use std::test::Fail;
 
 // What a stripe of words of three bases holds, by its calls: no bin above the third is filled.
@@ -32,22 +35,24 @@ fn count_among(counts: &[(u64, u64)], word: u64) -> u64 {
 // Each word of three bases has its count.
 fn assert_counts<C: Counts>(rt: &impl Abort, stripe: &Stripe<C>, counts: &[(u64, u64)]) {
     for word in 0..64 {
-        assert_eq!(rt; count_in(stripe, word), Some(count_among(counts, word)));
+        let want = Some(count_among(counts, word));
+        assert_same(rt, "a count", &count_in(stripe, word), &want);
     }
 }
 
 // The journal has the batches of these numbers.
-fn assert_journal<C: Counts>(rt: &impl Abort, stripe: &Stripe<C>, numbers: &[u64]) {
-    assert_eq!(rt; stripe.journal().len(), numbers.len());
-    for (batch, number) in stripe.journal().iter().zip(numbers) {
-        assert_eq!(rt; batch.number(), *number);
+fn assert_journal(rt: &impl Abort, journal: &[Arc<Batch>], numbers: &[u64]) {
+    assert_same(rt, "batches", &journal.len(), &numbers.len());
+    for (batch, number) in journal.iter().zip(numbers) {
+        assert_same(rt, "a batch", &batch.number(), number);
     }
 }
 
 pub(crate) fn assert_held<C: Counts>(rt: &impl Abort, stripe: &Stripe<C>, held: &Held<'_>) {
-    assert_journal(rt, stripe, held.journal);
-    assert_eq!(rt; stripe.total(), held.total);
-    assert_eq!(rt; [stripe.bin(1), stripe.bin(2), stripe.bin(3)], held.bins);
+    assert_journal(rt, stripe.journal(), held.journal);
+    assert_same(rt, "the total", &stripe.total(), &held.total);
+    let bins = [stripe.bin(1), stripe.bin(2), stripe.bin(3)];
+    assert_same(rt, "the bins", &bins, &held.bins);
     assert_counts(rt, stripe, held.counts);
 }
 
@@ -74,7 +79,9 @@ const BOTH: Held<'static> = Held {
 };
 
 // The number of a cut that is booked, what is answered, and what the stripe then holds.
-const STEPS: &[(usize, Result<(), BookFault>, Held<'static>)] = &[
+type Step = (usize, Result<(), BookFault>, Held<'static>);
+
+const STEPS: &[Step] = &[
     (0, Ok(()), ONE),
     (0, Err(BookFault::Twice), ONE),
     (2, Err(BookFault::Stranger), ONE),
@@ -92,7 +99,10 @@ const TWO_BATCHES: &[&[u8]] = &[b"AAAA", b"AAA"];
 // The cut of batch 1 by another setup.
 fn stranger(alloc: Global) -> Result<Cut, Fail> {
     let mut cuts = cuts_of(alloc, &made_setup(3, 2)?, TWO_BATCHES, 2)?;
-    Ok(cuts.pop().ok_or("no batch")?)
+    match cuts.pop() {
+        Some(cut) => Ok(cut),
+        None => Err(Fail::from("no batch")),
+    }
 }
 
 // The cuts of both batches, and then the stranger.
@@ -102,32 +112,33 @@ pub(crate) fn cuts_and_stranger(alloc: Global) -> Result<Vec<Cut>, Fail> {
     Ok(cuts)
 }
 
+// The stripe takes the step.
+fn assert_step<C: Counts>(rt: &impl Abort, stripe: &mut Stripe<C>, cuts: &[Cut], step: &Step) {
+    let (number, answer, held) = step;
+    assert!(rt; *number < cuts.len());
+    assert_same(rt, "a booking", &stripe.book(&cuts[*number]), answer);
+    assert_held(rt, stripe, held);
+}
+
 // The stripe takes the steps one after another.
-fn assert_steps<C: Counts>(
-    rt: &impl Abort,
-    stripe: &mut Stripe<C>,
-    cuts: &[Cut],
-) -> Result<(), Fail> {
-    for (number, answer, held) in STEPS {
-        let cut = cuts.get(*number).ok_or("no cut")?;
-        assert_eq!(rt; stripe.book(cut), *answer);
-        assert_held(rt, stripe, held);
+fn assert_steps<C: Counts>(rt: &impl Abort, stripe: &mut Stripe<C>, cuts: &[Cut]) {
+    for step in STEPS {
+        assert_step(rt, stripe, cuts, step);
     }
-    Ok(())
 }
 
 // What a stripe of one stripe's setup with k 3 does.
-fn is_booked_in_order<C: Counts + Drop>(
+fn is_booked_in_order<C: Counts>(
     rt: &impl Abort,
     alloc: Global,
-    mut stripe: Stripe<C>,
+    stripe: &mut Stripe<C>,
 ) -> Result<(), Fail> {
     let cuts = cuts_and_stranger(alloc)?;
-    assert_eq!(rt; cuts.len(), 3);
-    assert_held(rt, &stripe, &NOTHING);
-    assert_steps(rt, &mut stripe, &cuts)?;
+    assert_same(rt, "cuts", &cuts.len(), &3);
+    assert_held(rt, stripe, &NOTHING);
+    assert_steps(rt, stripe, &cuts);
     let rows = stripe.rows(alloc)?;
-    assert_eq!(rt; rows.as_slice(), ROWS);
+    assert_items(rt, "rows", rows.as_slice(), ROWS);
     Ok(())
 }
 
@@ -138,8 +149,7 @@ pub(crate) fn quotient_stripe(alloc: Global) -> Result<Stripe<QuotientTable>, Fa
         return Err(Fail::from("another setup"));
     }
     let table = QuotientTable::new(alloc, 6, 6, 6)?;
-    let stripe = Stripe::new(alloc, &setup, 0, table)?;
-    Ok(stripe)
+    Ok(Stripe::new(alloc, &setup, 0, table)?)
 }
 
 // The same over a `BTreeMap`.
@@ -150,8 +160,8 @@ pub(crate) fn map_stripe(alloc: Global) -> Result<Stripe<PlainCounts>, Fail> {
 #[test]
 fn batches_are_booked_in_order(rt: HostRuntime) -> Result<(), Fail> {
     let alloc = rt.alloc();
-    is_booked_in_order(&rt, alloc, map_stripe(alloc)?)?;
-    is_booked_in_order(&rt, alloc, quotient_stripe(alloc)?)
+    is_booked_in_order(&rt, alloc, &mut map_stripe(alloc)?)?;
+    is_booked_in_order(&rt, alloc, &mut quotient_stripe(alloc)?)
 }
 
 // ACG alone, in batch 1.
@@ -172,8 +182,7 @@ fn limited_stripe(alloc: Global, refusal: TableFault) -> Result<Stripe<LimitedCo
         return Err(Fail::from("another setup"));
     }
     let table = LimitedCounts::new(alloc, setup.key_bits(), 2, refusal);
-    let stripe = Stripe::new(alloc, &setup, 0, table)?;
-    Ok(stripe)
+    Ok(Stripe::new(alloc, &setup, 0, table)?)
 }
 
 // The stripe refuses a cut of three words so, and then takes one of one word.
@@ -184,15 +193,26 @@ fn refuses_three(
     fault: BookFault,
 ) -> Result<(), Fail> {
     let cuts = cuts_of(alloc, &made_setup(3, 1)?, THREE_AND_ONE, 3)?;
-    let [three, one] = cuts.as_slice() else {
-        return Err(Fail::from("other batches"));
-    };
+    assert!(rt; cuts.len() == 2);
     let mut stripe = limited_stripe(alloc, refusal)?;
-    assert_eq!(rt; stripe.book(three), Err(fault));
-    assert_held(rt, &stripe, &NOTHING);
-    assert_eq!(rt; stripe.rows(alloc)?.len(), 0);
-    stripe.book(one)?;
+    assert_refused(rt, alloc, &mut stripe, &cuts[0], fault)?;
+    book_at(&mut stripe, &cuts, 1)?;
     assert_held(rt, &stripe, &ONE_WORD);
+    Ok(())
+}
+
+// The empty stripe refuses a cut so, and is then empty.
+fn assert_refused(
+    rt: &impl Abort,
+    alloc: Global,
+    stripe: &mut Stripe<LimitedCounts>,
+    cut: &Cut,
+    fault: BookFault,
+) -> Result<(), AllocError> {
+    assert_same(rt, "a booking", &stripe.book(cut), &Err(fault));
+    assert_held(rt, stripe, &NOTHING);
+    let rows = stripe.rows(alloc)?;
+    assert_same(rt, "rows", &rows.len(), &0);
     Ok(())
 }
 
@@ -211,6 +231,12 @@ fn same_word(alloc: Global) -> Result<Vec<u8>, AllocError> {
     Ok(bases)
 }
 
+// The cuts of these words.
+fn long_cuts(alloc: Global) -> Result<Vec<Cut>, Fail> {
+    let bases = same_word(alloc)?;
+    cuts_of(alloc, &made_setup(3, 1)?, &[&bases], 5_000)
+}
+
 // The bins 5,000, 10,000 and 10,001 after each of them.
 const LAST_BINS: &[[u64; 3]] = &[[1, 0, 0], [0, 1, 0], [0, 0, 1]];
 
@@ -223,26 +249,26 @@ fn assert_last_bins<C: Counts>(
     for (cut, bins) in cuts.iter().zip(LAST_BINS) {
         stripe.book(cut)?;
         let now = [stripe.bin(5_000), stripe.bin(10_000), stripe.bin(10_001)];
-        assert_eq!(rt; now, *bins);
+        assert_same(rt, "the bins", &now, bins);
     }
     Ok(())
 }
 
-fn comes_to_the_last_bin<C: Counts + Drop>(
+fn comes_to_the_last_bin<C: Counts>(
     rt: &impl Abort,
     alloc: Global,
-    mut stripe: Stripe<C>,
+    stripe: &mut Stripe<C>,
 ) -> Result<(), Fail> {
-    let cuts = cuts_of(alloc, &made_setup(3, 1)?, &[&same_word(alloc)?], 5_000)?;
-    assert_eq!(rt; cuts.len(), 3);
-    assert_last_bins(rt, &mut stripe, &cuts)?;
-    assert_eq!(rt; stripe.total(), 10_003);
+    let cuts = long_cuts(alloc)?;
+    assert_same(rt, "cuts", &cuts.len(), &3);
+    assert_last_bins(rt, stripe, &cuts)?;
+    assert_same(rt, "the total", &stripe.total(), &10_003);
     Ok(())
 }
 
 #[test]
 fn the_last_bin(rt: HostRuntime) -> Result<(), Fail> {
     let alloc = rt.alloc();
-    comes_to_the_last_bin(&rt, alloc, map_stripe(alloc)?)?;
-    comes_to_the_last_bin(&rt, alloc, quotient_stripe(alloc)?)
+    comes_to_the_last_bin(&rt, alloc, &mut map_stripe(alloc)?)?;
+    comes_to_the_last_bin(&rt, alloc, &mut quotient_stripe(alloc)?)
 }

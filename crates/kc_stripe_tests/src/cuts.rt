@@ -1,9 +1,10 @@
 //! Worked rows of setups and cuts.
-use crate::sample_batches::{count_in, cuts_in, made_setup, plain_stripe, setup_of};
+use crate::sample_batches::{book_at, count_in, cuts_in, made_setup, plain_stripe, setup_of};
+use crate::stripe_assertions::{assert_items, assert_same};
 use kc_hash::{Hash, Matrix};
 use kc_stripe::{Cut, Setup, Stripe};
 use kc_table::PlainCounts;
-use kc_word::{K, Rule, Word};
+use kc_word::Word;
 use std::alloc::Global;
 use std::process::Abort;
 use std::test::Fail;
@@ -33,7 +34,7 @@ fn assert_setup(
         setup.rule().k().get(),
         setup.hash().bits(),
     ];
-    assert_eq!(rt; found, [stripes, key_bits, k, bits]);
+    assert_same(rt, "a setup", &found, &[stripes, key_bits, k, bits]);
     Ok(())
 }
 
@@ -50,8 +51,9 @@ fn setups(rt: HostRuntime) -> Result<(), Fail> {
 
 #[test]
 fn a_setup_wants_the_hash_of_its_words(rt: HostRuntime) -> Result<(), Fail> {
-    let rule = Rule::new(K::new(3).ok_or("no length of a word")?, false, b'!');
-    assert!(rt; Setup::new(rule, Hash::of_matrix(Matrix::identity(8))?, 4).is_none());
+    let setup = made_setup(3, 4)?;
+    let hash = Hash::of_matrix(Matrix::identity(8))?;
+    assert!(rt; Setup::new(*setup.rule(), hash, 4).is_none());
     Ok(())
 }
 
@@ -69,18 +71,19 @@ fn places_of_words(rt: HostRuntime) -> Result<(), Fail> {
     if setup.key_bits() != 4 || setup.stripes() != 4 || setup.rule().k().get() != 3 {
         return Err(Fail::from("another setup"));
     }
-    assert_eq!(rt; setup.stripe_of(Word(27)), 3);
-    assert_eq!(rt; setup.key_of(Word(27)), 6);
-    assert_eq!(rt; setup.word_of(3, 6), Word(27));
+    assert_same(&rt, "a stripe", &setup.stripe_of(Word(27)), &3);
+    assert_same(&rt, "a key", &setup.key_of(Word(27)), &6);
+    assert_same(&rt, "a word", &setup.word_of(3, 6).0, &27);
     Ok(())
 }
 
 // The keys of each stripe in ACGT.
-const KEYS: [&[u64]; 4] = [&[], &[], &[1], &[6]];
+const KEYS: &[&[u64]] = &[&[], &[], &[1], &[6]];
 
 fn assert_cut(rt: &impl Abort, setup: &Setup, cut: &Cut, stripe: usize, keys: &[u64]) {
-    assert_eq!(rt; cut.keys(), keys);
-    assert_eq!(rt; (cut.stripe() as usize, cut.batch().number()), (stripe, 0));
+    assert_items(rt, "keys", cut.keys(), keys);
+    assert_same(rt, "a stripe", &(cut.stripe() as usize), &stripe);
+    assert_same(rt, "a batch", &cut.batch().number(), &0);
     assert!(rt; *cut.setup() == *setup);
 }
 
@@ -88,18 +91,18 @@ fn assert_cut(rt: &impl Abort, setup: &Setup, cut: &Cut, stripe: usize, keys: &[
 fn cuts_of_a_batch(rt: HostRuntime) -> Result<(), Fail> {
     let setup = made_setup(3, 4)?;
     let cuts = cuts_in(rt.alloc(), &setup, b"ACGT")?;
-    assert_eq!(rt; cuts.len(), 4);
-    for (stripe, cut) in cuts.iter().enumerate() {
-        assert_cut(&rt, &setup, cut, stripe, KEYS[stripe]);
+    assert_same(&rt, "cuts", &cuts.len(), &4);
+    for (stripe, (cut, keys)) in cuts.iter().zip(KEYS).enumerate() {
+        assert_cut(&rt, &setup, cut, stripe, *keys);
     }
     Ok(())
 }
 
 // Stripe 2 of four, in which the one batch of this text is booked.
 fn stripe_of_text(alloc: Global, setup: &Setup, text: &[u8]) -> Result<Stripe<PlainCounts>, Fail> {
-    let mut stripe = plain_stripe(alloc, setup, 2)?;
     let cuts = cuts_in(alloc, setup, text)?;
-    stripe.book(cuts.get(2).ok_or("no stripe")?)?;
+    let mut stripe = plain_stripe(alloc, setup, 2)?;
+    book_at(&mut stripe, &cuts, 2)?;
     Ok(stripe)
 }
 
@@ -108,7 +111,7 @@ const COUNTS: &[(u64, u64)] = &[(6, 2), (27, 0), (42, 0)];
 
 fn assert_counts(rt: &impl Abort, stripe: &Stripe<PlainCounts>) {
     for (word, count) in COUNTS {
-        assert_eq!(rt; count_in(stripe, *word), Some(*count));
+        assert_same(rt, "a count", &count_in(stripe, *word), &Some(*count));
     }
 }
 
@@ -116,7 +119,7 @@ fn assert_counts(rt: &impl Abort, stripe: &Stripe<PlainCounts>) {
 fn counts_of_words(rt: HostRuntime) -> Result<(), Fail> {
     let setup = made_setup(3, 4)?;
     let stripe = stripe_of_text(rt.alloc(), &setup, b"ACGTACG")?;
-    assert_eq!(rt; stripe.number(), 2);
+    assert_same(&rt, "a number", &stripe.number(), &2);
     assert!(rt; *stripe.setup() == setup);
     assert_counts(&rt, &stripe);
     Ok(())

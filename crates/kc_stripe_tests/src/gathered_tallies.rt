@@ -3,10 +3,12 @@ ghost use Rattle.std.specs.Prelude.{◌≤◌};
 ghost use Rattle.kc_tally.specs.Histogram.{last_bin};
 
 use crate::sample_batches::{batches_of, plain_stripe};
+use crate::stripe_assertions::{assert_items, assert_same};
 use kc_fastx::SeqRead;
 use kc_hash::Hash;
 use kc_stripe::{BookFault, Setup, Stripe, cut_up};
 use kc_table::{Counts, PlainCounts, QuotientTable};
+use kc_tally::Row;
 use kc_word::slow_count::base_count;
 use kc_word::{Batch, K, Rule};
 use rand_core::SeedableRng;
@@ -19,22 +21,39 @@ use std::test::Fail;
 
 // Words of three bases on both strands, in eight stripes.
 pub(crate) fn seeded_setup() -> Result<Setup, Fail> {
-    let rule = Rule::new(K::new(3).ok_or("no length of a word")?, true, b'!');
-    Ok(Setup::new(rule, Hash::seeded(6, 1), 8).ok_or("no setup")?)
+    let Some(k) = K::new(3) else {
+        return Err(Fail::from("no length of a word"));
+    };
+    match Setup::new(Rule::new(k, true, b'!'), Hash::seeded(6, 1), 8) {
+        Some(setup) => Ok(setup),
+        None => Err(Fail::from("no setup")),
+    }
 }
 
 // So many random bases, some of them N.
+fn random_bases(
+    alloc: Global,
+    random: &mut SplitMix64,
+    length: u64,
+) -> Result<Vec<u8>, AllocError> {
+    let mut bases = Vec::new(alloc);
+    for _ in 0..length {
+        bases.push(b"ACGTACGTN"[random.next_word() as usize % 9])?;
+    }
+    Ok(bases)
+}
+
+// A read of such bases.
 pub(crate) fn random_read(
     alloc: Global,
     random: &mut SplitMix64,
     length: u64,
 ) -> Result<SeqRead, Fail> {
-    let mut bases = Vec::new(alloc);
-    for _ in 0..length {
-        bases.push(b"ACGTACGTN"[random.next_word() as usize % 9])?;
+    let bases = random_bases(alloc, random, length)?;
+    match SeqRead::new(bases, None) {
+        Some(read) => Ok(read),
+        None => Err(Fail::from("no read")),
     }
-    let read = SeqRead::new(bases, None).ok_or("no read")?;
-    Ok(read)
 }
 
 // Reads of random lengths below 50.
@@ -56,11 +75,28 @@ pub(crate) fn slow_rows(
     let Some(_) = base_count(reads) else {
         return Err(Fail::from("too many bases"));
     };
-    let mut rows = Vec::new(alloc);
-    for row in &kc_tally::slow_tally::tally(alloc, reads, rule)? {
-        rows.push((row.word, row.count))?;
+    let rows = kc_tally::slow_tally::tally(alloc, reads, rule)?;
+    let mut pairs = Vec::new(alloc);
+    add_pairs(&mut pairs, &rows)?;
+    Ok(pairs)
+}
+
+// The words and the counts of the rows come behind the others.
+fn add_pairs(pairs: &mut Vec<(u64, u64)>, rows: &[Row]) -> Result<(), AllocError> {
+    for row in rows {
+        pairs.push((row.word, row.count))?;
     }
-    Ok(rows)
+    Ok(())
+}
+
+// The same of a stripe's rows.
+fn add_rows<C: Counts>(
+    alloc: Global,
+    pairs: &mut Vec<(u64, u64)>,
+    stripe: &Stripe<C>,
+) -> Result<(), AllocError> {
+    let rows = stripe.rows(alloc)?;
+    add_pairs(pairs, &rows)
 }
 
 // Rows of all stripes, in the order of the words.
@@ -70,9 +106,7 @@ pub(crate) fn sorted_rows<C: Counts>(
 ) -> Result<Vec<(u64, u64)>, AllocError> {
     let mut rows = Vec::new(alloc);
     for stripe in stripes {
-        for row in &stripe.rows(alloc)? {
-            rows.push((row.word, row.count))?;
-        }
+        add_rows(alloc, &mut rows, stripe)?;
     }
     // no word stands in two stripes
     rows.sort_unstable();
@@ -103,19 +137,33 @@ fn book_batch<C: Counts>(
     Ok(())
 }
 
+// Books the batches in all stripes, in this order.
+fn book_in_order<C: Counts>(
+    alloc: Global,
+    setup: &Setup,
+    stripes: &mut [Stripe<C>],
+    batches: &[Arc<Batch>],
+    order: &[(u64, u64)],
+) -> Result<(), BookFault> {
+    for (_, index) in order {
+        match batches.get(*index as usize) {
+            Some(batch) => book_batch(alloc, setup, stripes, batch)?,
+            None => return Err(BookFault::Stranger),
+        }
+    }
+    Ok(())
+}
+
 // Books batches of seven positions in all stripes, in another order than that of their numbers.
 fn book_everywhere<C: Counts>(
     alloc: Global,
     setup: &Setup,
     stripes: &mut [Stripe<C>],
     reads: &[SeqRead],
-) -> Result<(), Fail> {
+) -> Result<(), BookFault> {
     let batches = batches_of(alloc, setup, reads, 7)?;
-    for (_, index) in &shuffled(alloc, batches.len())? {
-        let batch = batches.get(*index as usize).ok_or("no batch")?;
-        book_batch(alloc, setup, stripes, batch)?;
-    }
-    Ok(())
+    let order = shuffled(alloc, batches.len())?;
+    book_in_order(alloc, setup, stripes, &batches, &order)
 }
 
 // How many words are in this bin, over all stripes.
@@ -144,7 +192,12 @@ fn rows_of_count(rows: &[(u64, u64)], wanted: u64) -> u64 {
 // The bins 1 to 8 are those of the rows.
 fn assert_bins<C: Counts>(rt: &impl Abort, stripes: &[Stripe<C>], rows: &[(u64, u64)]) {
     for bin in 1..9 {
-        assert_eq!(rt; words_in_bin(stripes, bin), rows_of_count(rows, bin));
+        assert_same(
+            rt,
+            "a bin",
+            &words_in_bin(stripes, bin),
+            &rows_of_count(rows, bin),
+        );
     }
 }
 
@@ -176,9 +229,21 @@ fn hold_the_tally<C: Counts + Drop>(
     let reads = random_reads(alloc, &mut SplitMix64::seed_from_u64(11))?;
     let want = slow_rows(alloc, &reads, setup.rule())?;
     book_everywhere(alloc, &setup, &mut stripes, &reads)?;
-    assert_eq!(rt; sorted_rows(alloc, &stripes)?.as_slice(), want.as_slice());
-    assert_eq!(rt; total_booked(&stripes), total_of(&want));
-    assert_bins(rt, &stripes, &want);
+    assert_booked(rt, alloc, &stripes, &want)?;
+    Ok(())
+}
+
+// The stripes have these rows, and the totals and bins of these.
+fn assert_booked<C: Counts>(
+    rt: &impl Abort,
+    alloc: Global,
+    stripes: &[Stripe<C>],
+    want: &[(u64, u64)],
+) -> Result<(), AllocError> {
+    let rows = sorted_rows(alloc, stripes)?;
+    assert_items(rt, "rows", rows.as_slice(), want);
+    assert_same(rt, "the total", &total_booked(stripes), &total_of(want));
+    assert_bins(rt, stripes, want);
     Ok(())
 }
 
@@ -192,8 +257,7 @@ fn quotient_stripe(
         return Err(Fail::from("another setup"));
     }
     let table = QuotientTable::new(alloc, 3, 3, 3)?;
-    let stripe = Stripe::new(alloc, setup, number, table)?;
-    Ok(stripe)
+    Ok(Stripe::new(alloc, setup, number, table)?)
 }
 
 // The eight stripes over a `BTreeMap`.

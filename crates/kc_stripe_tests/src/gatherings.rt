@@ -3,12 +3,12 @@ ghost use Rattle.std.specs.Prelude.{◌≡◌, ◌≤◌, ◌^◌, IfOk};
 ghost use Rattle.kc_word.specs.Shared.{values};
 ghost use Rattle.kc_gather.specs.Gathering.{position_sum};
 
-use crate::sample_batches::{cut_of, made_setup, plain_stripe};
-use kc_fastx::SeqRead;
+use crate::sample_batches::{cut_of, made_setup, plain_stripe, read_of};
+use crate::stripe_assertions::{assert_items, assert_same};
 use kc_gather::{GatherFault, gather, gather_in_parallel, plain_tables, quotient_tables};
 use kc_stripe::{Setup, Stripe};
 use kc_table::{Counts, PlainCounts, QuotientTable};
-use kc_tally::{Row, Tally};
+use kc_tally::Tally;
 use kc_word::{Batch, clean, cut, cutting_laws};
 use std::alloc::{AllocError, Global};
 use std::process::Abort;
@@ -27,12 +27,32 @@ fn assert_tables<C: Counts>(
     count: u32,
     bits: u32,
 ) -> Result<(), AllocError> {
-    assert_eq!(rt; tables.len(), count as usize);
+    assert_same(rt, "tables", &tables.len(), &(count as usize));
     for table in tables {
-        assert_eq!(rt; table.key_bits(), bits);
-        assert_eq!(rt; table.rows(alloc)?.len(), 0);
+        assert_same(rt, "bits", &table.key_bits(), &bits);
+        assert_same(rt, "rows", &table.rows(alloc)?.len(), &0);
     }
     Ok(())
+}
+
+fn assert_plain_tables(
+    rt: &impl Abort,
+    alloc: Global,
+    setup: &Setup,
+    bits: u32,
+) -> Result<(), AllocError> {
+    let tables = plain_tables(alloc, setup)?;
+    assert_tables(rt, alloc, &tables, setup.stripes(), bits)
+}
+
+fn assert_quotient_tables(
+    rt: &impl Abort,
+    alloc: Global,
+    setup: &Setup,
+    bits: u32,
+) -> Result<(), AllocError> {
+    let tables = quotient_tables(alloc, setup, 1_000)?;
+    assert_tables(rt, alloc, &tables, setup.stripes(), bits)
 }
 
 #[test]
@@ -40,14 +60,8 @@ fn a_table_for_each_stripe(rt: HostRuntime) -> Result<(), Fail> {
     let alloc = rt.alloc();
     for (k, stripes, bits) in TABLES {
         let setup = made_setup(*k, *stripes)?;
-        assert_tables(&rt, alloc, &plain_tables(alloc, &setup)?, *stripes, *bits)?;
-        assert_tables(
-            &rt,
-            alloc,
-            &quotient_tables(alloc, &setup, 1_000)?,
-            *stripes,
-            *bits,
-        )?;
+        assert_plain_tables(&rt, alloc, &setup, *bits)?;
+        assert_quotient_tables(&rt, alloc, &setup, *bits)?;
     }
     Ok(())
 }
@@ -64,7 +78,7 @@ const LOGS: &[(u32, u32, u64, u32)] = &[
 
 fn assert_logs(rt: &impl Abort, tables: &[QuotientTable], log: u32) {
     for table in tables {
-        assert_eq!(rt; table.log(), log);
+        assert_same(rt, "a log", &table.log(), &log);
     }
 }
 
@@ -93,11 +107,10 @@ pub(crate) fn batches_of(
     if bases.len() > 1_000 {
         return Err(Fail::from("too many bases"));
     }
-    let read = SeqRead::new(Vec::from_slice(alloc, bases)?, None).ok_or("no read")?;
+    let read = read_of(alloc, bases)?;
     let mut pieces = Vec::new(alloc);
     pieces.push(clean(alloc, &read, setup.rule())?)?;
-    let batches = cut(alloc, pieces, setup.rule().k(), size.max(1))?;
-    Ok(batches)
+    Ok(cut(alloc, pieces, setup.rule().k(), size.max(1))?)
 }
 
 // The stripe of this number in which the batches were booked.
@@ -109,9 +122,19 @@ fn stripe_of(
 ) -> Result<Stripe<PlainCounts>, Fail> {
     let mut stripe = plain_stripe(alloc, setup, number)?;
     for batch in batches {
-        stripe.book(&cut_of(alloc, setup, batch, number as usize)?)?;
+        book_batch(alloc, &mut stripe, batch)?;
     }
     Ok(stripe)
+}
+
+// Books the batch in the stripe.
+fn book_batch(
+    alloc: Global,
+    stripe: &mut Stripe<PlainCounts>,
+    batch: &Arc<Batch>,
+) -> Result<(), Fail> {
+    let cut = cut_of(alloc, stripe.setup(), batch, stripe.number() as usize)?;
+    Ok(stripe.book(&cut)?)
 }
 
 // A stripe of each number in which the batches were booked.
@@ -151,15 +174,10 @@ fn gathered<H: Threads + Sync>(
 
 // The tally has these rows and no others.
 fn assert_rows(rt: &impl Abort, tally: &Tally, want: &[(u64, u64)]) {
-    assert_eq!(rt; tally.row_count() as usize, want.len());
+    assert_same(rt, "rows", &(tally.row_count() as usize), &want.len());
     for (row, (word, count)) in tally.rows().zip(want) {
-        assert_eq!(rt;
-            row,
-            Row {
-                word: *word,
-                count: *count
-            }
-        );
+        assert_same(rt, "a word", &row.word, word);
+        assert_same(rt, "a count", &row.count, count);
     }
 }
 
@@ -271,12 +289,12 @@ fn assert_tally_or_memory<H: Threads + Sync + Abort>(
     let setup = made_setup(3, 2)?;
     let bases = b"AAACAAC";
     let batches = batches_of(alloc, &setup, bases, 2)?;
-    assert_eq!(rt; batches.len(), 3);
+    assert_same(rt, "batches", &batches.len(), &3);
     let stripes = stripes_of(alloc, &setup, &batches)?;
     match gathered(rt, threads, alloc, &setup, stripes, bases, 2)? {
         Ok(tally) => assert_rows(rt, &tally, &[(0, 1), (1, 2), (4, 1), (16, 1)]),
         Err(fault) => {
-            assert_eq!(rt; fault, GatherFault::Memory);
+            assert_same(rt, "a fault", &fault, &GatherFault::Memory);
             return Err(Fail::from("answered 34"));
         }
     }

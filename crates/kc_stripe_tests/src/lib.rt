@@ -25,4 +25,6 @@ mod sharings;
 #[cfg(test)]
 mod sheets;
 #[cfg(test)]
+mod stripe_assertions;
+#[cfg(test)]
 mod stripe_examples;

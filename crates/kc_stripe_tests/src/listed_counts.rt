@@ -1,29 +1,37 @@
 //! Counts that are kept to a list of words: setups with a list, their cuts and their stripes.
-use crate::sample_batches::{count_in, cuts_in, made_setup, plain_stripe, reads_of, setup_with};
-use kc_stripe::{BookFault, Setup, Stripe};
+use crate::sample_batches::{
+    book_at, count_in, cuts_in, made_setup, plain_stripe, reads_of, setup_with,
+};
+use crate::stripe_assertions::{assert_items, assert_same};
+use kc_stripe::{BookFault, Cut, Setup, Stripe};
 use kc_table::PlainCounts;
 use kc_tally::Row;
 use kc_word::{K, Only, Rule};
-use std::alloc::Global;
+use std::alloc::{AllocError, Global};
 use std::process::Abort;
 use std::sync::Arc;
 use std::test::Fail;
 
 // The list of the words of these reads, of k bases, on both strands together or on one.
 fn list_of(alloc: Global, k: u32, both: bool, texts: &[&[u8]]) -> Result<Arc<Only>, Fail> {
-    let rule = Rule::new(K::new(k).ok_or("no length of a word")?, both, b'!');
-    let only = Only::of(alloc, &reads_of(alloc, texts)?, &rule)?;
+    let Some(k) = K::new(k) else {
+        return Err(Fail::from("no length of a word"));
+    };
+    let reads = reads_of(alloc, texts)?;
+    let only = Only::of(alloc, &reads, &Rule::new(k, both, b'!'))?;
     Ok(Arc::new(alloc, only)?)
 }
 
 // Words of three bases in one stripe, of which those of these reads count.
 fn listed_setup(alloc: Global, both: bool, texts: &[&[u8]]) -> Result<Setup, Fail> {
-    let setup = setup_with(3, both, 1).ok_or("no setup")?;
-    Ok(
-        setup
-            .listed(list_of(alloc, 3, both, texts)?)
-            .ok_or("no list of the setup")?,
-    )
+    let list = list_of(alloc, 3, both, texts)?;
+    let Some(setup) = setup_with(3, both, 1) else {
+        return Err(Fail::from("no setup"));
+    };
+    match setup.listed(list) {
+        Some(setup) => Ok(setup),
+        None => Err(Fail::from("no list of the setup")),
+    }
 }
 
 // Whether both strands count, the reads of the list, and what is then counted in ACGTA.
@@ -40,9 +48,9 @@ const LISTED: &[(bool, &[&[u8]], &[Row])] = &[
 
 // The stripe of the setup, in which ACGTA is booked.
 fn booked(alloc: Global, setup: &Setup) -> Result<Stripe<PlainCounts>, Fail> {
-    let mut stripe = plain_stripe(alloc, setup, 0)?;
     let cuts = cuts_in(alloc, setup, b"ACGTA")?;
-    stripe.book(cuts.first().ok_or("no cut")?)?;
+    let mut stripe = plain_stripe(alloc, setup, 0)?;
+    book_at(&mut stripe, &cuts, 0)?;
     Ok(stripe)
 }
 
@@ -52,13 +60,13 @@ fn assert_rows(
     alloc: Global,
     stripe: &Stripe<PlainCounts>,
     rows: &[Row],
-) -> Result<(), Fail> {
+) -> Result<(), AllocError> {
     let found = stripe.rows(alloc)?;
-    assert_eq!(rt; found.as_slice(), rows);
+    assert_items(rt, "rows", found.as_slice(), rows);
     for row in rows {
-        assert_eq!(rt; count_in(stripe, row.word), Some(row.count));
+        assert_same(rt, "a count", &count_in(stripe, row.word), &Some(row.count));
     }
-    assert_eq!(rt; count_in(stripe, 1), Some(0));
+    assert_same(rt, "a count", &count_in(stripe, 1), &Some(0));
     Ok(())
 }
 
@@ -88,14 +96,33 @@ fn setup_of_list(alloc: Global, texts: Option<&[&[u8]]>) -> Result<Setup, Fail> 
     }
 }
 
+// The cuts of ACGTA by a setup with such a list, or without one.
+fn cuts_by(alloc: Global, texts: Option<&[&[u8]]>) -> Result<Vec<Cut>, Fail> {
+    let setup = setup_of_list(alloc, texts)?;
+    cuts_in(alloc, &setup, b"ACGTA")
+}
+
+// An empty stripe of the setup answers so to the first of the cuts.
+fn assert_booking(
+    rt: &impl Abort,
+    alloc: Global,
+    setup: &Setup,
+    cuts: &[Cut],
+    answer: &Result<(), BookFault>,
+) -> Result<(), Fail> {
+    let mut stripe = plain_stripe(alloc, setup, 0)?;
+    assert!(rt; !cuts.is_empty());
+    assert_same(rt, "a booking", &stripe.book(&cuts[0]), answer);
+    Ok(())
+}
+
 #[test]
 fn a_cut_by_another_list_is_a_stranger(rt: HostRuntime) -> Result<(), Fail> {
     let alloc = rt.alloc();
     let setup = listed_setup(alloc, false, &[b"CGT"])?;
     for (texts, answer) in LISTS {
-        let mut stripe = plain_stripe(alloc, &setup, 0)?;
-        let cuts = cuts_in(alloc, &setup_of_list(alloc, *texts)?, b"ACGTA")?;
-        assert_eq!(rt; stripe.book(cuts.first().ok_or("no cut")?), *answer);
+        let cuts = cuts_by(alloc, *texts)?;
+        assert_booking(&rt, alloc, &setup, &cuts, answer)?;
     }
     Ok(())
 }

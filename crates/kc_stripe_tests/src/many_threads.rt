@@ -5,6 +5,7 @@ ghost use Rattle.kc_booking.specs.Setup.{stripe_count};
 use crate::gathered_tallies::{random_read, seeded_setup, slow_rows, sorted_rows};
 use crate::sample_batches::{batches_in, batches_of, made_setup};
 use crate::sharings::{Sums, book_all, book_batch, stripes_of, sums_of};
+use crate::stripe_assertions::{assert_items, assert_same};
 use kc_fastx::SeqRead;
 use kc_share::{Books, Share, Sheet};
 use kc_stripe::{BookFault, Setup, Stripes};
@@ -14,6 +15,7 @@ use rand_core::SeedableRng;
 use rand_xoshiro::SplitMix64;
 use std::alloc::Global;
 use std::marker::Brand;
+use std::process::Abort;
 use std::sync::{Arc, Wait};
 use std::test::Fail;
 use std::thread::{Threads, join, map_vec};
@@ -107,17 +109,23 @@ fn what_eight_threads_booked_is_the_tally(rt: HostRuntime) -> Result<(), Fail> {
     let setup = seeded_setup()?;
     let reads = long_reads(alloc)?;
     let batches = batches_of(alloc, &setup, &reads, 12)?;
-    assert_eq!(rt; (batches.len(), setup.stripes()), (64, 8));
+    assert_same(&rt, "batches", &batches.len(), &64);
+    assert_same(&rt, "stripes", &setup.stripes(), &8);
     let sheet = Sheet::new(alloc, setup.stripes(), 9)?;
     let (sums, rows) = count_by_many::<Brand, _>(&rt, alloc, &setup, sheet, &batches)?;
-    assert_eq!(rt; sums.len(), 8);
-    for (has, told) in &sums {
-        assert_eq!(rt; has, told);
-        assert_eq!(rt; has.1, 64);
-    }
+    assert_sums(&rt, &sums);
     let want = slow_rows(alloc, &reads, setup.rule())?;
-    assert_eq!(rt; rows.as_slice(), want.as_slice());
+    assert_items(&rt, "rows", rows.as_slice(), want.as_slice());
     Ok(())
+}
+
+// Each of eight stripes has 64 batches, and what the share says of it.
+fn assert_sums(rt: &impl Abort, sums: &[Sums]) {
+    assert_same(rt, "stripes", &sums.len(), &8);
+    for (has, told) in sums {
+        assert_same(rt, "a stripe", has, told);
+        assert_same(rt, "batches", &has.1, &64);
+    }
 }
 
 // Books a batch everywhere, and gives the share back.
@@ -179,6 +187,12 @@ fn count_without_one<N: Books + Send + Sync, R: Threads + Wait + Sync>(
     ended(alloc, setup, stripes, kept)
 }
 
+// What the one stripe has, and what the share says of it.
+const SUMS: &[Sums] = &[((12, 3), (8, 2))];
+
+// AAA twelve times.
+const ROWS: &[(u64, u64)] = &[(0, 12)];
+
 #[test]
 fn a_share_that_is_lost_leaves_the_stripes_lawful(rt: HostRuntime) -> Result<(), Fail> {
     let alloc = rt.alloc();
@@ -195,7 +209,7 @@ fn a_share_that_is_lost_leaves_the_stripes_lawful(rt: HostRuntime) -> Result<(),
         sheet,
         [first, second, third],
     )?;
-    assert_eq!(rt; sums.as_slice(), [((12, 3), (8, 2))].as_slice());
-    assert_eq!(rt; rows.as_slice(), [(0, 12)].as_slice());
+    assert_items(&rt, "stripes", sums.as_slice(), SUMS);
+    assert_items(&rt, "rows", rows.as_slice(), ROWS);
     Ok(())
 }

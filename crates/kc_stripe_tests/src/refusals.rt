@@ -6,6 +6,7 @@ ghost use Rattle.kc_booking.specs.Setup.{stripe_count, word_count};
 use crate::bookings::{Held, NOTHING, assert_held, map_stripe, quotient_stripe};
 use crate::sample_batches::{cuts_of, made_setup};
 use crate::sharings::stripes_of;
+use crate::stripe_assertions::assert_same;
 use kc_share::{Books, Share, Sheet};
 use kc_stripe::{BookFault, Cut, Setup, Stripe, Stripes};
 use kc_table::{Counts, PlainCounts};
@@ -24,7 +25,7 @@ fn is_booked_again<C: Counts>(
     before: &Held<'_>,
 ) -> Result<(), Fail> {
     if let Err(fault) = stripe.book(cut) {
-        assert_eq!(rt; fault, BookFault::Memory);
+        assert_same(rt, "a fault", &fault, &BookFault::Memory);
         assert_held(rt, stripe, before);
         stripe.book(cut)?;
     }
@@ -69,25 +70,23 @@ fn assert_once_each<C: Counts>(
 }
 
 // Books AAA, and then a batch of 40 other words, again where memory is refused.
-fn is_booked_at_last<C: Counts + Drop>(
+fn is_booked_at_last<C: Counts>(
     rt: &impl Abort,
     alloc: Global,
-    mut stripe: Stripe<C>,
+    stripe: &mut Stripe<C>,
 ) -> Result<(), Fail> {
     let cuts = cuts_of(alloc, &made_setup(3, 1)?, TEXTS, 40)?;
-    let [forty, one] = cuts.as_slice() else {
-        return Err(Fail::from("other batches"));
-    };
-    is_booked_again(rt, &mut stripe, one, &NOTHING)?;
-    is_booked_again(rt, &mut stripe, forty, &AAA)?;
-    assert_once_each(rt, alloc, &stripe)
+    assert!(rt; cuts.len() == 2);
+    is_booked_again(rt, stripe, &cuts[1], &NOTHING)?;
+    is_booked_again(rt, stripe, &cuts[0], &AAA)?;
+    assert_once_each(rt, alloc, stripe)
 }
 
 #[test]
 fn a_refused_growth_leaves_the_stripe(rt: HostRuntime) -> Result<(), Fail> {
     let alloc = rt.alloc();
-    is_booked_at_last(&rt, alloc, map_stripe(alloc)?)?;
-    is_booked_at_last(&rt, alloc, quotient_stripe(alloc)?)
+    is_booked_at_last(&rt, alloc, &mut map_stripe(alloc)?)?;
+    is_booked_at_last(&rt, alloc, &mut quotient_stripe(alloc)?)
 }
 
 // What a share tells of stripe 0: words and entries; and its parts.
@@ -112,8 +111,8 @@ fn is_shared_again<N: Books, R: Wait + Abort>(
     match stripes.book(rt, share, cut) {
         Ok(()) => Ok(()),
         Err(fault) => {
-            assert_eq!(rt; fault, BookFault::Memory);
-            assert_eq!(rt; told(share), before);
+            assert_same(rt, "a fault", &fault, &BookFault::Memory);
+            assert_same(rt, "a share", &told(share), &before);
             match stripes.book(rt, share, cut) {
                 Ok(()) => Ok(()),
                 Err(fault) => Err(Fail::from(fault)),
@@ -138,8 +137,8 @@ fn is_seen_again<N: Books, R: Wait + Abort>(
     match stripes.look(rt, alloc, share, word) {
         Ok(seen) => Ok(seen.count()),
         Err(fault) => {
-            assert_eq!(rt; fault, BookFault::Memory);
-            assert_eq!(rt; told(share), before);
+            assert_same(rt, "a fault", &fault, &BookFault::Memory);
+            assert_same(rt, "a share", &told(share), &before);
             Ok(stripes.look(rt, alloc, share, word)?.count())
         }
     }
@@ -180,6 +179,7 @@ fn a_refused_growth_leaves_the_share(rt: HostRuntime) -> Result<(), Fail> {
     }
     let sheet = Sheet::new(alloc, 1, 1)?;
     let (count, share) = share_at_last::<Brand, _>(&rt, alloc, &setup, sheet, (forty, one))?;
-    assert_eq!(rt; (count, share), (1, [41, 2, 1]));
+    assert_same(&rt, "a count", &count, &1);
+    assert_same(&rt, "a share", &share, &[41, 2, 1]);
     Ok(())
 }

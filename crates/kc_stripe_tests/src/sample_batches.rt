@@ -6,8 +6,8 @@ use kc_fastx::SeqRead;
 use kc_hash::{Hash, Matrix};
 use kc_stripe::{Cut, Setup, Stripe, cut_up};
 use kc_table::{Counts, PlainCounts};
-use kc_word::{Batch, K, Rule, Word, clean, cut};
-use std::alloc::Global;
+use kc_word::{Batch, K, Piece, Rule, Word, clean, cut};
+use std::alloc::{AllocError, Global};
 use std::sync::Arc;
 use std::test::Fail;
 
@@ -25,7 +25,10 @@ pub(crate) fn setup_of(k: u32, stripes: u32) -> Option<Setup> {
 
 // The same, where there is such a setup.
 pub(crate) fn made_setup(k: u32, stripes: u32) -> Result<Setup, Fail> {
-    Ok(setup_of(k, stripes).ok_or("no setup")?)
+    match setup_of(k, stripes) {
+        Some(setup) => Ok(setup),
+        None => Err(Fail::from("no setup")),
+    }
 }
 
 // How often a stripe of words of three bases counted one of these; none for another word.
@@ -36,13 +39,32 @@ pub(crate) fn count_in<C: Counts>(stripe: &Stripe<C>, word: u64) -> Option<u64> 
     Some(stripe.count_of(Word(word)))
 }
 
+// The read of these bases.
+pub(crate) fn read_of(alloc: Global, bases: &[u8]) -> Result<SeqRead, Fail>
+    ensures { IfOk result (λ read. read.bases ≡ bases.now) }
+{
+    let bases = Vec::from_slice(alloc, bases)?;
+    match SeqRead::new(bases, None) {
+        Some(read) => Ok(read),
+        None => Err(Fail::from("no read")),
+    }
+}
+
 pub(crate) fn reads_of(alloc: Global, texts: &[&[u8]]) -> Result<Vec<SeqRead>, Fail> {
     let mut reads = Vec::new(alloc);
     for bases in texts {
-        let bases = Vec::from_slice(alloc, bases)?;
-        reads.push(SeqRead::new(bases, None).ok_or("no read")?)?;
+        reads.push(read_of(alloc, *bases)?)?;
     }
     Ok(reads)
+}
+
+// The pieces of these reads.
+fn pieces_of(alloc: Global, rule: &Rule, reads: &[SeqRead]) -> Result<Vec<Piece>, AllocError> {
+    let mut pieces = Vec::new(alloc);
+    for read in reads {
+        pieces.push(clean(alloc, read, rule)?)?;
+    }
+    Ok(pieces)
 }
 
 // The reads as batches of so many positions.
@@ -51,13 +73,9 @@ pub(crate) fn batches_of(
     setup: &Setup,
     reads: &[SeqRead],
     size: u64,
-) -> Result<Vec<Arc<Batch>>, Fail> {
-    let mut pieces = Vec::new(alloc);
-    for read in reads {
-        pieces.push(clean(alloc, read, setup.rule())?)?;
-    }
-    let batches = cut(alloc, pieces, setup.rule().k(), size.max(1))?;
-    Ok(batches)
+) -> Result<Vec<Arc<Batch>>, AllocError> {
+    let pieces = pieces_of(alloc, setup.rule(), reads)?;
+    cut(alloc, pieces, setup.rule().k(), size.max(1))
 }
 
 // The reads of these bases as batches of so many positions.
@@ -67,7 +85,8 @@ pub(crate) fn batches_in(
     texts: &[&[u8]],
     size: u64,
 ) -> Result<Vec<Arc<Batch>>, Fail> {
-    batches_of(alloc, setup, &reads_of(alloc, texts)?, size)
+    let reads = reads_of(alloc, texts)?;
+    Ok(batches_of(alloc, setup, &reads, size)?)
 }
 
 // The cut of a batch in a stripe.
@@ -87,8 +106,10 @@ pub(crate) fn cut_of(
 // The cuts of the one batch of this text.
 pub(crate) fn cuts_in(alloc: Global, setup: &Setup, text: &[u8]) -> Result<Vec<Cut>, Fail> {
     let batches = batches_in(alloc, setup, &[text], 8)?;
-    let cuts = cut_up(alloc, setup, batches.first().ok_or("no batch")?)?;
-    Ok(cuts)
+    match batches.first() {
+        Some(batch) => Ok(cut_up(alloc, setup, batch)?),
+        None => Err(Fail::from("no batch")),
+    }
 }
 
 // The cuts of the reads in stripe 0, in batches of so many positions.
@@ -98,11 +119,29 @@ pub(crate) fn cuts_of(
     texts: &[&[u8]],
     size: u64,
 ) -> Result<Vec<Cut>, Fail> {
+    let batches = batches_in(alloc, setup, texts, size)?;
+    cuts_of_batches(alloc, setup, &batches)
+}
+
+// The cuts of the batches in stripe 0.
+fn cuts_of_batches(alloc: Global, setup: &Setup, batches: &[Arc<Batch>]) -> Result<Vec<Cut>, Fail> {
     let mut cuts = Vec::new(alloc);
-    for batch in &batches_in(alloc, setup, texts, size)? {
+    for batch in batches {
         cuts.push(cut_of(alloc, setup, batch, 0)?)?;
     }
     Ok(cuts)
+}
+
+// Books the cut at this index in the stripe.
+pub(crate) fn book_at<C: Counts>(
+    stripe: &mut Stripe<C>,
+    cuts: &[Cut],
+    index: usize,
+) -> Result<(), Fail> {
+    match cuts.get(index) {
+        Some(cut) => Ok(stripe.book(cut)?),
+        None => Err(Fail::from("no cut")),
+    }
 }
 
 // An empty stripe over a `BTreeMap`.
@@ -115,6 +154,5 @@ pub(crate) fn plain_stripe(
         return Err(Fail::from("no such stripe"));
     }
     let table = PlainCounts::new(alloc, setup.key_bits());
-    let stripe = Stripe::new(alloc, setup, number, table)?;
-    Ok(stripe)
+    Ok(Stripe::new(alloc, setup, number, table)?)
 }

@@ -7,6 +7,7 @@ ghost use Rattle.kc_share.specs.Share.{share_of};
 
 use crate::bookings::cuts_and_stranger;
 use crate::sample_batches::{batches_in, made_setup, setup_with};
+use crate::stripe_assertions::{assert_items, assert_same};
 use kc_share::{Books, Share, Sheet};
 use kc_stripe::{BookFault, Cut, Setup, Stripe, Stripes, cut_up};
 use kc_table::PlainCounts;
@@ -186,15 +187,18 @@ fn sums_by_two<N: Books + Send + Sync, R: Threads + Wait + Sync>(
     Ok(sums_of(alloc, setup, &stripes, &whole)?)
 }
 
+// What the one stripe has, and what the share says of it.
+const SUMS: &[Sums] = &[((8, 2), (8, 2))];
+
 #[test]
 fn what_two_threads_booked_is_what_the_stripes_have(rt: HostRuntime) -> Result<(), Fail> {
     let alloc = rt.alloc();
     let setup = made_setup(3, 1)?;
     let batches = batches_in(alloc, &setup, &[b"AAAAAAAAAA"], 4)?;
-    assert_eq!(rt; batches.len(), 2);
+    assert_same(&rt, "batches", &batches.len(), &2);
     let sheet = Sheet::new(alloc, setup.stripes(), 2)?;
     let sums = sums_by_two::<Brand, _>(&rt, alloc, &setup, sheet, batches.as_slice())?;
-    assert_eq!(rt; sums.as_slice(), [((8, 2), (8, 2))].as_slice());
+    assert_items(&rt, "stripes", sums.as_slice(), SUMS);
     Ok(())
 }
 
@@ -244,16 +248,17 @@ fn book_and_look<N: Books, R: Wait + Abort>(
     let (stripes, mut share) = stripes_of::<N>(alloc, setup, sheet)?;
     let (cut, stranger) = cuts;
     let one = booked(rt, &stripes, &mut share, cut);
-    assert_eq!(rt; one, Some(Ok(())));
+    assert_same(rt, "booked", &one, &Some(Ok(())));
     let again = booked(rt, &stripes, &mut share, cut);
-    assert_eq!(rt; again, Some(Err(BookFault::Twice)));
+    assert_same(rt, "booked again", &again, &Some(Err(BookFault::Twice)));
     let other = booked(rt, &stripes, &mut share, stranger);
-    assert_eq!(rt; other, Some(Err(BookFault::Stranger)));
+    assert_same(rt, "a stranger", &other, &Some(Err(BookFault::Stranger)));
     let there = look_up(rt, alloc, &stripes, &mut share, 0);
-    assert_eq!(rt; there, Ok((2, 1)));
+    assert_same(rt, "AAA", &there, &Ok((2, 1)));
     let missing = look_up(rt, alloc, &stripes, &mut share, 21);
-    assert_eq!(rt; missing, Ok((0, 1)));
-    assert_eq!(rt; (share.words(0), share.entries(0)), (2, 1));
+    assert_same(rt, "CCC", &missing, &Ok((0, 1)));
+    assert_same(rt, "words", &share.words(0), &2);
+    assert_same(rt, "entries", &share.entries(0), &1);
     Ok(())
 }
 
@@ -342,9 +347,18 @@ fn book_look_and_end<N: Books, R: Wait>(
     let (stripes, mut share) = stripes_of::<N>(alloc, setup, sheet)?;
     book_batch(rt, alloc, &stripes, &mut share, batch)?;
     let counts = counts_of(rt, alloc, &stripes, &mut share, words)?;
-    let (stripes, _) = stripes.into_stripes(alloc, share)?;
-    let totals = totals_of(alloc, &stripes)?;
+    let totals = totals_at_end(alloc, stripes, share)?;
     Ok((counts, totals))
+}
+
+// The sharing ends: the numbers and the totals of the stripes, as they come.
+fn totals_at_end<N: Books>(
+    alloc: Global,
+    stripes: Stripes<PlainCounts, N>,
+    share: Share<N>,
+) -> Result<Vec<(u32, u64)>, AllocError> {
+    let (stripes, _) = stripes.into_stripes(alloc, share)?;
+    totals_of(alloc, &stripes)
 }
 
 // The numbers and the totals of stripes.
@@ -372,11 +386,18 @@ fn each_stripe_is_found_under_its_own_lock(rt: HostRuntime) -> Result<(), Fail> 
     let alloc = rt.alloc();
     let setup = made_setup(3, 4)?;
     let batches = batches_in(alloc, &setup, &[b"ACGT"], 8)?;
-    let batch = batches.first().ok_or("no batch")?;
+    assert!(rt; !batches.is_empty());
     let sheet = Sheet::new(alloc, setup.stripes(), 1)?;
-    let (counts, totals) = book_look_and_end::<Brand, _>(&rt, alloc, &setup, sheet, batch, WORDS)?;
-    assert_eq!(rt; counts.as_slice(), COUNTS);
-    assert_eq!(rt; totals.as_slice(), TOTALS);
+    let (counts, totals) = book_look_and_end::<Brand, _>(
+        &rt,
+        alloc,
+        &setup,
+        sheet,
+        &batches[0],
+        WORDS,
+    )?;
+    assert_items(&rt, "counts", counts.as_slice(), COUNTS);
+    assert_items(&rt, "totals", totals.as_slice(), TOTALS);
     Ok(())
 }
 
@@ -392,14 +413,16 @@ const TOGETHER: &[Look] = &[Ok((3, 2)), Ok((3, 2)), Ok((1, 2)), Ok((1, 2)), Ok((
 #[test]
 fn a_word_is_found_under_the_lock_of_its_form(rt: HostRuntime) -> Result<(), Fail> {
     let alloc = rt.alloc();
-    let setup = setup_with(3, true, 4).ok_or("no setup")?;
+    let Some(setup) = setup_with(3, true, 4) else {
+        return Err(Fail::from("no setup"));
+    };
     let batches = batches_in(alloc, &setup, &[b"ACGT", b"CGTT"], 2)?;
-    assert_eq!(rt; batches.len(), 2);
+    assert_same(&rt, "batches", &batches.len(), &2);
     let sheet = Sheet::new(alloc, setup.stripes(), 1)?;
     let (before, after) = look_book_and_look::<Brand, _>(
         &rt, alloc, &setup, sheet, &batches, STRANDS,
     )?;
-    assert_eq!(rt; before.as_slice(), NOT_YET);
-    assert_eq!(rt; after.as_slice(), TOGETHER);
+    assert_items(&rt, "before", before.as_slice(), NOT_YET);
+    assert_items(&rt, "after", after.as_slice(), TOGETHER);
     Ok(())
 }

@@ -4,6 +4,7 @@ ghost use Rattle.kc_share.specs.Entries.{entry_of, word_total};
 ghost use Rattle.kc_share.specs.Share.{share_of, word_total_in, entry_total_in, with_booking};
 
 use crate::sample_batches::{batches_in, made_setup};
+use crate::stripe_assertions::{assert_items, assert_same};
 use kc_share::{Books, Keeper, OpenSheet, Share, Sheet};
 use kc_word::Batch;
 use std::alloc::{AllocError, Global};
@@ -192,10 +193,10 @@ const SUMS: &[((u64, u64), (u64, u64))] = &[((36, 8), (36, 8)), ((36, 8), (36, 8
 fn what_two_threads_booked_is_what_the_journals_have(rt: HostRuntime) -> Result<(), Fail> {
     let alloc = rt.alloc();
     let batches = batches(alloc)?;
-    assert_eq!(rt; batches.len(), 8);
+    assert_same(&rt, "batches", &batches.len(), &8);
     let sheet = Sheet::new(alloc, 2, 2)?;
     let sums = book_by_two::<Brand, _>(&rt, alloc, sheet, batches.as_slice())?;
-    assert_eq!(rt; sums.as_slice(), SUMS);
+    assert_items(&rt, "stripes", sums.as_slice(), SUMS);
     Ok(())
 }
 
@@ -234,11 +235,11 @@ fn numbers_of<N: Books>(share: &Share<N>) -> [u64; 5]
 fn a_batch_is_booked_into_its_stripe(rt: HostRuntime) -> Result<(), Fail> {
     let alloc = rt.alloc();
     let batches = batches(alloc)?;
-    let first = batches.first().ok_or("no batch")?;
+    assert!(rt; !batches.is_empty());
     let sheet = Sheet::new(alloc, 2, 3)?;
-    let numbers = book_by_hand::<Brand>(sheet, first);
-    assert_eq!(rt; numbers[0], [0, 5, 0, 1, 2]);
-    assert_eq!(rt; numbers[1], [7, 0, 1, 0, 1]);
-    assert_eq!(rt; numbers[2], [7, 5, 1, 1, 3]);
+    let numbers = book_by_hand::<Brand>(sheet, &batches[0]);
+    assert_same(&rt, "one share", &numbers[0], &[0, 5, 0, 1, 2]);
+    assert_same(&rt, "the other", &numbers[1], &[7, 0, 1, 0, 1]);
+    assert_same(&rt, "both", &numbers[2], &[7, 5, 1, 1, 3]);
     Ok(())
 }
