@@ -319,16 +319,6 @@ merged-sum {k} {both} {rows} {others} {sums} {later} {laters} {after} {afters} {
     subst (λ count. IsMerged k both rows others (sums ++ row_of row.word count ∷ []) after afters) (sym t.whole)
     (merged-more m s.0 s.1)
 
-pub shorter-sum : {k : ℕ} {both : Bool} {rows others sums later laters after afters : List Row} {row : Row}
-    → IsMerged k both rows others sums later laters → TakesSum later after laters afters row
-    → length after + length afters < length later + length laters
-shorter-sum m t = (taken-sum m t).1.shorter
-
--- the totals of what is left are small
-pub left-small : {k : ℕ} {both : Bool} {rows others sums later laters : List Row} → IsMerged k both rows others sums later laters
-    → total_of rows + total_of others ≤ 2 ^ 62 → total_of later + total_of laters ≤ 2 ^ 62
-left-small m small = let total = m.total in omega (arith, total, small)
-
 -- ---- two rows, of which the one with the lesser word is taken, or both
 
 not-other : {word : ℕ} (row : Row) (rows : List Row) → (row.word ≡ word → ⊥) → first_word (row ∷ rows) ≢ Some word
@@ -388,14 +378,6 @@ pub sum-same : {first second row : Row} {rest rests : List Row} → IsJoined fir
     → TakesSum (first ∷ rest) rest (second ∷ rests) rests row
 sum-same {first} {second} {row} {rest} {rests} is same =
     rw (is.same same) (sum-both first second rest rests same)
-
--- the counts of both rows together fit
-pub pair-fits : (first second : Row) (rest rests : List Row)
-    → total_of (first ∷ rest) + total_of (second ∷ rests) ≤ 2 ^ 62 → first.count + second.count < 2 ^ 64
-pair-fits first second rest rests small =
-    let a = sum_by-cons (λ (row : Row). row.count) first rest in
-    let b = sum_by-cons (λ (row : Row). row.count) second rests in
-    omega (arith, a, b, small)
 
 -- rows of parts that were begun
 pub record InParts (rows part x : List Row) (first : Row) (rest : List Row) : Type 0 where
