@@ -1,7 +1,7 @@
 -- The sum of two lists of rows, word by word.
-use Rattle.std.proofs.Common.{◌≡◌, ◌≢◌, ℕ, suc, ◌+◌, ◌^◌, ◌<◌, ◌≤◌, Bool, true, false, eqb, min, List, [], ◌∷◌, ◌++◌, length, All, refl, ap, sym, ◌∙◌, subst, arith, eq-eqb, ne_eqb, inl, inr, ◌⊎◌, ⊎_elim}
+use Rattle.std.proofs.Common.{◌≡◌, ◌≢◌, ℕ, suc, ◌+◌, ◌^◌, ◌<◌, ◌≤◌, Bool, true, false, eqb, min, List, [], ◌∷◌, ◌++◌, length, drop, cond, leb, All, refl, ap, sym, ◌∙◌, subst, arith, eq-eqb, ne_eqb, inl, inr, ◌⊎◌, ⊎_elim}
 use Rattle.std.specs.Prelude.{Option, Some, None}
-use Rattle.std.proofs.lemmas.Bool.{cases_lt, cases_eq, cond-true, cond-false}
+use Rattle.std.proofs.lemmas.Bool.{cases_lt, cases_eq, cases_order, cond-true, cond-false, le-leb, lt-leb}
 use Rattle.std.proofs.lemmas.List.{length_push}
 use Rattle.std.proofs.lemmas.List.Elements.{All-push, All-nil}
 use Rattle.std.proofs.lemmas.List.Sums.{sum_by-cons, sum_by_push}
@@ -401,3 +401,33 @@ pub same-in_parts : {rows others part part_ x y rest rests : List Row} {first se
     → InParts rows part x first rest → InParts others part_ y second rests → IsJoined first second row
     → first.word ≡ second.word → TakesSum rows (rest ++ x) others (rests ++ y) row
 same-in_parts {rows} {others} at at_ is same = rw (begun at, begun at_) (sum-same is same)
+
+-- and where the code computes how many are taken of each part
+pub sum-in_parts : {rows others part part_ p q x y rest rests : List Row} {first second row : Row}
+    → InParts rows part x first rest → InParts others part_ y second rests → IsJoined first second row
+    → p ≡ cond (leb first.word second.word) (drop 1 part) part
+    → q ≡ cond (leb second.word first.word) (drop 1 part_) part_
+    → TakesSum rows (p ++ x) others (q ++ y) row
+sum-in_parts {rows} {others} {part} {part_} {p} {q} {x} {y} {rest} {rests} {first} {second} {row} at at_ is ep eq = ⊎_elim
+    (λ (same : first.word ≡ second.word).
+    let le : first.word ≤ second.word = omega (arith, same) in
+    let ge : second.word ≤ first.word = omega (arith, same) in
+    rw (behind at ep le, behind at_ eq ge) (same-in_parts at at_ is same))
+    (λ (e : (first.word < second.word) ⊎ (second.word < first.word)). ⊎_elim
+    (λ (less : first.word < second.word).
+    let le : first.word ≤ second.word = omega (arith, less) in
+    rw (behind at ep le, all at_ eq less) (lesser-in_parts at at_ is less))
+    (λ (less : second.word < first.word).
+    let ge : second.word ≤ first.word = omega (arith, less) in
+    rw (all at ep less, behind at_ eq ge) (greater-in_parts at at_ is less)) e)
+    (cases_order first.word second.word)
+  where
+    behind : {all part p x rest : List Row} {first : Row} {a b : ℕ} → InParts all part x first rest
+        → p ≡ cond (leb a b) (drop 1 part) part → a ≤ b → p ++ x ≡ rest ++ x
+    behind {all} {part} {p} {x} {rest} {first} {a} {b} at e h =
+        ap (λ rows. rows ++ x) (e ∙ cond-true (leb a b) (drop 1 part) part (le-leb a b h) ∙ ap (drop 1) at.front)
+
+    all : {rows part p x rest : List Row} {first : Row} {a b : ℕ} → InParts rows part x first rest
+        → p ≡ cond (leb a b) (drop 1 part) part → b < a → p ++ x ≡ rows
+    all {rows} {part} {p} {x} {rest} {first} {a} {b} at e h =
+        ap (λ rows. rows ++ x) (e ∙ cond-false (leb a b) (drop 1 part) part (lt-leb a b h)) ∙ sym at.whole

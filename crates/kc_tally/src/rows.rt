@@ -1,5 +1,5 @@
 //! The rows of a tally, one after another, without memory.
-ghost use Rattle.std.specs.Prelude.{◌≡◌, ◌+◌, ◌<◌, ◌≤◌, ◌^◌, IfSome, IfNone};
+ghost use Rattle.std.specs.Prelude.{◌≡◌, ◌+◌, ◌<◌, ◌≤◌, ◌^◌, IfSome, IfNone, if◌then◌else◌, length, drop};
 ghost use Rattle.std.specs.List.{flat_map};
 ghost use Rattle.kc_tally.specs.Tally.{row_of, total_of};
 ghost use Rattle.kc_tally.specs.Sum.{TakesSum};
@@ -55,19 +55,16 @@ impl<'a> Rows<'a> {
         ensures some { IfSome result (TakesSum self.old self.new other.old other.new) }
         ensures none { IfNone result ((self.new ≡ self.old) × (other.new ≡ other.old)) }
     {
-        let Some((first, rest)) = self.part.split_first() else {
+        let Some((first, _)) = self.part.split_first() else {
             return None;
         };
-        let Some((second, others)) = other.part.split_first() else {
+        let Some((second, _)) = other.part.split_first() else {
             return None;
         };
         let row = joined_row(*first, *second);
-        if first.word <= second.word {
-            self.part = rest;
-        }
-        if second.word <= first.word {
-            other.part = others;
-        }
+        let (takes_first, takes_second) = (first.word <= second.word, second.word <= first.word);
+        self.part = without_taken(self.part, takes_first);
+        other.part = without_taken(other.part, takes_second);
         Some(row)
     }
 }
@@ -91,6 +88,15 @@ fn joined_row(first: Row, second: Row) -> Row
             count,
         }
     }
+}
+
+// The rows behind the first, where that is taken: how many are left out is computed, so that no branch depends on it.
+#[inline(always)]
+fn without_taken(rows: &[Row], taken: bool) -> &[Row]
+    requires { 1 ≤ length rows.now }
+    ensures { result.now ≡ (if taken then drop 1 rows.now else rows.now) }
+{
+    &rows[taken as usize..]
 }
 
 impl<'a> Iterator for Rows<'a> {
