@@ -57,24 +57,27 @@ wants() {
     fi
 }
 
-# two functions, of which one calls the other, in one group: each is refused for itself
+# two functions, of which one calls the other, in one group, and a second edit of one of them, made in a copy: each is refused for itself
 edit adds_two add_one 'number as u64 + 1' 'number as u64 + 2'
 edit adds_three add_two 'add_one(number) + 1' 'add_one(number) + 2'
-wants 0 'edits of small: 2 refused by 1 checks, 0 failed
-2 refused, 0 failed'
+edit adds_ten add_two 'add_one(number) + 1' 'add_one(number) + 9'
+wants 0 'edits of small: 3 refused by 1 checks, 0 failed
+3 refused, 0 failed'
 
-# beside them one that changes nothing, and one whose function is only a caller of what is refused
+# beside them one that changes nothing, one of these in a copy, and one whose function is only a caller of what is refused
 edit adds_three_in_another_order add_three 'number as u64 + 3' '3 + number as u64'
-rm "$crate/edits/adds_three.edit"
+rm "$crate"/edits/adds_t{hree,en}.edit
 edit adds_two add_two 'number as u64 + 1' 'number as u64 + 2'
 edit adds_five add_four 'number as u64 + 4' 'number as u64 + 5'
-wants 1 'NOT REFUSED: small/edits/adds_three_in_another_order: add_three is not refused for a goal or an answer of its own
+edit adds_four_in_another_order add_four 'number as u64 + 4' '4 + number as u64'
+wants 1 'NOT REFUSED: small/edits/adds_four_in_another_order: add_four is not refused for a goal or an answer of its own
+NOT REFUSED: small/edits/adds_three_in_another_order: add_three is not refused for a goal or an answer of its own
 NOT REFUSED: small/edits/adds_two: add_two is not refused for a goal or an answer of its own
-edits of small: 1 refused by 1 checks, 2 failed
-1 refused, 2 failed'
+edits of small: 1 refused by 1 checks, 3 failed
+1 refused, 3 failed'
 
 # one that can't be read, one of a function that isn't there, and one whose text isn't there; the fourth is refused all the same
-rm "$crate"/edits/adds_t*.edit
+rm "$crate"/edits/adds_{t,fo}*.edit
 edit adds_a_word add_one 'number as u64 + 1' 'number as u64 + word'
 edit adds_zero add_nothing 'add_one(number) + 1' 'add_one(number)'
 edit adds_six add_three 'number as u64 + 6' 'number as u64 + 7'

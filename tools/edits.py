@@ -8,16 +8,21 @@ An edit is a file crates/NAME/edits/WHAT_IS_WRONG.edit. Besides the lines of a m
 has a line `refused:` with the function that has to be refused by it, as the checker names it, without the crate's name.
 
 A function is proved against the contracts of those that it calls, so edits of different functions don't hide one another. The edits of a
-crate are put together into few groups, never two of one function in one group; an edit that changes more than bodies of functions is tried
-alone. Each group is made in a copy of the crate, and its functions are checked by one check, over a copy of what was kept of the crate's proof.
+crate are put together into few groups. The second edit of a function in a group and each further one are made in a copy of the function, of
+another name and with a copy of its proof; a function of a trait can't be copied, nor one that another proof speaks of, so there is one edit of
+it in a group. An edit that changes more than bodies of functions is tried alone. Each group is made in a copy of the crate, and its functions
+are checked by one check, over a copy of what was kept of the crate's proof.
 Of each function that an edit names a goal or an answer of its own has to be open: that it calls what is not proved doesn't count, nor that the
 edited text can't be read, nor that the checker could not tell. What isn't refused so in its group is tried once more alone, and that decides.
 
 The last line is `N refused, M failed`.
 """
 
+import collections
 import os
 import re
+import shutil
+import subprocess
 import sys
 import tempfile
 from contextlib import contextmanager, suppress
@@ -26,16 +31,19 @@ from dataclasses import dataclass, field
 import kit
 
 FOLDER = "edits"
+# How many edits a check has at the most. What a check loads is a small part of it then, and several run side by side.
+MOST = 24
 
 
 @dataclass(frozen=True)
 class Function:
-    """A function of a source file: how the checker names it, and its lines."""
+    """A function of a source file: how the checker names it, its lines, and whether it is a trait's or of an impl of one."""
 
     name: str
     path: str
     first: int
     last: int
+    is_of_trait: bool
 
 
 def module_of(path):
@@ -85,17 +93,19 @@ def owner_of(header, module, homes):
 def functions_of(path, text, homes):
     """Returns the functions of a source file that is laid out as `rt fmt` does: each ends at the first line that closes it in its own column."""
     module = module_of(path)
-    lines, found, owner, at = text.split("\n"), [], module, 0
+    lines, found, owner, is_of_trait, at = text.split("\n"), [], module, False, 0
     while at < len(lines):
         if re.match(r"(pub(\(\w+\))? )?(impl|trait)\b", lines[at]):
             head = at
             while not lines[at].rstrip().endswith(("{", "}", ";")):
                 at += 1
-            owner = owner_of(" ".join(it.strip() for it in lines[head : at + 1]).rstrip("{} "), module, homes)
+            header = " ".join(it.strip() for it in lines[head : at + 1]).rstrip("{} ")
+            owner, is_of_trait = owner_of(header, module, homes), " for " in header or bool(re.match(r"(pub\S* )?trait\b", header))
         begun = re.match(r"( *)(?:pub(?:\(\w+\))? )?(?:const )?fn (\w+)", lines[at])
         if begun:
             last = end_of(lines, at, begun[1])
-            found.append(Function("::".join([*(owner if begun[1] else module), begun[2]]), path, at, last))
+            name = "::".join([*(owner if begun[1] else module), begun[2]])
+            found.append(Function(name, path, at, last, is_of_trait and bool(begun[1])))
             at = last
         at += 1
     return found
@@ -113,20 +123,23 @@ def end_of(lines, at, indent):
 
 @dataclass
 class Edit:
-    """An edit of a crate: the function that it has to be refused by, the lines that it changes, and the functions that these belong to."""
+    """An edit of a crate: the function that it has to be refused by, the lines that it changes, the names of the functions that these belong
+    to, and, where it changes nothing but the body of the function that it names and that can be copied, that function."""
 
     name: str
     refused: str
     lines: dict = field(default_factory=dict)
     changed: set = field(default_factory=set)
     is_of_bodies: bool = True
+    copied: Function | None = None
 
     def functions(self):
         return self.changed | {self.refused}
 
     def goes_with(self, other):
         is_apart = not self.functions() & other.functions() and not self.lines.keys() & other.lines.keys()
-        return self.is_of_bodies and other.is_of_bodies and is_apart
+        are_copies = self.copied and self.copied == other.copied
+        return self.is_of_bodies and other.is_of_bodies and bool(is_apart or are_copies)
 
 
 class BadEdit(Exception):
@@ -156,10 +169,32 @@ def read(rt, folder, name):
         for at, (old, new) in enumerate(zip(before, text.split("\n"))):
             if old != new:
                 edit.lines[path, at] = new
-                around = {it.name for it in functions if it.first <= at <= it.last}
-                edit.changed |= around
+                around = [it for it in functions if it.first <= at <= it.last]
+                edit.changed |= {it.name for it in around}
                 edit.is_of_bodies &= bool(around)
+                edit.copied = next((it for it in around if it.name == edit.refused and can_be_copied(folder, it)), None)
+    if edit.changed != {edit.refused}:
+        edit.copied = None
     return edit
+
+
+def proofs_of(folder, name):
+    """Returns the paths of the proof files of a function of that name, below the crate's folder."""
+    own = f"proofs/{name.replace('::', '/')}"
+    return [f"{own}/{it}" for it in sorted(os.listdir(f"{folder}/{own}"))] if os.path.isdir(f"{folder}/{own}") else []
+
+
+def can_be_copied(folder, function):
+    """Returns whether a copy of the function is proved as the function is: it is no trait's, and no other file of proofs names what is its own."""
+    own = proofs_of(folder, function.name)
+    if function.is_of_trait or not all(os.path.isfile(f"{folder}/{it}") for it in own):
+        return False
+    named = re.compile(rf"\bproofs\.{re.escape(function.name.replace('::', '.'))}\b")
+    for at, _, files in os.walk(f"{folder}/proofs"):
+        others = {os.path.relpath(f"{at}/{it}", folder) for it in files} - set(own)
+        if any(named.search(text_of(folder, it)) for it in others):
+            return False
+    return True
 
 
 def grouped(edits):
@@ -167,7 +202,7 @@ def grouped(edits):
     groups = []
     for edit in edits:
         for group in groups:
-            if all(edit.goes_with(it) for it in group):
+            if len(group) < MOST and all(edit.goes_with(it) for it in group):
                 group.append(edit)
                 break
         else:
@@ -175,14 +210,51 @@ def grouped(edits):
     return groups
 
 
-def made(folder, group):
-    """Returns the texts of the files that the edits of the group change."""
-    texts = {}
+def names_of(group):
+    """Returns for each edit of the group the function in which it is made: the first of a function in itself, a further one in a copy."""
+    names, counts = {}, collections.Counter()
     for edit in group:
-        for (path, at), line in edit.lines.items():
-            lines = texts.setdefault(path, text_of(folder, path).split("\n"))
-            lines[at] = line
-    return {path: "\n".join(lines) for path, lines in texts.items()}
+        counts[edit.refused] += 1
+        names[edit.name] = edit.refused if counts[edit.refused] == 1 else f"{edit.refused}_copy_{counts[edit.refused]}"
+    return names
+
+
+def copy_of(folder, edit, name):
+    """Returns the lines of a copy of the edit's function under this name, attributes included, in which the edit is made."""
+    function = edit.copied
+    lines = text_of(folder, function.path).split("\n")
+    head = function.first
+    while lines[head - 1].strip() and not lines[head - 1].rstrip().endswith(("{", "}")):
+        head -= 1
+    copied = [edit.lines.get((function.path, at), lines[at]) for at in range(head, function.last + 1)]
+    own, other = (it.rpartition("::")[2] for it in (function.name, name))
+    copied[function.first - head] = re.sub(rf"\bfn {own}\b", f"fn {other}", copied[function.first - head])
+    return ["", *copied]
+
+
+def copied_proofs(folder, edit, name):
+    """Returns the texts of the proof files of a copy of the edit's function under this name, which speak of the copy."""
+    own, other = (it.replace("::", ".") for it in (edit.refused, name))
+    texts = {}
+    for path in proofs_of(folder, edit.refused):
+        there = f"proofs/{name.replace('::', '/')}/{os.path.basename(path)}"
+        texts[there] = re.sub(rf"\bproofs\.{re.escape(own)}\b", f"proofs.{other}", text_of(folder, path))
+    return texts
+
+
+def made(folder, group):
+    """Returns the texts of the files that the edits of the group change or add."""
+    names, changed, added, texts = names_of(group), {}, collections.defaultdict(list), {}
+    for edit in group:
+        if names[edit.name] == edit.refused:
+            changed |= edit.lines
+        else:
+            added[edit.copied.path, edit.copied.last] += copy_of(folder, edit, names[edit.name])
+            texts |= copied_proofs(folder, edit, names[edit.name])
+    for path in {it for it, _ in [*changed, *added]}:
+        lines = text_of(folder, path).split("\n")
+        texts[path] = "\n".join(it for at, line in enumerate(lines) for it in [changed.get((path, at), line), *added[path, at]])
+    return texts
 
 
 NAMES = r"is not in scope|has no field|has no `|was not admitted|is no name"
@@ -225,6 +297,20 @@ def has_proofs(crate, kept):
     return any(os.path.basename(it).startswith(f"Rattle-{crate.name}-proofs") for it in kept_files(crate, kept))
 
 
+def checked(rt, crate, texts, flags, kept):
+    """Checks a copy of the crate with these texts in place of its own or beside them, over what kept has."""
+    with tempfile.TemporaryDirectory(prefix="rt-edit-") as room:
+        for part in filter(lambda it: os.path.isdir(f"{crate.folder}/{it}"), rt.rtlib.PARTS):
+            shutil.copytree(f"{crate.folder}/{part}", f"{room}/{part}")
+        for path, text in texts.items():
+            os.makedirs(os.path.dirname(f"{room}/{path}"), exist_ok=True)
+            with open(f"{room}/{path}", "w", encoding="utf-8") as file:
+                file.write(text)
+        words = [*rt.rtlib.guarded(), rt.rtlib.RATTLE, "check", *crate.words(flags, keeps=False), "--incremental", kept]
+        how = {"stdin": subprocess.DEVNULL, "stdout": subprocess.PIPE, "stderr": subprocess.STDOUT, "errors": "replace"}
+        return subprocess.run(words, cwd=room, check=False, **how)
+
+
 def judge(rt, crate, group, kept):
     """Checks the crate with these edits, and returns for each why it failed, or None where its function is refused."""
     with copied(crate, kept) as room:
@@ -233,10 +319,12 @@ def judge(rt, crate, group, kept):
 
 def judge_over(rt, crate, group, kept):
     """The same over this very folder, which then has what was proved beside the edits."""
-    texts = made(crate.folder, group)
-    only = [word for it in sorted({edit.refused for edit in group}) for word in ("--only", it)]
-    ran = rt.checked(crate, texts, ["--jobs", "1", *only], kept)
-    unread = next((it for it in ran.stdout.split("\n") if rt.unread(it, texts)), None)
+    texts, names = made(crate.folder, group), names_of(group)
+    only = [word for it in sorted(names.values()) for word in ("--only", it)]
+    ran = checked(rt, crate, texts, ["--jobs", "1", *only], kept)
+    # (a copy's proof file is refused for its text where the copy's body is wrong)
+    code = [it for it in texts if it.startswith("src/")]
+    unread = next((it for it in ran.stdout.split("\n") if rt.unread(it, code)), None)
     failed = {}
     for edit in group:
         if unread:
@@ -245,7 +333,7 @@ def judge_over(rt, crate, group, kept):
             failed[edit.name] = f"there is no function {edit.refused}"
         elif ran.returncode not in (0, 1) or rt.rtlib.STALE.search(ran.stdout):
             failed[edit.name] = "the checker could not tell: " + ran.stdout.strip().split("\n")[-1][:200]
-        elif not own_refusal(crate.name, edit.refused, ran.stdout):
+        elif not own_refusal(crate.name, names[edit.name], ran.stdout):
             failed[edit.name] = f"{edit.refused} is not refused for a goal or an answer of its own"
         else:
             failed[edit.name] = None
