@@ -9,8 +9,9 @@
 //!
 //! ```ignore
 //! let mut sink = ToVec::new(Vec::new(rt.alloc()));
-//! assert_eq!(rt; write_dump(&mut sink, tally, dump), Ok(()));
-//! assert_eq!(rt; sink.as_slice(), want);
+//! let outcome = write_dump(&mut sink, tally, dump);
+//! assert_same(rt, "an outcome", &outcome, &Ok(()));
+//! assert_items(rt, "a dump", sink.as_slice(), want);
 //! ```
 #![tactic(auto)]
 

@@ -7,9 +7,8 @@
 //! ```ignore
 //! let other = stripes.split(&mut one);
 //! let (first, second) = batches.split_at(batches.len() / 2);
-//! let (mut whole, other) = book_halves(rt, alloc, &stripes, (one, other), (first, second))?;
+//! let (mut whole, other) = book_halves(rt, alloc, stripes, (one, other), (first, second))?;
 //! stripes.join(&mut whole, other);
-//! Ok(stripes.into_stripes(alloc, whole)?)
 //! ```
 #![tactic(auto)]
 

@@ -1,7 +1,7 @@
 //! Batches that are booked in a stripe, over a `BTreeMap` and over a table.
-use crate::sample_batches::{book_at, count_in, cuts_of, made_setup, plain_stripe};
+use crate::sample_batches::{book_at, count_in, cuts_of_three, made_setup, plain_stripe};
 use crate::stripe_assertions::{assert_items, assert_same};
-use kc_stripe::{BookFault, Cut, Stripe};
+use kc_stripe::{BookFault, Cut, Setup, Stripe};
 use kc_table::{Counts, LimitedCounts, PlainCounts, QuotientTable, TableFault};
 use kc_tally::Row;
 use kc_word::Batch;
@@ -98,7 +98,7 @@ const TWO_BATCHES: &[&[u8]] = &[b"AAAA", b"AAA"];
 
 // The cut of batch 1 by another setup.
 fn stranger(alloc: Global) -> Result<Cut, Fail> {
-    let mut cuts = cuts_of(alloc, &made_setup(3, 2)?, TWO_BATCHES, 2)?;
+    let mut cuts = cuts_of_three(alloc, 2, TWO_BATCHES, 2)?;
     match cuts.pop() {
         Some(cut) => Ok(cut),
         None => Err(Fail::from("no batch")),
@@ -107,7 +107,7 @@ fn stranger(alloc: Global) -> Result<Cut, Fail> {
 
 // The cuts of both batches, and then the stranger.
 pub(crate) fn cuts_and_stranger(alloc: Global) -> Result<Vec<Cut>, Fail> {
-    let mut cuts = cuts_of(alloc, &made_setup(3, 1)?, TWO_BATCHES, 2)?;
+    let mut cuts = cuts_of_three(alloc, 1, TWO_BATCHES, 2)?;
     cuts.push(stranger(alloc)?)?;
     Ok(cuts)
 }
@@ -132,11 +132,20 @@ fn is_booked_in_order<C: Counts>(
     rt: &impl Abort,
     alloc: Global,
     stripe: &mut Stripe<C>,
-) -> Result<(), Fail> {
-    let cuts = cuts_and_stranger(alloc)?;
+    cuts: &[Cut],
+) -> Result<(), AllocError> {
     assert_same(rt, "cuts", &cuts.len(), &3);
     assert_held(rt, stripe, &NOTHING);
-    assert_steps(rt, stripe, &cuts);
+    assert_steps(rt, stripe, cuts);
+    assert_rows(rt, alloc, stripe)
+}
+
+// The stripe has the rows after these steps.
+fn assert_rows<C: Counts>(
+    rt: &impl Abort,
+    alloc: Global,
+    stripe: &Stripe<C>,
+) -> Result<(), AllocError> {
     let rows = stripe.rows(alloc)?;
     assert_items(rt, "rows", rows.as_slice(), ROWS);
     Ok(())
@@ -145,23 +154,38 @@ fn is_booked_in_order<C: Counts>(
 // An empty stripe over a quotient table with a slot for each key: all words of three bases in one stripe.
 pub(crate) fn quotient_stripe(alloc: Global) -> Result<Stripe<QuotientTable>, Fail> {
     let setup = made_setup(3, 1)?;
+    quotient_stripe_by(alloc, &setup)
+}
+
+fn quotient_stripe_by(alloc: Global, setup: &Setup) -> Result<Stripe<QuotientTable>, Fail> {
     if setup.key_bits() != 6 || setup.stripes() != 1 {
         return Err(Fail::from("another setup"));
     }
     let table = QuotientTable::new(alloc, 6, 6, 6)?;
-    Ok(Stripe::new(alloc, &setup, 0, table)?)
+    Ok(Stripe::new(alloc, setup, 0, table)?)
 }
 
 // The same over a `BTreeMap`.
 pub(crate) fn map_stripe(alloc: Global) -> Result<Stripe<PlainCounts>, Fail> {
-    plain_stripe(alloc, &made_setup(3, 1)?, 0)
+    let setup = made_setup(3, 1)?;
+    plain_stripe(alloc, &setup, 0)
 }
 
 #[test]
 fn batches_are_booked_in_order(rt: HostRuntime) -> Result<(), Fail> {
-    let alloc = rt.alloc();
-    is_booked_in_order(&rt, alloc, &mut map_stripe(alloc)?)?;
-    is_booked_in_order(&rt, alloc, &mut quotient_stripe(alloc)?)
+    let cuts = cuts_and_stranger(rt.alloc())?;
+    map_is_booked(&rt, rt.alloc(), &cuts)?;
+    quotient_table_is_booked(&rt, rt.alloc(), &cuts)
+}
+
+fn map_is_booked(rt: &impl Abort, alloc: Global, cuts: &[Cut]) -> Result<(), Fail> {
+    let mut stripe = map_stripe(alloc)?;
+    Ok(is_booked_in_order(rt, alloc, &mut stripe, cuts)?)
+}
+
+fn quotient_table_is_booked(rt: &impl Abort, alloc: Global, cuts: &[Cut]) -> Result<(), Fail> {
+    let mut stripe = quotient_stripe(alloc)?;
+    Ok(is_booked_in_order(rt, alloc, &mut stripe, cuts)?)
 }
 
 // ACG alone, in batch 1.
@@ -189,15 +213,26 @@ fn limited_stripe(alloc: Global, refusal: TableFault) -> Result<Stripe<LimitedCo
 fn refuses_three(
     rt: &impl Abort,
     alloc: Global,
+    cuts: &[Cut],
     refusal: TableFault,
     fault: BookFault,
 ) -> Result<(), Fail> {
-    let cuts = cuts_of(alloc, &made_setup(3, 1)?, THREE_AND_ONE, 3)?;
-    assert!(rt; cuts.len() == 2);
     let mut stripe = limited_stripe(alloc, refusal)?;
-    assert_refused(rt, alloc, &mut stripe, &cuts[0], fault)?;
-    book_at(&mut stripe, &cuts, 1)?;
-    assert_held(rt, &stripe, &ONE_WORD);
+    refuses_first(rt, alloc, &mut stripe, cuts, fault)
+}
+
+// The stripe refuses the first of two cuts so, and then takes the second.
+fn refuses_first(
+    rt: &impl Abort,
+    alloc: Global,
+    stripe: &mut Stripe<LimitedCounts>,
+    cuts: &[Cut],
+    fault: BookFault,
+) -> Result<(), Fail> {
+    assert!(rt; cuts.len() == 2);
+    assert_refused(rt, alloc, stripe, &cuts[0], fault)?;
+    book_at(stripe, cuts, 1)?;
+    assert_held(rt, stripe, &ONE_WORD);
     Ok(())
 }
 
@@ -218,8 +253,10 @@ fn assert_refused(
 
 #[test]
 fn a_full_table_refuses(rt: HostRuntime) -> Result<(), Fail> {
-    refuses_three(&rt, rt.alloc(), TableFault::Full, BookFault::Full)?;
-    refuses_three(&rt, rt.alloc(), TableFault::Memory, BookFault::Memory)
+    let alloc = rt.alloc();
+    let cuts = cuts_of_three(alloc, 1, THREE_AND_ONE, 3)?;
+    refuses_three(&rt, alloc, &cuts, TableFault::Full, BookFault::Full)?;
+    refuses_three(&rt, alloc, &cuts, TableFault::Memory, BookFault::Memory)
 }
 
 // The same word 5,000 times, again 5,000 times, and 3 times.
@@ -234,7 +271,7 @@ fn same_word(alloc: Global) -> Result<Vec<u8>, AllocError> {
 // The cuts of these words.
 fn long_cuts(alloc: Global) -> Result<Vec<Cut>, Fail> {
     let bases = same_word(alloc)?;
-    cuts_of(alloc, &made_setup(3, 1)?, &[&bases], 5_000)
+    cuts_of_three(alloc, 1, &[&bases], 5_000)
 }
 
 // The bins 5,000, 10,000 and 10,001 after each of them.
@@ -256,19 +293,32 @@ fn assert_last_bins<C: Counts>(
 
 fn comes_to_the_last_bin<C: Counts>(
     rt: &impl Abort,
-    alloc: Global,
     stripe: &mut Stripe<C>,
-) -> Result<(), Fail> {
-    let cuts = long_cuts(alloc)?;
+    cuts: &[Cut],
+) -> Result<(), BookFault> {
     assert_same(rt, "cuts", &cuts.len(), &3);
-    assert_last_bins(rt, stripe, &cuts)?;
+    assert_last_bins(rt, stripe, cuts)?;
     assert_same(rt, "the total", &stripe.total(), &10_003);
     Ok(())
 }
 
 #[test]
 fn the_last_bin(rt: HostRuntime) -> Result<(), Fail> {
-    let alloc = rt.alloc();
-    comes_to_the_last_bin(&rt, alloc, &mut map_stripe(alloc)?)?;
-    comes_to_the_last_bin(&rt, alloc, &mut quotient_stripe(alloc)?)
+    let cuts = long_cuts(rt.alloc())?;
+    map_comes_to_the_last_bin(&rt, rt.alloc(), &cuts)?;
+    quotient_table_comes_to_the_last_bin(&rt, rt.alloc(), &cuts)
+}
+
+fn map_comes_to_the_last_bin(rt: &impl Abort, alloc: Global, cuts: &[Cut]) -> Result<(), Fail> {
+    let mut stripe = map_stripe(alloc)?;
+    Ok(comes_to_the_last_bin(rt, &mut stripe, cuts)?)
+}
+
+fn quotient_table_comes_to_the_last_bin(
+    rt: &impl Abort,
+    alloc: Global,
+    cuts: &[Cut],
+) -> Result<(), Fail> {
+    let mut stripe = quotient_stripe(alloc)?;
+    Ok(comes_to_the_last_bin(rt, &mut stripe, cuts)?)
 }

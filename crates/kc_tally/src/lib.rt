@@ -8,15 +8,15 @@
 //! tally.
 //!
 //! ```ignore
-//! let rows = vec![in alloc;
+//! let rows = [
 //!     Row { word: 1, count: 2 },
 //!     Row { word: 6, count: 1 },
 //!     Row {
 //!         word: 11,
-//!         count: 70_000
+//!         count: 70_000,
 //!     },
-//! ]?;
-//! Tally::of_rows(alloc, k, false, rows)    // words of two bases, on one strand
+//! ];
+//! Tally::of_rows(alloc, k, false, Vec::from_slice(alloc, &rows)?)    // words of two bases, on one strand
 //! ```
 #![tactic(auto)]
 

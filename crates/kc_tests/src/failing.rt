@@ -1,9 +1,11 @@
 //! Lists of sources, and sources and writers that give or take little, or fail.
-use kc_fastx::{FastxFault, FromBytes, FromRead};
+use crate::written_bytes::{assert_bytes, assert_same};
+use kc_fastx::{FastxFault, FromBytes, FromRead, Source};
 use kc_tool::{
     Dump, K, OptionName, Options, Print, RunFault, ToVec, ToWrite, ToolFault, count_reads,
     write_fault,
 };
+use std::alloc::{AllocError, Global};
 use std::io;
 use std::io::{Read, Write};
 use std::process::Abort;
@@ -73,9 +75,12 @@ impl Write for Narrow {
 }
 
 // To write the dump of the words of this length in columns.
-fn columns(k: u32) -> Option<Options> {
-    Some(
-        Options::new(K::new(k)?)
+fn columns(k: u32) -> Result<Options, Fail> {
+    let Some(k) = K::new(k) else {
+        return Err(Fail::from("no length of a word"));
+    };
+    Ok(
+        Options::new(k)
             .with_print(Print::Dump)
             .with_dump(Dump::in_columns()),
     )
@@ -96,13 +101,39 @@ pub(crate) fn assert_counted<H: Abort>(
     answer: &Result<(), ToolFault>,
     text: &[u8],
 ) {
-    assert_eq!(rt; &counted.answer, answer, "{number}");
-    assert_eq!(rt; counted.written.as_slice(), text, "{number}");
+    assert_same(rt, number, &counted.answer, answer);
+    assert_bytes(rt, number, counted.written.as_slice(), text);
 }
 
 // The fault of a source, by its number.
 pub(crate) fn fault_of(source: u64, fault: FastxFault) -> ToolFault {
     ToolFault::Fastx { source, fault }
+}
+
+// The bytes of these inputs as sources.
+pub(crate) fn sources_of<'a>(
+    alloc: Global,
+    inputs: &[&'a str],
+) -> Result<Vec<FromBytes<'a>>, AllocError> {
+    let mut sources = Vec::new(alloc);
+    for input in inputs {
+        sources.push(FromBytes::new(input.as_bytes()))?;
+    }
+    Ok(sources)
+}
+
+// Counts the words of these sources, where a list is given those of the list.
+pub(crate) fn counted_of<H: Threads + Wait + Sync, Q: Source + Drop, R: Source + Drop>(
+    rt: &H,
+    alloc: Global,
+    only: Option<Q>,
+    sources: Vec<R>,
+    options: &Options,
+) -> Counted {
+    let mut writer = ToVec::new(Vec::new(alloc));
+    let answer = count_reads(rt, alloc, only, sources, options, &mut writer);
+    let written = writer.into_inner();
+    Counted { answer, written }
 }
 
 // Counts the words of these inputs.
@@ -112,14 +143,8 @@ fn count<H: Threads + Wait + Sync + AllocGlobal>(
     options: &Options,
 ) -> Result<Counted, Fail> {
     let alloc = rt.alloc();
-    let mut sources = Vec::new(alloc);
-    for input in inputs {
-        sources.push(FromBytes::new(input.as_bytes()))?;
-    }
-    let mut writer = ToVec::new(Vec::new(alloc));
-    let answer = count_reads(rt, alloc, None::<FromBytes>, sources, options, &mut writer);
-    let written = writer.into_inner();
-    Ok(Counted { answer, written })
+    let sources = sources_of(alloc, inputs)?;
+    Ok(counted_of(rt, alloc, None::<FromBytes>, sources, options))
 }
 
 // Sources, and the dump of their words.
@@ -131,7 +156,7 @@ const SOURCES: &[(&[&str], &str)] = &[
 
 #[test]
 fn sources_are_read_in_order(rt: HostRuntime) -> Result<(), Fail> {
-    let options = columns(2).ok_or("a length")?;
+    let options = columns(2)?;
     for (row, (inputs, text)) in SOURCES.iter().enumerate() {
         let counted = count(&rt, *inputs, &options)?;
         assert_counted(&rt, row, &counted, &Ok(()), text.as_bytes());
@@ -153,7 +178,7 @@ const FAULTY_SOURCES: &[(&[&str], u64, FastxFault)] = &[
 // The first source with a fault decides, whatever the later ones have.
 #[test]
 fn the_first_faulty_source_is_told(rt: HostRuntime) -> Result<(), Fail> {
-    let options = columns(2).ok_or("a length")?;
+    let options = columns(2)?;
     for (row, (inputs, source, fault)) in FAULTY_SOURCES.iter().enumerate() {
         let counted = count(&rt, *inputs, &options)?;
         let told = Err(fault_of(*source, *fault));
@@ -168,16 +193,13 @@ fn count_slowly<H: Threads + Wait + Sync + AllocGlobal>(
     reads_until_failure: usize,
 ) -> Result<Counted, Fail> {
     let alloc = rt.alloc();
-    let options = columns(3).ok_or("a length")?;
+    let options = columns(3)?;
     let mut sources = Vec::new(alloc);
     sources.push(FromRead::new(Slow {
         left: b">r1\nACGTA\n",
         reads_until_failure,
     }))?;
-    let mut writer = ToVec::new(Vec::new(alloc));
-    let answer = count_reads(rt, alloc, None::<FromBytes>, sources, &options, &mut writer);
-    let written = writer.into_inner();
-    Ok(Counted { answer, written })
+    Ok(counted_of(rt, alloc, None::<FromBytes>, sources, &options))
 }
 
 // The dump of `>r1\nACGTA\n`.
@@ -204,7 +226,7 @@ fn count_into<H: Threads + Wait + Sync + AllocGlobal>(
     is_stuck: bool,
 ) -> Result<Counted, Fail> {
     let alloc = rt.alloc();
-    let options = columns(3).ok_or("a length")?;
+    let options = columns(3)?;
     let mut sources = Vec::new(alloc);
     sources.push(FromBytes::new(b">r1\nACGTA\n"))?;
     let mut writer = ToWrite::new(Narrow {
@@ -221,15 +243,21 @@ fn count_into<H: Threads + Wait + Sync + AllocGlobal>(
 // A writer that fails after n bytes, or takes no more, has exactly the first n bytes of the dump.
 #[test]
 fn narrow_writers(rt: HostRuntime) -> Result<(), Fail> {
+    assert_narrow(&rt, false)?;
+    assert_narrow(&rt, true)
+}
+
+fn assert_narrow<H: Threads + Wait + Abort + Sync + AllocGlobal>(
+    rt: &H,
+    is_silent: bool,
+) -> Result<(), Fail> {
     let failed = Err(ToolFault::Write);
-    for is_silent in [false, true] {
-        for room in 0..DUMP.len() {
-            let counted = count_into(&rt, room, is_silent, false)?;
-            assert_counted(&rt, room, &counted, &failed, &DUMP[..room]);
-        }
-        let counted = count_into(&rt, DUMP.len(), is_silent, false)?;
-        assert_counted(&rt, DUMP.len(), &counted, &Ok(()), DUMP);
+    for room in 0..DUMP.len() {
+        let counted = count_into(rt, room, is_silent, false)?;
+        assert_counted(rt, room, &counted, &failed, &DUMP[..room]);
     }
+    let counted = count_into(rt, DUMP.len(), is_silent, false)?;
+    assert_counted(rt, DUMP.len(), &counted, &Ok(()), DUMP);
     Ok(())
 }
 
@@ -249,24 +277,43 @@ const TABS: Dump = Dump {
     upper: 1,
 };
 
+// Whether a dump is in columns, its bounds, and its text.
+const BOUNDS: &[(bool, u64, u64, &str)] = &[
+    (false, 2, 1 << 62, ">2\nACG\n"),
+    (true, 2, 2, "ACG 2\n"),
+    (true, 0, 1, "GTA 1\n"),
+    (true, 3, 1 << 62, ""),
+    (true, 2, 1, ""),
+];
+
+fn dump_of(is_in_columns: bool) -> Dump {
+    if is_in_columns {
+        Dump::in_columns()
+    } else {
+        Dump::in_lines()
+    }
+}
+
 // Bounds of a dump both count; a tab stands in columns alone.
 #[test]
 fn bounds_and_tabs(rt: HostRuntime) -> Result<(), Fail> {
-    let options = Options::new(K::new(3).ok_or("a length")?)
-        .with_both(true)
-        .with_print(Print::Dump);
-    let rows: [(Dump, &str); 6] = [
-        (Dump::in_lines().between(2, 1 << 62), ">2\nACG\n"),
-        (Dump::in_columns().between(2, 2), "ACG 2\n"),
-        (Dump::in_columns().between(0, 1), "GTA 1\n"),
-        (TABS, "GTA\t1\n"),
-        (Dump::in_columns().between(3, 1 << 62), ""),
-        (Dump::in_columns().between(2, 1), ""),
-    ];
-    for (row, (dump, text)) in rows.iter().enumerate() {
-        let counted = count(&rt, &[">r1\nACGTA\n"], &options.with_dump(*dump))?;
-        assert_counted(&rt, row, &counted, &Ok(()), text.as_bytes());
+    let options = columns(3)?.with_both(true);
+    for (row, (is_in_columns, lower, upper, text)) in BOUNDS.iter().enumerate() {
+        let dump = dump_of(*is_in_columns).between(*lower, *upper);
+        assert_dumped(&rt, row, &options.with_dump(dump), text.as_bytes())?;
     }
+    assert_dumped(&rt, BOUNDS.len(), &options.with_dump(TABS), b"GTA\t1\n")
+}
+
+// Asserts that the words of ACGTA are written so.
+fn assert_dumped<H: Threads + Wait + Abort + Sync + AllocGlobal>(
+    rt: &H,
+    row: usize,
+    options: &Options,
+    text: &[u8],
+) -> Result<(), Fail> {
+    let counted = count(rt, &[">r1\nACGTA\n"], options)?;
+    assert_counted(rt, row, &counted, &Ok(()), text);
     Ok(())
 }
 
@@ -278,10 +325,11 @@ fn assert_line<H: Abort + AllocGlobal>(
     text: &str,
 ) -> Result<(), Fail> {
     let mut writer = ToVec::new(Vec::new(rt.alloc()));
-    assert!(rt; write_fault(&mut writer, fault).is_ok(), "{line}");
-    assert_eq!(rt; writer.as_slice(), line.as_bytes(), "{line}");
+    let is_written = write_fault(&mut writer, fault).is_ok();
+    assert_same(rt, line, &is_written, &true);
+    assert_bytes(rt, line, writer.as_slice(), line.as_bytes());
     let displayed = fault.to_string(rt.alloc())?;
-    assert_eq!(rt; displayed.as_str(), text, "{line}");
+    assert_bytes(rt, line, displayed.as_bytes(), text.as_bytes());
     Ok(())
 }
 
@@ -338,56 +386,44 @@ fn lines_of_source_faults(rt: HostRuntime) -> Result<(), Fail> {
     Ok(())
 }
 
-// So has each fault of a table, of two tables, of a query, of the writer and of memory.
+// The same of a fault by value, which no constant can have.
+fn assert_fault<H: Abort + AllocGlobal>(
+    rt: &H,
+    fault: ToolFault,
+    line: &str,
+    text: &str,
+) -> Result<(), Fail> {
+    assert_line(rt, &fault, line, text)
+}
+
+// So has each fault of a table.
+fn assert_table_faults<H: Abort + AllocGlobal>(rt: &H) -> Result<(), Fail> {
+    let (line, text) = ("kcount: 41: bad header\n", "bad header");
+    assert_fault(rt, ToolFault::BadHeader, line, text)?;
+    let (line, text) = ("kcount: 42: bad row, line 1\n", "bad row, line 1");
+    assert_fault(rt, ToolFault::BadRow(1), line, text)?;
+    let (line, text) = ("kcount: 43: bad end\n", "bad end");
+    assert_fault(rt, ToolFault::BadEnd, line, text)?;
+    let (line, text) = ("kcount: 44: table too long\n", "table too long");
+    assert_fault(rt, ToolFault::TableTooLong, line, text)?;
+    let (line, text) = ("kcount: 45: table read failed\n", "table read failed");
+    assert_fault(rt, ToolFault::TableRead, line, text)
+}
+
+// So has each fault of two tables, of a query, of the writer and of memory.
 #[test]
 fn lines_of_table_and_query_faults(rt: HostRuntime) -> Result<(), Fail> {
-    for (fault, line, text) in [
-        (
-            ToolFault::BadHeader,
-            "kcount: 41: bad header\n",
-            "bad header",
-        ),
-        (
-            ToolFault::BadRow(1),
-            "kcount: 42: bad row, line 1\n",
-            "bad row, line 1",
-        ),
-        (ToolFault::BadEnd, "kcount: 43: bad end\n", "bad end"),
-        (
-            ToolFault::TableTooLong,
-            "kcount: 44: table too long\n",
-            "table too long",
-        ),
-        (
-            ToolFault::TableRead,
-            "kcount: 45: table read failed\n",
-            "table read failed",
-        ),
-        (
-            ToolFault::Unlike,
-            "kcount: 61: tables do not match\n",
-            "tables do not match",
-        ),
-        (
-            ToolFault::TooLarge,
-            "kcount: 62: sums too large\n",
-            "sums too large",
-        ),
-        (
-            ToolFault::BadWord(20),
-            "kcount: 52: bad word 20\n",
-            "bad word 20",
-        ),
-        (ToolFault::Memory, "kcount: 46: no memory\n", "no memory"),
-        (
-            ToolFault::Write,
-            "kcount: 53: write failed\n",
-            "write failed",
-        ),
-    ] {
-        assert_line(&rt, &fault, line, text)?;
-    }
-    Ok(())
+    assert_table_faults(&rt)?;
+    let (line, text) = ("kcount: 61: tables do not match\n", "tables do not match");
+    assert_fault(&rt, ToolFault::Unlike, line, text)?;
+    let (line, text) = ("kcount: 62: sums too large\n", "sums too large");
+    assert_fault(&rt, ToolFault::TooLarge, line, text)?;
+    let (line, text) = ("kcount: 52: bad word 20\n", "bad word 20");
+    assert_fault(&rt, ToolFault::BadWord(20), line, text)?;
+    let (line, text) = ("kcount: 46: no memory\n", "no memory");
+    assert_fault(&rt, ToolFault::Memory, line, text)?;
+    let (line, text) = ("kcount: 53: write failed\n", "write failed");
+    assert_fault(&rt, ToolFault::Write, line, text)
 }
 
 // Options whose value can be refused, and their lines.

@@ -1,7 +1,7 @@
 //! Counts that are kept to the words of a list.
-use crate::failing::{Counted, Slow, assert_counted, fault_of};
+use crate::failing::{Counted, Slow, assert_counted, counted_of, fault_of, sources_of};
 use kc_fastx::{FastxFault, FromBytes, FromRead};
-use kc_tool::{Dump, K, Options, Print, ToVec, count_reads};
+use kc_tool::{Dump, K, Options, Print};
 use std::process::Abort;
 use std::sync::Wait;
 use std::test::Fail;
@@ -32,7 +32,9 @@ pub(crate) const BOTH: How = How {
 pub(crate) fn options_of<H: Abort>(rt: &H, how: How, print: Print) -> Result<Options, Fail> {
     let floor = how.floor;
     assert!(rt; 33 <= floor && floor <= 126);
-    let k = K::new(how.k).ok_or("a length")?;
+    let Some(k) = K::new(how.k) else {
+        return Err(Fail::from("no length of a word"));
+    };
     Ok(
         Options::new(k)
             .with_both(how.both)
@@ -50,15 +52,9 @@ pub(crate) fn count_listed<H: Threads + Wait + Sync + AllocGlobal>(
     options: &Options,
 ) -> Result<Counted, Fail> {
     let alloc = rt.alloc();
-    let mut sources = Vec::new(alloc);
-    for input in inputs {
-        sources.push(FromBytes::new(input.as_bytes()))?;
-    }
+    let sources = sources_of(alloc, inputs)?;
     let only = Some(FromBytes::new(list.as_bytes()));
-    let mut writer = ToVec::new(Vec::new(alloc));
-    let answer = count_reads(rt, alloc, only, sources, options, &mut writer);
-    let written = writer.into_inner();
-    Ok(Counted { answer, written })
+    Ok(counted_of(rt, alloc, only, sources, options))
 }
 
 const ACGTA: &str = ">r1\nACGTA\n";
@@ -125,9 +121,22 @@ const LISTED: &[(How, &str, &[&str], &str)] = &[
 fn listed_words_alone_are_written(rt: HostRuntime) -> Result<(), Fail> {
     for (row, (how, list, inputs, text)) in LISTED.iter().enumerate() {
         let options = options_of(&rt, *how, Print::Dump)?;
-        let counted = count_listed(&rt, *list, *inputs, &options)?;
-        assert_counted(&rt, row, &counted, &Ok(()), text.as_bytes());
+        assert_listed(&rt, row, *list, *inputs, &options, text.as_bytes())?;
     }
+    Ok(())
+}
+
+// Asserts that this is written of the words of a list in these inputs.
+fn assert_listed<H: Threads + Wait + Abort + Sync + AllocGlobal>(
+    rt: &H,
+    row: usize,
+    list: &str,
+    inputs: &[&str],
+    options: &Options,
+    text: &[u8],
+) -> Result<(), Fail> {
+    let counted = count_listed(rt, list, inputs, options)?;
+    assert_counted(rt, row, &counted, &Ok(()), text);
     Ok(())
 }
 
@@ -152,8 +161,7 @@ const REPORTS: &[(&str, Print, &str)] = &[
 fn reports_on_listed_words(rt: HostRuntime) -> Result<(), Fail> {
     for (row, (list, print, text)) in REPORTS.iter().enumerate() {
         let options = options_of(&rt, PLAIN, *print)?;
-        let counted = count_listed(&rt, *list, &[ACGTA], &options)?;
-        assert_counted(&rt, row, &counted, &Ok(()), text.as_bytes());
+        assert_listed(&rt, row, *list, &[ACGTA], &options, text.as_bytes())?;
     }
     Ok(())
 }
@@ -197,10 +205,7 @@ fn count_with_a_slow_list<H: Threads + Wait + Abort + Sync + AllocGlobal>(
     }));
     let mut sources = Vec::new(alloc);
     sources.push(FromBytes::new(ACGTA.as_bytes()))?;
-    let mut writer = ToVec::new(Vec::new(alloc));
-    let answer = count_reads(rt, alloc, only, sources, &options, &mut writer);
-    let written = writer.into_inner();
-    Ok(Counted { answer, written })
+    Ok(counted_of(rt, alloc, only, sources, &options))
 }
 
 // A list that fails at a read is answered as such, and nothing is written.

@@ -1,5 +1,6 @@
 //! Tables of reads that are counted apart and put together.
 use crate::listed_reads::{BOTH, How, PLAIN, count_listed, options_of};
+use crate::written_bytes::{assert_bytes, assert_same};
 use kc_fastx::FromBytes;
 use kc_tool::{Print, ToVec, ToolFault, count_reads, merge, read_table, write_table};
 use std::alloc::Global;
@@ -70,31 +71,61 @@ const HOWS: &[How] = &[
     },
 ];
 
+// Asserts that this is the table of both together.
+fn assert_sum<H: Abort + AllocGlobal>(
+    rt: &H,
+    row: usize,
+    first: &[u8],
+    second: &[u8],
+    whole: &[u8],
+) -> Result<(), ToolFault> {
+    let sum = sum_of(rt.alloc(), first, second)?;
+    assert_bytes(rt, row, &sum, whole);
+    Ok(())
+}
+
 // Byte for byte, in either order.
 #[test]
 fn the_tables_of_the_parts_are_the_table_of_the_whole(rt: HostRuntime) -> Result<(), Fail> {
-    let alloc = rt.alloc();
     for how in HOWS {
         for (row, (inputs, more)) in PARTS.iter().enumerate() {
-            let first = table_of(&rt, *how, *inputs, &[])?;
-            let second = table_of(&rt, *how, &[], *more)?;
-            let whole = table_of(&rt, *how, *inputs, *more)?;
-            let sum = sum_of(alloc, &first, &second)?;
-            assert_eq!(rt; sum.as_slice(), whole.as_slice(), "{row}");
-            let turned = sum_of(alloc, &second, &first)?;
-            assert_eq!(rt; turned.as_slice(), whole.as_slice(), "{row}");
+            assert_parts(&rt, *how, row, *inputs, *more)?;
         }
     }
     Ok(())
+}
+
+// Asserts that the tables of some inputs and of some more, put together, are the table of all.
+fn assert_parts<H: Threads + Wait + Abort + Sync + AllocGlobal>(
+    rt: &H,
+    how: How,
+    row: usize,
+    inputs: &[&str],
+    more: &[&str],
+) -> Result<(), Fail> {
+    let whole = table_of(rt, how, inputs, more)?;
+    let first = table_of(rt, how, inputs, &[])?;
+    let second = table_of(rt, how, &[], more)?;
+    assert_both_sums(rt, row, &first, &second, &whole)
+}
+
+fn assert_both_sums<H: Abort + AllocGlobal>(
+    rt: &H,
+    row: usize,
+    first: &[u8],
+    second: &[u8],
+    whole: &[u8],
+) -> Result<(), Fail> {
+    assert_sum(rt, row, first, second, whole)?;
+    Ok(assert_sum(rt, row, second, first, whole)?)
 }
 
 #[test]
 fn a_sum_in_letters(rt: HostRuntime) -> Result<(), Fail> {
     let first = table_of(&rt, PLAIN, &[ACGTA], &[])?;
     let second = table_of(&rt, PLAIN, &[">x\nACG\n"], &[])?;
-    let sum = sum_of(rt.alloc(), &first, &second)?;
     let want = b"KCT 2 3 s a 33 2\nACG 2\nCGT 1\nGTA 1\nEND 3 4\n";
-    assert_eq!(rt; sum.as_slice(), want.as_slice());
+    assert_sum(&rt, 0, &first, &second, want)?;
     Ok(())
 }
 
@@ -115,11 +146,10 @@ const UNLIKE: &[How] = &[
 
 // Asserts that the tables can't be put together in either order, since they do not match.
 fn assert_unlike<H: Abort + AllocGlobal>(rt: &H, first: &[u8], second: &[u8]) {
-    let alloc = rt.alloc();
-    let outcome = sum_of(alloc, first, second);
-    assert_eq!(rt; outcome.err(), Some(ToolFault::Unlike));
-    let outcome = sum_of(alloc, second, first);
-    assert_eq!(rt; outcome.err(), Some(ToolFault::Unlike));
+    let fault = sum_of(rt.alloc(), first, second).err();
+    assert_same(rt, "in order", &fault, &Some(ToolFault::Unlike));
+    let fault = sum_of(rt.alloc(), second, first).err();
+    assert_same(rt, "turned", &fault, &Some(ToolFault::Unlike));
 }
 
 #[test]
@@ -130,11 +160,16 @@ fn tables_that_were_counted_in_other_ways(rt: HostRuntime) -> Result<(), Fail> {
         assert_unlike(&rt, &table, &other);
     }
     // a list is one, also where it has all words
-    let options = options_of(&rt, PLAIN, Print::Table)?;
-    let listed = count_listed(&rt, ACGTA, &[ACGTA], &options)?.written;
+    let listed = listed_table(&rt)?;
     assert_unlike(&rt, &table, &listed);
     assert_unlike(&rt, &listed, &listed);
     Ok(())
+}
+
+// The table of ACGTA, kept to the list of its own words.
+fn listed_table<H: Threads + Wait + Abort + Sync + AllocGlobal>(rt: &H) -> Result<Vec<u8>, Fail> {
+    let options = options_of(rt, PLAIN, Print::Table)?;
+    Ok(count_listed(rt, ACGTA, &[ACGTA], &options)?.written)
 }
 
 // A table that doesn't tell what it was counted from.
@@ -145,9 +180,5 @@ const OLDER: &[u8] = b"KCT 1 3 s\nACG 1\nEND 1 1\n";
 fn a_sum_with_an_older_table(rt: HostRuntime) -> Result<(), Fail> {
     let table = table_of(&rt, PLAIN, &[ACGTA], &[])?;
     let want = b"KCT 1 3 s\nACG 2\nCGT 1\nGTA 1\nEND 3 4\n";
-    let sum = sum_of(rt.alloc(), &table, OLDER)?;
-    assert_eq!(rt; sum.as_slice(), want.as_slice());
-    let sum = sum_of(rt.alloc(), OLDER, &table)?;
-    assert_eq!(rt; sum.as_slice(), want.as_slice());
-    Ok(())
+    assert_both_sums(&rt, 1, &table, OLDER, want)
 }
