@@ -18,7 +18,7 @@ fn matrix_of(bits: u32, first: &[u64]) -> Option<Matrix> {
     Matrix::of_columns(bits, columns)
 }
 
-// The same, where there is one.
+// The matrix with these first columns. A test without it fails.
 fn made_matrix(bits: u32, first: &[u64]) -> Result<Matrix, Fail> {
     match matrix_of(bits, first) {
         Some(matrix) => Ok(matrix),

@@ -230,7 +230,7 @@ fn hold_the_tally<C: Counts + Drop>(
     holds_the_tally(rt, alloc, &setup, &mut stripes, &reads)
 }
 
-// The same of the setup and of the reads.
+// Books these reads in the stripes, and compares the stripes with the slow tally of the reads.
 fn holds_the_tally<C: Counts>(
     rt: &impl Abort,
     alloc: Global,

@@ -354,7 +354,7 @@ fn assert_tally_or_memory<H: Threads + Sync + Abort>(
     gather_or_memory(rt, alloc, threads, &setup, &batches)
 }
 
-// The same of the setup and of the batches.
+// Books these batches of AAACAAC and gathers them: their rows, or want of memory.
 fn gather_or_memory<H: Threads + Sync + Abort>(
     rt: &H,
     alloc: Global,

@@ -92,7 +92,7 @@ fn count_by_many<N: Books + Send + Sync, R: Threads + Wait + Sync>(
     ended(alloc, setup, stripes, whole)
 }
 
-// The same over stripes, with the whole share.
+// Splits a share off for each eight batches, has each part booked by a thread, and joins the shares.
 fn book_by_many<N: Books + Send + Sync, R: Threads + Wait + Sync>(
     rt: &R,
     alloc: Global,
@@ -208,7 +208,7 @@ fn count_without_one<N: Books + Send + Sync, R: Threads + Wait + Sync>(
     ended(alloc, setup, stripes, kept)
 }
 
-// The same over stripes: the share that is left.
+// Books three batches with two shares, of which the first is lost: the share that is left.
 fn book_without_one<N: Books + Send + Sync, R: Threads + Wait + Sync>(
     rt: &R,
     alloc: Global,
@@ -240,7 +240,7 @@ fn a_share_that_is_lost_leaves_the_stripes_lawful(rt: HostRuntime) -> Result<(),
     lose_a_share(&rt, alloc, &setup, &batches)
 }
 
-// The same of the setup and of the batches.
+// What was booked with a lost share stands in the stripe, and the other share tells only what is its own.
 fn lose_a_share<R: Threads + Wait + Abort + Sync>(
     rt: &R,
     alloc: Global,

@@ -135,7 +135,7 @@ fn book_at_once<N: Books + Send + Sync, R: Threads + Wait + Sync>(
     Ok(book_by_two(rt, &stripes, one, cuts))
 }
 
-// The same over stripes: the share is split in two.
+// Splits the share in two, and books each cut with one of them, by a thread of its own.
 fn book_by_two<N: Books + Send + Sync, R: Threads + Wait + Sync>(
     rt: &R,
     stripes: &Stripes<MeetingCounts<'_>, N>,
@@ -162,7 +162,7 @@ fn two_stripes_are_booked_at_once(rt: HostRuntime) -> Result<(), Fail> {
     meet(&rt, alloc, &setup, &cuts)
 }
 
-// The same of the setup and of its cuts.
+// The cuts of two stripes are booked at once: each booking met the other one.
 fn meet<R: Threads + Wait + Abort + Sync>(
     rt: &R,
     alloc: Global,

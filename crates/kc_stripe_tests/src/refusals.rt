@@ -174,7 +174,7 @@ fn share_at_last<N: Books, R: Wait + Abort>(
     Ok((count, told(&share)))
 }
 
-// The same over stripes: how often AAC was counted.
+// Books AAA and the 40 words with the share, and looks up how often AAC was counted.
 fn share_and_look<N: Books, R: Wait + Abort>(
     rt: &R,
     alloc: Global,
@@ -202,7 +202,7 @@ fn a_refused_growth_leaves_the_share(rt: HostRuntime) -> Result<(), Fail> {
     is_shared_at_last(&rt, alloc, &setup, &cuts)
 }
 
-// The same of the setup and of its cuts.
+// Whatever growth is refused, both cuts are booked in the end, and the share tells so.
 fn is_shared_at_last<R: Wait + Abort>(
     rt: &R,
     alloc: Global,

@@ -123,7 +123,7 @@ pub(crate) fn cuts_of(
     cuts_of_batches(alloc, setup, &batches)
 }
 
-// The same of words of three bases in so many stripes.
+// The cuts of the reads in stripe 0 of so many, of words of three bases.
 pub(crate) fn cuts_of_three(
     alloc: Global,
     stripes: u32,

@@ -120,7 +120,7 @@ fn count_by_two<N: Books + Send + Sync, R: Threads + Wait + Sync>(
     Ok(stripes.into_stripes(alloc, whole)?)
 }
 
-// The same over stripes: the share is split in two, and joined.
+// Splits the share in two, books half of the batches with each, and joins the shares.
 fn book_by_two<N: Books + Send + Sync, R: Threads + Wait + Sync>(
     rt: &R,
     alloc: Global,
@@ -214,7 +214,7 @@ fn what_two_threads_booked_is_what_the_stripes_have(rt: HostRuntime) -> Result<(
     sum_up(&rt, alloc, &setup, &batches)
 }
 
-// The same of the setup and of the batches.
+// What two threads booked with their shares is what the stripes have.
 fn sum_up<R: Threads + Wait + Abort + Sync>(
     rt: &R,
     alloc: Global,
@@ -322,7 +322,7 @@ fn a_word_is_looked_up_among_the_batches(rt: HostRuntime) -> Result<(), Fail> {
     look_among_batches(&rt, alloc, &setup, &cuts)
 }
 
-// The same of the setup and of the cuts.
+// Books a cut, a second time, and the cut of another setup, and looks words up.
 fn look_among_batches<R: Wait + Abort>(
     rt: &R,
     alloc: Global,
@@ -388,7 +388,7 @@ fn look_book_and_look<N: Books, R: Wait>(
     looks_around(rt, alloc, &stripes, share, batches, words)
 }
 
-// The same over stripes.
+// What looks tell of the words before and after the batches are booked.
 fn looks_around<N: Books, R: Wait>(
     rt: &R,
     alloc: Global,
@@ -475,7 +475,7 @@ fn each_stripe_is_found_under_its_own_lock(rt: HostRuntime) -> Result<(), Fail> 
     find_stripes(&rt, alloc, &setup, &batches[0])
 }
 
-// The same of the setup and of the batch.
+// Each word is counted in its own stripe, and each stripe has its own total.
 fn find_stripes<R: Wait + Abort>(
     rt: &R,
     alloc: Global,
@@ -509,7 +509,7 @@ fn a_word_is_found_under_the_lock_of_its_form(rt: HostRuntime) -> Result<(), Fai
     find_forms(&rt, alloc, &setup, &batches)
 }
 
-// The same of the setup and of the batches.
+// Each word is looked up in the stripe of its form.
 fn find_forms<R: Wait + Abort>(
     rt: &R,
     alloc: Global,

@@ -386,7 +386,7 @@ fn lines_of_source_faults(rt: HostRuntime) -> Result<(), Fail> {
     Ok(())
 }
 
-// The same of a fault by value, which no constant can have.
+// The line of a fault that is handed over by value, since no constant can have it.
 fn assert_fault<H: Abort + AllocGlobal>(
     rt: &H,
     fault: ToolFault,
