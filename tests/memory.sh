@@ -103,8 +103,8 @@ booked_again() {
     [ "$held" -gt 0 ] || { echo "kc_stripe, $1: no growth of a booking was refused"; exit 1; }
     echo "memory: $held growths refused in turn, and $3"
 }
-booked_again a_refused_growth_leaves_the_stripe 83 "the stripe stays"
-booked_again a_refused_growth_leaves_the_share 32 "the share stays"
+booked_again a_refused_growth_leaves_the_stripe 60 "the stripe stays"
+booked_again a_refused_growth_leaves_the_share 46 "the share stays"
 
 # Gathering and a run answer 34, or 33 for a thread, and no tally where memory is refused, and the same tally where they
 # do without, as without a thread of the sorting. Where a growth outside of that is refused, the test ends.
