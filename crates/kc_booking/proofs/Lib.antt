@@ -6,4 +6,5 @@ pub mod RoundLemmas
 pub mod StripeRows
 pub mod Forms
 pub mod Logs
+pub mod PartOrder
 pub mod ListedLemmas

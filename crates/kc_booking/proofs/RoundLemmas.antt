@@ -6,6 +6,8 @@ use Rattle.std.specs.declared.alloc.Global.{Global}
 use Rattle.std.specs.List.{flat_map, list_any, IsDistinct, AllByRecursion}
 use Rattle.std.proofs.lemmas.List.{length-map, get_or-map, map-append, length-drop, get_or-drop, get_or_default, take-append-drop, take_more, take_all}
 use Rattle.std.proofs.lemmas.List.Concat.{flat_map-append}
+use Rattle.std.specs.List.Sorted.{IsPermutation}
+use Rattle.std.proofs.lemmas.List.Sorted.{All-permutation}
 use Rattle.std.proofs.lemmas.List.Sums.{length-filter, sum_by-append}
 use Rattle.std.proofs.lemmas.List.Elements.{filter-append, All-map, Contains-append_cases, Contains-append_right}
 use Rattle.std.proofs.lemmas.List.FromFn.{length-map-range_with_len, get_or-map-range_with_len}
@@ -241,6 +243,18 @@ round-keys-fit setup number bits batches below divided is =
     All-flat_map (λ key. key < 2 ^ bits) keys_of (cuts_in (round_at setup batches number))
     (All-map (λ cut. All (λ key. key < 2 ^ bits) (keys_of cut)) (λ batch. cut_at setup batch number) batches
     (λ k d within. keys-fit setup number bits (get_or batches k d) below divided is))
+
+-- the keys of the stripe's own round fit, and so they do in another order
+pub own-keys-fit : (setup : StripeSetup) (number bits : ℕ) (round : RoundCut) (keys : List ℕ) → keys ≡ all_keys_of round
+    → (round.setup ≡ setup) × (round.stripe ≡ number) → WordsAreBelow → DividesWords setup → bits ≡ key_bits setup → All (λ key. key < 2 ^ bits) keys
+own-keys-fit setup number bits round keys is (same_setup, same_stripe) below divided bits_are =
+    subst (All (λ key. key < 2 ^ bits)) (sym (is ∙ own_round_keys setup number round same_setup same_stripe))
+    (round-keys-fit setup number bits round.batches below divided bits_are)
+
+pub ordered-keys-fit : (bits : ℕ) (keys ordered again : List ℕ) → again ≡ ordered → IsPermutation keys ordered → All (λ key. key < 2 ^ bits) keys
+    → All (λ key. key < 2 ^ bits) again
+ordered-keys-fit bits keys ordered again same order fit =
+    subst (All (λ key. key < 2 ^ bits)) (sym same) (All-permutation (λ key. key < 2 ^ bits) keys ordered order fit)
 
 word_occurrences-all : (setup : StripeSetup) (number word : ℕ) (journal batches : List NumberedPieces) → WordLaws → DividesWords setup
     → word < word_count setup → stripe_of setup word ≡ number

@@ -19,6 +19,7 @@ mod booking_fault;
 mod counted;
 mod cut;
 mod cuts;
+mod part_order;
 mod setup;
 mod starting_tables;
 mod stripe;

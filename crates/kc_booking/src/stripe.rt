@@ -10,7 +10,7 @@ ghost use Rattle.kc_tally.specs.Histogram.{last_bin, bin_of, bin_at};
 ghost use Rattle.kc_booking.specs.Setup.{word_count, stripe_count, key_bits, stripe_of, stripe_words};
 ghost use Rattle.kc_booking.specs.Cut.{keys_of};
 ghost use Rattle.kc_booking.specs.Cuts.{all_keys_of, IsOwnRound, FirstIsBooked, FirstIsNew};
-ghost use Rattle.kc_booking.specs.Counted.{KeepsLimits, SomeMayBeFull};
+ghost use Rattle.kc_booking.specs.Counted.{KeepsLimits, SomeMayBeFull, SomeMayBeFullInSomeOrder};
 ghost use Rattle.kc_booking.specs.Stripe.{StripeState, IsLawful, IsBooked, IsOwnCut, IsUnchanged, AreStripeRows};
 ghost use Rattle.kc_booking.specs.Stripe.{word_occurrences, NumbersDiffer, KnowsNumbers};
 
@@ -18,6 +18,7 @@ use crate::booking_fault::BookFault;
 use crate::counted::CountedTable;
 use crate::cut::Cut;
 use crate::cuts::{Cuts, shared};
+use crate::part_order::part_by_part;
 use crate::setup::Setup;
 use kc_lemmas::room_for_each;
 use kc_table::Counts;
@@ -237,7 +238,8 @@ impl<C: Counts> Stripe<C> {
     /// them in their order. No batch is booked where there is none.
     ///
     /// It is refused as the first cut is that `book` would refuse, those before it being booked; a number that stands
-    /// twice is told before a stripe that is full.
+    /// twice is told before a stripe that is full. The keys are stored in the order of the table's parts, so that a full
+    /// table may refuse another one of them than `book` would find.
     pub fn book_all(&mut self, cuts: &Cuts) -> Result<(), BookFault>
         ensures setup { self.new.setup ≡ self.old.setup }
         ensures number { self.new.number ≡ self.old.number }
@@ -250,7 +252,8 @@ impl<C: Counts> Stripe<C> {
         ensures stranger { result ≡ Err BookFault.Stranger
             ↔ (FirstIsNew self.old.journal cuts.now.batches × ¬ IsOwnRound self.old cuts.now) }
         ensures full { result ≡ Err BookFault.Full → (2 ^ 62 < self.old.total + length (all_keys_of cuts.now))
-            ⊎ SomeMayBeFull (C.may_be_full self.old.table) (C.counts self.old.table) (all_keys_of cuts.now) }
+            ⊎ SomeMayBeFullInSomeOrder (C.may_be_full self.old.table) (C.counts self.old.table)
+            (all_keys_of cuts.now) }
         ensures memory { result ≡ Err BookFault.Memory
             → self.old.total + length (all_keys_of cuts.now) ≤ 2 ^ 62 }
         ensures limits { KeepsLimits C.bits C.may_be_full self.old.table self.new.table }
@@ -268,10 +271,11 @@ impl<C: Counts> Stripe<C> {
         // what can fail comes first, and changes no count and no name in the journal
         let mut batches = shared(*self.journal.allocator(), cuts.batches())?;
         self.booked.reserve(batches.len())?;
-        self.counted.ready_all(cuts.keys())?;
+        let keys = part_by_part(*self.journal.allocator(), self.counted.table(), cuts.keys())?;
+        self.counted.ready_all(&keys)?;
         self.journal.append(&mut batches)?;
         remember(&mut self.booked, cuts.batches());
-        self.counted.add_all(cuts.keys());
+        self.counted.add_all(&keys);
         Ok(())
     }
 

@@ -5,7 +5,7 @@ ghost use Rattle.kc_share.specs.Share.{kept_stripe, with_booking};
 ghost use Rattle.kc_booking.specs.Setup.{word_count};
 ghost use Rattle.kc_booking.specs.Cut.{keys_of};
 ghost use Rattle.kc_booking.specs.Cuts.{cuts_in, all_keys_of, IsOwnRound, FirstIsBooked, FirstIsNew};
-ghost use Rattle.kc_booking.specs.Counted.{SomeMayBeFull};
+ghost use Rattle.kc_booking.specs.Counted.{SomeMayBeFull, SomeMayBeFullInSomeOrder};
 ghost use Rattle.kc_booking.specs.Stripe.{IsBooked, IsOwnCut, IsUnchanged, NumbersDiffer};
 ghost use Rattle.kc_stripe.specs.Locked.{cut_entry, with_bookings, with_entries, IsAllOf};
 ghost use Rattle.kc_stripe.specs.Seen.{form_stripe, AreNamed, IsStripeOf};
@@ -94,7 +94,8 @@ impl<C: Counts, N: Books> Locked<C, N> {
         ensures stranger { result ≡ Err BookFault.Stranger
             ↔ (FirstIsNew self.old.journal cuts.now.batches × ¬ IsOwnRound self.old cuts.now) }
         ensures full { result ≡ Err BookFault.Full → (2 ^ 62 < self.old.total + length (all_keys_of cuts.now))
-            ⊎ SomeMayBeFull (C.may_be_full self.old.table) (C.counts self.old.table) (all_keys_of cuts.now) }
+            ⊎ SomeMayBeFullInSomeOrder (C.may_be_full self.old.table) (C.counts self.old.table)
+                (all_keys_of cuts.now) }
         ensures memory { result ≡ Err BookFault.Memory
             → self.old.total + length (all_keys_of cuts.now) ≤ 2 ^ 62 }
     {

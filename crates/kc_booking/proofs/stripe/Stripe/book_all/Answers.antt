@@ -2,6 +2,7 @@ use Rattle.std.proofs.Common.{◌≡◌, ◌∙◌, ◌+◌, ◌++◌, [], ℕ, 
 use Rattle.std.proofs.lemmas.List.{map-append}
 use Rattle.std.proofs.lemmas.Result.{err_from_is_err_and}
 use Rattle.std.specs.HashSet.{contains}
+use Rattle.std.specs.List.Sorted.{IsPermutation}
 use Rattle.kc_word.specs.Cutting.{NumberedPieces}
 use Rattle.kc_word.specs.Shared.{values}
 use Rattle.kc_booking.specs.declared.booking_fault.BookFault.TheVariants as book
@@ -11,7 +12,8 @@ use Rattle.kc_booking.specs.Counted.{SomeMayBeFull}
 use Rattle.kc_booking.specs.Stripe.{IsKept, NumbersDiffer, KnowsNumbers}
 use Rattle.kc_booking.proofs.CountedTables.{IsStored-all_readied}
 use Rattle.kc_booking.proofs.Lawful.{IsLawful-from, was_full}
-use Rattle.kc_booking.proofs.RoundLemmas.{length-values, no_values, none_refused, own_round_keys, round-keys-fit, CountsWords-all}
+use Rattle.kc_booking.proofs.PartOrder.{count_by-ordered, length-ordered}
+use Rattle.kc_booking.proofs.RoundLemmas.{length-values, no_values, none_refused, own_round_keys, own-keys-fit, ordered-keys-fit, CountsWords-all}
 use Rattle.kc_booking.proofs.stripe.Stripe.book_all.Goals as goal
 
 pub returns-then-is_empty-clause-twice : goal.returns-then-is_empty-clause-twice
@@ -22,20 +24,35 @@ returns-then-is_empty-clause-twice g c =
       λ refused. absurd (none_refused c.args.self.now.journal c.args.cuts.now.batches _ none c.is_lawful.ensures.numbers_differ refused),
     )
 
+pub part_by_part-requires : goal.part_by_part-requires
+part_by_part-requires g c =
+    let kept = c.self.invariant.1 in
+    let own = rw (← c.self.view_is) at c.in_ok-check_all.ensures.own in
+    rw (c.table.ensures)
+    (own-keys-fit c.self.inside.setup c.self.inside.number (g.C.Counts.bits c.self.inside.counted.table) c.args.cuts.now c.keys.result.now c.keys.ensures own
+    c.words_of_reads.ensures.below kept.divided kept.bits_are)
+
 pub ready_all-requires : goal.ready_all-requires
 ready_all-requires g c =
     let kept = c.self.invariant.1 in
     let own = rw (← c.self.view_is) at c.in_ok-check_all.ensures.own in
-    rw (c.keys.ensures, own_round_keys c.self.inside.setup c.self.inside.number c.args.cuts.now own.0 own.1)
-    (round-keys-fit c.self.inside.setup c.self.inside.number _ c.args.cuts.now.batches c.words_of_reads.ensures.below kept.divided kept.bits_are)
+    ordered-keys-fit (g.C.Counts.bits c.self.inside.counted.table) c.keys.result.now c.in_ok-keys.keys.items c.deref.result.now c.deref.ensures.value c.in_ok-keys.ensures
+    (own-keys-fit c.self.inside.setup c.self.inside.number (g.C.Counts.bits c.self.inside.counted.table) c.args.cuts.now c.keys.result.now c.keys.ensures own
+    c.words_of_reads.ensures.below kept.divided kept.bits_are)
 
 pub returns-in_err-ready_all-clause-full : goal.returns-in_err-ready_all-clause-full
 returns-in_err-ready_all-clause-full g c = λ is.
     let p = err_from_is_err_and c.from_residual-in_err-ready_all.result c.from_residual-in_err-ready_all.ensures.1 in
     let fault : booking_fault c.in_err-ready_all.field-0.0 ≡ book.Full = cc in
     let refused = c.in_err-ready_all.ensures.full (ap Err (was_full _ fault)) in
-    inr (subst (λ (table : g.row.C.Denot). SomeMayBeFull (g.C.Counts.may_be_full table) (g.C.Counts.counts table) (all_keys_of c.args.cuts.now)) (ap (λ s. s.table) c.self.view_is)
-    (subst (λ (keys : List ℕ). SomeMayBeFull (g.C.Counts.may_be_full c.self.inside.counted.table) (g.C.Counts.counts c.self.inside.counted.table) keys) c.keys.ensures refused))
+    let order : IsPermutation (all_keys_of c.args.cuts.now) c.in_ok-keys.keys.items =
+    subst (λ (keys : List ℕ). IsPermutation keys c.in_ok-keys.keys.items) c.keys.ensures c.in_ok-keys.ensures in
+    inr (
+      c.in_ok-keys.keys.items,
+      order,
+      subst (λ (table : g.row.C.Denot). SomeMayBeFull (g.C.Counts.may_be_full table) (g.C.Counts.counts table) c.in_ok-keys.keys.items) (ap (λ s. s.table) c.self.view_is)
+          (subst (λ (keys : List ℕ). SomeMayBeFull (g.C.Counts.may_be_full c.self.inside.counted.table) (g.C.Counts.counts c.self.inside.counted.table) keys) c.deref.ensures.value refused),
+    )
 
 pub remember-requires : goal.remember-requires
 remember-requires g c =
@@ -47,12 +64,24 @@ pub add_all-requires-clause-in_range : goal.add_all-requires-clause-in_range
 add_all-requires-clause-in_range g c =
     let kept = c.self.invariant.1 in
     let own = rw (← c.self.view_is) at c.in_ok-check_all.ensures.own in
-    rw (c.keys-2.ensures, own_round_keys c.self.inside.setup c.self.inside.number c.args.cuts.now own.0 own.1)
-    (round-keys-fit c.self.inside.setup c.self.inside.number _ c.args.cuts.now.batches c.words_of_reads.ensures.below kept.divided (c.in_ok-ready_all.ensures.limits.same_bits ∙ kept.bits_are))
+    ordered-keys-fit (g.C.Counts.bits c.ready_all.new.self.table) c.keys.result.now c.in_ok-keys.keys.items c.deref-2.result.now c.deref-2.ensures.value c.in_ok-keys.ensures
+    (own-keys-fit c.self.inside.setup c.self.inside.number (g.C.Counts.bits c.ready_all.new.self.table) c.args.cuts.now c.keys.result.now c.keys.ensures own
+    c.words_of_reads.ensures.below kept.divided (c.in_ok-ready_all.ensures.limits.same_bits ∙ kept.bits_are))
+
+pub add_all-requires-clause-room : goal.add_all-requires-clause-room
+add_all-requires-clause-room g c =
+    let room = rw (← c.self.view_is) at c.in_ok-check_all.ensures.room in
+    let long = length-ordered c.keys.result.now c.in_ok-keys.keys.items (all_keys_of c.args.cuts.now) c.deref-2.result.now c.deref-2.ensures.value c.in_ok-keys.ensures c.keys.ensures in
+    omega (arith, room, long, c.in_ok-ready_all.ensures.same_total)
+
+pub returns-clause-total : goal.returns-clause-total
+returns-clause-total g c =
+    let long = length-ordered c.keys.result.now c.in_ok-keys.keys.items (all_keys_of c.args.cuts.now) c.deref-2.result.now c.deref-2.ensures.value c.in_ok-keys.ensures c.keys.ensures in
+    omega (arith, long, c.add_all.ensures.total, c.in_ok-ready_all.ensures.same_total, ap (λ s. s.total) c.self.view_is)
 
 pub add_all-requires-clause-stored : goal.add_all-requires-clause-stored
 add_all-requires-clause-stored g c =
-    rw (c.in_ok-ready_all.ensures.stored, c.keys-2.ensures, ← c.keys.ensures) (IsStored-all_readied c.keys.result.now _)
+    rw (c.in_ok-ready_all.ensures.stored, c.deref-2.ensures.value, ← c.deref.ensures.value) (IsStored-all_readied c.deref.result.now _)
 
 pub invariant_of-self-2 : goal.invariant_of-self-2
 invariant_of-self-2 g c =
@@ -68,7 +97,11 @@ invariant_of-self-2 g c =
     let own = rw (← c.self.view_is) at c.in_ok-check_all.ensures.own in
     let new : NumbersDiffer (old ++ batches) =
     subst (λ (js : List NumberedPieces). NumbersDiffer (js ++ batches)) (sym (ap (λ s. s.journal) c.self.view_is)) c.in_ok-check_all.ensures.new in
-    let keys : c.keys-2.result.now ≡ all_keys_of (round_at setup batches number) = c.keys-2.ensures ∙ own_round_keys setup number c.args.cuts.now own.0 own.1 in
+    let keys : c.keys.result.now ≡ all_keys_of (round_at setup batches number) = c.keys.ensures ∙ own_round_keys setup number c.args.cuts.now own.0 own.1 in
+    let as_often : (q : ℕ) → count_by (λ key. eqb key q) c.deref-2.result.now ≡ count_by (λ key. eqb key q) (all_keys_of (round_at setup batches number)) =
+    λ q. ap (λ (ks : List ℕ). count_by (λ key. eqb key q) ks) c.deref-2.ensures.value
+    ∙ count_by-ordered (λ key. eqb key q) c.keys.result.now c.in_ok-keys.keys.items c.in_ok-keys.ensures
+    ∙ ap (λ (ks : List ℕ). count_by (λ key. eqb key q) ks) keys in
     let known : KnowsNumbers (contains nat_eq c.remember.new.booked) (old ++ batches) =
     subst (λ (more : List NumberedPieces). KnowsNumbers (contains nat_eq c.remember.new.booked) (old ++ more)) c.batches-3.ensures
     (c.remember.ensures old (λ n. c.in_ok-reserve.ensures.keys.2 n ∙ held.known_are n)) in
@@ -85,6 +118,6 @@ invariant_of-self-2 g c =
       divided = held.divided;
       before = before.counts_are;
       added = λ q. c.add_all.ensures.counts q
-          ∙ ap₂ (λ (m n : ℕ). m + n) (c.in_ok-ready_all.ensures.same_counts q) (ap (λ (ks : List ℕ). count_by (λ key. eqb key q) ks) keys);
+          ∙ ap₂ (λ (m n : ℕ). m + n) (c.in_ok-ready_all.ensures.same_counts q) (as_often q);
     })) in
     rw journal (lawful, kept)
