@@ -95,7 +95,7 @@ impl<C: Counts, N: Books> Locked<C, N> {
             ↔ (FirstIsNew self.old.journal cuts.now.batches × ¬ IsOwnRound self.old cuts.now) }
         ensures full { result ≡ Err BookFault.Full → (2 ^ 62 < self.old.total + length (all_keys_of cuts.now))
             ⊎ SomeMayBeFullInSomeOrder (C.may_be_full self.old.table) (C.counts self.old.table)
-                (all_keys_of cuts.now) }
+            (all_keys_of cuts.now) }
         ensures memory { result ≡ Err BookFault.Memory
             → self.old.total + length (all_keys_of cuts.now) ≤ 2 ^ 62 }
     {
