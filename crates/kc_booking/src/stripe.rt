@@ -238,8 +238,8 @@ impl<C: Counts> Stripe<C> {
     /// them in their order. No batch is booked where there is none.
     ///
     /// It is refused as the first cut is that `book` would refuse, those before it being booked; a number that stands
-    /// twice is told before a stripe that is full. The keys are stored in the order of the table's parts, so that a full
-    /// table may refuse another one of them than `book` would find.
+    /// twice is told before a stripe that is full. The keys are stored in the order of the table's parts, so that a
+    /// full table may refuse another one of them than `book` would find.
     pub fn book_all(&mut self, cuts: &Cuts) -> Result<(), BookFault>
         ensures setup { self.new.setup ≡ self.old.setup }
         ensures number { self.new.number ≡ self.old.number }
