@@ -1,5 +1,5 @@
-//! A round of a worker: batches that are cut up together, and then booked stripe by stripe, by one call each, so that the
-//! lines of a stripe that one batch has fetched are still near for the next.
+//! A round of a worker: batches that are cut up together, and then booked stripe by stripe, by one call each, so that
+//! the lines of a stripe that one batch has fetched are still near for the next.
 ghost use Rattle.std.specs.Prelude.{◌≡◌, ◌+◌, ◌*◌, ◌%◌, ◌^◌, ◌≤◌, ◌<◌, ◌⊎◌, OnOk, IfErr, length};
 ghost use Rattle.kc_booking.specs.Setup.{stripe_count};
 ghost use Rattle.kc_run.specs.Runs.{IsCutUp, HaveMore, HaveMoreIn, IsOfBooking, IsWorkerFault};
@@ -25,8 +25,8 @@ pub(crate) struct Round {
 }
 
 /// How many batches make a round, where all have as many positions as the first: some 4 million positions, and as many
-/// at least as the list has words, since each booking compares the lists; or fewer, so that each worker has four rounds;
-/// one at the least.
+/// at least as the list has words, since each booking compares the lists; or fewer, so that each worker has four
+/// rounds; one at the least.
 pub(crate) fn round_len(batches: &[Arc<Batch>], setup: &Setup, workers: u32) -> u64
     requires { 1 ≤ workers }
     ensures some { 1 ≤ result }
@@ -85,7 +85,8 @@ fn book_range<H: Wait, C: Counts, N: Books>(
     requires cut_up { IsCutUp stripes.now.setup round.now }
     requires range { (from ≤ to) × (to ≤ stripe_count stripes.now.setup) }
     ensures kept { (share.new.parts ≡ share.old.parts) × (share.new.plan ≡ share.old.plan) }
-    ensures booked { OnOk result (HaveMoreIn from to (length round.now.batches.items) share.old.booked share.new.booked) }
+    ensures booked { OnOk result (HaveMoreIn from to (length round.now.batches.items)
+        share.old.booked share.new.booked) }
     ensures refused { IfErr result (IsWorkerFault to) }
 {
     for stripe in from..to {

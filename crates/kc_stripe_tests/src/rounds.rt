@@ -79,8 +79,8 @@ const TURNED: Held<'static> = Held {
     counts: &[(0, 3)],
 };
 
-// The number of stripes of the setup by which a round is cut up, the places of its batches, what is answered where it is
-// booked, and what the stripe then holds. The stripe is of one stripe's setup.
+// The number of stripes of the setup by which a round is cut up, the places of its batches, what is answered where it
+// is booked, and what the stripe then holds. The stripe is of one stripe's setup.
 const STEPS: &[(u32, &[usize], Result<(), BookFault>, Held<'static>)] = &[
     (1, &[], Ok(()), NOTHING),
     (2, &[], Ok(()), NOTHING),
