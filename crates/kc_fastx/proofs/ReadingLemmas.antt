@@ -43,7 +43,7 @@ NoFastq ls reads rest = ((reads ≡ []) × (rest ≡ ls)) ⊎ SaysFasta ls reads
 abbrev pub StaysBehind : List Line → List Line → Type 0
 StaysBehind left tail = (left ≢ []) ⊎ (tail ≡ [])
 
-ends_tail : (byte : ℕ) (left tail : List Line) → StaysBehind left tail → ends_or_begins_with byte left ≡ true
+pub ends_tail : (byte : ℕ) (left tail : List Line) → StaysBehind left tail → ends_or_begins_with byte left ≡ true
     → ends_or_begins_with byte (left ++ tail) ≡ true
 ends_tail byte [] tail stays h =
     ⊎_elim (λ (some : [] ≢ []). absurd (some refl)) (λ (none : tail ≡ []). ap (ends_or_begins_with byte) none) stays
@@ -54,7 +54,7 @@ text_front : (ls w tail : List Line) (line : Line) (more : List Line) → w ++ t
     → skip_blanks w ≡ line ∷ more → skip_blanks ls ≡ skip_blanks w ++ tail
 text_front ls w tail line more same some = ap skip_blanks (sym same) ∙ skip_blanks-append w tail line more some
 
-begins_tail : (byte : ℕ) (ls tail : List Line) (line : Line) (more : List Line) → ls ≡ line ∷ more
+pub begins_tail : (byte : ℕ) (ls tail : List Line) (line : Line) (more : List Line) → ls ≡ line ∷ more
     → next_begins_with byte (ls ++ tail) ≡ next_begins_with byte ls
 begins_tail byte ls tail line more e = ap (λ v. next_begins_with byte (v ++ tail)) e
     ∙ sym (ap (next_begins_with byte) e)
@@ -82,9 +82,9 @@ no_other ls reads w tail f other =
     cc
 
 -- a FASTA record comes next, and a line is left behind it, or none comes
-record FastaComes (w tail : List Line) (read : Read) (left : List Line) : Type 0 where
-  one : IsFastaRecord (skip_blanks w) read left
-  stays : StaysBehind left tail
+pub record FastaComes (w tail : List Line) (read : Read) (left : List Line) : Type 0 where
+  pub one : IsFastaRecord (skip_blanks w) read left
+  pub stays : StaysBehind left tail
 
 -- a FASTQ record comes next, and no title of FASTA
 record FastqComes (w : List Line) (read : Read) (left : List Line) : Type 0 where
@@ -305,7 +305,7 @@ no_next-read was count ls = no_fault-either (is_fasta_next was ls) _ _ (λ h. h.
 -- ---- bytes
 
 -- the unused bytes and what may still come are the whole lines, and then others
-lines_here : (ended : Bool) (bytes whole : List ℕ) (h : HasWhole ended bytes whole) (more : List ℕ) → (ended ≡ true
+pub lines_here : (ended : Bool) (bytes whole : List ℕ) (h : HasWhole ended bytes whole) (more : List ℕ) → (ended ≡ true
     → more ≡ [])
     → lines (bytes ++ more) ≡ lines whole ++ lines (h.tail ++ more)
 lines_here ended bytes whole h more none =
@@ -323,7 +323,7 @@ drop_front [] rest count e = ap (λ n. drop n rest) e
 drop_front (b ∷ front) rest count e = ap (λ n. drop n (b ∷ front ++ rest)) e ∙ drop_front front rest (length front) refl
 
 -- how many bytes were passed over, and what is left behind them
-left_behind : (stand : Stand) (whole : List ℕ) (h : HasWhole stand.ended stand.unread.bytes whole) (after : Cursor)
+pub left_behind : (stand : Stand) (whole : List ℕ) (h : HasWhole stand.ended stand.unread.bytes whole) (after : Cursor)
     → Reaches stand whole after → (count : ℕ)
     → count ≡ length whole - length after.bytes → (count ≤ length stand.unread.bytes) ×
     (drop count stand.unread.bytes ≡ after.bytes ++ h.tail)
@@ -359,7 +359,7 @@ stand_behind stand count lines_used q = record {
 abbrev pub Sure : Stand → List Line → Type 0
 Sure stand left = (stand.ended ≡ true) ⊎ (left ≢ [])
 
-stays : (stand : Stand) (whole : List ℕ) (h : HasWhole stand.ended stand.unread.bytes whole) (left : List Line)
+pub stays : (stand : Stand) (whole : List ℕ) (h : HasWhole stand.ended stand.unread.bytes whole) (left : List Line)
     (more : List ℕ) → MayCome stand.ended more → Sure stand left
     → StaysBehind left (lines (h.tail ++ more))
 stays stand whole h left more none sure =
