@@ -1,0 +1,106 @@
+-- The records that came, and the text of the selected ones on its way to the sink.
+use Rattle.std.proofs.Common.{◌≡◌, ℕ, List, [], ◌∷◌, ◌++◌, sym, ap, ◌∙◌, subst, append_assoc, append-nil}
+use Rattle.std.proofs.Common.{Result, Ok, Err}
+use Rattle.kc_io.specs.Sinks.{Written, HasTaken, HasWritten, HasBegun, Drains}
+use Rattle.kc_io.proofs.SinksLemmas.{begin, taken_both}
+use Rattle.kc_fastx.specs.declared.read_faults.FastxFault.{FastxFault}
+use Rattle.kc_fastx.specs.Reads.{Read}
+use Rattle.kc_fastx.specs.Reading.{Stand, first_stand, MeetsFault}
+use Rattle.kc_fastx.specs.Titles.{Record, record_of, HasGivenRecords, GivesRecords}
+use Rattle.kc_fastx.proofs.TitlesLemmas.{records_none}
+use Rattle.kc_tally.specs.Tally.{TallySeen}
+use Rattle.kc_select.specs.declared.select_fault.SelectFault.{SelectFault}
+use Rattle.kc_select.specs.declared.select_fault.SelectFault.TheVariants.{Reads, Write}
+use Rattle.kc_select.specs.Solid.{SelectionRule}
+use Rattle.kc_select.specs.Texts.{text_of_selected, selected_text}
+use Rattle.kc_select.specs.Selecting.{Task, Streams, Selects, EndsWith}
+use Rattle.kc_select.proofs.TextLemmas.{drains_more, drains_both, drains_begins}
+
+pub selected_text_push : (tally : TallySeen) (rule : SelectionRule) (records : List Record) (this : Record)
+    → selected_text tally rule (records ++ this ∷ []) ≡ selected_text tally rule records ++ text_of_selected tally rule this
+selected_text_push tally rule [] this = append-nil (text_of_selected tally rule this)
+selected_text_push tally rule (first ∷ records) this =
+    ap (λ v. text_of_selected tally rule first ++ v) (selected_text_push tally rule records this)
+    ∙ sym (append_assoc (text_of_selected tally rule first) (selected_text tally rule records)
+    (text_of_selected tally rule this))
+
+-- These records came, and of the text of the selected ones the sink took a front, behind which the block stands.
+pub record IsSelecting (task : Task) (old now : Streams) (stand : Stand) (block : List ℕ) : Type 0 where
+  pub records : List Record
+  pub given : HasGivenRecords old.source now.source task.limit records stand
+  pub drained : Drains old.sink now.sink (selected_text task.tally task.rule records) block
+
+pub selecting_none : (task : Task) (start : Streams) (stand : Stand) (block : List ℕ) → stand ≡ first_stand task.limit
+    → block ≡ [] → IsSelecting task start start stand block
+selecting_none task start stand block first empty = record {
+  records = [];
+  given = subst (λ v. HasGivenRecords start.source start.source task.limit [] v) (sym first)
+      (records_none start.source task.limit);
+  drained = subst (λ v. Drains start.sink start.sink [] v) (sym empty)
+      (let none = begin start.sink [] in
+      record { front = none.front; taken = none.taken; split = none.whole });
+}
+
+-- ---- one record more, or the end
+
+module _ {task : Task} {old now : Streams} {stand : Stand} {block : List ℕ} (s : IsSelecting task old now stand block) where
+  text_more : (this : Record) → selected_text task.tally task.rule (s.records ++ this ∷ [])
+      ≡ selected_text task.tally task.rule s.records ++ text_of_selected task.tally task.rule this
+  text_more this = selected_text_push task.tally task.rule s.records this
+
+  -- it was put behind the block, where it is selected
+  pub selecting_more : (new : Streams) (next : Stand) (left : List ℕ) (title : List ℕ) (read : Read)
+      → HasGivenRecords old.source new.source task.limit (s.records ++ record_of title read ∷ []) next
+      → Drains now.sink new.sink (block ++ text_of_selected task.tally task.rule (record_of title read)) left
+      → IsSelecting task old new next left
+  selecting_more new next left title read given d =
+      let this = record_of title read in
+      record {
+        records = s.records ++ this ∷ [];
+        given = given;
+        drained = subst (λ v. Drains old.sink new.sink v left) (sym (text_more this))
+            (drains_both (drains_more s.drained (text_of_selected task.tally task.rule this)) d);
+      }
+
+  -- the writer failed meanwhile
+  pub fails_more : (new : Streams) (next : Stand) (title : List ℕ) (read : Read)
+      → HasGivenRecords old.source new.source task.limit (s.records ++ record_of title read ∷ []) next
+      → HasBegun now.sink new.sink (block ++ text_of_selected task.tally task.rule (record_of title read))
+      → Selects task old new (Err Write)
+  fails_more new next title read given h =
+      let this = record_of title read in (
+        s.records ++ this ∷ [],
+        (new.source, next, given),
+        subst (λ v. HasBegun old.sink new.sink v) (sym (text_more this))
+            (drains_begins (drains_more s.drained (text_of_selected task.tally task.rule this)) h),
+      )
+
+  written : (sink : Written) → HasWritten now.sink sink block
+      → HasWritten old.sink sink (selected_text task.tally task.rule s.records)
+  written sink w = record {
+    taken = subst (λ v. HasTaken old.sink sink v) (sym s.drained.split)
+        (taken_both old.sink now.sink sink s.drained.front block s.drained.taken w.taken);
+    flushed = w.flushed;
+  }
+
+  -- all records came, and what stood in the block is written
+  pub selects_all : (new : Streams) → GivesRecords old.source new.source task.limit s.records
+      → HasWritten now.sink new.sink block → Selects task old new (Ok tt)
+  selects_all new gives w = (s.records, gives, written new.sink w)
+
+  -- the writer failed then
+  pub fails_last : (new : Streams) → HasBegun now.sink new.sink block → Selects task old new (Err Write)
+  fails_last new h = (s.records, (now.source, stand, s.given), drains_begins s.drained h)
+
+  -- the reads met a fault, and what stood in the block was to be written
+  pub selects_before : (new : Streams) (next : Stand) (fault : FastxFault) (answer : Result (Unit {0}) SelectFault)
+      → MeetsFault old.source new.source task.limit next fault → EndsWith now.sink new.sink block fault answer
+      → Selects task old new answer
+  selects_before new next fault (Ok done) meets ends = absurd ends
+  selects_before new next fault (Err (Reads met)) meets ends = (
+    s.records,
+    (now.source, stand, s.given),
+    (next, subst (λ v. MeetsFault old.source new.source task.limit next v) (sym ends.0) meets),
+    written new.sink ends.1,
+  )
+  selects_before new next fault (Err Write) meets ends = fails_last new ends
