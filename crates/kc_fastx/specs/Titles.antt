@@ -30,8 +30,8 @@ abbrev pub title_at : List Line → Line
 title_at [] = []
 title_at (line ∷ ls) = drop 1 line
 
--- the lines, but for blank ones in front, begin with this record, of FASTA where its first line begins with `>` and else
--- of FASTQ, and the rest comes behind it
+-- the lines, but for blank ones in front, begin with this record, of FASTA where its first line begins with `>` and
+-- else of FASTQ, and the rest comes behind it
 pub record IsRecord (ls : List Line) (this : Record) (rest : List Line) : Type 0 where
   pub title : this.title ≡ title_at (skip_blanks ls)
   pub read : let here = skip_blanks ls in

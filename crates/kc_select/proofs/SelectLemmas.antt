@@ -17,7 +17,8 @@ use Rattle.kc_select.specs.Selecting.{Task, Streams, Selects, EndsWith}
 use Rattle.kc_select.proofs.TextLemmas.{drains_more, drains_both, drains_begins}
 
 pub selected_text_push : (tally : TallySeen) (rule : SelectionRule) (records : List Record) (this : Record)
-    → selected_text tally rule (records ++ this ∷ []) ≡ selected_text tally rule records ++ text_of_selected tally rule this
+    → selected_text tally rule (records ++ this ∷ [])
+    ≡ selected_text tally rule records ++ text_of_selected tally rule this
 selected_text_push tally rule [] this = append-nil (text_of_selected tally rule this)
 selected_text_push tally rule (first ∷ records) this =
     ap (λ v. text_of_selected tally rule first ++ v) (selected_text_push tally rule records this)

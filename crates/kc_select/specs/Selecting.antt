@@ -32,8 +32,8 @@ abbrev pub Meets : Task → Seen → Seen → FastxFault → Type 0
 Meets task start now fault = (stand : Stand) × MeetsFault start now task.limit stand fault
 
 -- Ok: the text of the selected records of all bytes was written and flushed. Where the reads meet a fault, the text of
--- the selected ones of the records that came before was written and flushed. Where the writer failed, a beginning of the
--- text of the selected ones of the records that had come was taken.
+-- the selected ones of the records that came before was written and flushed. Where the writer failed, a beginning of
+-- the text of the selected ones of the records that had come was taken.
 abbrev pub Selects : Task → Streams → Streams → Result (Unit {0}) SelectFault → Type 0
 Selects task old new (Ok done) =
     (records : List Record) × GivesRecords old.source new.source task.limit records

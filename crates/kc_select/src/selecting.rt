@@ -15,9 +15,9 @@ use kc_io::{Block, Failed, Sink, write_out};
 use kc_tally::Tally;
 use std::alloc::Global;
 
-/// Writes the reads of the source that the selection keeps, whole and in order, each with its title: FASTA as FASTA, and
-/// FASTQ as FASTQ, with sequence and quality in one line each. No byte of a read is written before the read was judged.
-/// At most `limit` bytes are taken of the source. Condition: the limit is at most 2^36.
+/// Writes the reads of the source that the selection keeps, whole and in order, each with its title: FASTA as FASTA,
+/// and FASTQ as FASTQ, with sequence and quality in one line each. No byte of a read is written before the read was
+/// judged. At most `limit` bytes are taken of the source. Condition: the limit is at most 2^36.
 ///
 /// # Errors
 /// `Reads` with the fault that the reads met. The selected ones of those before it were written and flushed. `Write`
