@@ -25,7 +25,7 @@ use Rattle.kc_fastx.specs.Reading.{HasGrown, first_stand, Stand, SaysFasta, Says
 use Rattle.kc_fastx.specs.Reading.{HasGiven, HasMet, MeetsFault, is_fasta_next, IsNext, NextFails, IsSure}
 use Rattle.kc_fastx.proofs.RecordsLemmas.{Records-push, passes_both}
 use Rattle.kc_fastx.proofs.ParsingLemmas.{at_true, at_false, RefusesFor-taking}
-use Rattle.kc_fastx.proofs.ReadsLemmas.{base_count-fasta, base_count-fastq}
+use Rattle.kc_fastx.proofs.ReadsLemmas.{base_count-fasta, base_count-fastq, base_count-fasta-front, base_count-fastq-front}
 use Rattle.kc_fastx.proofs.FastaLemmas.{fasta_shorter}
 use Rattle.kc_fastx.proofs.FastqLemmas.{fastq_shorter, length-skip_blanks}
 use Rattle.kc_fastx.proofs.ClosedLemmas.{lines_behind, none_behind}
@@ -940,3 +940,19 @@ used_within start now limit reads stand given =
     let counted = given.counted in
     let room = given.taken.room in
     omega (arith, counted, room, length-append given.used stand.unread.bytes)
+
+-- the reads that were given so far have no more bases together than bytes may be taken
+base_count-says : (is_fastq : Bool) (bytes : List ℕ) (reads : List Read) (rest : List Line)
+    → Says is_fastq (lines bytes) reads rest → base_count reads ≤ length bytes
+base_count-says true bytes reads rest h = base_count-fastq-front bytes reads rest h.1
+base_count-says false bytes reads rest (inl h) = subst (λ v. base_count v ≤ length bytes) (sym h.0) (omega arith)
+base_count-says false bytes reads rest (inr h) = base_count-fasta-front bytes reads rest h.1
+
+pub base_count-given : (start now : Seen) (limit : ℕ) (reads : List Read) (stand : Stand)
+    → HasGiven start now limit reads stand → base_count reads ≤ limit
+base_count-given start now limit reads stand given =
+    let said = given.said [] (λ ended. refl) in
+    let fits = base_count-says stand.is_fastq (given.used ++ stand.unread.bytes ++ []) reads
+    (lines (stand.unread.bytes ++ [])) said.says in
+    let room = given.taken.room in
+    omega (arith, fits, room, ap length (append-nil (given.used ++ stand.unread.bytes)))

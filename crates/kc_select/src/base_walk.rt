@@ -1,18 +1,21 @@
-//! The words of the bases of a read, one after another, without memory.
-ghost use Rattle.std.specs.Prelude.{◌≡◌, ◌+◌, ◌^◌, ◌<◌, ◌∷◌, nat_le, [], None, length, IfSome, IfNone};
-ghost use Rattle.kc_fastx.specs.Reads.{read_of};
+//! The words of a read, one after another, without memory.
+ghost use Rattle.std.specs.Prelude.{◌≡◌, ◌+◌, ◌^◌, ◌<◌, ◌∷◌, nat_le, [], length, IfSome, IfNone};
 ghost use Rattle.kc_kmer.specs.Occurrences.{words_in};
+ghost use Rattle.kc_word.specs.Cutting.{cleaned};
 ghost use Rattle.kc_word.specs.Walking.{words_left};
 
+use kc_fastx::SeqRead;
 use kc_kmer::Rule;
-use kc_kmer::letter::{NO_BASE, code_of};
+use kc_kmer::letter::NO_BASE;
+use kc_word::usable_code;
 use std::marker::Model;
 
-// A place in some bases whose words are taken: two numbers are rolled along them, and a word stands wherever the run of
-// bases is as long as a word.
+// A place in a read whose words are taken: two numbers are rolled along its bases, and a word stands wherever the run
+// of usable bases is as long as a word. It is seen as a place in the piece of the read, in which N stands for the bases
+// that are not usable.
 #[derive(Drop)]
 pub(crate) struct BaseWalk<'a> {
-    bases: &'a [u8],
+    read: &'a SeqRead,
     at: usize,
     rule: Rule,
     forward: u64,
@@ -21,28 +24,29 @@ pub(crate) struct BaseWalk<'a> {
 }
 
 impl<'a> Model for BaseWalk<'a> {
+    ghost use Rattle.kc_word.specs.Cutting.{cleaned};
     ghost use Rattle.kc_word.specs.Walking.{Walking, IsWalking};
 
     ghost Value = { Walking };
 
-    ghost view = { λ w. record { rule = w.rule; bytes = w.bases.now; taken = w.at } };
+    ghost view = { λ w. record { rule = w.rule; bytes = cleaned w.rule w.read.now; taken = w.at } };
 
-    ghost invariant = { λ w. IsWalking (record { rule = w.rule; bytes = w.bases.now; taken = w.at })
+    ghost invariant = { λ w. IsWalking (record { rule = w.rule; bytes = cleaned w.rule w.read.now; taken = w.at })
         w.forward w.backward w.run };
 }
 
 impl<'a> BaseWalk<'a> {
-    // At the front of the bases.
-    pub(crate) fn new(bases: &'a [u8], rule: Rule) -> BaseWalk<'a>
-        ensures place { result ≡ record { rule = rule; bytes = bases.now; taken = 0 } }
-        ensures words { words_left result ≡ words_in rule (read_of bases.now None) }
+    // At the front of the read.
+    pub(crate) fn new(read: &'a SeqRead, rule: Rule) -> BaseWalk<'a>
+        ensures place { result ≡ record { rule = rule; bytes = cleaned rule read.now; taken = 0 } }
+        ensures words { words_left result ≡ words_in rule read.now }
         ensures few { length (words_left result) < 2 ^ 64 }
     {
         rule.has_no_list();
         let k = rule.k().get();
-        let _count = bases.len();
+        let _count = read.bases().len();
         BaseWalk {
-            bases,
+            read,
             at: 0,
             rule,
             forward: 0,
@@ -56,7 +60,7 @@ impl<'a> BaseWalk<'a> {
     fn is_done(&self) -> bool
         ensures { result ≡ nat_le (length self.now.bytes) self.now.taken }
     {
-        self.bases.len() <= self.at
+        self.read.bases().len() <= self.at
     }
 
     // Takes the next base, and answers the word that ends in it, if one does. Condition: not all bases were taken.
@@ -70,7 +74,7 @@ impl<'a> BaseWalk<'a> {
         let k = self.rule.k().get();
         let both = self.rule.both();
         let mask = (1u64 << (2 * k)) - 1;
-        let code = code_of(self.bases[self.at]) as u64;
+        let code = usable_code(self.read, &self.rule, self.at) as u64;
         let digit = code & 3;
         let forward = (self.forward * 4 + digit) & mask;
         let backward = (self.backward >> 2) + ((3 - digit) << (2 * (k - 1)));

@@ -1,10 +1,19 @@
 use Rattle.std.proofs.Common.{◌<◌, length, bit_and, ap, sym, ◌∙◌, subst, arith}
 use Rattle.std.proofs.lemmas.Nat.{and_le_r}
+use Rattle.kc_word.specs.Cutting.{cleaned}
 use Rattle.kc_word.specs.Walking.{words_left}
+use Rattle.kc_word.proofs.Cleaning.{length-cleaned}
 use Rattle.kc_word.proofs.Counting.{forward-fits, backward-fits, word-lesser, word-forward}
+use Rattle.kc_word.proofs.Gatherings.{usable_code-cleaned}
 use Rattle.kc_word.proofs.WalkLemmas.{code-walked, code-word, code-no-word}
 use Rattle.kc_select.proofs.base_walk.BaseWalk.step.Goals as goal
 use Rattle.kc_select.proofs.base_walk.BaseWalk.step.Goals.{then-code, else-code, then-both, else-both}
+
+pub usable_code-code-requires : goal.usable_code-code-requires
+usable_code-code-requires c =
+    let long = length-cleaned c.self.inside.rule c.self.inside.read.now in
+    let here = subst (λ w. w.taken < length w.bytes) (sym c.self.view_is) c.requires in
+    omega (arith, long, here)
 
 pub overflow_mul-forward : goal.overflow_mul-forward
 overflow_mul-forward c =
@@ -14,20 +23,20 @@ overflow_mul-forward c =
 pub overflow_add-forward : goal.overflow_add-forward
 overflow_add-forward c =
     let small = forward-fits c.self.inside.rule.k _ c.self.inside.forward _ _ (omega arith) c.self.invariant.rolled in
-    let digit = and_le_r c.code_of-code.result 3 in
+    let digit = and_le_r c.usable_code-code.result 3 in
     omega (arith, small, digit)
 
 pub overflow_add-backward : goal.overflow_add-backward
 overflow_add-backward c =
-    let small = backward-fits c.self.inside.rule.k (bit_and c.code_of-code.result 3) c.get-k.result
+    let small = backward-fits c.self.inside.rule.k (bit_and c.usable_code-code.result 3) c.get-k.result
     (c.get-k.ensures.value ∙ c.k.ensures) (omega arith) (omega arith)
     c.self.invariant.rolled in
     omega (arith, small)
 
 pub invariant_of-self : goal.invariant_of-self
 invariant_of-self c =
-    code-walked (record { rule = c.self.inside.rule; bytes = c.self.inside.bases.now; taken = c.self.inside.at }) (record {
-      found = c.code_of-code.result;
+    code-walked (record { rule = c.self.inside.rule; bytes = cleaned c.self.inside.rule c.self.inside.read.now; taken = c.self.inside.at }) (record {
+      found = c.usable_code-code.result;
       forward = c.self.inside.forward;
       backward = c.self.inside.backward;
       run = c.self.inside.run;
@@ -37,15 +46,18 @@ invariant_of-self c =
       some = omega arith;
       most = omega arith;
       within = subst (λ w. w.taken < length w.bytes) (sym c.self.view_is) c.requires;
-      found_is = c.code_of-code.ensures;
+      found_is = c.usable_code-code.ensures
+          ∙ usable_code-cleaned c.self.inside.rule c.self.inside.read.now c.self.inside.at
+          (let long = length-cleaned c.self.inside.rule c.self.inside.read.now in
+          let here = subst (λ w. w.taken < length w.bytes) (sym c.self.view_is) c.requires in omega (arith, long, here));
       grows = elim c.if-code.branch [ then-code w ↦ (λ _. w.run-is) | else-code w ↦ (λ h. absurd (omega arith)) ];
       breaks = elim c.if-code.branch [ then-code w ↦ (λ h. absurd (omega arith)) | else-code w ↦ (λ _. w.run-is) ];
     }) c.self.invariant
 
 pub returns-then-run-k-clause-none : goal.returns-then-run-k-clause-none
 returns-then-run-k-clause-none c =
-    code-no-word (record { rule = c.self.inside.rule; bytes = c.self.inside.bases.now; taken = c.self.inside.at }) (record {
-      found = c.code_of-code.result;
+    code-no-word (record { rule = c.self.inside.rule; bytes = cleaned c.self.inside.rule c.self.inside.read.now; taken = c.self.inside.at }) (record {
+      found = c.usable_code-code.result;
       forward = c.self.inside.forward;
       backward = c.self.inside.backward;
       run = c.self.inside.run;
@@ -55,7 +67,10 @@ returns-then-run-k-clause-none c =
       some = omega arith;
       most = omega arith;
       within = subst (λ w. w.taken < length w.bytes) (sym c.self.view_is) c.requires;
-      found_is = c.code_of-code.ensures;
+      found_is = c.usable_code-code.ensures
+          ∙ usable_code-cleaned c.self.inside.rule c.self.inside.read.now c.self.inside.at
+          (let long = length-cleaned c.self.inside.rule c.self.inside.read.now in
+          let here = subst (λ w. w.taken < length w.bytes) (sym c.self.view_is) c.requires in omega (arith, long, here));
       grows = elim c.if-code.branch [ then-code w ↦ (λ _. w.run-is) | else-code w ↦ (λ h. absurd (omega arith)) ];
       breaks = elim c.if-code.branch [ then-code w ↦ (λ h. absurd (omega arith)) | else-code w ↦ (λ _. w.run-is) ];
     }) c.self.invariant (omega arith)
@@ -63,8 +78,8 @@ returns-then-run-k-clause-none c =
 
 pub invariant_of-self-2 : goal.invariant_of-self-2
 invariant_of-self-2 c =
-    code-walked (record { rule = c.self.inside.rule; bytes = c.self.inside.bases.now; taken = c.self.inside.at }) (record {
-      found = c.code_of-code.result;
+    code-walked (record { rule = c.self.inside.rule; bytes = cleaned c.self.inside.rule c.self.inside.read.now; taken = c.self.inside.at }) (record {
+      found = c.usable_code-code.result;
       forward = c.self.inside.forward;
       backward = c.self.inside.backward;
       run = c.self.inside.run;
@@ -74,7 +89,10 @@ invariant_of-self-2 c =
       some = omega arith;
       most = omega arith;
       within = subst (λ w. w.taken < length w.bytes) (sym c.self.view_is) c.requires;
-      found_is = c.code_of-code.ensures;
+      found_is = c.usable_code-code.ensures
+          ∙ usable_code-cleaned c.self.inside.rule c.self.inside.read.now c.self.inside.at
+          (let long = length-cleaned c.self.inside.rule c.self.inside.read.now in
+          let here = subst (λ w. w.taken < length w.bytes) (sym c.self.view_is) c.requires in omega (arith, long, here));
       grows = elim c.if-code.branch [ then-code w ↦ (λ _. w.run-is) | else-code w ↦ (λ h. absurd (omega arith)) ];
       breaks = elim c.if-code.branch [ then-code w ↦ (λ h. absurd (omega arith)) | else-code w ↦ (λ _. w.run-is) ];
     }) c.self.invariant
@@ -82,8 +100,8 @@ invariant_of-self-2 c =
 pub returns-clause-word : goal.returns-clause-word
 returns-clause-word c =
     ap words_left (sym c.self.view_is)
-    ∙ code-word (record { rule = c.self.inside.rule; bytes = c.self.inside.bases.now; taken = c.self.inside.at }) (record {
-      found = c.code_of-code.result;
+    ∙ code-word (record { rule = c.self.inside.rule; bytes = cleaned c.self.inside.rule c.self.inside.read.now; taken = c.self.inside.at }) (record {
+      found = c.usable_code-code.result;
       forward = c.self.inside.forward;
       backward = c.self.inside.backward;
       run = c.self.inside.run;
@@ -93,7 +111,10 @@ returns-clause-word c =
       some = omega arith;
       most = omega arith;
       within = subst (λ w. w.taken < length w.bytes) (sym c.self.view_is) c.requires;
-      found_is = c.code_of-code.ensures;
+      found_is = c.usable_code-code.ensures
+          ∙ usable_code-cleaned c.self.inside.rule c.self.inside.read.now c.self.inside.at
+          (let long = length-cleaned c.self.inside.rule c.self.inside.read.now in
+          let here = subst (λ w. w.taken < length w.bytes) (sym c.self.view_is) c.requires in omega (arith, long, here));
       grows = elim c.if-code.branch [ then-code w ↦ (λ _. w.run-is) | else-code w ↦ (λ h. absurd (omega arith)) ];
       breaks = elim c.if-code.branch [ then-code w ↦ (λ h. absurd (omega arith)) | else-code w ↦ (λ _. w.run-is) ];
     }) c.if-both.word c.self.invariant (omega arith)
