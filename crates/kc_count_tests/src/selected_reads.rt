@@ -2,9 +2,7 @@
 use kc_fastx::{FastxFault, SeqRead};
 use kc_io::{FromBytes, ToVec, ToWrite};
 use kc_report::{ReportFault, read_table};
-use kc_select::{
-    SelectFault, Selected, Selection, SelectionCounts, is_selected, is_solid, select,
-};
+use kc_select::{SelectFault, Selected, Selection, SelectionCounts, is_selected, is_solid, select};
 use kc_tally::Tally;
 use std::alloc::{AllocError, Global};
 use std::io;
@@ -194,13 +192,7 @@ const SELECTED: &[(&[u8], u64, bool, Result<[u64; 5], SelectFault>, &[u8])] = &[
         Ok([36, 3, 2, 7, 4]),
         b">one two\nACGTA\n>c>c\nacgta\n",
     ),
-    (
-        FASTA,
-        100,
-        true,
-        Ok([36, 3, 1, 7, 4]),
-        b">b\nAAA\n",
-    ),
+    (FASTA, 100, true, Ok([36, 3, 1, 7, 4]), b">b\nAAA\n"),
     // a read shorter than a word is kept, and so is one without bases
     (
         b">s\nAC\n>t\n",
@@ -210,13 +202,7 @@ const SELECTED: &[(&[u8], u64, bool, Result<[u64; 5], SelectFault>, &[u8])] = &[
         b">s\nAC\n>t\n\n",
     ),
     // the N leaves ACG and CGA, of which the table has the first
-    (
-        b">n\nACGNCGA\n",
-        100,
-        false,
-        Ok([11, 1, 0, 2, 1]),
-        b"",
-    ),
+    (b">n\nACGNCGA\n", 100, false, Ok([11, 1, 0, 2, 1]), b""),
     (
         FASTQ,
         100,
@@ -224,13 +210,7 @@ const SELECTED: &[(&[u8], u64, bool, Result<[u64; 5], SelectFault>, &[u8])] = &[
         Ok([51, 3, 2, 6, 4]),
         b"@q x\nACGTA\n+\nIII@I\n@\nACGT\n+\n+++~\n",
     ),
-    (
-        FASTQ,
-        100,
-        true,
-        Ok([51, 3, 1, 6, 4]),
-        b"@r\nTTT\n+\n!!!\n",
-    ),
+    (FASTQ, 100, true, Ok([51, 3, 1, 6, 4]), b"@r\nTTT\n+\n!!!\n"),
     // the reads before a fault are written
     (
         b">a\nACG\n>b\nA@C\n>c\nACG\n",
