@@ -6,8 +6,8 @@ use std::marker::Model;
 // The least quality byte, which every quality passes.
 const EVERY_QUALITY: u8 = 33;
 
-/// From which count on a word is solid, how many of a hundred words of a read have to be, at most 100, the least quality
-/// byte of a usable base, from 33 to 126, and whether the reads that are not solid are selected instead.
+/// From which count on a word is solid, how many of a hundred words of a read have to be, at most 100, the least
+/// quality byte of a usable base, from 33 to 126, and whether the reads that are not solid are selected instead.
 #[derive(Clone, Copy, PartialEq, Eq, Debug)]
 pub struct Selection {
     least: u64,

@@ -49,7 +49,8 @@ impl Counted {
 
     // What is counted of one read with these words, which is kept or not.
     pub(crate) fn of_one(self, is_kept: bool) -> SelectionCounts
-        ensures { result ≡ record { reads = 1; kept = if is_kept then 1 else 0; words = self.words; solid = self.solid } }
+        ensures { result ≡
+            record { reads = 1; kept = if is_kept then 1 else 0; words = self.words; solid = self.solid } }
     {
         SelectionCounts {
             reads: 1,
