@@ -125,19 +125,27 @@ fn a_selection_is_what_it_was_made_of(rt: HostRuntime) -> Result<(), Fail> {
 
 #[test]
 fn counts_are_added(rt: HostRuntime) -> Result<(), Fail> {
-    let one = counts(3, 2, 7, 4);
-    let both = one.and(SelectionCounts::none()).and(counts(1, 0, 20, 0));
-    assert_eq!(rt; both, counts(4, 2, 27, 4));
+    let one = SelectionCounts {
+        reads: 3,
+        kept: 2,
+        words: 7,
+        solid: 4,
+    };
+    let other = SelectionCounts {
+        reads: 1,
+        kept: 0,
+        words: 20,
+        solid: 0,
+    };
+    let both = one.and(SelectionCounts::none()).and(other);
+    let want = SelectionCounts {
+        reads: 4,
+        kept: 2,
+        words: 27,
+        solid: 4,
+    };
+    assert_eq!(rt; both, want);
     Ok(())
-}
-
-fn counts(reads: u64, kept: u64, words: u64, solid: u64) -> SelectionCounts {
-    SelectionCounts {
-        reads,
-        kept,
-        words,
-        solid,
-    }
 }
 
 // The bytes, the reads, those that are kept, their words and the solid ones.
