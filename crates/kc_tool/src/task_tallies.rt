@@ -68,6 +68,7 @@ pub(crate) fn tally_for<H: Threads + Wait + Sync, R: Source, F: Source, P: Progr
         Task::CountListed(options) => count_listed(rt, alloc, options, files, input, progress),
         Task::Merge => return sum_of(alloc, files),
         Task::Report(_) | Task::Query(_) => return table_of(alloc, files, input),
+        Task::Select(_) => unreachable!(),
     };
     progress.ends();
     counted
@@ -174,7 +175,7 @@ fn table_of<R: Source, F: Source>(
 }
 
 // What the table text of this source says.
-fn table_from<R: Source>(
+pub(crate) fn table_from<R: Source>(
     alloc: Global,
     source: &mut R,
 ) -> Result<(Tally, Option<Origin>), ToolFault>
