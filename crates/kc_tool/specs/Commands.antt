@@ -133,7 +133,7 @@ IsTallyFor old new (CountListed settings) table = Counts old new settings table
 IsTallyFor old new (Report report) table = TellOneTable old.sources new.sources table
 IsTallyFor old new (Query words) table = TellOneTable old.sources new.sources table
 IsTallyFor old new Merge table = TellSum old.sources new.sources table
-IsTallyFor old new (Select rule) table = TellsTableOf old.list new.list table
+IsTallyFor old new (Select rule) table = ⊥
 
 -- why there is no tally for a task; of want of memory outside the readers of reads nothing is said
 abbrev pub HasNoTallyFor : Given → Given → Task → ToolFault → Type 0
@@ -142,7 +142,7 @@ HasNoTallyFor old new (CountListed settings) fault = RefusesCount old new settin
 HasNoTallyFor old new (Report report) fault = TellNoTable old.sources new.sources fault
 HasNoTallyFor old new (Query words) fault = TellNoTable old.sources new.sources fault
 HasNoTallyFor old new Merge fault = TellNoSum old.sources new.sources fault
-HasNoTallyFor old new (Select rule) fault = TellsNoTableOf old.list new.list fault × (new.sources ≡ old.sources)
+HasNoTallyFor old new (Select rule) fault = ⊥
 
 -- the text is what a task writes about a tally
 abbrev pub IsAnswer : Task → TableSeen → List ℕ → Type 0
@@ -199,14 +199,23 @@ SelectsBy rule old new outcome =
     ⊎ ((fault : ToolFault) × (outcome ≡ Err fault) × TellsNoTableOf old.given.list new.given.list fault
     × (new.given.sources ≡ old.given.sources) × (new.output ≡ old.output))
 
--- what a task does: its text was written; or a beginning of it, where writing failed; or nothing
+-- what a task does about a tally: its text was written; or a beginning of it, where writing failed; or nothing
+abbrev pub DoesByTally : Task → Stage → Stage → Result (Unit {0}) ToolFault → Type 0
+DoesByTally task old new (Ok done) =
+    (text : List ℕ) × IsTextFor old.given new.given task text × HasWritten old.output new.output text
+DoesByTally task old new (Err Write) =
+    (text : List ℕ) × IsTextFor old.given new.given task text × HasBegun old.output new.output text
+DoesByTally task old new (Err fault) = (new.output ≡ old.output) × HasFaultFor old.given new.given task fault
+
+-- a task other than a selection is about a tally
+abbrev pub IsAboutTally : Task → Type 0
+IsAboutTally (Select rule) = ⊥
+IsAboutTally task = ⊤
+
+-- what a task does
 abbrev pub Does : Task → Stage → Stage → Result (Unit {0}) ToolFault → Type 0
 Does (Select rule) old new outcome = SelectsBy rule old new outcome
-Does task old new (Ok done) =
-    (text : List ℕ) × IsTextFor old.given new.given task text × HasWritten old.output new.output text
-Does task old new (Err Write) =
-    (text : List ℕ) × IsTextFor old.given new.given task text × HasBegun old.output new.output text
-Does task old new (Err fault) = (new.output ≡ old.output) × HasFaultFor old.given new.given task fault
+Does task old new outcome = DoesByTally task old new outcome
 
 -- the name of a command
 abbrev pub name_of : Verb → Text

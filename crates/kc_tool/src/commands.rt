@@ -6,16 +6,20 @@ ghost use Rattle.kc_tool.specs.Commands.{
   Answers,
   AsksForTask,
   Does,
+  DoesByTally,
   DoesTask,
   DoesTaskInto,
   EndsSo,
   HasFilesFor,
   HasWritableReport,
+  IsAboutTally,
   IsRefusedOption,
   KeepsInput,
   LacksOutput,
+  SelectsBy,
   files_of,
   first_refused,
+  given_listed,
   given_of,
   sources_in,
   verb_named,
@@ -193,7 +197,7 @@ fn do_task_into<H: Threads + Wait + Sync, S: Files, R: Source, P: Progress + Syn
     outcome
 }
 
-// Takes the tally that a task is about, and writes its answer. The files keep their names.
+// Does a task with its files, which keep their names.
 fn answer<H: Threads + Wait + Sync, R: Source, F: Source, W: Sink, P: Progress + Sync>(
     rt: &H,
     alloc: Global,
@@ -212,9 +216,33 @@ fn answer<H: Threads + Wait + Sync, R: Source, F: Source, W: Sink, P: Progress +
     ensures input { KeepsInput (sources_in task.now (seen_of F.seen files.old)) (R.seen input.old) (R.seen input.new) }
     ensures names { names_of files.new ≡ names_of files.old }
 {
-    if let Task::Select(selection) = task {
-        return select_by_table(alloc, *selection, files, input, output);
+    match task {
+        Task::Select(selection) => select_by_table(alloc, *selection, files, input, output),
+        _ => answer_by_tally(rt, alloc, task, files, input, output, progress),
     }
+}
+
+// Takes the tally that a task is about, and writes its answer. The files keep their names. Condition: the task is no
+// selection.
+fn answer_by_tally<H: Threads + Wait + Sync, R: Source, F: Source, W: Sink, P: Progress + Sync>(
+    rt: &H,
+    alloc: Global,
+    task: &Task,
+    files: &mut [NamedSource<'_, F>],
+    input: &mut R,
+    output: &mut W,
+    progress: &P,
+) -> Result<(), ToolFault>
+    requires files { HasFilesFor task.now (seen_of F.seen files.old) }
+    requires writable { HasWritableReport task.now }
+    requires about { IsAboutTally task.now }
+    ensures done { DoesByTally task.now
+        (record { given = given_of task.now (R.seen input.old) (seen_of F.seen files.old); output = W.seen output.old })
+        (record { given = given_of task.now (R.seen input.new) (seen_of F.seen files.new); output = W.seen output.new })
+        result }
+    ensures input { KeepsInput (sources_in task.now (seen_of F.seen files.old)) (R.seen input.old) (R.seen input.new) }
+    ensures names { names_of files.new ≡ names_of files.old }
+{
     let (tally, origin) = tally_for(rt, alloc, task, files, input, progress)?;
     write_answer(alloc, task, &tally, origin, output)
 }
@@ -229,6 +257,10 @@ fn select_by_table<R: Source, F: Source, W: Sink>(
     output: &mut W,
 ) -> Result<(), ToolFault>
     requires { 1 ≤ length files.old }
+    ensures done { SelectsBy selection
+        (record { given = given_listed (R.seen input.old) (seen_of F.seen files.old); output = W.seen output.old })
+        (record { given = given_listed (R.seen input.new) (seen_of F.seen files.new); output = W.seen output.new })
+        result }
     ensures input { KeepsInput (drop 1 (seen_of F.seen files.old)) (R.seen input.old) (R.seen input.new) }
     ensures names { names_of files.new ≡ names_of files.old }
 {
@@ -362,6 +394,7 @@ fn write_answer<W: Sink>(
     writer: &mut W,
 ) -> Result<(), ToolFault>
     requires writable { HasWritableReport task.now }
+    requires about { IsAboutTally task.now }
     requires origin { MaySay origin }
     ensures { Answers task.now (tally.now, origin) (W.seen writer.old) (W.seen writer.new) result }
 {

@@ -8,6 +8,7 @@ ghost use Rattle.kc_tool.specs.Tallies.{Counts, IsListUnder, RefusesCount, Refus
 ghost use Rattle.kc_tool.specs.Commands.{
   HasFilesFor,
   HasNoTallyFor,
+  IsAboutTally,
   IsTallyFor,
   KeepsInput,
   TellNoSum,
@@ -53,7 +54,8 @@ pub(crate) fn tally_for<H: Threads + Wait + Sync, R: Source, F: Source, P: Progr
     input: &mut R,
     progress: &P,
 ) -> Result<(Tally, Option<Origin>), ToolFault>
-    requires { HasFilesFor task.now (seen_of F.seen files.old) }
+    requires files { HasFilesFor task.now (seen_of F.seen files.old) }
+    requires about { IsAboutTally task.now }
     ensures tally { let Tallies = IsTallyFor (given_of task.now (R.seen input.old) (seen_of F.seen files.old))
         (given_of task.now (R.seen input.new) (seen_of F.seen files.new)) in
         IfOk result (λ table. Tallies task.now (table.0, table.1)) }
