@@ -34,7 +34,15 @@ pub(crate) fn select_sources<R: Source, W: Sink>(
     let _fits = sources.len();
     for source in sources.iter_mut() {
         number += 1;
-        left -= select_next(alloc, &mut source.source, number, left, tally, selection, writer)?;
+        left -= select_next(
+            alloc,
+            &mut source.source,
+            number,
+            left,
+            tally,
+            selection,
+            writer,
+        )?;
     }
     Ok(())
 }
