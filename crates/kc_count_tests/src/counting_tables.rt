@@ -1,6 +1,7 @@
 //! Worked cases, the laws of a finite map at each type, and random operations over both representations.
 ghost use Rattle.std.specs.Prelude.{◌<◌, ◌≤◌, ◌^◌};
 
+use crate::count_assertions::{assert_items, assert_same};
 use kc_table::{Counts, LimitedCounts, PlainCounts, QuotientTable, Steps, TableFault};
 use rand_core::SeedableRng;
 use rand_core::utils::NextWord;
@@ -73,14 +74,14 @@ fn count_of<C: Counts>(rt: &impl Abort, table: &C, key: u64) -> u64 {
 // Asserts that these keys have these counts.
 fn assert_counts<C: Counts>(rt: &impl Abort, table: &C, rows: &[(u64, u64)]) {
     for (key, count) in rows {
-        assert_eq!(rt; count_of(rt, table, *key), *count, "key {key}");
+        assert_same(rt, *key, &count_of(rt, table, *key), count);
     }
 }
 
 // Asserts that each key from the first up to the last, which is left out, has the count 0.
 fn assert_uncounted<C: Counts>(rt: &impl Abort, table: &C, first: u64, last: u64) {
     for key in first..last {
-        assert_eq!(rt; count_of(rt, table, key), 0, "key {key}");
+        assert_same(rt, key, &count_of(rt, table, key), &0);
     }
 }
 
@@ -98,7 +99,7 @@ fn assert_rows<C: Counts>(
     rows: &[(u64, u64)],
 ) -> Result<(), AllocError> {
     let found = sorted_rows(alloc, table)?;
-    assert!(rt; found.as_slice() == rows);
+    assert_items(rt, "rows", found.as_slice(), rows);
     Ok(())
 }
 
@@ -153,9 +154,10 @@ fn count_home(rt: &impl Abort, table: &mut QuotientTable) -> Result<(), TableFau
 fn assert_home(rt: &impl Abort, table: &QuotientTable, count: u8) {
     for number in 0..count {
         let key = key_of_one_home(number);
-        assert_eq!(rt; count_of(rt, table, key), 1, "key {key}");
+        assert_same(rt, key, &count_of(rt, table, key), &1);
     }
-    assert_eq!(rt; count_of(rt, table, key_of_one_home(count)), 0);
+    let next = key_of_one_home(count);
+    assert_same(rt, next, &count_of(rt, table, next), &0);
 }
 
 fn find(rt: &impl Abort, table: &QuotientTable, key: u64) -> Option<u64> {
@@ -169,7 +171,7 @@ fn assert_places(rt: &impl Abort, table: &QuotientTable) {
     let mut step = 0u64;
     for number in 0..63 {
         let found = find(rt, table, key_of_one_home(number));
-        assert_eq!(rt; found, Some(place));
+        assert_same(rt, number, &found, &Some(place));
         step = step.wrapping_add(1);
         place = place.wrapping_add(step) % 256;
     }
@@ -181,10 +183,11 @@ fn a_home_is_shared_by_63_keys(rt: HostRuntime) -> Result<(), Fail> {
     count_home(&rt, &mut table)?;
     assert_places(&rt, &table);
     let last = key_of_one_home(63);
-    assert_eq!(rt; ready(&rt, &mut table, last), Err(TableFault::Full));
-    assert_eq!(rt; find(&rt, &table, last), None);
+    let refused = ready(&rt, &mut table, last);
+    assert_same(&rt, "refused", &refused, &Err(TableFault::Full));
+    assert_same(&rt, "found", &find(&rt, &table, last), &None);
     assert_home(&rt, &table, 63);
-    assert_eq!(rt; table.log(), 8);
+    assert_same(&rt, "log", &table.log(), &8);
     Ok(())
 }
 
@@ -192,9 +195,9 @@ fn a_home_is_shared_by_63_keys(rt: HostRuntime) -> Result<(), Fail> {
 fn a_64th_key_of_a_home_is_taken_by_a_larger_table(rt: HostRuntime) -> Result<(), Fail> {
     let mut table = QuotientTable::new(rt.alloc(), 16, 8, 9)?;
     count_home(&rt, &mut table)?;
-    assert_eq!(rt; table.log(), 8);
+    assert_same(&rt, "log", &table.log(), &8);
     ready(&rt, &mut table, key_of_one_home(63))?;
-    assert_eq!(rt; table.log(), 9);
+    assert_same(&rt, "log", &table.log(), &9);
     assert_home(&rt, &table, 63);
     Ok(())
 }
@@ -212,7 +215,7 @@ fn with_a_slot_for_each_key_each_stands_at_its_home(rt: HostRuntime) -> Result<(
     let mut table = QuotientTable::new(rt.alloc(), 2, 2, 2)?;
     count_each(&rt, &mut table, &[3, 0, 2, 1])?;
     for key in 0..4 {
-        assert_eq!(rt; find(&rt, &table, key), Some(key));
+        assert_same(&rt, key, &find(&rt, &table, key), &Some(key));
     }
     Ok(())
 }
@@ -239,9 +242,9 @@ fn count_three_keys(rt: &impl Abort, table: &mut QuotientTable, most: u64) -> Re
     count_times(rt, table, 5, most)?;
     count_times(rt, table, LONGEST, most + 1)?;
     count_times(rt, table, 7, most + 2)?;
-    assert_eq!(rt; count_of(rt, table, 5), most);
-    assert_eq!(rt; count_of(rt, table, LONGEST), most + 1);
-    assert_eq!(rt; count_of(rt, table, 7), most + 2);
+    assert_same(rt, 5, &count_of(rt, table, 5), &most);
+    assert_same(rt, LONGEST, &count_of(rt, table, LONGEST), &(most + 1));
+    assert_same(rt, 7, &count_of(rt, table, 7), &(most + 2));
     Ok(())
 }
 
@@ -260,7 +263,7 @@ fn counts_at_the_carry(
 {
     let mut table = QuotientTable::new(alloc, 62, log, 40)?;
     count_three_keys(rt, &mut table, most)?;
-    assert_eq!(rt; table.log(), log);
+    assert_same(rt, "log", &table.log(), &log);
     assert_rows(rt, alloc, &table, rows)?;
     Ok(())
 }
@@ -278,8 +281,8 @@ fn counts_outgrow_their_slots(rt: HostRuntime) -> Result<(), Fail> {
 
 // Asserts that a table has 2^log slots, and the longest key so often.
 fn assert_longest(rt: &impl Abort, table: &QuotientTable, log: u32, count: u64) {
-    assert_eq!(rt; table.log(), log);
-    assert_eq!(rt; count_of(rt, table, LONGEST), count);
+    assert_same(rt, "log", &table.log(), &log);
+    assert_same(rt, LONGEST, &count_of(rt, table, LONGEST), &count);
 }
 
 #[test]
@@ -302,9 +305,9 @@ fn a_growth_keeps_counts_that_outgrew_their_slots(rt: HostRuntime) -> Result<(),
 fn assert_refusal(rt: &impl Abort, alloc: Global, refusal: TableFault) -> Result<(), TableFault> {
     let mut table = LimitedCounts::new(alloc, 16, 2, refusal);
     count_each(rt, &mut table, &[3, 7])?;
-    assert_eq!(rt; ready(rt, &mut table, 9), Err(refusal));
+    assert_same(rt, 9, &ready(rt, &mut table, 9), &Err(refusal));
     assert_counts(rt, &table, &[(3, 1), (7, 1), (9, 0)]);
-    assert_eq!(rt; ready(rt, &mut table, 3), Ok(()));
+    assert_same(rt, 3, &ready(rt, &mut table, 3), &Ok(()));
     Ok(())
 }
 
@@ -322,10 +325,22 @@ fn ready_again(rt: &impl Abort, table: &mut QuotientTable, number: u8) -> Result
     let Err(fault) = ready(rt, table, key) else {
         return Ok(());
     };
-    assert_eq!(rt; fault, TableFault::Memory);
-    assert_eq!(rt; table.log(), before);
+    assert_same(rt, number, &fault, &TableFault::Memory);
+    assert_same(rt, number, &table.log(), &before);
     assert_home(rt, table, number);
     ready(rt, table, key)
+}
+
+// Stores the next key of one home in this way, and counts it.
+fn ready_and_count(
+    rt: &impl Abort,
+    table: &mut QuotientTable,
+    number: u8,
+) -> Result<(), TableFault> {
+    ready_again(rt, table, number)?;
+    let key = key_of_one_home(number);
+    assert_same(rt, key, &count_of(rt, table, key), &0);
+    count(rt, table, key)
 }
 
 // Where a growth is refused the counts stay, and the next call finds memory again.
@@ -337,12 +352,9 @@ fn a_refused_growth_leaves_the_table(rt: HostRuntime) -> Result<(), Fail> {
         Err(_) => QuotientTable::new(alloc, 16, 4, 16)?,
     };
     for number in 0..64 {
-        ready_again(&rt, &mut table, number)?;
-        let key = key_of_one_home(number);
-        assert_eq!(rt; count_of(&rt, &table, key), 0);
-        count(&rt, &mut table, key)?;
+        ready_and_count(&rt, &mut table, number)?;
     }
-    assert_eq!(rt; table.log(), 9);
+    assert_same(&rt, "log", &table.log(), &9);
     Ok(())
 }
 
@@ -355,8 +367,13 @@ fn do_alike(
 ) -> Result<(), TableFault> {
     let key = drawn % 5000;
     match drawn >> 62 {
-        0 => assert_eq!(rt; ready(rt, table, key), ready(rt, plain, key)),
-        1 => assert_eq!(rt; count_of(rt, table, key), count_of(rt, plain, key)),
+        0 => assert_same(rt, key, &ready(rt, table, key), &ready(rt, plain, key)),
+        1 => assert_same(
+            rt,
+            key,
+            &count_of(rt, table, key),
+            &count_of(rt, plain, key),
+        ),
         _ => {
             count(rt, plain, key)?;
             count(rt, table, key)?;

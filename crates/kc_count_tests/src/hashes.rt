@@ -1,6 +1,7 @@
 //! Small matrices by hand, seeds against another program, and every number got back.
 ghost use Rattle.std.specs.Prelude.{◌≡◌, length};
 
+use crate::count_assertions::assert_same;
 use kc_hash::{Hash, HashFault, Inverse, Matrix, MatrixTables};
 use rand_core::SeedableRng;
 use rand_core::utils::NextWord;
@@ -17,6 +18,14 @@ fn matrix_of(bits: u32, first: &[u64]) -> Option<Matrix> {
     Matrix::of_columns(bits, columns)
 }
 
+// The same, where there is one.
+fn made_matrix(bits: u32, first: &[u64]) -> Result<Matrix, Fail> {
+    match matrix_of(bits, first) {
+        Some(matrix) => Ok(matrix),
+        None => Err(Fail::from("no matrix")),
+    }
+}
+
 // Bits and columns that make no matrix.
 const OUT_OF_RANGE: &[(u32, &[u64])] = &[(0, &[]), (63, &[1, 1, 1]), (2, &[4, 1]), (2, &[1, 4])];
 
@@ -30,7 +39,7 @@ fn columns_out_of_range_make_no_matrix(rt: HostRuntime) {
 
 #[test]
 fn a_matrix_is_its_first_columns(rt: HostRuntime) -> Result<(), Fail> {
-    let matrix = matrix_of(2, &[1, 3]).ok_or("a matrix")?;
+    let matrix = made_matrix(2, &[1, 3])?;
     assert!(rt; matrix_of(2, &[1, 3, 7]) == Some(matrix));
     assert!(rt; matrix_of(2, &[1, 2]) != Some(matrix));
     assert!(rt; matrix_of(3, &[1, 3]) != Some(matrix));
@@ -53,7 +62,7 @@ const PRODUCTS: &[(u64, u64)] = &[(0, 0), (1, 1), (2, 3), (3, 2)];
 
 #[test]
 fn a_product_is_the_xor_of_the_columns_at_the_set_bits(rt: HostRuntime) -> Result<(), Fail> {
-    let matrix = matrix_of(2, &[1, 3]).ok_or("a matrix")?;
+    let matrix = made_matrix(2, &[1, 3])?;
     assert!(rt; matrix.bits() == 2);
     let tables = matrix.tables();
     for (x, product) in PRODUCTS {
@@ -64,32 +73,32 @@ fn a_product_is_the_xor_of_the_columns_at_the_set_bits(rt: HostRuntime) -> Resul
 
 #[test]
 fn a_matrix_has_an_inverse_or_maps_a_number_to_zero(rt: HostRuntime) -> Result<(), Fail> {
-    let matrix = matrix_of(2, &[1, 3]).ok_or("a matrix")?;
-    assert_eq!(rt; matrix.invert(), Inverse::Found(matrix));
-    let turned = matrix_of(3, &[2, 4, 1]).ok_or("a matrix")?;
-    let back = matrix_of(3, &[4, 1, 2]).ok_or("a matrix")?;
-    assert_eq!(rt; turned.invert(), Inverse::Found(back));
-    let flat = matrix_of(2, &[0, 1]).ok_or("a matrix")?;
-    assert_eq!(rt; flat.invert(), Inverse::Kernel(1));
+    let matrix = made_matrix(2, &[1, 3])?;
+    assert_same(&rt, "by itself", &matrix.invert(), &Inverse::Found(matrix));
+    let turned = made_matrix(3, &[2, 4, 1])?;
+    let back = made_matrix(3, &[4, 1, 2])?;
+    assert_same(&rt, "turned", &turned.invert(), &Inverse::Found(back));
+    let flat = made_matrix(2, &[0, 1])?;
+    assert_same(&rt, "flat", &flat.invert(), &Inverse::Kernel(1));
     let same = Matrix::identity(3);
-    assert_eq!(rt; matrix_of(3, &[1, 2, 4]), Some(same));
-    assert_eq!(rt; same.invert(), Inverse::Found(same));
+    assert_same(&rt, "identity", &matrix_of(3, &[1, 2, 4]), &Some(same));
+    assert_same(&rt, "identity", &same.invert(), &Inverse::Found(same));
     Ok(())
 }
 
 #[test]
 fn a_singular_matrix_makes_no_hash(rt: HostRuntime) -> Result<(), Fail> {
-    let matrix = matrix_of(2, &[1, 1]).ok_or("a matrix")?;
+    let matrix = made_matrix(2, &[1, 1])?;
     let fault = HashFault::Singular(3);
     assert!(rt; Hash::of_matrix(matrix) == Err(fault));
     let told = format!(in rt.alloc(); "{fault}")?;
-    assert_eq!(rt; told.as_str(), "the matrix is singular: it maps 3 to 0");
+    assert!(rt; told.as_str() == "the matrix is singular: it maps 3 to 0");
     Ok(())
 }
 
 #[test]
 fn hashes_are_equal_where_their_matrices_are(rt: HostRuntime) -> Result<(), Fail> {
-    let matrix = matrix_of(2, &[1, 3]).ok_or("a matrix")?;
+    let matrix = made_matrix(2, &[1, 3])?;
     let hash = Hash::of_matrix(matrix)?;
     assert!(rt; Hash::of_matrix(matrix) == Ok(hash));
     assert!(rt; Hash::of_matrix(Matrix::identity(2)) != Ok(hash));

@@ -2,6 +2,8 @@
 #![tactic(auto)]
 
 #[cfg(test)]
+mod count_assertions;
+#[cfg(test)]
 mod counting_tables;
 #[cfg(test)]
 mod hashes;

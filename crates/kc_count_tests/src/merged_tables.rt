@@ -1,4 +1,5 @@
 //! Tables put together.
+use crate::count_assertions::{assert_items, assert_same};
 use kc_io::{FromBytes, ToVec};
 use kc_report::{ReportFault, merge, read_table, write_table};
 use std::alloc::Global;
@@ -64,7 +65,7 @@ const MERGED: &[(&[u8], &[u8], &[u8])] = &[
 fn tables_together(rt: HostRuntime) -> Result<(), ReportFault> {
     for (first, second, want) in MERGED {
         let text = merged_text(rt.alloc(), *first, *second)?;
-        assert!(rt; text.as_slice() == *want);
+        assert_items(&rt, "a sum", text.as_slice(), *want);
     }
     Ok(())
 }
@@ -104,8 +105,8 @@ const REFUSED: &[(&[u8], &[u8], ReportFault)] = &[
 
 // Asserts that the tables can't be put together, and why.
 fn assert_refused<H: Abort + AllocGlobal>(rt: &H, first: &[u8], second: &[u8], want: ReportFault) {
-    let outcome = merged_text(rt.alloc(), first, second);
-    assert_eq!(rt; outcome.err(), Some(want));
+    let fault = merged_text(rt.alloc(), first, second).err();
+    assert_same(rt, "a fault", &fault, &Some(want));
 }
 
 #[test]

@@ -1,4 +1,5 @@
 //! Tables and reports over streams that give and take few bytes at a time, and fail.
+use crate::count_assertions::{assert_items, assert_same};
 use crate::report_rows::strings_of;
 use kc_io::{FromBytes, FromRead, ToWrite};
 use kc_report::{
@@ -142,11 +143,8 @@ fn assert_written<H: Abort + AllocGlobal>(rt: &H, writing: &Writing<'_>) -> Resu
     let mut sink = narrow_writer(alloc, room, writing.flushes)?;
     let outcome = write_report(alloc, &mut sink, &tally, report, &asked);
     let bytes = sink.into_inner().bytes;
-    assert_eq!(rt; outcome, writing.outcome, "{report:?}, room for {room}");
-    assert!(rt;
-        bytes.as_slice() == writing.taken,
-        "{report:?}, room for {room}"
-    );
+    assert_same(rt, room, &outcome, &writing.outcome);
+    assert_items(rt, room, bytes.as_slice(), writing.taken);
     Ok(())
 }
 
@@ -196,7 +194,7 @@ fn assert_refused<H: Abort + AllocGlobal>(
     want: ReportFault,
 ) {
     let fault = read_slowly(rt.alloc(), text, reads, limit).err();
-    assert_eq!(rt; fault, Some(want), "{reads} reads, limit {limit}");
+    assert_same(rt, text.len(), &fault, &Some(want));
 }
 
 #[test]
@@ -210,8 +208,8 @@ fn fronts_of_a_table_byte_by_byte(rt: HostRuntime) -> Result<(), ReportFault> {
         assert_refused(&rt, &TABLE[..count], usize::MAX, 100, want);
     }
     let tally = read_slowly(rt.alloc(), TABLE, usize::MAX, 30)?;
-    assert_eq!(rt; tally.total(), 3);
-    assert_eq!(rt; tally.row_count(), 2);
+    assert_same(&rt, "total", &tally.total(), &3);
+    assert_same(&rt, "rows", &tally.row_count(), &2);
     let more = b"KCT 1 3 c\nACG 2\nGTA 1\nEND 2 3\n\n";
     assert_refused(&rt, more, usize::MAX, 100, ReportFault::BadEnd);
     Ok(())
@@ -237,7 +235,7 @@ fn every_failed_read(rt: HostRuntime) -> Result<(), ReportFault> {
         }
     }
     let tally = read_slowly(rt.alloc(), TABLE, TABLE.len() + 1, 100)?;
-    assert_eq!(rt; tally.total(), 3);
+    assert_same(&rt, "total", &tally.total(), &3);
     Ok(())
 }
 
@@ -246,7 +244,7 @@ fn read_if_memory<H: Abort + AllocGlobal>(rt: &H, text: &[u8]) -> Result<Tally, 
     match read_table(rt.alloc(), &mut FromBytes::new(text), 100) {
         Ok((tally, _)) => Ok(tally),
         Err(fault) => {
-            assert_eq!(rt; fault, ReportFault::Memory);
+            assert_same(rt, "fault", &fault, &ReportFault::Memory);
             Err(AllocError)
         }
     }
@@ -261,10 +259,10 @@ fn memory_or_the_report(rt: HostRuntime) -> Result<(), AllocError> {
     let outcome = write_histo(rt.alloc(), &mut sink, &tally, 20_000);
     let written = sink.into_inner().bytes;
     if let Err(fault) = outcome {
-        assert_eq!(rt; fault, ReportFault::Memory);
-        assert_eq!(rt; written.len(), 0);
+        assert_same(&rt, "fault", &fault, &ReportFault::Memory);
+        assert_same(&rt, "written", &written.len(), &0);
         return Err(AllocError);
     }
-    assert_eq!(rt; written.as_slice(), b"1 8\n2 1\n".as_slice());
+    assert_items(&rt, "written", written.as_slice(), b"1 8\n2 1\n");
     Ok(())
 }

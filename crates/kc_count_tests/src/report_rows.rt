@@ -1,6 +1,7 @@
 //! Reports on a worked tally, and tables that are none.
 ghost use Rattle.std.specs.Prelude.{◌≡◌};
 
+use crate::count_assertions::{assert_items, assert_same};
 use kc_io::{FromBytes, ToVec};
 use kc_kmer::K;
 use kc_report::{
@@ -29,8 +30,10 @@ fn worked_tally(alloc: Global, k: K) -> Result<Tally, AllocError>
 
 // The same tally, with its length of words.
 fn tally_of_three(alloc: Global) -> Result<Tally, Fail> {
-    let k = K::new(2).ok_or("no length of a word")?;
-    Ok(worked_tally(alloc, k)?)
+    match K::new(2) {
+        Some(k) => Ok(worked_tally(alloc, k)?),
+        None => Err(Fail::from("no length of a word")),
+    }
 }
 
 // Asserts that the tally's dump is this text.
@@ -63,7 +66,7 @@ fn statistics_of_three_words(rt: HostRuntime) -> Result<(), Fail> {
     let mut sink = ToVec::new(Vec::new(rt.alloc()));
     write_stats(&mut sink, &tally)?;
     let want = b"Unique:    1\nDistinct:  3\nTotal:     70003\nMax_count: 70000\n";
-    assert_eq!(rt; sink.as_slice(), want.as_slice());
+    assert_items(&rt, "statistics", sink.as_slice(), want);
     Ok(())
 }
 
@@ -83,8 +86,8 @@ fn assert_histogram<H: Abort + AllocGlobal>(rt: &H, tally: &Tally, high: u64, wa
     assert!(rt; 1 <= high && high <= GREATEST_HIGH);
     let mut sink = ToVec::new(Vec::new(rt.alloc()));
     let outcome = write_histo(rt.alloc(), &mut sink, tally, high);
-    assert_eq!(rt; outcome, Ok(()), "up to {high}");
-    assert_eq!(rt; sink.as_slice(), want, "up to {high}");
+    assert_same(rt, high, &outcome, &Ok(()));
+    assert_items(rt, high, sink.as_slice(), want);
 }
 
 #[test]
@@ -101,8 +104,8 @@ const TABLE: &[u8] = b"KCT 1 3 c\nACG 2\nGTA 1\nEND 2 3\n";
 // Asserts that reading a text of at most so many bytes as a table ends in this fault.
 fn assert_refused<H: Abort + AllocGlobal>(rt: &H, text: &[u8], limit: u64, want: ReportFault) {
     assert!(rt; limit <= 100);
-    let outcome = read_table(rt.alloc(), &mut FromBytes::new(text), limit);
-    assert_eq!(rt; outcome.err(), Some(want));
+    let fault = read_table(rt.alloc(), &mut FromBytes::new(text), limit).err();
+    assert_same(rt, text.len(), &fault, &Some(want));
 }
 
 // Asserts that what is written of the tally and the origin that a text gives is the text.
@@ -111,7 +114,7 @@ fn assert_copied<H: Abort + AllocGlobal>(rt: &H, text: &[u8]) -> Result<(), Repo
     let (tally, origin) = read_table(alloc, &mut FromBytes::new(text), 100)?;
     let mut sink = ToVec::new(Vec::new(alloc));
     write_table(&mut sink, &tally, origin.as_ref())?;
-    assert_eq!(rt; sink.as_slice(), text);
+    assert_items(rt, "a table", sink.as_slice(), text);
     Ok(())
 }
 
@@ -254,8 +257,9 @@ fn assert_answer<H: Abort + AllocGlobal>(
     let (tally, _) = read_table(alloc, &mut FromBytes::new(TABLE), 100)?;
     let asked = strings_of(alloc, words)?;
     let mut sink = ToVec::new(Vec::new(alloc));
-    assert_eq!(rt; query(&mut sink, &tally, &asked), outcome);
-    assert_eq!(rt; sink.as_slice(), text);
+    let found = query(&mut sink, &tally, &asked);
+    assert_same(rt, "an outcome", &found, &outcome);
+    assert_items(rt, "answers", sink.as_slice(), text);
     Ok(())
 }
 

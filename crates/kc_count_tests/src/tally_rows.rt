@@ -2,6 +2,7 @@
 ghost use Rattle.std.specs.Prelude.{◌≡◌, IfOk};
 ghost use Rattle.std.specs.List.{flat_map};
 
+use crate::count_assertions::assert_same;
 use kc_fastx::SeqRead;
 use kc_kmer::slow_count::base_count;
 use kc_kmer::{K, Rule};
@@ -32,10 +33,10 @@ fn reads_of(alloc: Global, texts: &[&[u8]]) -> Option<Vec<SeqRead>> {
 
 // Asserts that the rows are these words with these counts.
 fn assert_rows<H: Abort>(rt: &H, found: &[Row], want: &[(u64, u64)]) {
-    assert_eq!(rt; found.len(), want.len());
+    assert_same(rt, "rows", &found.len(), &want.len());
     for (row, (word, count)) in found.iter().zip(want) {
-        assert_eq!(rt; row.word, *word);
-        assert_eq!(rt; row.count, *count);
+        assert_same(rt, "a word", &row.word, word);
+        assert_same(rt, *word, &row.count, count);
     }
 }
 
@@ -46,6 +47,13 @@ fn rows_under(alloc: Global, reads: &[SeqRead], rule: &Rule) -> Option<Vec<Row>>
         return None;
     };
     Some(rows)
+}
+
+// The rows of words of k bases in these texts.
+fn rows_in(alloc: Global, texts: &[&[u8]], k: u32, both: bool) -> Option<Vec<Row>> {
+    let rule = Rule::new(K::new(k)?, both, b'!');
+    let reads = reads_of(alloc, texts)?;
+    rows_under(alloc, &reads, &rule)
 }
 
 // Reads, the length of words, whether both strands count, and the rows.
@@ -62,11 +70,10 @@ const TALLIES: &[(&[&[u8]], u32, bool, &[(u64, u64)])] = &[
 #[test]
 fn tallies(rt: HostRuntime) -> Result<(), Fail> {
     for (texts, k, both, want) in TALLIES {
-        let k = K::new(*k).ok_or("no length of a word")?;
-        let reads = reads_of(rt.alloc(), *texts).ok_or("no reads")?;
-        let rule = Rule::new(k, *both, b'!');
-        let found = rows_under(rt.alloc(), &reads, &rule).ok_or("no rows")?;
-        assert_rows(&rt, &found, *want);
+        match rows_in(rt.alloc(), *texts, *k, *both) {
+            Some(found) => assert_rows(&rt, &found, *want),
+            None => return Err(Fail::from("no rows")),
+        }
     }
     Ok(())
 }
@@ -85,7 +92,7 @@ fn rows_of(alloc: Global, counts: &[u64]) -> Result<Vec<Row>, AllocError> {
 fn assert_bins<H: Abort>(rt: &H, histogram: &Histogram, bins: &[(u64, u64)]) {
     for (bin, size) in bins {
         assert!(rt; 1 <= *bin && *bin <= 10_001);
-        assert_eq!(rt; histogram.bin(*bin), *size, "bin {bin}");
+        assert_same(rt, *bin, &histogram.bin(*bin), size);
     }
 }
 
@@ -137,11 +144,29 @@ fn tally_of(alloc: Global, reads: &[SeqRead], k: K) -> Result<Tally, Fail> {
     Ok(tally)
 }
 
+// The length of a word.
+fn k_of(k: u32) -> Result<K, Fail>
+    ensures { IfOk result (λ made. made ≡ k) }
+{
+    match K::new(k) {
+        Some(k) => Ok(k),
+        None => Err(Fail::from("no length of a word")),
+    }
+}
+
+// The tally of the reads of these texts.
+fn tally_in(alloc: Global, texts: &[&[u8]], k: K) -> Result<Tally, Fail> {
+    match reads_of(alloc, texts) {
+        Some(reads) => tally_of(alloc, &reads, k),
+        None => Err(Fail::from("no reads")),
+    }
+}
+
 // Asserts that these bins of the tally have these sizes.
 fn assert_tally_bins<H: Abort>(rt: &H, tally: &Tally, bins: &[(u64, u64)]) {
     for (bin, size) in bins {
         assert!(rt; 1 <= *bin && *bin <= 10_001);
-        assert_eq!(rt; tally.bin(*bin), *size, "bin {bin}");
+        assert_same(rt, *bin, &tally.bin(*bin), size);
     }
 }
 
@@ -176,20 +201,19 @@ const OF_ONE_BASE: &[OfOneBase] = &[
 
 // Asserts that the tally is the one of the row.
 fn assert_of_one_base<H: Abort>(rt: &H, tally: &Tally, want: &OfOneBase) {
-    assert_eq!(rt; tally.count_of(0), want.counts.0);
-    assert_eq!(rt; tally.count_of(1), want.counts.1);
+    assert_same(rt, "A", &tally.count_of(0), &want.counts.0);
+    assert_same(rt, "C", &tally.count_of(1), &want.counts.1);
     assert!(rt; tally.k().get() == 1);
     assert!(rt; tally.both());
-    assert_eq!(rt; tally.total(), want.total);
+    assert_same(rt, "total", &tally.total(), &want.total);
     assert_tally_bins(rt, tally, want.bins);
 }
 
 #[test]
 fn tallies_of_rows(rt: HostRuntime) -> Result<(), Fail> {
-    let k = K::new(1).ok_or("no length of a word")?;
+    let k = k_of(1)?;
     for row in OF_ONE_BASE {
-        let reads = reads_of(rt.alloc(), row.texts).ok_or("no reads")?;
-        let tally = tally_of(rt.alloc(), &reads, k)?;
+        let tally = tally_in(rt.alloc(), row.texts, k)?;
         assert_of_one_base(&rt, &tally, row);
     }
     Ok(())
@@ -197,19 +221,29 @@ fn tallies_of_rows(rt: HostRuntime) -> Result<(), Fail> {
 
 #[test]
 fn the_last_bin(rt: HostRuntime) -> Result<(), Fail> {
-    let k = K::new(1).ok_or("no length of a word")?;
-    let mut reads = reads_of(rt.alloc(), &[b"C"]).ok_or("no reads")?;
-    for _ in 0..10_005 {
-        reads.push(read_of(rt.alloc(), b"A").ok_or("no read")?)?;
-    }
-    let tally = tally_of(rt.alloc(), &reads, k)?;
+    let Some(reads) = many_reads(rt.alloc()) else {
+        return Err(Fail::from("no reads"));
+    };
+    let tally = tally_of(rt.alloc(), &reads, k_of(1)?)?;
     assert_tally_bins(&rt, &tally, &[(1, 1), (10_000, 0), (10_001, 1)]);
     Ok(())
 }
 
+// The reads C, and A 10,005 times.
+fn many_reads(alloc: Global) -> Option<Vec<SeqRead>> {
+    let mut reads = reads_of(alloc, &[b"C"])?;
+    for _ in 0..10_005 {
+        let read = read_of(alloc, b"A")?;
+        let Ok(()) = reads.push(read) else {
+            return None;
+        };
+    }
+    Some(reads)
+}
+
 // Asserts that the tally has these words with these counts, and no others.
 fn assert_tally_rows<H: Abort>(rt: &H, tally: &Tally, want: &[(u64, u64)]) {
-    assert_eq!(rt; tally.row_count(), want.len() as u64);
+    assert_same(rt, "rows", &tally.row_count(), &(want.len() as u64));
     let mut rows = tally.rows();
     for (word, count) in want {
         let (word, count) = (*word, *count);
@@ -222,9 +256,7 @@ fn assert_tally_rows<H: Abort>(rt: &H, tally: &Tally, want: &[(u64, u64)]) {
 // Run with each allocation refused in turn: `rt try --test --fail-alloc N`.
 #[test]
 fn memory_or_the_tally(rt: HostRuntime) -> Result<(), Fail> {
-    let k = K::new(2).ok_or("no length of a word")?;
-    let reads = reads_of(rt.alloc(), &[b"ACGTA"]).ok_or("no reads")?;
-    let tally = tally_of(rt.alloc(), &reads, k)?;
+    let tally = tally_in(rt.alloc(), &[b"ACGTA"], k_of(2)?)?;
     assert_tally_rows(&rt, &tally, &[(1, 2), (6, 1), (12, 1)]);
     Ok(())
 }
@@ -276,11 +308,11 @@ fn parted_count(word: u64) -> u64 {
 
 // Asserts that this is the parted tally.
 fn assert_parted<H: Abort>(rt: &H, tally: &Tally) {
-    assert_eq!(rt; tally.total(), 70_004);
+    assert_same(rt, "total", &tally.total(), &70_004);
     assert_tally_bins(rt, tally, &[(1, 2), (2, 1), (3, 0), (10_001, 1)]);
     assert_tally_rows(rt, tally, PARTED);
     for word in 0u64..17 {
-        assert_eq!(rt; tally.count_of(word), parted_count(word), "{word}");
+        assert_same(rt, word, &tally.count_of(word), &parted_count(word));
     }
 }
 
@@ -307,7 +339,7 @@ const PARTINGS: &[&[usize]] = &[
 
 #[test]
 fn tallies_of_parts(rt: HostRuntime) -> Result<(), Fail> {
-    let k = K::new(2).ok_or("no length of a word")?;
+    let k = k_of(2)?;
     for ends in PARTINGS {
         let tally = parted_tally(rt.alloc(), k, *ends)?;
         assert_parted(&rt, &tally);
@@ -317,7 +349,7 @@ fn tallies_of_parts(rt: HostRuntime) -> Result<(), Fail> {
 
 #[test]
 fn sums_of_parts(rt: HostRuntime) -> Result<(), Fail> {
-    let k = K::new(2).ok_or("no length of a word")?;
+    let k = k_of(2)?;
     let one = parted_tally(rt.alloc(), k, &[2])?;
     for ends in PARTINGS {
         let other = parted_tally(rt.alloc(), k, *ends)?;

@@ -27,15 +27,29 @@ use std::thread::Threads;
 use std::time::{Clock, Duration};
 
 // Words of k bases on one strand, in so many stripes, by a hash that leaves them as they are.
-pub(crate) fn setup_of(k: u32, stripes: u32) -> Option<Setup> {
+fn setup_of(k: u32, stripes: u32) -> Option<Setup> {
     let k = K::new(k)?;
     let hash = Hash::of_matrix(Matrix::identity(2 * k.get())).ok()?;
     Setup::new(Rule::new(k, false, b'!'), hash, stripes)
 }
 
+// The same, where there is such a setup.
+pub(crate) fn made_setup(k: u32, stripes: u32) -> Result<Setup, Fail> {
+    match setup_of(k, stripes) {
+        Some(setup) => Ok(setup),
+        None => Err(Fail::from("no setup")),
+    }
+}
+
 // A read of these bases.
-fn read_of(alloc: Global, bases: &[u8]) -> Result<SeqRead, Fail> {
-    Ok(SeqRead::new(Vec::from_slice(alloc, bases)?, None).ok_or("no read")?)
+fn read_of(alloc: Global, bases: &[u8]) -> Result<SeqRead, Fail>
+    ensures { IfOk result (λ read. read.bases ≡ bases.now) }
+{
+    let bases = Vec::from_slice(alloc, bases)?;
+    match SeqRead::new(bases, None) {
+        Some(read) => Ok(read),
+        None => Err(Fail::from("no read")),
+    }
 }
 
 // The batches of one read, of so many positions each.
@@ -56,7 +70,7 @@ pub(crate) fn batches_of(
         return Err(Fail::from("too many bases"));
     }
     let mut pieces = Vec::new(alloc);
-    let read = SeqRead::new(Vec::from_slice(alloc, bases)?, None).ok_or("no read")?;
+    let read = read_of(alloc, bases)?;
     pieces.push(clean(alloc, &read, setup.rule())?)?;
     let batches = cut(alloc, pieces, setup.rule().k(), size.max(1))?;
     if batches.len() > 10_000 {
@@ -127,7 +141,7 @@ fn count_ten<H: Threads + Wait + Abort + Sync + AllocGlobal>(
 ) -> Result<(), Fail>
     requires { (size ≤ 11) × (workers ≤ 8) }
 {
-    let setup = setup_of(3, 1 << ((size + workers) % 7)).ok_or("no setup")?;
+    let setup = made_setup(3, 1 << ((size + workers) % 7))?;
     let case = Case {
         bases: b"AAAAAAAAAA",
         size: u64::from(size),
@@ -151,7 +165,7 @@ fn the_tally_is_one_for_all_workers_stripes_and_batches(rt: HostRuntime) -> Resu
 
 #[test]
 fn no_batches_have_no_rows(rt: HostRuntime) -> Result<(), Fail> {
-    let setup = setup_of(3, 4).ok_or("no setup")?;
+    let setup = made_setup(3, 4)?;
     let case = Case {
         bases: b"AC",
         size: 1,
@@ -213,7 +227,10 @@ fn count_with_workers<H: Threads + Wait + Abort + Sync + AllocGlobal>(
 #[test]
 fn random_bases_are_counted_as_by_hand(rt: HostRuntime) -> Result<(), Fail> {
     let bases = random_bases(rt.alloc(), 600)?;
-    let rule = Rule::new(K::new(3).ok_or("no length of a word")?, true, b'!');
+    let Some(k) = K::new(3) else {
+        return Err(Fail::from("no length of a word"));
+    };
+    let rule = Rule::new(k, true, b'!');
     let want = rows_by_hand(rt.alloc(), &bases, &rule)?;
     for stripes in STRIPES {
         let setup = Setup::new(rule, Hash::seeded(6, 1), *stripes).ok_or("no setup")?;
@@ -257,7 +274,7 @@ fn refused<H: Threads + Wait + Sync + AllocGlobal>(
     refusal: TableFault,
     workers: u32,
 ) -> Result<RunFault, Fail> {
-    let setup = setup_of(3, 2).ok_or("no setup")?;
+    let setup = made_setup(3, 2)?;
     let case = Case {
         bases,
         size: 1,
@@ -328,7 +345,7 @@ fn count_crowded<H: Threads + Wait + Sync + AllocGlobal>(
     rt: &H,
     words: u64,
 ) -> Result<Result<Tally, RunFault>, Fail> {
-    let setup = setup_of(8, 1).ok_or("no setup")?;
+    let setup = made_setup(8, 1)?;
     let bases = crowded(rt.alloc(), words)?;
     let case = Case {
         bases: &bases,
@@ -410,7 +427,7 @@ const FOUR_BY_TWO: Case = Case {
 
 #[test]
 fn two_workers_book_at_once(rt: HostRuntime) -> Result<(), Fail> {
-    let setup = setup_of(3, 4).ok_or("no setup")?;
+    let setup = made_setup(3, 4)?;
     let gate = HoldsFirst {
         clock: &rt,
         first: AtomicU64::new(0),
@@ -460,7 +477,7 @@ fn tell_of_eight<H: Threads + Wait + Sync + AllocGlobal>(
     workers: u32,
     gate: &Told,
 ) -> Result<(), Fail> {
-    let setup = setup_of(3, 4).ok_or("no setup")?;
+    let setup = made_setup(3, 4)?;
     let case = Case {
         bases: b"AAAAAAAAAA",
         size: 1,
@@ -496,7 +513,7 @@ fn tell_of_one<H: Threads + Wait + Sync + AllocGlobal>(
     bases: &[u8],
     gate: &Told,
 ) -> Result<bool, Fail> {
-    let setup = setup_of(3, 2).ok_or("no setup")?;
+    let setup = made_setup(3, 2)?;
     let case = Case {
         bases,
         size: 2,
@@ -579,7 +596,7 @@ const ROUNDS: &[(u32, u64)] = &[(1, 4), (2, 2), (3, 1), (64, 1)];
 // there are more batches than both could have begun one of.
 #[test]
 fn a_round_leaves_each_worker_four(rt: HostRuntime) -> Result<(), Fail> {
-    let setup = setup_of(3, 1).ok_or("no setup")?;
+    let setup = made_setup(3, 1)?;
     assert_eq!(rt; batches_of(rt.alloc(), &setup, SIXTEEN, 1)?.len(), 16);
     for (workers, want) in ROUNDS {
         let longest = longest_round(&rt, &setup, *workers)?;
@@ -591,7 +608,7 @@ fn a_round_leaves_each_worker_four(rt: HostRuntime) -> Result<(), Fail> {
 // Run with each growth refused in turn, by `make memory`: no other fault is answered, and no other tally.
 #[test]
 fn a_refused_growth_gives_no_tally(rt: HostRuntime) -> Result<(), Fail> {
-    let setup = setup_of(3, 4).ok_or("no setup")?;
+    let setup = made_setup(3, 4)?;
     let tables = plain_tables(rt.alloc(), &setup)?;
     match run_over(&rt, rt.alloc(), &setup, tables, &FOUR_BY_TWO, &NoGate)? {
         Ok(tally) => {

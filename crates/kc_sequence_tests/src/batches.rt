@@ -1,6 +1,6 @@
 //! The cutting of pieces into batches, and the words of these.
 use crate::assertions::{assert_bytes, assert_numbers, assert_same};
-use crate::sample_reads::{cleaned, k_of, pieces_of, rule_of, words_of_all};
+use crate::sample_reads::{cleaned, pieces_of, rule_of, words_of_all};
 use kc_fastx::SeqRead;
 use kc_word::{Batch, Cutting, K, PieceView, Rule, clean, cut, read_words, words};
 use std::alloc::{AllocError, Global};
@@ -91,10 +91,12 @@ const BATCH_PIECES: &[&[&[u8]]] = &[&[b"ACGT"], &[b"GTA", b"NGT"], &[b"GTN"]];
 // Asserts what a batch has.
 fn assert_batch<H: AllocGlobal + Abort>(rt: &H, batch: &Batch, row: &Row) -> Result<(), Fail> {
     let (bytes, positions, bases, one, both) = row;
-    assert_same(rt, "bytes", &batch.position_count(k_of(1)?), bytes);
-    assert_same(rt, "positions", &batch.position_count(k_of(3)?), positions);
-    assert_words(rt, batch, &rule_of(1, false)?, *bases)?;
-    assert_words(rt, batch, &rule_of(3, false)?, *one)?;
+    let rule = rule_of(1, false)?;
+    assert_same(rt, "bytes", &batch.position_count(rule.k()), bytes);
+    assert_words(rt, batch, &rule, *bases)?;
+    let rule = rule_of(3, false)?;
+    assert_same(rt, "positions", &batch.position_count(rule.k()), positions);
+    assert_words(rt, batch, &rule, *one)?;
     assert_words(rt, batch, &rule_of(3, true)?, *both)?;
     Ok(())
 }

@@ -2,6 +2,7 @@
 use crate::assertions::assert_same;
 use crate::sample_reads::{k_of, read_of, reads_of, rule_of};
 use kc_word::{Only, Rule, pack};
+use std::alloc::Global;
 use std::process::Abort;
 use std::test::Fail;
 
@@ -13,8 +14,16 @@ fn is_held(only: &Only, letters: &[u8]) -> Result<bool, Fail> {
     }
 }
 
+// The list of the words of these reads.
+fn list_of(alloc: Global, texts: &[&[u8]], rule: &Rule) -> Result<Only, Fail> {
+    let reads = reads_of(alloc, texts)?;
+    Ok(Only::of(alloc, &reads, rule)?)
+}
+
 // Reads, whether both strands count, a word, and whether the list of the reads holds it.
-const HELD: &[(&[&[u8]], bool, &[u8], bool)] = &[
+type Held = (&'static [&'static [u8]], bool, &'static [u8], bool);
+
+const HELD: &[Held] = &[
     (&[b"CGT"], false, b"CGT", true),
     (&[b"CGT"], false, b"ACG", false),
     (&[b"CGT"], true, b"ACG", true),
@@ -69,15 +78,21 @@ const HELD: &[(&[&[u8]], bool, &[u8], bool)] = &[
     (&[], false, b"TTTTTTTTTTTTTTTTTTTTTTTTTTTTTTT", false),
 ];
 
+// Asserts what words the list of a row is for, and whether it holds the word.
+fn assert_held<H: AllocGlobal + Abort>(rt: &H, row: usize, held: &Held) -> Result<(), Fail> {
+    let (texts, both, word, want) = held;
+    let rule = rule_of(word.len().min(31) as u32, *both)?;
+    let only = list_of(rt.alloc(), *texts, &rule)?;
+    assert_same(rt, row, &only.k(), &rule.k());
+    assert_same(rt, row, &only.both(), both);
+    assert_same(rt, row, &is_held(&only, *word)?, want);
+    Ok(())
+}
+
 #[test]
 fn words_held(rt: HostRuntime) -> Result<(), Fail> {
-    for (row, (texts, both, word, want)) in HELD.iter().enumerate() {
-        let rule = rule_of(word.len().min(31) as u32, *both)?;
-        let reads = reads_of(rt.alloc(), *texts)?;
-        let only = Only::of(rt.alloc(), &reads, &rule)?;
-        assert_same(&rt, row, &only.k(), &rule.k());
-        assert_same(&rt, row, &only.both(), both);
-        assert_same(&rt, row, &is_held(&only, *word)?, want);
+    for (row, held) in HELD.iter().enumerate() {
+        assert_held(&rt, row, held)?;
     }
     Ok(())
 }
@@ -85,12 +100,18 @@ fn words_held(rt: HostRuntime) -> Result<(), Fail> {
 // Words, and whether the list of a read with a base of low quality holds them.
 const PASSED: &[(&[u8], bool)] = &[(b"AC", true), (b"CG", false), (b"GT", false)];
 
+// The list of the words of two bases of a read with a base of low quality.
+fn list_of_low_quality(alloc: Global) -> Result<Only, Fail> {
+    let rule = Rule::new(k_of(2)?, false, b'#');
+    let read = read_of(alloc, b"ACGT", Some(b"II!I"))?;
+    let mut reads = Vec::new(alloc);
+    reads.push(read)?;
+    Ok(Only::of(alloc, &reads, &rule)?)
+}
+
 #[test]
 fn words_of_low_quality_are_not_held(rt: HostRuntime) -> Result<(), Fail> {
-    let read = read_of(rt.alloc(), b"ACGT", Some(b"II!I"))?;
-    let mut reads = Vec::new(rt.alloc());
-    reads.push(read)?;
-    let only = Only::of(rt.alloc(), &reads, &Rule::new(k_of(2)?, false, b'#'))?;
+    let only = list_of_low_quality(rt.alloc())?;
     for (row, (word, want)) in PASSED.iter().enumerate() {
         assert_same(&rt, row, &is_held(&only, *word)?, want);
     }
@@ -110,12 +131,16 @@ const EQUAL: &[(&[&[u8]], u32, bool, bool)] = &[
 
 #[test]
 fn lists_are_equal_by_value(rt: HostRuntime) -> Result<(), Fail> {
-    let reads = reads_of(rt.alloc(), &[b"CGTA"])?;
-    let only = Only::of(rt.alloc(), &reads, &rule_of(3, false)?)?;
+    let only = list_by(rt.alloc(), &[b"CGTA"], 3, false)?;
     for (row, (texts, k, both, want)) in EQUAL.iter().enumerate() {
-        let reads = reads_of(rt.alloc(), *texts)?;
-        let other = Only::of(rt.alloc(), &reads, &rule_of(*k, *both)?)?;
+        let other = list_by(rt.alloc(), *texts, *k, *both)?;
         assert_same(&rt, row, &(only == other), want);
     }
     Ok(())
+}
+
+// The list of the words of k bases of these reads.
+fn list_by(alloc: Global, texts: &[&[u8]], k: u32, both: bool) -> Result<Only, Fail> {
+    let rule = rule_of(k, both)?;
+    list_of(alloc, texts, &rule)
 }

@@ -43,10 +43,10 @@ fn shown(alloc: Global, answer: &Result<Vec<SeqRead>, FastxFault>) -> Result<Vec
 fn assert_shown<H: AllocGlobal + Abort>(
     rt: &H,
     number: u64,
-    answer: &Result<Vec<SeqRead>, FastxFault>,
+    answer: Result<Vec<SeqRead>, FastxFault>,
     want: &[u8],
 ) -> Result<(), AllocError> {
-    let got = shown(rt.alloc(), answer)?;
+    let got = shown(rt.alloc(), &answer)?;
     assert_bytes(rt, number, got.as_slice(), want);
     Ok(())
 }
@@ -142,14 +142,22 @@ type Row = (&'static [u8], &'static [u8]);
 
 // Asserts the answers of all rows, at once, read by read and byte by byte.
 fn assert_rows<H: AllocGlobal + Abort>(rt: &H, rows: &[Row]) -> Result<(), AllocError> {
-    let alloc = rt.alloc();
     for (row, (bytes, want)) in rows.iter().enumerate() {
-        let row = row as u64;
-        assert_shown(rt, row, &parse(alloc, *bytes), *want)?;
-        assert_shown(rt, row, &collected_bytes(alloc, *bytes), *want)?;
-        assert_shown(rt, row, &collected_slowly(alloc, *bytes, u64::MAX), *want)?;
+        assert_row(rt, row as u64, *bytes, *want)?;
     }
     Ok(())
+}
+
+// The same of one row.
+fn assert_row<H: AllocGlobal + Abort>(
+    rt: &H,
+    row: u64,
+    bytes: &[u8],
+    want: &[u8],
+) -> Result<(), AllocError> {
+    assert_shown(rt, row, parse(rt.alloc(), bytes), want)?;
+    assert_shown(rt, row, collected_bytes(rt.alloc(), bytes), want)?;
+    assert_shown(rt, row, collected_slowly(rt.alloc(), bytes, u64::MAX), want)
 }
 
 const FASTA_ROWS: &[Row] = &[
@@ -242,8 +250,8 @@ fn assert_front<H: AllocGlobal + Abort>(
     want: &[u8],
 ) -> Result<(), AllocError> {
     let count = front.len() as u64;
-    assert_shown(rt, count, &parse(rt.alloc(), front), want)?;
-    assert_shown(rt, count, &read_slowly(rt.alloc(), front, u64::MAX), want)
+    assert_shown(rt, count, parse(rt.alloc(), front), want)?;
+    assert_shown(rt, count, read_slowly(rt.alloc(), front, u64::MAX), want)
 }
 
 #[test]
@@ -251,9 +259,9 @@ fn every_failed_read(rt: HostRuntime) -> Result<(), AllocError> {
     let whole = b">r1\nACGTA\n".as_slice();
     for fails_at in 0..11u64 {
         let answer = read_slowly(rt.alloc(), whole, fails_at);
-        assert_shown(&rt, fails_at, &answer, b"read failed")?;
+        assert_shown(&rt, fails_at, answer, b"read failed")?;
     }
-    assert_shown(&rt, 11, &read_slowly(rt.alloc(), whole, 11), b"ACGTA|")
+    assert_shown(&rt, 11, read_slowly(rt.alloc(), whole, 11), b"ACGTA|")
 }
 
 const FAULTY: &[u8] = b">r\nA@C\n>s\nAC\n";
@@ -262,23 +270,18 @@ const FAULTY: &[u8] = b">r\nA@C\n>s\nAC\n";
 #[test]
 fn faults_behind_faults(rt: HostRuntime) -> Result<(), AllocError> {
     let alloc = rt.alloc();
-    assert_shown(&rt, 8, &read_slowly(alloc, FAULTY, 8), b"read failed")?;
-    assert_shown(
-        &rt,
-        20,
-        &read_slowly(alloc, FAULTY, 20),
-        b"bad base, line 2",
-    )?;
+    assert_shown(&rt, 8, read_slowly(alloc, FAULTY, 8), b"read failed")?;
+    assert_shown(&rt, 20, read_slowly(alloc, FAULTY, 20), b"bad base, line 2")?;
     assert_shown(
         &rt,
         8,
-        &collected_slowly(alloc, FAULTY, 8),
+        collected_slowly(alloc, FAULTY, 8),
         b"bad base, line 2",
     )?;
     assert_shown(
         &rt,
         20,
-        &collected_slowly(alloc, FAULTY, 20),
+        collected_slowly(alloc, FAULTY, 20),
         b"bad base, line 2",
     )?;
     let passed = fault_of(alloc, &mut slow_source(FAULTY, u64::MAX), 9);
@@ -440,11 +443,35 @@ fn last_bases(alloc: Global, bytes: &[u8]) -> Result<Vec<u8>, FastxFault> {
 fn long_records(rt: HostRuntime) -> Result<(), Fail> {
     for width in [60usize, LONG] {
         let fasta = long_fasta(rt.alloc(), width)?;
-        assert_numbers(&rt, width, &base_counts(rt.alloc(), &fasta)?, &[200_000]);
+        assert_base_counts(&rt, width, &fasta, &[200_000])?;
         let fastq = long_fastq(rt.alloc(), width)?;
-        assert_numbers(&rt, width, &base_counts(rt.alloc(), &fastq)?, &[200_000, 2]);
-        assert_bytes(&rt, width, &last_bases(rt.alloc(), &fastq)?, b"AC");
+        assert_base_counts(&rt, width, &fastq, &[200_000, 2])?;
+        assert_last_bases(&rt, width, &fastq, b"AC")?;
     }
+    Ok(())
+}
+
+// Asserts how many bases the reads of these bytes have.
+fn assert_base_counts<H: AllocGlobal + Abort>(
+    rt: &H,
+    width: usize,
+    bytes: &[u8],
+    want: &[u64],
+) -> Result<(), FastxFault> {
+    let counts = base_counts(rt.alloc(), bytes)?;
+    assert_numbers(rt, width, &counts, want);
+    Ok(())
+}
+
+// Asserts the bases of the last of the reads of these bytes.
+fn assert_last_bases<H: AllocGlobal + Abort>(
+    rt: &H,
+    width: usize,
+    bytes: &[u8],
+    want: &[u8],
+) -> Result<(), FastxFault> {
+    let bases = last_bases(rt.alloc(), bytes)?;
+    assert_bytes(rt, width, &bases, want);
     Ok(())
 }
 
@@ -455,7 +482,7 @@ const PASSED_LIMITS: &[(&[u8], u32)] = &[(b">r1\nACGTA\n", 9), (b"ACGT\n", 3), (
 fn limits(rt: HostRuntime) -> Result<(), Fail> {
     let (reads, count) = read_all(rt.alloc(), &mut FromBytes::new(b">r1\nACGTA\n"), 10)?;
     assert_same(&rt, "bytes", &count, &10);
-    assert_shown(&rt, 10, &Ok(reads), b"ACGTA|")?;
+    assert_shown(&rt, 10, Ok(reads), b"ACGTA|")?;
     for (bytes, limit) in PASSED_LIMITS {
         let passed = fault_of(rt.alloc(), &mut FromBytes::new(*bytes), *limit);
         assert_same(&rt, *limit, &passed, &Some(FastxFault::TooLong));

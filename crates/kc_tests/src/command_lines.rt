@@ -1,5 +1,7 @@
 //! Whole command lines, over input, output and errors in memory.
+use crate::written_bytes::assert_bytes;
 use kc_tool::program;
+use std::alloc::{AllocError, Global};
 use std::process::Abort;
 use std::rt::Files;
 use std::sync::Wait;
@@ -14,6 +16,25 @@ struct Ran {
     errors: Vec<u8>,
 }
 
+// `kcount`, and the words of a line that are divided by this letter.
+pub(crate) fn words_of(
+    alloc: Global,
+    line: &str,
+    divider: char,
+) -> Result<Vec<String>, AllocError> {
+    let mut words = Vec::new(alloc);
+    push_word(alloc, &mut words, "kcount")?;
+    for word in line.split(divider) {
+        push_word(alloc, &mut words, word)?;
+    }
+    Ok(words)
+}
+
+fn push_word(alloc: Global, words: &mut Vec<String>, word: &str) -> Result<(), AllocError> {
+    let word = String::from_str(alloc, word)?;
+    Ok(words.push(word)?)
+}
+
 // Runs `kcount` on this input, with the words of a line that are divided by this letter.
 fn run_divided<H: Files + Threads + Wait + Sync + AllocGlobal>(
     rt: &H,
@@ -22,10 +43,7 @@ fn run_divided<H: Files + Threads + Wait + Sync + AllocGlobal>(
     input: &str,
 ) -> Result<Ran, Fail> {
     let alloc = rt.alloc();
-    let mut words = vec![in alloc; String::from_str(alloc, "kcount")?]?;
-    for word in line.split(divider) {
-        words.push(String::from_str(alloc, word)?)?;
-    }
+    let words = words_of(alloc, line, divider)?;
     let mut output = Vec::new(alloc);
     let mut errors = Vec::new(alloc);
     let input = input.as_bytes();
@@ -48,9 +66,9 @@ fn run<H: Files + Threads + Wait + Sync + AllocGlobal>(
 
 // Asserts that a command line ended with this status, and wrote this to the output and to the errors.
 fn assert_ran<H: Abort>(rt: &H, line: &str, ran: &Ran, status: u8, output: &str, errors: &str) {
-    assert_eq!(rt; ran.errors.as_slice(), errors.as_bytes(), "{line}");
-    assert_eq!(rt; ran.output.as_slice(), output.as_bytes(), "{line}");
-    assert_eq!(rt; ran.status, status, "{line}");
+    assert_bytes(rt, line, ran.errors.as_slice(), errors.as_bytes());
+    assert_bytes(rt, line, ran.output.as_slice(), output.as_bytes());
+    assert!(rt; ran.status == status, "{line}");
 }
 
 // Asserts that a command line on this input writes this to the output and nothing to the errors.
@@ -415,9 +433,9 @@ const HELP: &[&str] = &[
 
 // Asserts that a command line ended with this status, and wrote a text to the output alone, or to the errors alone.
 fn assert_told<H: Abort>(rt: &H, line: &str, ran: &Ran, status: u8, is_answer: bool) {
-    assert_eq!(rt; ran.status, status, "{line}");
-    assert_eq!(rt; ran.output.is_empty(), !is_answer, "{line}");
-    assert_eq!(rt; ran.errors.is_empty(), is_answer, "{line}");
+    assert!(rt; ran.status == status, "{line}");
+    assert!(rt; ran.output.is_empty() != is_answer, "{line}");
+    assert!(rt; ran.errors.is_empty() == is_answer, "{line}");
 }
 
 // What `clap` refuses ends with status 2 and says so on standard error alone; help goes to the output.

@@ -1,9 +1,11 @@
 //! Lists of sources, and sources and writers that give or take little, or fail.
+use crate::written_bytes::assert_bytes;
 use kc_fastx::{FastxFault, FromBytes, FromRead};
 use kc_tool::{
     Dump, K, OptionName, Options, Print, RunFault, ToVec, ToWrite, ToolFault, count_reads,
     write_fault,
 };
+use std::alloc::{AllocError, Global};
 use std::io;
 use std::io::{Read, Write};
 use std::process::Abort;
@@ -73,9 +75,12 @@ impl Write for Narrow {
 }
 
 // To write the dump of the words of this length in columns.
-fn columns(k: u32) -> Option<Options> {
-    Some(
-        Options::new(K::new(k)?)
+fn columns(k: u32) -> Result<Options, Fail> {
+    let Some(k) = K::new(k) else {
+        return Err(Fail::from("no length of a word"));
+    };
+    Ok(
+        Options::new(k)
             .with_print(Print::Dump)
             .with_dump(Dump::in_columns()),
     )
@@ -97,12 +102,24 @@ pub(crate) fn assert_counted<H: Abort>(
     text: &[u8],
 ) {
     assert_eq!(rt; &counted.answer, answer, "{number}");
-    assert_eq!(rt; counted.written.as_slice(), text, "{number}");
+    assert_bytes(rt, number, counted.written.as_slice(), text);
 }
 
 // The fault of a source, by its number.
 pub(crate) fn fault_of(source: u64, fault: FastxFault) -> ToolFault {
     ToolFault::Fastx { source, fault }
+}
+
+// The bytes of these inputs as sources.
+pub(crate) fn sources_of<'a>(
+    alloc: Global,
+    inputs: &[&'a str],
+) -> Result<Vec<FromBytes<'a>>, AllocError> {
+    let mut sources = Vec::new(alloc);
+    for input in inputs {
+        sources.push(FromBytes::new(input.as_bytes()))?;
+    }
+    Ok(sources)
 }
 
 // Counts the words of these inputs.
@@ -112,10 +129,7 @@ fn count<H: Threads + Wait + Sync + AllocGlobal>(
     options: &Options,
 ) -> Result<Counted, Fail> {
     let alloc = rt.alloc();
-    let mut sources = Vec::new(alloc);
-    for input in inputs {
-        sources.push(FromBytes::new(input.as_bytes()))?;
-    }
+    let sources = sources_of(alloc, inputs)?;
     let mut writer = ToVec::new(Vec::new(alloc));
     let answer = count_reads(rt, alloc, None::<FromBytes>, sources, options, &mut writer);
     let written = writer.into_inner();
@@ -131,7 +145,7 @@ const SOURCES: &[(&[&str], &str)] = &[
 
 #[test]
 fn sources_are_read_in_order(rt: HostRuntime) -> Result<(), Fail> {
-    let options = columns(2).ok_or("a length")?;
+    let options = columns(2)?;
     for (row, (inputs, text)) in SOURCES.iter().enumerate() {
         let counted = count(&rt, *inputs, &options)?;
         assert_counted(&rt, row, &counted, &Ok(()), text.as_bytes());
@@ -153,7 +167,7 @@ const FAULTY_SOURCES: &[(&[&str], u64, FastxFault)] = &[
 // The first source with a fault decides, whatever the later ones have.
 #[test]
 fn the_first_faulty_source_is_told(rt: HostRuntime) -> Result<(), Fail> {
-    let options = columns(2).ok_or("a length")?;
+    let options = columns(2)?;
     for (row, (inputs, source, fault)) in FAULTY_SOURCES.iter().enumerate() {
         let counted = count(&rt, *inputs, &options)?;
         let told = Err(fault_of(*source, *fault));
@@ -168,7 +182,7 @@ fn count_slowly<H: Threads + Wait + Sync + AllocGlobal>(
     reads_until_failure: usize,
 ) -> Result<Counted, Fail> {
     let alloc = rt.alloc();
-    let options = columns(3).ok_or("a length")?;
+    let options = columns(3)?;
     let mut sources = Vec::new(alloc);
     sources.push(FromRead::new(Slow {
         left: b">r1\nACGTA\n",
@@ -204,7 +218,7 @@ fn count_into<H: Threads + Wait + Sync + AllocGlobal>(
     is_stuck: bool,
 ) -> Result<Counted, Fail> {
     let alloc = rt.alloc();
-    let options = columns(3).ok_or("a length")?;
+    let options = columns(3)?;
     let mut sources = Vec::new(alloc);
     sources.push(FromBytes::new(b">r1\nACGTA\n"))?;
     let mut writer = ToWrite::new(Narrow {
@@ -249,24 +263,34 @@ const TABS: Dump = Dump {
     upper: 1,
 };
 
+// Whether a dump is in columns, its bounds, and its text.
+const BOUNDS: &[(bool, u64, u64, &str)] = &[
+    (false, 2, 1 << 62, ">2\nACG\n"),
+    (true, 2, 2, "ACG 2\n"),
+    (true, 0, 1, "GTA 1\n"),
+    (true, 3, 1 << 62, ""),
+    (true, 2, 1, ""),
+];
+
+fn dump_of(is_in_columns: bool) -> Dump {
+    if is_in_columns {
+        Dump::in_columns()
+    } else {
+        Dump::in_lines()
+    }
+}
+
 // Bounds of a dump both count; a tab stands in columns alone.
 #[test]
 fn bounds_and_tabs(rt: HostRuntime) -> Result<(), Fail> {
-    let options = Options::new(K::new(3).ok_or("a length")?)
-        .with_both(true)
-        .with_print(Print::Dump);
-    let rows: [(Dump, &str); 6] = [
-        (Dump::in_lines().between(2, 1 << 62), ">2\nACG\n"),
-        (Dump::in_columns().between(2, 2), "ACG 2\n"),
-        (Dump::in_columns().between(0, 1), "GTA 1\n"),
-        (TABS, "GTA\t1\n"),
-        (Dump::in_columns().between(3, 1 << 62), ""),
-        (Dump::in_columns().between(2, 1), ""),
-    ];
-    for (row, (dump, text)) in rows.iter().enumerate() {
-        let counted = count(&rt, &[">r1\nACGTA\n"], &options.with_dump(*dump))?;
+    let options = columns(3)?.with_both(true);
+    for (row, (is_in_columns, lower, upper, text)) in BOUNDS.iter().enumerate() {
+        let dump = dump_of(*is_in_columns).between(*lower, *upper);
+        let counted = count(&rt, &[">r1\nACGTA\n"], &options.with_dump(dump))?;
         assert_counted(&rt, row, &counted, &Ok(()), text.as_bytes());
     }
+    let counted = count(&rt, &[">r1\nACGTA\n"], &options.with_dump(TABS))?;
+    assert_counted(&rt, BOUNDS.len(), &counted, &Ok(()), b"GTA\t1\n");
     Ok(())
 }
 
@@ -279,9 +303,9 @@ fn assert_line<H: Abort + AllocGlobal>(
 ) -> Result<(), Fail> {
     let mut writer = ToVec::new(Vec::new(rt.alloc()));
     assert!(rt; write_fault(&mut writer, fault).is_ok(), "{line}");
-    assert_eq!(rt; writer.as_slice(), line.as_bytes(), "{line}");
+    assert_bytes(rt, line, writer.as_slice(), line.as_bytes());
     let displayed = fault.to_string(rt.alloc())?;
-    assert_eq!(rt; displayed.as_str(), text, "{line}");
+    assert!(rt; displayed.as_str() == text, "{line}");
     Ok(())
 }
 

@@ -14,3 +14,5 @@ mod progress_line;
 mod tables_together;
 #[cfg(test)]
 mod tool_examples;
+#[cfg(test)]
+mod written_bytes;

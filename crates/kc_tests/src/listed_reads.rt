@@ -1,5 +1,5 @@
 //! Counts that are kept to the words of a list.
-use crate::failing::{Counted, Slow, assert_counted, fault_of};
+use crate::failing::{Counted, Slow, assert_counted, fault_of, sources_of};
 use kc_fastx::{FastxFault, FromBytes, FromRead};
 use kc_tool::{Dump, K, Options, Print, ToVec, count_reads};
 use std::process::Abort;
@@ -32,7 +32,9 @@ pub(crate) const BOTH: How = How {
 pub(crate) fn options_of<H: Abort>(rt: &H, how: How, print: Print) -> Result<Options, Fail> {
     let floor = how.floor;
     assert!(rt; 33 <= floor && floor <= 126);
-    let k = K::new(how.k).ok_or("a length")?;
+    let Some(k) = K::new(how.k) else {
+        return Err(Fail::from("no length of a word"));
+    };
     Ok(
         Options::new(k)
             .with_both(how.both)
@@ -50,10 +52,7 @@ pub(crate) fn count_listed<H: Threads + Wait + Sync + AllocGlobal>(
     options: &Options,
 ) -> Result<Counted, Fail> {
     let alloc = rt.alloc();
-    let mut sources = Vec::new(alloc);
-    for input in inputs {
-        sources.push(FromBytes::new(input.as_bytes()))?;
-    }
+    let sources = sources_of(alloc, inputs)?;
     let only = Some(FromBytes::new(list.as_bytes()));
     let mut writer = ToVec::new(Vec::new(alloc));
     let answer = count_reads(rt, alloc, only, sources, options, &mut writer);

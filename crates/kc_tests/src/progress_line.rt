@@ -1,11 +1,18 @@
 //! What is told while a count works, and the line that shows it.
+use crate::command_lines::words_of;
+use crate::written_bytes::assert_bytes;
 use kc_tool::{NoProgress, Progress, ProgressLine, program_showing};
+use std::alloc::{AllocError, Global};
 use std::cell::RefCell;
 use std::fmt::Display;
 use std::io;
 use std::io::{IsTerminal, Write};
+use std::process::Abort;
+use std::rt::Files;
+use std::sync::Wait;
 use std::sync::atomic::{AtomicU64, Ordering};
 use std::test::Fail;
+use std::thread::Threads;
 use std::time::{Clock, Duration};
 
 // A clock that is set by hand, and can't be read where it is broken.
@@ -54,12 +61,10 @@ impl Screen {
 
     // What was written since it was asked before.
     fn taken<H: AllocGlobal>(&self, rt: &H) -> Result<Vec<u8>, Fail> {
-        Ok(
-            self.taken
-                .try_replace(Vec::new(rt.alloc()))
-                .ok()
-                .ok_or("borrowed")?,
-        )
+        match self.taken.try_replace(Vec::new(rt.alloc())) {
+            Ok(taken) => Ok(taken),
+            Err(_) => Err(Fail::from("borrowed")),
+        }
     }
 }
 
@@ -146,18 +151,34 @@ const NO_LINES: &[(u64, Told, &str)] = &[
     (125, Told::Ends, ""),
 ];
 
-#[test]
-fn the_line_is_written_over_and_cleared(rt: HostRuntime) -> Result<(), Fail> {
-    for lines in [LINES, NO_LINES] {
-        let (clock, screen) = (SetClock::new(false), Screen::new(&rt, true));
-        let line = ProgressLine::new(&clock, &screen);
-        for (millis, told, text) in lines {
-            clock.millis.store(*millis, Ordering::SeqCst);
-            tell(&line, *told);
-            assert_eq!(rt; screen.taken(&rt)?.as_slice(), text.as_bytes(), "{millis}");
-        }
+// Asserts that a line writes these texts.
+fn assert_lines<H: Abort + AllocGlobal>(rt: &H, lines: &[(u64, Told, &str)]) -> Result<(), Fail> {
+    let (clock, screen) = (SetClock::new(false), Screen::new(rt, true));
+    let line = ProgressLine::new(&clock, &screen);
+    for (millis, told, text) in lines {
+        clock.millis.store(*millis, Ordering::SeqCst);
+        tell(&line, *told);
+        assert_taken(rt, &screen, *millis, text.as_bytes())?;
     }
     Ok(())
+}
+
+// Asserts that this was written since it was asked before.
+fn assert_taken<H: Abort + AllocGlobal>(
+    rt: &H,
+    screen: &Screen,
+    millis: u64,
+    text: &[u8],
+) -> Result<(), Fail> {
+    let taken = screen.taken(rt)?;
+    assert_bytes(rt, millis, &taken, text);
+    Ok(())
+}
+
+#[test]
+fn the_line_is_written_over_and_cleared(rt: HostRuntime) -> Result<(), Fail> {
+    assert_lines(&rt, LINES)?;
+    assert_lines(&rt, NO_LINES)
 }
 
 #[test]
@@ -168,23 +189,30 @@ fn a_line_is_written_eight_times_a_second(rt: HostRuntime) -> Result<(), Fail> {
         clock.millis.store(millis, Ordering::SeqCst);
         line.batch_counted();
         let is_written = !screen.taken(&rt)?.is_empty();
-        assert_eq!(rt; is_written, millis % 125 == 0, "{millis}");
+        assert!(rt; is_written == (millis % 125 == 0), "{millis}");
     }
     Ok(())
 }
 
+// Asserts that a line with such a clock and screen writes nothing.
+fn assert_nothing_shown<H: Abort + AllocGlobal>(
+    rt: &H,
+    is_broken: bool,
+    is_terminal: bool,
+) -> Result<(), Fail> {
+    let (clock, screen) = (SetClock::new(is_broken), Screen::new(rt, is_terminal));
+    let line = ProgressLine::new(&clock, &screen);
+    for (millis, told, _) in LINES {
+        clock.millis.store(*millis, Ordering::SeqCst);
+        tell(&line, *told);
+    }
+    assert_taken(rt, &screen, 0, b"")
+}
+
 #[test]
 fn nothing_is_shown_without_a_terminal_or_a_clock(rt: HostRuntime) -> Result<(), Fail> {
-    for (is_broken, is_terminal) in [(false, false), (true, true)] {
-        let (clock, screen) = (SetClock::new(is_broken), Screen::new(&rt, is_terminal));
-        let line = ProgressLine::new(&clock, &screen);
-        for (millis, told, _) in LINES {
-            clock.millis.store(*millis, Ordering::SeqCst);
-            tell(&line, *told);
-        }
-        assert!(rt; screen.taken(&rt)?.is_empty());
-    }
-    Ok(())
+    assert_nothing_shown(&rt, false, false)?;
+    assert_nothing_shown(&rt, true, true)
 }
 
 // Keeps what it is told.
@@ -276,9 +304,19 @@ impl Write for Behind<'_> {
 
 // A command line, its input, and what it writes to the output and to the errors; how many bytes are told, how many
 // batches, and how many ends.
-const RUNS: &[(&str, &str, &str, &str, u64, u64, u64)] = &[
+type Run = (
+    &'static str,
+    &'static str,
+    &'static str,
+    &'static str,
+    u64,
+    u64,
+    u64,
+);
+
+const RUNS: &[Run] = &[
     (
-        "kcount count -m 3 --batch 1 --threads 2 --print dump --column",
+        "count -m 3 --batch 1 --threads 2 --print dump --column",
         ">r\nACGTA\n",
         "ACG 1\nCGT 1\nGTA 1\n",
         "",
@@ -286,17 +324,9 @@ const RUNS: &[(&str, &str, &str, &str, u64, u64, u64)] = &[
         3,
         1,
     ),
+    ("count -m 3 --print dump --column", "", "", "", 0, 0, 1),
     (
-        "kcount count -m 3 --print dump --column",
-        "",
-        "",
-        "",
-        0,
-        0,
-        1,
-    ),
-    (
-        "kcount count -m 3",
+        "count -m 3",
         ">r\nA@C\n",
         "",
         "kcount: 2: bad base, source 1, line 2\n",
@@ -306,7 +336,7 @@ const RUNS: &[(&str, &str, &str, &str, u64, u64, u64)] = &[
         1,
     ),
     (
-        "kcount dump -c",
+        "dump -c",
         "KCT 2 3 s a 33 1\nACG 1\nEND 1 1\n",
         "ACG 1\n",
         "",
@@ -316,40 +346,56 @@ const RUNS: &[(&str, &str, &str, &str, u64, u64, u64)] = &[
     ),
 ];
 
+// A writer of this kind that took nothing.
+fn writer_behind(alloc: Global, heard: &Heard) -> Behind<'_> {
+    Behind {
+        heard,
+        taken: Vec::new(alloc),
+        is_behind: true,
+    }
+}
+
+// Asserts what was written and told of a run.
+fn assert_heard<H: Abort>(rt: &H, written: &Behind<'_>, told: &Behind<'_>, run: &Run) {
+    let (line, _, output, errors, bytes, batches, ends) = run;
+    assert_bytes(rt, *line, &written.taken, output.as_bytes());
+    assert_bytes(rt, *line, &told.taken, errors.as_bytes());
+    let want = [*bytes, *batches, *batches, *batches, *ends, 0];
+    assert!(rt; written.heard.numbers() == want, "{line}");
+    assert!(rt;
+        *ends == 0 || (written.is_behind && told.is_behind),
+        "{line}"
+    );
+}
+
+// Runs the command line, and asserts what it writes and tells.
+fn assert_run<H: Files + Threads + Wait + Abort + Sync + AllocGlobal>(
+    rt: &H,
+    run: &Run,
+) -> Result<(), AllocError> {
+    let alloc = rt.alloc();
+    let words = words_of(alloc, run.0, ' ')?;
+    let heard = Heard::nothing();
+    let mut written = writer_behind(alloc, &heard);
+    let mut told = writer_behind(alloc, &heard);
+    program_showing(
+        rt,
+        alloc,
+        Ok(words),
+        run.1.as_bytes(),
+        &mut written,
+        &mut told,
+        &heard,
+    );
+    assert_heard(rt, &written, &told, run);
+    Ok(())
+}
+
 // The bytes of all sources and each batch are told, and then the end, before anything is written.
 #[test]
-fn a_count_tells_its_bytes_and_batches(rt: HostRuntime) -> Result<(), Fail> {
-    let alloc = rt.alloc();
-    for (line, input, output, errors, bytes, batches, ends) in RUNS {
-        let mut words = Vec::new(alloc);
-        for word in line.split(' ') {
-            words.push(String::from_str(alloc, word)?)?;
-        }
-        let heard = Heard::nothing();
-        let writer = || Behind {
-            heard: &heard,
-            taken: Vec::new(alloc),
-            is_behind: true,
-        };
-        let (mut written, mut told) = (writer(), writer());
-        let input = input.as_bytes();
-        program_showing(
-            &rt,
-            alloc,
-            Ok(words),
-            input,
-            &mut written,
-            &mut told,
-            &heard,
-        );
-        assert_eq!(rt; written.taken.as_slice(), output.as_bytes(), "{line}");
-        assert_eq!(rt; told.taken.as_slice(), errors.as_bytes(), "{line}");
-        let want = [*bytes, *batches, *batches, *batches, *ends, 0];
-        assert_eq!(rt; heard.numbers(), want, "{line}");
-        assert!(rt;
-            *ends == 0 || (written.is_behind && told.is_behind),
-            "{line}"
-        );
+fn a_count_tells_its_bytes_and_batches(rt: HostRuntime) -> Result<(), AllocError> {
+    for run in RUNS {
+        assert_run(&rt, run)?;
     }
     Ok(())
 }

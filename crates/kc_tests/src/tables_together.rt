@@ -1,5 +1,7 @@
 //! Tables of reads that are counted apart and put together.
+use crate::failing::sources_of;
 use crate::listed_reads::{BOTH, How, PLAIN, count_listed, options_of};
+use crate::written_bytes::assert_bytes;
 use kc_fastx::FromBytes;
 use kc_tool::{Print, ToVec, ToolFault, count_reads, merge, read_table, write_table};
 use std::alloc::Global;
@@ -17,10 +19,7 @@ fn table_of<H: Threads + Wait + Abort + Sync + AllocGlobal>(
 ) -> Result<Vec<u8>, Fail> {
     let alloc = rt.alloc();
     let options = options_of(rt, how, Print::Table)?;
-    let mut sources = Vec::new(alloc);
-    for input in inputs {
-        sources.push(FromBytes::new(input.as_bytes()))?;
-    }
+    let mut sources = sources_of(alloc, inputs)?;
     for input in more {
         sources.push(FromBytes::new(input.as_bytes()))?;
     }
@@ -70,19 +69,29 @@ const HOWS: &[How] = &[
     },
 ];
 
+// Asserts that this is the table of both together.
+fn assert_sum<H: Abort + AllocGlobal>(
+    rt: &H,
+    row: usize,
+    first: &[u8],
+    second: &[u8],
+    whole: &[u8],
+) -> Result<(), ToolFault> {
+    let sum = sum_of(rt.alloc(), first, second)?;
+    assert_bytes(rt, row, &sum, whole);
+    Ok(())
+}
+
 // Byte for byte, in either order.
 #[test]
 fn the_tables_of_the_parts_are_the_table_of_the_whole(rt: HostRuntime) -> Result<(), Fail> {
-    let alloc = rt.alloc();
     for how in HOWS {
         for (row, (inputs, more)) in PARTS.iter().enumerate() {
+            let whole = table_of(&rt, *how, *inputs, *more)?;
             let first = table_of(&rt, *how, *inputs, &[])?;
             let second = table_of(&rt, *how, &[], *more)?;
-            let whole = table_of(&rt, *how, *inputs, *more)?;
-            let sum = sum_of(alloc, &first, &second)?;
-            assert_eq!(rt; sum.as_slice(), whole.as_slice(), "{row}");
-            let turned = sum_of(alloc, &second, &first)?;
-            assert_eq!(rt; turned.as_slice(), whole.as_slice(), "{row}");
+            assert_sum(&rt, row, &first, &second, &whole)?;
+            assert_sum(&rt, row, &second, &first, &whole)?;
         }
     }
     Ok(())
@@ -92,9 +101,8 @@ fn the_tables_of_the_parts_are_the_table_of_the_whole(rt: HostRuntime) -> Result
 fn a_sum_in_letters(rt: HostRuntime) -> Result<(), Fail> {
     let first = table_of(&rt, PLAIN, &[ACGTA], &[])?;
     let second = table_of(&rt, PLAIN, &[">x\nACG\n"], &[])?;
-    let sum = sum_of(rt.alloc(), &first, &second)?;
     let want = b"KCT 2 3 s a 33 2\nACG 2\nCGT 1\nGTA 1\nEND 3 4\n";
-    assert_eq!(rt; sum.as_slice(), want.as_slice());
+    assert_sum(&rt, 0, &first, &second, want)?;
     Ok(())
 }
 
@@ -145,9 +153,7 @@ const OLDER: &[u8] = b"KCT 1 3 s\nACG 1\nEND 1 1\n";
 fn a_sum_with_an_older_table(rt: HostRuntime) -> Result<(), Fail> {
     let table = table_of(&rt, PLAIN, &[ACGTA], &[])?;
     let want = b"KCT 1 3 s\nACG 2\nCGT 1\nGTA 1\nEND 3 4\n";
-    let sum = sum_of(rt.alloc(), &table, OLDER)?;
-    assert_eq!(rt; sum.as_slice(), want.as_slice());
-    let sum = sum_of(rt.alloc(), OLDER, &table)?;
-    assert_eq!(rt; sum.as_slice(), want.as_slice());
+    assert_sum(&rt, 1, &table, OLDER, want)?;
+    assert_sum(&rt, 2, OLDER, &table, want)?;
     Ok(())
 }
