@@ -1,7 +1,7 @@
 //! Batches that are booked in a stripe, over a `BTreeMap` and over a table.
-use crate::sample_batches::{book_at, count_in, cuts_of, made_setup, plain_stripe};
+use crate::sample_batches::{book_at, count_in, cuts_of_three, made_setup, plain_stripe};
 use crate::stripe_assertions::{assert_items, assert_same};
-use kc_stripe::{BookFault, Cut, Stripe};
+use kc_stripe::{BookFault, Cut, Setup, Stripe};
 use kc_table::{Counts, LimitedCounts, PlainCounts, QuotientTable, TableFault};
 use kc_tally::Row;
 use kc_word::Batch;
@@ -98,7 +98,7 @@ const TWO_BATCHES: &[&[u8]] = &[b"AAAA", b"AAA"];
 
 // The cut of batch 1 by another setup.
 fn stranger(alloc: Global) -> Result<Cut, Fail> {
-    let mut cuts = cuts_of(alloc, &made_setup(3, 2)?, TWO_BATCHES, 2)?;
+    let mut cuts = cuts_of_three(alloc, 2, TWO_BATCHES, 2)?;
     match cuts.pop() {
         Some(cut) => Ok(cut),
         None => Err(Fail::from("no batch")),
@@ -107,7 +107,7 @@ fn stranger(alloc: Global) -> Result<Cut, Fail> {
 
 // The cuts of both batches, and then the stranger.
 pub(crate) fn cuts_and_stranger(alloc: Global) -> Result<Vec<Cut>, Fail> {
-    let mut cuts = cuts_of(alloc, &made_setup(3, 1)?, TWO_BATCHES, 2)?;
+    let mut cuts = cuts_of_three(alloc, 1, TWO_BATCHES, 2)?;
     cuts.push(stranger(alloc)?)?;
     Ok(cuts)
 }
@@ -137,6 +137,15 @@ fn is_booked_in_order<C: Counts>(
     assert_same(rt, "cuts", &cuts.len(), &3);
     assert_held(rt, stripe, &NOTHING);
     assert_steps(rt, stripe, &cuts);
+    Ok(assert_rows(rt, alloc, stripe)?)
+}
+
+// The stripe has the rows after these steps.
+fn assert_rows<C: Counts>(
+    rt: &impl Abort,
+    alloc: Global,
+    stripe: &Stripe<C>,
+) -> Result<(), AllocError> {
     let rows = stripe.rows(alloc)?;
     assert_items(rt, "rows", rows.as_slice(), ROWS);
     Ok(())
@@ -145,16 +154,21 @@ fn is_booked_in_order<C: Counts>(
 // An empty stripe over a quotient table with a slot for each key: all words of three bases in one stripe.
 pub(crate) fn quotient_stripe(alloc: Global) -> Result<Stripe<QuotientTable>, Fail> {
     let setup = made_setup(3, 1)?;
+    quotient_stripe_by(alloc, &setup)
+}
+
+fn quotient_stripe_by(alloc: Global, setup: &Setup) -> Result<Stripe<QuotientTable>, Fail> {
     if setup.key_bits() != 6 || setup.stripes() != 1 {
         return Err(Fail::from("another setup"));
     }
     let table = QuotientTable::new(alloc, 6, 6, 6)?;
-    Ok(Stripe::new(alloc, &setup, 0, table)?)
+    Ok(Stripe::new(alloc, setup, 0, table)?)
 }
 
 // The same over a `BTreeMap`.
 pub(crate) fn map_stripe(alloc: Global) -> Result<Stripe<PlainCounts>, Fail> {
-    plain_stripe(alloc, &made_setup(3, 1)?, 0)
+    let setup = made_setup(3, 1)?;
+    plain_stripe(alloc, &setup, 0)
 }
 
 #[test]
@@ -192,12 +206,23 @@ fn refuses_three(
     refusal: TableFault,
     fault: BookFault,
 ) -> Result<(), Fail> {
-    let cuts = cuts_of(alloc, &made_setup(3, 1)?, THREE_AND_ONE, 3)?;
-    assert!(rt; cuts.len() == 2);
+    let cuts = cuts_of_three(alloc, 1, THREE_AND_ONE, 3)?;
     let mut stripe = limited_stripe(alloc, refusal)?;
-    assert_refused(rt, alloc, &mut stripe, &cuts[0], fault)?;
-    book_at(&mut stripe, &cuts, 1)?;
-    assert_held(rt, &stripe, &ONE_WORD);
+    refuses_first(rt, alloc, &mut stripe, &cuts, fault)
+}
+
+// The stripe refuses the first of two cuts so, and then takes the second.
+fn refuses_first(
+    rt: &impl Abort,
+    alloc: Global,
+    stripe: &mut Stripe<LimitedCounts>,
+    cuts: &[Cut],
+    fault: BookFault,
+) -> Result<(), Fail> {
+    assert!(rt; cuts.len() == 2);
+    assert_refused(rt, alloc, stripe, &cuts[0], fault)?;
+    book_at(stripe, cuts, 1)?;
+    assert_held(rt, stripe, &ONE_WORD);
     Ok(())
 }
 
@@ -234,7 +259,7 @@ fn same_word(alloc: Global) -> Result<Vec<u8>, AllocError> {
 // The cuts of these words.
 fn long_cuts(alloc: Global) -> Result<Vec<Cut>, Fail> {
     let bases = same_word(alloc)?;
-    cuts_of(alloc, &made_setup(3, 1)?, &[&bases], 5_000)
+    cuts_of_three(alloc, 1, &[&bases], 5_000)
 }
 
 // The bins 5,000, 10,000 and 10,001 after each of them.

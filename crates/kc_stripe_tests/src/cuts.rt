@@ -91,11 +91,15 @@ fn assert_cut(rt: &impl Abort, setup: &Setup, cut: &Cut, stripe: usize, keys: &[
 fn cuts_of_a_batch(rt: HostRuntime) -> Result<(), Fail> {
     let setup = made_setup(3, 4)?;
     let cuts = cuts_in(rt.alloc(), &setup, b"ACGT")?;
-    assert_same(&rt, "cuts", &cuts.len(), &4);
-    for (stripe, (cut, keys)) in cuts.iter().zip(KEYS).enumerate() {
-        assert_cut(&rt, &setup, cut, stripe, *keys);
-    }
+    assert_cuts(&rt, &setup, &cuts);
     Ok(())
+}
+
+fn assert_cuts(rt: &impl Abort, setup: &Setup, cuts: &[Cut]) {
+    assert_same(rt, "cuts", &cuts.len(), &4);
+    for (stripe, (cut, keys)) in cuts.iter().zip(KEYS).enumerate() {
+        assert_cut(rt, setup, cut, stripe, *keys);
+    }
 }
 
 // Stripe 2 of four, in which the one batch of this text is booked.

@@ -227,10 +227,20 @@ fn hold_the_tally<C: Counts + Drop>(
 ) -> Result<(), Fail> {
     let setup = seeded_setup()?;
     let reads = random_reads(alloc, &mut SplitMix64::seed_from_u64(11))?;
-    let want = slow_rows(alloc, &reads, setup.rule())?;
-    book_everywhere(alloc, &setup, &mut stripes, &reads)?;
-    assert_booked(rt, alloc, &stripes, &want)?;
-    Ok(())
+    holds_the_tally(rt, alloc, &setup, &mut stripes, &reads)
+}
+
+// The same of the setup and of the reads.
+fn holds_the_tally<C: Counts>(
+    rt: &impl Abort,
+    alloc: Global,
+    setup: &Setup,
+    stripes: &mut [Stripe<C>],
+    reads: &[SeqRead],
+) -> Result<(), Fail> {
+    book_everywhere(alloc, setup, stripes, reads)?;
+    let want = slow_rows(alloc, reads, setup.rule())?;
+    Ok(assert_booked(rt, alloc, stripes, &want)?)
 }
 
 // The stripes have these rows, and the totals and bins of these.

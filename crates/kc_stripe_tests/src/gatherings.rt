@@ -60,10 +60,19 @@ fn a_table_for_each_stripe(rt: HostRuntime) -> Result<(), Fail> {
     let alloc = rt.alloc();
     for (k, stripes, bits) in TABLES {
         let setup = made_setup(*k, *stripes)?;
-        assert_plain_tables(&rt, alloc, &setup, *bits)?;
-        assert_quotient_tables(&rt, alloc, &setup, *bits)?;
+        assert_both_tables(&rt, alloc, &setup, *bits)?;
     }
     Ok(())
+}
+
+fn assert_both_tables(
+    rt: &impl Abort,
+    alloc: Global,
+    setup: &Setup,
+    bits: u32,
+) -> Result<(), AllocError> {
+    assert_plain_tables(rt, alloc, setup, bits)?;
+    assert_quotient_tables(rt, alloc, setup, bits)
 }
 
 // Lengths of words, numbers of stripes, sizes, and the logs with which the tables begin.
@@ -211,12 +220,21 @@ fn a_stripe_that_lacks_a_batch_or_has_another(rt: HostRuntime) -> Result<(), Fai
     let alloc = rt.alloc();
     let setup = made_setup(3, 1)?;
     let booked = batches_of(alloc, &setup, b"AAAA", 2)?;
+    assert_refusals(&rt, alloc, &setup, &booked)
+}
+
+fn assert_refusals<H: Threads + Sync + Abort>(
+    rt: &H,
+    alloc: Global,
+    setup: &Setup,
+    booked: &[Arc<Batch>],
+) -> Result<(), Fail> {
     for (bases, fault, threads) in REFUSALS {
-        let stripes = stripes_of(alloc, &setup, &booked)?;
-        let Err(found) = gathered(&rt, *threads, alloc, &setup, stripes, bases, 2)? else {
-            return Err(Fail::from("a tally"));
-        };
-        assert!(rt; found == *fault);
+        let stripes = stripes_of(alloc, setup, booked)?;
+        match gathered(rt, *threads, alloc, setup, stripes, *bases, 2)? {
+            Ok(_) => return Err(Fail::from("a tally")),
+            Err(found) => assert_same(rt, "a fault", &found, fault),
+        }
     }
     Ok(())
 }
@@ -226,14 +244,27 @@ const COUNTS: &[(u32, u64, u32)] = &[(1, 1, 0), (4, 2, 1), (4, 7, 0), (64, 1, 3)
 
 #[test]
 fn the_tally_of_all_stripes(rt: HostRuntime) -> Result<(), Fail> {
-    let alloc = rt.alloc();
-    let bases = b"ACGTANACG";
+    let rows = &[(6, 2), (27, 1), (44, 1)];
     for (count, size, threads) in COUNTS {
         let setup = made_setup(3, *count)?;
-        let batches = batches_of(alloc, &setup, bases, *size)?;
-        let tally = tally_by(&rt, *threads, alloc, &setup, &batches, bases, *size)?;
-        assert_rows(&rt, &tally, &[(6, 2), (27, 1), (44, 1)]);
+        assert_tally(&rt, *threads, rt.alloc(), &setup, b"ACGTANACG", *size, rows)?;
     }
+    Ok(())
+}
+
+// The tally of these bases, whose batches were booked and are given, has these rows.
+fn assert_tally<H: Threads + Sync + Abort>(
+    rt: &H,
+    threads: u32,
+    alloc: Global,
+    setup: &Setup,
+    bases: &[u8],
+    size: u64,
+    rows: &[(u64, u64)],
+) -> Result<(), Fail> {
+    let batches = batches_of(alloc, setup, bases, size)?;
+    let tally = tally_by(rt, threads, alloc, setup, &batches, bases, size)?;
+    assert_rows(rt, &tally, rows);
     Ok(())
 }
 
@@ -253,13 +284,9 @@ const THREADS: &[u32] = &[0, 1, 2, 64];
 
 #[test]
 fn several_words_in_a_part(rt: HostRuntime) -> Result<(), Fail> {
-    let alloc = rt.alloc();
     let setup = made_setup(5, 2)?;
-    let bases = b"TTTTTAAAAAC";
-    let batches = batches_of(alloc, &setup, bases, 3)?;
     for threads in THREADS {
-        let tally = tally_by(&rt, *threads, alloc, &setup, &batches, bases, 3)?;
-        assert_rows(&rt, &tally, ONCE);
+        assert_tally(&rt, *threads, rt.alloc(), &setup, b"TTTTTAAAAAC", 3, ONCE)?;
     }
     Ok(())
 }
@@ -267,14 +294,23 @@ fn several_words_in_a_part(rt: HostRuntime) -> Result<(), Fail> {
 // Most words fall in stripe 0 of eight.
 #[test]
 fn the_same_tally_by_one_to_eight_threads(rt: HostRuntime) -> Result<(), Fail> {
-    let alloc = rt.alloc();
     let setup = made_setup(5, 8)?;
     let bases = b"AAGGAATCAACGAACTAAGTAACCATTAAGAAATAAACAAGGTTTTTAAAAAC";
-    let batches = batches_of(alloc, &setup, bases, 4)?;
-    let want = tally_by(&rt, 0, alloc, &setup, &batches, bases, 4)?;
+    let batches = batches_of(rt.alloc(), &setup, bases, 4)?;
+    gather_by_all(&rt, rt.alloc(), &setup, &batches, bases)
+}
+
+fn gather_by_all<H: Threads + Sync + Abort>(
+    rt: &H,
+    alloc: Global,
+    setup: &Setup,
+    batches: &[Arc<Batch>],
+    bases: &[u8],
+) -> Result<(), Fail> {
+    let want = tally_by(rt, 0, alloc, setup, batches, bases, 4)?;
     assert!(rt; want.row_count() > 30);
     for threads in 1..9 {
-        let tally = tally_by(&rt, threads, alloc, &setup, &batches, bases, 4)?;
+        let tally = tally_by(rt, threads, alloc, setup, batches, bases, 4)?;
         assert!(rt; tally.rows().eq(want.rows()));
     }
     Ok(())
@@ -287,11 +323,21 @@ fn assert_tally_or_memory<H: Threads + Sync + Abort>(
     threads: u32,
 ) -> Result<(), Fail> {
     let setup = made_setup(3, 2)?;
-    let bases = b"AAACAAC";
-    let batches = batches_of(alloc, &setup, bases, 2)?;
+    let batches = batches_of(alloc, &setup, b"AAACAAC", 2)?;
     assert_same(rt, "batches", &batches.len(), &3);
-    let stripes = stripes_of(alloc, &setup, &batches)?;
-    match gathered(rt, threads, alloc, &setup, stripes, bases, 2)? {
+    gather_or_memory(rt, alloc, threads, &setup, &batches)
+}
+
+// The same of the setup and of the batches.
+fn gather_or_memory<H: Threads + Sync + Abort>(
+    rt: &H,
+    alloc: Global,
+    threads: u32,
+    setup: &Setup,
+    batches: &[Arc<Batch>],
+) -> Result<(), Fail> {
+    let stripes = stripes_of(alloc, setup, batches)?;
+    match gathered(rt, threads, alloc, setup, stripes, b"AAACAAC", 2)? {
         Ok(tally) => assert_rows(rt, &tally, &[(0, 1), (1, 2), (4, 1), (16, 1)]),
         Err(fault) => {
             assert_same(rt, "a fault", &fault, &GatherFault::Memory);

@@ -74,10 +74,16 @@ fn assert_rows(
 fn listed_words_alone_are_counted(rt: HostRuntime) -> Result<(), Fail> {
     let alloc = rt.alloc();
     for (both, texts, rows) in LISTED {
-        let stripe = booked(alloc, &listed_setup(alloc, *both, texts)?)?;
-        assert_rows(&rt, alloc, &stripe, rows)?;
+        let stripe = booked_by_list(alloc, *both, *texts)?;
+        assert_rows(&rt, alloc, &stripe, *rows)?;
     }
     Ok(())
+}
+
+// The stripe that is kept to the words of these reads, in which ACGTA is booked.
+fn booked_by_list(alloc: Global, both: bool, texts: &[&[u8]]) -> Result<Stripe<PlainCounts>, Fail> {
+    let setup = listed_setup(alloc, both, texts)?;
+    booked(alloc, &setup)
 }
 
 // The reads of a list, where one is given, and what a stripe that is kept to CGT answers to a cut by it.
@@ -120,9 +126,13 @@ fn assert_booking(
 fn a_cut_by_another_list_is_a_stranger(rt: HostRuntime) -> Result<(), Fail> {
     let alloc = rt.alloc();
     let setup = listed_setup(alloc, false, &[b"CGT"])?;
+    assert_bookings(&rt, alloc, &setup)
+}
+
+fn assert_bookings(rt: &impl Abort, alloc: Global, setup: &Setup) -> Result<(), Fail> {
     for (texts, answer) in LISTS {
         let cuts = cuts_by(alloc, *texts)?;
-        assert_booking(&rt, alloc, &setup, &cuts, answer)?;
+        assert_booking(rt, alloc, setup, &cuts, answer)?;
     }
     Ok(())
 }
@@ -143,7 +153,14 @@ fn a_setup_takes_no_list_of_other_words(rt: HostRuntime) -> Result<(), Fail> {
 #[test]
 fn a_clone_has_the_list(rt: HostRuntime) -> Result<(), Fail> {
     let setup = listed_setup(rt.alloc(), false, &[b"CGT"])?;
-    assert!(rt; setup.clone()? == setup);
-    assert!(rt; setup != made_setup(3, 1)?);
+    let clone = setup.clone()?;
+    assert_same_setup(&rt, &setup, &clone, true);
+    let other = made_setup(3, 1)?;
+    assert_same_setup(&rt, &setup, &other, false);
     Ok(())
+}
+
+// Whether a setup is equal to another one.
+fn assert_same_setup(rt: &impl Abort, setup: &Setup, other: &Setup, is_same: bool) {
+    assert!(rt; (*setup == *other) == is_same);
 }

@@ -88,9 +88,22 @@ fn count_by_many<N: Books + Send + Sync, R: Threads + Wait + Sync>(
     requires stripes { sheet.plan.stripes ≡ stripe_count setup.now }
 {
     let (stripes, mut whole) = stripes_of::<N>(alloc, setup, sheet)?;
-    let jobs = jobs_of(alloc, &stripes, &mut whole, batches)?;
-    book_parts(rt, alloc, &stripes, &mut whole, jobs)?;
+    book_by_many(rt, alloc, &stripes, &mut whole, batches)?;
     ended(alloc, setup, stripes, whole)
+}
+
+// The same over stripes, with the whole share.
+fn book_by_many<N: Books + Send + Sync, R: Threads + Wait + Sync>(
+    rt: &R,
+    alloc: Global,
+    stripes: &Stripes<PlainCounts, N>,
+    whole: &mut Share<N>,
+    batches: &[Arc<Batch>],
+) -> Result<(), Fail>
+    ensures { whole.new.plan ≡ whole.old.plan }
+{
+    let jobs = jobs_of(alloc, stripes, whole, batches)?;
+    book_parts(rt, alloc, stripes, whole, jobs)
 }
 
 // Sixteen random reads of 48 positions each.
@@ -108,15 +121,26 @@ fn what_eight_threads_booked_is_the_tally(rt: HostRuntime) -> Result<(), Fail> {
     let alloc = rt.alloc();
     let setup = seeded_setup()?;
     let reads = long_reads(alloc)?;
-    let batches = batches_of(alloc, &setup, &reads, 12)?;
-    assert_same(&rt, "batches", &batches.len(), &64);
-    assert_same(&rt, "stripes", &setup.stripes(), &8);
-    let sheet = Sheet::new(alloc, setup.stripes(), 9)?;
-    let (sums, rows) = count_by_many::<Brand, _>(&rt, alloc, &setup, sheet, &batches)?;
-    assert_sums(&rt, &sums);
     let want = slow_rows(alloc, &reads, setup.rule())?;
+    let rows = rows_by_eight(&rt, alloc, &setup, &reads)?;
     assert_items(&rt, "rows", rows.as_slice(), want.as_slice());
     Ok(())
+}
+
+// The rows of these reads, whose batches are booked by eight threads.
+fn rows_by_eight<R: Threads + Wait + Abort + Sync>(
+    rt: &R,
+    alloc: Global,
+    setup: &Setup,
+    reads: &[SeqRead],
+) -> Result<Vec<(u64, u64)>, Fail> {
+    let batches = batches_of(alloc, setup, reads, 12)?;
+    assert_same(rt, "batches", &batches.len(), &64);
+    assert_same(rt, "stripes", &setup.stripes(), &8);
+    let sheet = Sheet::new(alloc, setup.stripes(), 9)?;
+    let (sums, rows) = count_by_many::<Brand, _>(rt, alloc, setup, sheet, &batches)?;
+    assert_sums(rt, &sums);
+    Ok(rows)
 }
 
 // Each of eight stripes has 64 batches, and what the share says of it.
@@ -179,12 +203,27 @@ fn count_without_one<N: Books + Send + Sync, R: Threads + Wait + Sync>(
     requires stripes { sheet.plan.stripes ≡ stripe_count setup.now }
     requires parts { sheet.plan.parts ≡ 2 }
 {
-    let [first, second, third] = batches;
-    let (stripes, mut kept) = stripes_of::<N>(alloc, setup, sheet)?;
-    let lost = stripes.split(&mut kept);
-    let mut kept = book_apart(rt, alloc, &stripes, (lost, kept), (first, second))?;
-    book_batch(rt, alloc, &stripes, &mut kept, third)?;
+    let (stripes, kept) = stripes_of::<N>(alloc, setup, sheet)?;
+    let kept = book_without_one(rt, alloc, &stripes, kept, batches)?;
     ended(alloc, setup, stripes, kept)
+}
+
+// The same over stripes: the share that is left.
+fn book_without_one<N: Books + Send + Sync, R: Threads + Wait + Sync>(
+    rt: &R,
+    alloc: Global,
+    stripes: &Stripes<PlainCounts, N>,
+    mut kept: Share<N>,
+    batches: [&Arc<Batch>; 3],
+) -> Result<Share<N>, BookFault>
+    requires { kept.parts ≡ 2 }
+    ensures { IfOk result (λ share. share.plan ≡ kept.plan) }
+{
+    let [first, second, third] = batches;
+    let lost = stripes.split(&mut kept);
+    let mut left = book_apart(rt, alloc, stripes, (lost, kept), (first, second))?;
+    book_batch(rt, alloc, stripes, &mut left, third)?;
+    Ok(left)
 }
 
 // What the one stripe has, and what the share says of it.
@@ -198,18 +237,23 @@ fn a_share_that_is_lost_leaves_the_stripes_lawful(rt: HostRuntime) -> Result<(),
     let alloc = rt.alloc();
     let setup = made_setup(3, 1)?;
     let batches = batches_in(alloc, &setup, &[b"AAAAAAAAAAAAAA"], 4)?;
-    let [first, second, third] = batches.as_slice() else {
+    lose_a_share(&rt, alloc, &setup, &batches)
+}
+
+// The same of the setup and of the batches.
+fn lose_a_share<R: Threads + Wait + Abort + Sync>(
+    rt: &R,
+    alloc: Global,
+    setup: &Setup,
+    batches: &[Arc<Batch>],
+) -> Result<(), Fail> {
+    let [first, second, third] = batches else {
         return Err(Fail::from("other batches"));
     };
     let sheet = Sheet::new(alloc, setup.stripes(), 2)?;
-    let (sums, rows) = count_without_one::<Brand, _>(
-        &rt,
-        alloc,
-        &setup,
-        sheet,
-        [first, second, third],
-    )?;
-    assert_items(&rt, "stripes", sums.as_slice(), SUMS);
-    assert_items(&rt, "rows", rows.as_slice(), ROWS);
+    let three = [first, second, third];
+    let (sums, rows) = count_without_one::<Brand, _>(rt, alloc, setup, sheet, three)?;
+    assert_items(rt, "stripes", sums.as_slice(), SUMS);
+    assert_items(rt, "rows", rows.as_slice(), ROWS);
     Ok(())
 }

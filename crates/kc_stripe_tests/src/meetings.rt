@@ -9,6 +9,7 @@ use kc_stripe::{BookFault, Cut, Setup, Stripes};
 use kc_table::{Counts, PlainCounts, TableFault};
 use std::alloc::{AllocError, Global};
 use std::marker::Brand;
+use std::process::Abort;
 use std::sync::Wait;
 use std::sync::atomic::{AtomicBool, Ordering};
 use std::test::Fail;
@@ -130,16 +131,27 @@ fn book_at_once<N: Books + Send + Sync, R: Threads + Wait + Sync>(
     requires plan { (sheet.plan.stripes ≡ 2) × (sheet.plan.parts ≡ 2) × (stripe_count setup.now ≡ 2) }
 {
     let tables = meeting_tables(alloc, setup, flags)?;
-    let (stripes, mut one) = Stripes::<MeetingCounts<'_>, N>::new(alloc, setup, tables, sheet)?;
+    let (stripes, one) = Stripes::<MeetingCounts<'_>, N>::new(alloc, setup, tables, sheet)?;
+    Ok(book_by_two(rt, &stripes, one, cuts))
+}
+
+// The same over stripes: the share is split in two.
+fn book_by_two<N: Books + Send + Sync, R: Threads + Wait + Sync>(
+    rt: &R,
+    stripes: &Stripes<MeetingCounts<'_>, N>,
+    mut one: Share<N>,
+    cuts: (&Cut, &Cut),
+) -> [Result<(), BookFault>; 2]
+    requires { one.parts ≡ 2 }
+{
     let other = stripes.split(&mut one);
     let (first, second) = cuts;
-    let shared = &stripes;
     let (one, other) = join(
         rt,
-        move || book_once(rt, shared, one, first),
-        move || book_once(rt, shared, other, second),
+        move || book_once(rt, stripes, one, first),
+        move || book_once(rt, stripes, other, second),
     );
-    Ok([one, other])
+    [one, other]
 }
 
 #[test]
@@ -147,7 +159,17 @@ fn two_stripes_are_booked_at_once(rt: HostRuntime) -> Result<(), Fail> {
     let alloc = rt.alloc();
     let setup = made_setup(3, 2)?;
     let cuts = cuts_in(alloc, &setup, b"AAAC")?;
-    let [first, second] = cuts.as_slice() else {
+    meet(&rt, alloc, &setup, &cuts)
+}
+
+// The same of the setup and of its cuts.
+fn meet<R: Threads + Wait + Abort + Sync>(
+    rt: &R,
+    alloc: Global,
+    setup: &Setup,
+    cuts: &[Cut],
+) -> Result<(), Fail> {
+    let [first, second] = cuts else {
         return Err(Fail::from("other cuts"));
     };
     if setup.stripes() != 2 {
@@ -158,7 +180,7 @@ fn two_stripes_are_booked_at_once(rt: HostRuntime) -> Result<(), Fail> {
         met: (AtomicBool::new(false), AtomicBool::new(false)),
     };
     let sheet = Sheet::new(alloc, 2, 2)?;
-    let booked = book_at_once::<Brand, _>(&rt, alloc, &setup, sheet, (first, second), &flags)?;
+    let booked = book_at_once::<Brand, _>(rt, alloc, setup, sheet, (first, second), &flags)?;
     assert!(rt; booked == [Ok(()), Ok(())]);
     assert!(rt; flags.met.0.load(Ordering::SeqCst));
     assert!(rt; flags.met.1.load(Ordering::SeqCst));

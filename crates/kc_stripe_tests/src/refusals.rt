@@ -4,7 +4,7 @@ ghost use Rattle.std.specs.Prelude.{◌≡◌, ◌<◌};
 ghost use Rattle.kc_booking.specs.Setup.{stripe_count, word_count};
 
 use crate::bookings::{Held, NOTHING, assert_held, map_stripe, quotient_stripe};
-use crate::sample_batches::{cuts_of, made_setup};
+use crate::sample_batches::{cuts_of, cuts_of_three, made_setup};
 use crate::sharings::stripes_of;
 use crate::stripe_assertions::assert_same;
 use kc_share::{Books, Share, Sheet};
@@ -75,7 +75,7 @@ fn is_booked_at_last<C: Counts>(
     alloc: Global,
     stripe: &mut Stripe<C>,
 ) -> Result<(), Fail> {
-    let cuts = cuts_of(alloc, &made_setup(3, 1)?, TEXTS, 40)?;
+    let cuts = cuts_of_three(alloc, 1, TEXTS, 40)?;
     assert!(rt; cuts.len() == 2);
     is_booked_again(rt, stripe, &cuts[1], &NOTHING)?;
     is_booked_again(rt, stripe, &cuts[0], &AAA)?;
@@ -160,10 +160,28 @@ fn share_at_last<N: Books, R: Wait + Abort>(
         return Err(Fail::from("another setup"));
     }
     let (stripes, mut share) = stripes_of::<N>(alloc, setup, sheet)?;
-    is_shared_again(rt, &stripes, &mut share, one, [0, 0, 1])?;
-    is_shared_again(rt, &stripes, &mut share, forty, [1, 1, 1])?;
-    let count = is_seen_again(rt, alloc, &stripes, &mut share, Word(1))?;
+    let count = share_and_look(rt, alloc, &stripes, &mut share, forty, one)?;
     Ok((count, told(&share)))
+}
+
+// The same over stripes: how often AAC was counted.
+fn share_and_look<N: Books, R: Wait + Abort>(
+    rt: &R,
+    alloc: Global,
+    stripes: &Stripes<PlainCounts, N>,
+    share: &mut Share<N>,
+    forty: &Cut,
+    one: &Cut,
+) -> Result<u64, Fail>
+    requires forty { forty.now.stripe < stripe_count stripes.now.setup }
+    requires one { one.now.stripe < stripe_count stripes.now.setup }
+    requires word { 1 < word_count stripes.now.setup }
+    requires plan { 0 < share.old.plan.stripes }
+    ensures { share.new.plan ≡ share.old.plan }
+{
+    is_shared_again(rt, stripes, share, one, [0, 0, 1])?;
+    is_shared_again(rt, stripes, share, forty, [1, 1, 1])?;
+    is_seen_again(rt, alloc, stripes, share, Word(1))
 }
 
 #[test]
@@ -171,15 +189,25 @@ fn a_refused_growth_leaves_the_share(rt: HostRuntime) -> Result<(), Fail> {
     let alloc = rt.alloc();
     let setup = made_setup(3, 1)?;
     let cuts = cuts_of(alloc, &setup, TEXTS, 40)?;
-    let [forty, one] = cuts.as_slice() else {
+    is_shared_at_last(&rt, alloc, &setup, &cuts)
+}
+
+// The same of the setup and of its cuts.
+fn is_shared_at_last<R: Wait + Abort>(
+    rt: &R,
+    alloc: Global,
+    setup: &Setup,
+    cuts: &[Cut],
+) -> Result<(), Fail> {
+    let [forty, one] = cuts else {
         return Err(Fail::from("other batches"));
     };
     if setup.stripes() != 1 {
         return Err(Fail::from("another setup"));
     }
     let sheet = Sheet::new(alloc, 1, 1)?;
-    let (count, share) = share_at_last::<Brand, _>(&rt, alloc, &setup, sheet, (forty, one))?;
-    assert_same(&rt, "a count", &count, &1);
-    assert_same(&rt, "a share", &share, &[41, 2, 1]);
+    let (count, share) = share_at_last::<Brand, _>(rt, alloc, setup, sheet, (forty, one))?;
+    assert_same(rt, "a count", &count, &1);
+    assert_same(rt, "a share", &share, &[41, 2, 1]);
     Ok(())
 }

@@ -123,6 +123,17 @@ pub(crate) fn cuts_of(
     cuts_of_batches(alloc, setup, &batches)
 }
 
+// The same of words of three bases in so many stripes.
+pub(crate) fn cuts_of_three(
+    alloc: Global,
+    stripes: u32,
+    texts: &[&[u8]],
+    size: u64,
+) -> Result<Vec<Cut>, Fail> {
+    let setup = made_setup(3, stripes)?;
+    cuts_of(alloc, &setup, texts, size)
+}
+
 // The cuts of the batches in stripe 0.
 fn cuts_of_batches(alloc: Global, setup: &Setup, batches: &[Arc<Batch>]) -> Result<Vec<Cut>, Fail> {
     let mut cuts = Vec::new(alloc);

@@ -115,12 +115,27 @@ fn count_by_two<N: Books + Send + Sync, R: Threads + Wait + Sync>(
     ensures count { IfOk result (λ counted. vec_len counted.0 ≡ stripe_count setup.now) }
     ensures whole { IfOk result (λ counted. All (λ stripe. IsAllOf counted.1.booked stripe) counted.0.items) }
 {
-    let (stripes, mut one) = stripes_of::<N>(alloc, setup, sheet)?;
+    let (stripes, one) = stripes_of::<N>(alloc, setup, sheet)?;
+    let whole = book_by_two(rt, alloc, &stripes, one, batches)?;
+    Ok(stripes.into_stripes(alloc, whole)?)
+}
+
+// The same over stripes: the share is split in two, and joined.
+fn book_by_two<N: Books + Send + Sync, R: Threads + Wait + Sync>(
+    rt: &R,
+    alloc: Global,
+    stripes: &Stripes<PlainCounts, N>,
+    mut one: Share<N>,
+    batches: &[Arc<Batch>],
+) -> Result<Share<N>, BookFault>
+    requires { one.parts ≡ 2 }
+    ensures { IfOk result (λ whole. (whole.parts ≡ 2) × (whole.plan ≡ one.plan)) }
+{
     let other = stripes.split(&mut one);
     let (first, second) = batches.split_at(batches.len() / 2);
-    let (mut whole, other) = book_halves(rt, alloc, &stripes, (one, other), (first, second))?;
+    let (mut whole, other) = book_halves(rt, alloc, stripes, (one, other), (first, second))?;
     stripes.join(&mut whole, other);
-    Ok(stripes.into_stripes(alloc, whole)?)
+    Ok(whole)
 }
 
 // Each share books its half of the batches in a thread of its own.
@@ -196,9 +211,19 @@ fn what_two_threads_booked_is_what_the_stripes_have(rt: HostRuntime) -> Result<(
     let setup = made_setup(3, 1)?;
     let batches = batches_in(alloc, &setup, &[b"AAAAAAAAAA"], 4)?;
     assert_same(&rt, "batches", &batches.len(), &2);
+    sum_up(&rt, alloc, &setup, &batches)
+}
+
+// The same of the setup and of the batches.
+fn sum_up<R: Threads + Wait + Abort + Sync>(
+    rt: &R,
+    alloc: Global,
+    setup: &Setup,
+    batches: &[Arc<Batch>],
+) -> Result<(), Fail> {
     let sheet = Sheet::new(alloc, setup.stripes(), 2)?;
-    let sums = sums_by_two::<Brand, _>(&rt, alloc, &setup, sheet, batches.as_slice())?;
-    assert_items(&rt, "stripes", sums.as_slice(), SUMS);
+    let sums = sums_by_two::<Brand, _>(rt, alloc, setup, sheet, batches)?;
+    assert_items(rt, "stripes", sums.as_slice(), SUMS);
     Ok(())
 }
 
@@ -234,6 +259,39 @@ fn look_up<N: Books, R: Wait>(
     Ok((seen.count(), seen.batches().len()))
 }
 
+const TWICE: &Option<Result<(), BookFault>> = &Some(Err(BookFault::Twice));
+
+const A_STRANGER: &Option<Result<(), BookFault>> = &Some(Err(BookFault::Stranger));
+
+// The booking of a cut answers so.
+fn assert_booked<N: Books, R: Wait + Abort>(
+    rt: &R,
+    stripes: &Stripes<PlainCounts, N>,
+    share: &mut Share<N>,
+    cut: &Cut,
+    answer: &Option<Result<(), BookFault>>,
+)
+    ensures { share.new.plan ≡ share.old.plan }
+{
+    let found = booked(rt, stripes, share, cut);
+    assert_same(rt, "a booking", &found, answer);
+}
+
+// AAA, which was counted, and CCC, which was not, are looked up.
+fn assert_seen<N: Books, R: Wait + Abort>(
+    rt: &R,
+    alloc: Global,
+    stripes: &Stripes<PlainCounts, N>,
+    share: &mut Share<N>,
+)
+    ensures { share.new.plan ≡ share.old.plan }
+{
+    let there = look_up(rt, alloc, stripes, share, 0);
+    assert_same(rt, "AAA", &there, &Ok((2, 1)));
+    let missing = look_up(rt, alloc, stripes, share, 21);
+    assert_same(rt, "CCC", &missing, &Ok((0, 1)));
+}
+
 // Books the first cut twice and then the second. Then AAA and CCC are looked up; and what the share has.
 fn book_and_look<N: Books, R: Wait + Abort>(
     rt: &R,
@@ -247,16 +305,10 @@ fn book_and_look<N: Books, R: Wait + Abort>(
 {
     let (stripes, mut share) = stripes_of::<N>(alloc, setup, sheet)?;
     let (cut, stranger) = cuts;
-    let one = booked(rt, &stripes, &mut share, cut);
-    assert_same(rt, "booked", &one, &Some(Ok(())));
-    let again = booked(rt, &stripes, &mut share, cut);
-    assert_same(rt, "booked again", &again, &Some(Err(BookFault::Twice)));
-    let other = booked(rt, &stripes, &mut share, stranger);
-    assert_same(rt, "a stranger", &other, &Some(Err(BookFault::Stranger)));
-    let there = look_up(rt, alloc, &stripes, &mut share, 0);
-    assert_same(rt, "AAA", &there, &Ok((2, 1)));
-    let missing = look_up(rt, alloc, &stripes, &mut share, 21);
-    assert_same(rt, "CCC", &missing, &Ok((0, 1)));
+    assert_booked(rt, &stripes, &mut share, cut, &Some(Ok(())));
+    assert_booked(rt, &stripes, &mut share, cut, TWICE);
+    assert_booked(rt, &stripes, &mut share, stranger, A_STRANGER);
+    assert_seen(rt, alloc, &stripes, &mut share);
     assert_same(rt, "words", &share.words(0), &2);
     assert_same(rt, "entries", &share.entries(0), &1);
     Ok(())
@@ -267,15 +319,24 @@ fn a_word_is_looked_up_among_the_batches(rt: HostRuntime) -> Result<(), Fail> {
     let alloc = rt.alloc();
     let setup = made_setup(3, 1)?;
     let cuts = cuts_and_stranger(alloc)?;
-    let [cut, _, stranger] = cuts.as_slice() else {
+    look_among_batches(&rt, alloc, &setup, &cuts)
+}
+
+// The same of the setup and of the cuts.
+fn look_among_batches<R: Wait + Abort>(
+    rt: &R,
+    alloc: Global,
+    setup: &Setup,
+    cuts: &[Cut],
+) -> Result<(), Fail> {
+    let [cut, _, stranger] = cuts else {
         return Err(Fail::from("other batches"));
     };
     if setup.stripes() != 1 {
         return Err(Fail::from("another setup"));
     }
     let sheet = Sheet::new(alloc, 1, 1)?;
-    book_and_look::<Brand, _>(&rt, alloc, &setup, sheet, (cut, stranger))?;
-    Ok(())
+    Ok(book_and_look::<Brand, _>(rt, alloc, setup, sheet, (cut, stranger))?)
 }
 
 // How often each of the words was counted.
@@ -323,11 +384,23 @@ fn look_book_and_look<N: Books, R: Wait>(
     requires name { sheet.table ≡ N.table }
     requires stripes { sheet.plan.stripes ≡ stripe_count setup.now }
 {
-    let (stripes, mut share) = stripes_of::<N>(alloc, setup, sheet)?;
-    let before = looks_of(rt, alloc, &stripes, &mut share, words)?;
-    let (mut share, booked) = book_all(rt, alloc, &stripes, share, batches);
+    let (stripes, share) = stripes_of::<N>(alloc, setup, sheet)?;
+    looks_around(rt, alloc, &stripes, share, batches, words)
+}
+
+// The same over stripes.
+fn looks_around<N: Books, R: Wait>(
+    rt: &R,
+    alloc: Global,
+    stripes: &Stripes<PlainCounts, N>,
+    mut share: Share<N>,
+    batches: &[Arc<Batch>],
+    words: &[u64],
+) -> Result<(Vec<Look>, Vec<Look>), BookFault> {
+    let before = looks_of(rt, alloc, stripes, &mut share, words)?;
+    let (mut share, booked) = book_all(rt, alloc, stripes, share, batches);
     booked?;
-    let after = looks_of(rt, alloc, &stripes, &mut share, words)?;
+    let after = looks_of(rt, alloc, stripes, &mut share, words)?;
     Ok((before, after))
 }
 
@@ -345,10 +418,22 @@ fn book_look_and_end<N: Books, R: Wait>(
     requires stripes { sheet.plan.stripes ≡ stripe_count setup.now }
 {
     let (stripes, mut share) = stripes_of::<N>(alloc, setup, sheet)?;
-    book_batch(rt, alloc, &stripes, &mut share, batch)?;
-    let counts = counts_of(rt, alloc, &stripes, &mut share, words)?;
+    let counts = book_and_count(rt, alloc, &stripes, &mut share, batch, words)?;
     let totals = totals_at_end(alloc, stripes, share)?;
     Ok((counts, totals))
+}
+
+// Books a batch everywhere: how often each of the words was then counted.
+fn book_and_count<N: Books, R: Wait>(
+    rt: &R,
+    alloc: Global,
+    stripes: &Stripes<PlainCounts, N>,
+    share: &mut Share<N>,
+    batch: &Arc<Batch>,
+    words: &[u64],
+) -> Result<Vec<u64>, Fail> {
+    book_batch(rt, alloc, stripes, share, batch)?;
+    counts_of(rt, alloc, stripes, share, words)
 }
 
 // The sharing ends: the numbers and the totals of the stripes, as they come.
@@ -387,17 +472,20 @@ fn each_stripe_is_found_under_its_own_lock(rt: HostRuntime) -> Result<(), Fail> 
     let setup = made_setup(3, 4)?;
     let batches = batches_in(alloc, &setup, &[b"ACGT"], 8)?;
     assert!(rt; !batches.is_empty());
+    find_stripes(&rt, alloc, &setup, &batches[0])
+}
+
+// The same of the setup and of the batch.
+fn find_stripes<R: Wait + Abort>(
+    rt: &R,
+    alloc: Global,
+    setup: &Setup,
+    batch: &Arc<Batch>,
+) -> Result<(), Fail> {
     let sheet = Sheet::new(alloc, setup.stripes(), 1)?;
-    let (counts, totals) = book_look_and_end::<Brand, _>(
-        &rt,
-        alloc,
-        &setup,
-        sheet,
-        &batches[0],
-        WORDS,
-    )?;
-    assert_items(&rt, "counts", counts.as_slice(), COUNTS);
-    assert_items(&rt, "totals", totals.as_slice(), TOTALS);
+    let (counts, totals) = book_look_and_end::<Brand, _>(rt, alloc, setup, sheet, batch, WORDS)?;
+    assert_items(rt, "counts", counts.as_slice(), COUNTS);
+    assert_items(rt, "totals", totals.as_slice(), TOTALS);
     Ok(())
 }
 
@@ -418,11 +506,21 @@ fn a_word_is_found_under_the_lock_of_its_form(rt: HostRuntime) -> Result<(), Fai
     };
     let batches = batches_in(alloc, &setup, &[b"ACGT", b"CGTT"], 2)?;
     assert_same(&rt, "batches", &batches.len(), &2);
+    find_forms(&rt, alloc, &setup, &batches)
+}
+
+// The same of the setup and of the batches.
+fn find_forms<R: Wait + Abort>(
+    rt: &R,
+    alloc: Global,
+    setup: &Setup,
+    batches: &[Arc<Batch>],
+) -> Result<(), Fail> {
     let sheet = Sheet::new(alloc, setup.stripes(), 1)?;
     let (before, after) = look_book_and_look::<Brand, _>(
-        &rt, alloc, &setup, sheet, &batches, STRANDS,
+        rt, alloc, setup, sheet, batches, STRANDS,
     )?;
-    assert_items(&rt, "before", before.as_slice(), NOT_YET);
-    assert_items(&rt, "after", after.as_slice(), TOGETHER);
+    assert_items(rt, "before", before.as_slice(), NOT_YET);
+    assert_items(rt, "after", after.as_slice(), TOGETHER);
     Ok(())
 }

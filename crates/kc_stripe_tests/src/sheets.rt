@@ -139,22 +139,45 @@ fn book_by_two<N: Books + Send + Sync, R: Threads + Wait + Sync>(
     requires plan { (sheet.plan.stripes ≡ 2) × (sheet.plan.parts ≡ 2) }
     ensures { IfOk result (λ sums. All (λ sum. sum.0 ≡ sum.1) sums.items) }
 {
-    let (sheet, locks, mut one) = locks_of::<N>(alloc, sheet)?;
+    let (sheet, locks, one) = locks_of::<N>(alloc, sheet)?;
+    let mut whole = book_under(rt, &sheet, locks.as_slice(), one, batches);
+    settle_all(alloc, &sheet, locks, &mut whole)
+}
+
+// The share is split in two, both book, and they are joined.
+fn book_under<N: Books + Send + Sync, R: Threads + Wait + Sync>(
+    rt: &R,
+    sheet: &OpenSheet<N>,
+    locks: &[Mutex<Locked<N>>],
+    mut one: Share<N>,
+    batches: &[Arc<Batch>],
+) -> Share<N>
+    requires { one.parts ≡ 2 }
+    ensures { (result.parts ≡ 2) × (result.plan ≡ one.plan) }
+{
     let other = sheet.split(&mut one);
     let (first, second) = batches.split_at(batches.len() / 2);
-    let (mut whole, other) = book_halves(
-        rt,
-        &sheet,
-        locks.as_slice(),
-        (one, other),
-        (first, second),
-    );
+    let (mut whole, other) = book_halves(rt, sheet, locks, (one, other), (first, second));
     sheet.join(&mut whole, other);
+    whole
+}
+
+// What the journal of each stripe has, and what the whole share has.
+fn settle_all<N: Books>(
+    alloc: Global,
+    sheet: &OpenSheet<N>,
+    locks: Vec<Mutex<Locked<N>>>,
+    whole: &mut Share<N>,
+) -> Result<Vec<((u64, u64), (u64, u64))>, AllocError>
+    requires plan { (whole.old.plan.stripes ≡ 2) × (whole.old.plan.parts ≡ 2) }
+    requires whole { whole.old.parts ≡ 2 }
+    ensures { IfOk result (λ sums. All (λ sum. sum.0 ≡ sum.1) sums.items) }
+{
     let mut sums = Vec::new(alloc);
     for lock in locks {
         let mut lock = lock.into_inner();
         let stripe = lock.keeper.stripe();
-        let kept = lock.settle(&sheet, &mut whole);
+        let kept = lock.settle(sheet, whole);
         if stripe < 2 {
             sums.push((kept, (whole.words(stripe), whole.entries(stripe))))?;
         }

@@ -1,4 +1,4 @@
-use Rattle.kc_stripe_tests.proofs.many_threads.a_share_that_is_lost_leaves_the_stripes_lawful.Given as goal
+use Rattle.kc_stripe_tests.proofs.many_threads.lose_a_share.Given as goal
 
 abbrev pub ghosts-count_without_one : goal.ghosts-count_without_one
 ghosts-count_without_one g a = record { table = a.sheet.table }

@@ -1,6 +1,0 @@
-use Rattle.std.proofs.Common.{◌≡◌}
-use Rattle.std.specs.Prelude.{All}
-use Rattle.kc_stripe_tests.proofs.sheets.book_by_two.Given as goal
-
-abbrev pub invariant-loop-lock : goal.invariant-loop-lock
-invariant-loop-lock g l = (l.whole.parts ≡ 2) × (l.whole.plan ≡ l.fn.sheet.plan) × All (λ sum. sum.0 ≡ sum.1) l.sums.items
