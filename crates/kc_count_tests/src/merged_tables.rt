@@ -1,19 +1,47 @@
 //! Tables put together.
+ghost use Rattle.std.specs.Prelude.{IfSome};
+ghost use Rattle.kc_report.specs.Table.{IsOrigin, MaySay};
+
 use crate::count_assertions::{assert_items, assert_same};
 use kc_io::{FromBytes, ToVec};
-use kc_report::{ReportFault, merge, read_table, write_table};
+use kc_report::{Origin, ReportFault, merge, read_table, write_table};
+use kc_tally::Tally;
 use std::alloc::Global;
 use std::process::Abort;
 
 // The text of both tables together, each of which has at most 100 bytes.
 fn merged_text(alloc: Global, first: &[u8], second: &[u8]) -> Result<Vec<u8>, ReportFault> {
-    let (one, origin) = read_table(alloc, &mut FromBytes::new(first), 100)?;
-    let (two, other) = read_table(alloc, &mut FromBytes::new(second), 100)?;
-    let (sum, told) = merge(alloc, &one, origin.as_ref(), &two, other.as_ref())?;
+    let one = read_table(alloc, &mut FromBytes::new(first), 100)?;
+    let two = read_table(alloc, &mut FromBytes::new(second), 100)?;
+    text_of_both(alloc, &one, &two)
+}
+
+// The text of both together.
+fn text_of_both(alloc: Global, one: &Read, two: &Read) -> Result<Vec<u8>, ReportFault>
+    requires one { MaySay one.now.1 }
+    requires two { MaySay two.now.1 }
+{
+    let (one, origin) = one;
+    let (two, other) = two;
+    let (sum, told) = merge(alloc, one, origin.as_ref(), two, other.as_ref())?;
+    text_of(alloc, &sum, told.as_ref())
+}
+
+// What is written of a tally.
+pub(crate) fn text_of(
+    alloc: Global,
+    tally: &Tally,
+    origin: Option<&Origin>,
+) -> Result<Vec<u8>, ReportFault>
+    requires { IfSome origin (λ origin. IsOrigin origin.now) }
+{
     let mut sink = ToVec::new(Vec::new(alloc));
-    write_table(&mut sink, &sum, told.as_ref())?;
+    write_table(&mut sink, tally, origin)?;
     Ok(sink.into_inner())
 }
+
+// What is read of a table.
+type Read = (Tally, Option<Origin>);
 
 const ACGTA: &[u8] = b"KCT 2 3 s a 33 1\nACG 1\nCGT 1\nGTA 1\nEND 3 3\n";
 

@@ -2,11 +2,11 @@
 ghost use Rattle.std.specs.Prelude.{◌≡◌};
 
 use crate::count_assertions::{assert_items, assert_same};
+use crate::merged_tables::text_of;
 use kc_io::{FromBytes, ToVec};
 use kc_kmer::K;
 use kc_report::{
     Dump, GREATEST_HIGH, ReportFault, query, read_table, write_dump, write_histo, write_stats,
-    write_table,
 };
 use kc_tally::{Row, Tally};
 use std::alloc::{AllocError, Global};
@@ -17,15 +17,15 @@ use std::test::Fail;
 fn worked_tally(alloc: Global, k: K) -> Result<Tally, AllocError>
     requires { k ≡ 2 }
 {
-    let rows = vec![in alloc;
+    let rows = [
         Row { word: 1, count: 2 },
         Row { word: 6, count: 1 },
         Row {
             word: 11,
-            count: 70_000
+            count: 70_000,
         },
-    ]?;
-    Tally::of_rows(alloc, k, false, rows)
+    ];
+    Tally::of_rows(alloc, k, false, Vec::from_slice(alloc, &rows)?)
 }
 
 // The same tally, with its length of words.
@@ -39,8 +39,9 @@ fn tally_of_three(alloc: Global) -> Result<Tally, Fail> {
 // Asserts that the tally's dump is this text.
 fn assert_dump<H: Abort + AllocGlobal>(rt: &H, tally: &Tally, dump: &Dump, want: &[u8]) {
     let mut sink = ToVec::new(Vec::new(rt.alloc()));
-    assert_eq!(rt; write_dump(&mut sink, tally, dump), Ok(()));
-    assert_eq!(rt; sink.as_slice(), want);
+    let outcome = write_dump(&mut sink, tally, dump);
+    assert_same(rt, "an outcome", &outcome, &Ok(()));
+    assert_items(rt, "a dump", sink.as_slice(), want);
 }
 
 #[test]
@@ -112,9 +113,8 @@ fn assert_refused<H: Abort + AllocGlobal>(rt: &H, text: &[u8], limit: u64, want:
 fn assert_copied<H: Abort + AllocGlobal>(rt: &H, text: &[u8]) -> Result<(), ReportFault> {
     let alloc = rt.alloc();
     let (tally, origin) = read_table(alloc, &mut FromBytes::new(text), 100)?;
-    let mut sink = ToVec::new(Vec::new(alloc));
-    write_table(&mut sink, &tally, origin.as_ref())?;
-    assert_items(rt, "a table", sink.as_slice(), text);
+    let written = text_of(alloc, &tally, origin.as_ref())?;
+    assert_items(rt, "a table", written.as_slice(), text);
     Ok(())
 }
 

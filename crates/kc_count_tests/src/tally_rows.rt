@@ -353,8 +353,18 @@ fn sums_of_parts(rt: HostRuntime) -> Result<(), Fail> {
     let one = parted_tally(rt.alloc(), k, &[2])?;
     for ends in PARTINGS {
         let other = parted_tally(rt.alloc(), k, *ends)?;
-        let sum = sum_of(&rt, &one, &other)?;
-        assert_tally_rows(&rt, &sum, DOUBLED);
+        assert_sum(&rt, &one, &other)?;
     }
+    Ok(())
+}
+
+// Asserts that both tallies together have each row twice.
+fn assert_sum<H: Abort + AllocGlobal>(
+    rt: &H,
+    one: &Tally,
+    other: &Tally,
+) -> Result<(), AllocError> {
+    let sum = sum_of(rt, one, other)?;
+    assert_tally_rows(rt, &sum, DOUBLED);
     Ok(())
 }

@@ -17,4 +17,4 @@ lawful = record {
 
 pub of_rows-requires : goal.of_rows-requires
 unfolding rows
-of_rows-requires c = rw (c.requires, c.in_ok-rows.ensures.items) lawful
+of_rows-requires c = rw (c.requires, c.in_ok-from_slice.ensures.items) lawful
