@@ -3,6 +3,7 @@ ghost use Rattle.std.specs.Prelude.{◌≡◌, ◌<◌, ◌≤◌, ◌^◌, [], 
 ghost use Rattle.std.specs.List.{flat_map, IsDistinct};
 ghost use Rattle.kc_tickets.specs.Tickets.{IsSeatOf, IsDone, answers_of, AreNumbersBelow};
 
+use crate::run_assertions::{assert_items, assert_same};
 use kc_run::ticket_laws::{each_stands_once, none_is_left_out};
 use kc_run::{Seat, Tickets};
 use std::alloc::{AllocError, Global};
@@ -143,9 +144,9 @@ fn assert_turn<R: Abort>(rt: &R, tickets: &Tickets, seats: &mut Vec<Seat>, turn:
     let (index, number, is_done) = *turn;
     assert!(rt; index < seats.len());
     let drawn = draw_at(tickets, seats, index);
-    assert_eq!(rt; drawn, number, "of seat {index}");
+    assert_same(rt, "a number", &drawn, &number);
     let done = seats[index].is_done();
-    assert_eq!(rt; done, is_done, "of seat {index}");
+    assert_same(rt, "is done", &done, &is_done);
 }
 
 // Lets so many seats draw below a limit, in these turns.
@@ -188,36 +189,47 @@ fn numbers_below_the_limit_are_answered_in_turn(rt: HostRuntime) -> Result<(), F
 #[test]
 fn as_many_seats_as_numbers_are_answered(rt: HostRuntime) -> Result<(), Fail> {
     let (tickets, mut seats) = Tickets::new(rt.alloc(), 3, 64)?;
-    assert_eq!(rt; seats.len(), 64);
+    assert_same(&rt, "seats", &seats.len(), &64);
     let (mut some, mut none) = (0u64, 0u64);
     for index in 0..64 {
         match draw_at(&tickets, &mut seats, index) {
             Some(number) => {
-                assert_eq!(rt; number, some);
+                assert_same(&rt, "a number", &number, &some);
                 some += 1;
             }
             None => none += 1,
         }
     }
-    assert_eq!(rt; (some, none), (3, 61));
+    assert_same(&rt, "answers", &(some, none), &(3, 61));
     tickets.close(seats);
     Ok(())
 }
 
 #[test]
 fn threads_are_answered_each_number_once(rt: HostRuntime) -> Result<(), Fail> {
-    let alloc = rt.alloc();
-    let mut all = Vec::new(alloc);
-    for numbers in share_out(&rt, alloc, 1000, 8)? {
-        all.extend_from_slice(numbers.as_slice())?;
-    }
-    all.sort_unstable();
-    let mut want = Vec::new(alloc);
-    for number in 0..1000u64 {
-        want.push(number)?;
-    }
-    assert_eq!(rt; all, want);
+    let all = share_out(&rt, rt.alloc(), 1000, 8)?;
+    let found = sorted(rt.alloc(), &all)?;
+    let want = numbers_below(rt.alloc(), 1000)?;
+    assert_items(&rt, "numbers", found.as_slice(), want.as_slice());
     Ok(())
+}
+
+// The numbers of all seats, in rising order.
+fn sorted(alloc: Global, all: &[Vec<u64>]) -> Result<Vec<u64>, AllocError> {
+    let mut sorted = Vec::new(alloc);
+    for numbers in all {
+        sorted.extend_from_slice(numbers.as_slice())?;
+    }
+    sorted.sort_unstable();
+    Ok(sorted)
+}
+
+fn numbers_below(alloc: Global, limit: u64) -> Result<Vec<u64>, AllocError> {
+    let mut numbers = Vec::new(alloc);
+    for number in 0..limit {
+        numbers.push(number)?;
+    }
+    Ok(numbers)
 }
 
 // Where a number stands among distinct numbers that are all below their own count.
@@ -243,5 +255,5 @@ fn as_many_distinct_numbers_leave_none_out(rt: HostRuntime) {
         index_of(&[2, 0, 1], 1),
         index_of(&[2, 0, 1], 2),
     ];
-    assert_eq!(rt; indices, [1, 2, 0]);
+    assert_items(&rt, "indices", &indices, &[1, 2, 0]);
 }

@@ -6,6 +6,7 @@ ghost use Rattle.kc_table.specs.QuotientTable.{counts_in};
 ghost use Rattle.kc_booking.specs.Setup.{stripe_count, key_bits};
 ghost use Rattle.kc_gather.specs.Gathering.{position_sum};
 
+use crate::run_assertions::assert_same;
 use kc_fastx::SeqRead;
 use kc_hash::{Hash, Matrix};
 use kc_run::{Gate, NoGate, RunFault, Tally, plain_tables, run};
@@ -125,9 +126,23 @@ fn counted<H: Threads + Wait + Sync, G: Gate + Sync>(
 fn assert_rows<H: Abort>(rt: &H, tally: &Tally, rows: &[Row]) {
     let mut left = tally.rows();
     for row in rows {
-        assert_eq!(rt; left.next(), Some(*row));
+        assert_same(rt, "a row", &left.next(), &Some(*row));
     }
-    assert_eq!(rt; left.next(), None);
+    assert_same(rt, "no more rows", &left.next(), &None);
+}
+
+// Asserts that the tally of a run over tables that are never full has these rows, and this total.
+fn assert_counted<H: Threads + Wait + Abort + Sync + AllocGlobal>(
+    rt: &H,
+    setup: &Setup,
+    case: &Case<'_>,
+    rows: &[Row],
+    total: u64,
+) -> Result<(), Fail> {
+    let tally = counted(rt, rt.alloc(), setup, case, &NoGate)?;
+    assert_rows(rt, &tally, rows);
+    assert_same(rt, "a total", &tally.total(), &total);
+    Ok(())
 }
 
 // The one word of ten bases A.
@@ -147,10 +162,7 @@ fn count_ten<H: Threads + Wait + Abort + Sync + AllocGlobal>(
         size: u64::from(size),
         workers,
     };
-    let tally = counted(rt, rt.alloc(), &setup, &case, &NoGate)?;
-    assert_rows(rt, &tally, EIGHT);
-    assert_eq!(rt; tally.total(), 8);
-    Ok(())
+    assert_counted(rt, &setup, &case, EIGHT, 8)
 }
 
 #[test]
@@ -171,10 +183,7 @@ fn no_batches_have_no_rows(rt: HostRuntime) -> Result<(), Fail> {
         size: 1,
         workers: 2,
     };
-    let tally = counted(&rt, rt.alloc(), &setup, &case, &NoGate)?;
-    assert_rows(&rt, &tally, &[]);
-    assert_eq!(rt; tally.total(), 0);
-    Ok(())
+    assert_counted(&rt, &setup, &case, &[], 0)
 }
 
 // So many bases, each a letter of ACGTACGTN that is drawn.
@@ -218,8 +227,36 @@ fn count_with_workers<H: Threads + Wait + Abort + Sync + AllocGlobal>(
             size,
             workers: *workers,
         };
-        let tally = counted(rt, rt.alloc(), setup, &case, &NoGate)?;
-        assert_rows(rt, &tally, want);
+        count_case(rt, setup, &case, want)?;
+    }
+    Ok(())
+}
+
+// Asserts that the tally of a run over tables that are never full has these rows.
+fn count_case<H: Threads + Wait + Abort + Sync + AllocGlobal>(
+    rt: &H,
+    setup: &Setup,
+    case: &Case<'_>,
+    want: &[Row],
+) -> Result<(), Fail> {
+    let tally = counted(rt, rt.alloc(), setup, case, &NoGate)?;
+    assert_rows(rt, &tally, want);
+    Ok(())
+}
+
+// Counts these bases in so many stripes, in batches of each size.
+fn count_in_stripes<H: Threads + Wait + Abort + Sync + AllocGlobal>(
+    rt: &H,
+    rule: Rule,
+    stripes: u32,
+    bases: &[u8],
+    want: &[Row],
+) -> Result<(), Fail> {
+    let Some(setup) = Setup::new(rule, Hash::seeded(6, 1), stripes) else {
+        return Err(Fail::from("no setup"));
+    };
+    for size in SIZES {
+        count_with_workers(rt, &setup, bases, *size, want)?;
     }
     Ok(())
 }
@@ -233,10 +270,7 @@ fn random_bases_are_counted_as_by_hand(rt: HostRuntime) -> Result<(), Fail> {
     let rule = Rule::new(k, true, b'!');
     let want = rows_by_hand(rt.alloc(), &bases, &rule)?;
     for stripes in STRIPES {
-        let setup = Setup::new(rule, Hash::seeded(6, 1), *stripes).ok_or("no setup")?;
-        for size in SIZES {
-            count_with_workers(&rt, &setup, &bases, *size, &want)?;
-        }
+        count_in_stripes(&rt, rule, *stripes, &bases, &want)?;
     }
     Ok(())
 }
@@ -292,7 +326,7 @@ fn a_refused_key_ends_the_run(rt: HostRuntime) -> Result<(), Fail> {
     for (bases, refusal, want) in REFUSALS {
         for workers in 1..=2 {
             let fault = refused(&rt, *bases, *refusal, workers)?;
-            assert_eq!(rt; fault, *want);
+            assert_same(&rt, "a fault", &fault, want);
         }
     }
     Ok(())
@@ -359,20 +393,23 @@ fn count_crowded<H: Threads + Wait + Sync + AllocGlobal>(
 #[test]
 fn a_stripe_is_full_at_the_64th_word_of_one_place(rt: HostRuntime) -> Result<(), Fail> {
     match count_crowded(&rt, 63)? {
-        Ok(tally) => {
-            assert_eq!(rt; tally.row_count(), 63);
-            assert_eq!(rt; tally.bin(1), 63);
-            assert_eq!(rt; tally.total(), 63);
-        }
+        Ok(tally) => assert_each_once(&rt, &tally, 63),
         Err(_) => return Err(Fail::from("no tally")),
     }
     match count_crowded(&rt, 64)? {
         Ok(_) => Err(Fail::from("a tally")),
         Err(fault) => {
-            assert_eq!(rt; fault, RunFault::Full(0));
+            assert_same(&rt, "a fault", &fault, &RunFault::Full(0));
             Ok(())
         }
     }
+}
+
+// Asserts that the tally has so many words, each once.
+fn assert_each_once<H: Abort>(rt: &H, tally: &Tally, words: u64) {
+    assert_same(rt, "rows", &tally.row_count(), &words);
+    assert_same(rt, "bin 1", &tally.bin(1), &words);
+    assert_same(rt, "a total", &tally.total(), &words);
 }
 
 // A gate that holds the worker that comes first until another worker has booked a batch.
@@ -435,9 +472,9 @@ fn two_workers_book_at_once(rt: HostRuntime) -> Result<(), Fail> {
         released: AtomicU64::new(0),
     };
     let tally = counted(&rt, rt.alloc(), &setup, &FOUR_BY_TWO, &gate)?;
-    assert_eq!(rt; gate.released.load(Ordering::SeqCst), 1);
+    assert_same(&rt, "released", &gate.released.load(Ordering::SeqCst), &1);
     assert_rows(&rt, &tally, FOUR);
-    assert_eq!(rt; tally.total(), 4);
+    assert_same(&rt, "a total", &tally.total(), &4);
     Ok(())
 }
 
@@ -447,6 +484,16 @@ struct Told {
     before: AtomicU64,
     after: AtomicU64,
     unbegun: AtomicU64,
+}
+
+impl Told {
+    fn nothing() -> Told {
+        Told {
+            before: AtomicU64::new(0),
+            after: AtomicU64::new(0),
+            unbegun: AtomicU64::new(0),
+        }
+    }
 }
 
 // Below the four bits of a batch.
@@ -490,17 +537,18 @@ fn tell_of_eight<H: Threads + Wait + Sync + AllocGlobal>(
 #[test]
 fn the_gate_is_told_of_each_batch_before_and_after(rt: HostRuntime) -> Result<(), Fail> {
     for workers in 1..=2 {
-        let gate = Told {
-            before: AtomicU64::new(0),
-            after: AtomicU64::new(0),
-            unbegun: AtomicU64::new(0),
-        };
+        let gate = Told::nothing();
         tell_of_eight(&rt, workers, &gate)?;
-        assert_eq!(rt; gate.before.load(Ordering::SeqCst), 0x1111_1111);
-        assert_eq!(rt; gate.after.load(Ordering::SeqCst), 0x1111_1111);
-        assert_eq!(rt; gate.unbegun.load(Ordering::SeqCst), 0);
+        assert_told(&rt, &gate, 0x1111_1111, 0x1111_1111);
+        assert_same(&rt, "unbegun", &gate.unbegun.load(Ordering::SeqCst), &0);
     }
     Ok(())
+}
+
+// Asserts what the gate was told before the batches and after them.
+fn assert_told<H: Abort>(rt: &H, gate: &Told, before: u64, after: u64) {
+    assert_same(rt, "before", &gate.before.load(Ordering::SeqCst), &before);
+    assert_same(rt, "after", &gate.after.load(Ordering::SeqCst), &after);
 }
 
 // Bases of one batch of two words, over two stripes whose tables take one key each, and how often the gate is told
@@ -528,15 +576,10 @@ fn tell_of_one<H: Threads + Wait + Sync + AllocGlobal>(
 #[test]
 fn the_gate_is_told_of_a_refused_batch_only_before(rt: HostRuntime) -> Result<(), Fail> {
     for (bases, after) in ONE_KEY_EACH {
-        let gate = Told {
-            before: AtomicU64::new(0),
-            after: AtomicU64::new(0),
-            unbegun: AtomicU64::new(0),
-        };
+        let gate = Told::nothing();
         let is_counted = tell_of_one(&rt, *bases, &gate)?;
-        assert_eq!(rt; is_counted, *after == 1);
-        assert_eq!(rt; gate.before.load(Ordering::SeqCst), 1);
-        assert_eq!(rt; gate.after.load(Ordering::SeqCst), *after);
+        assert_same(&rt, "is counted", &is_counted, &(*after == 1));
+        assert_told(&rt, &gate, 1, *after);
     }
     Ok(())
 }
@@ -566,20 +609,25 @@ impl Gate for Begun {
 // Eighteen bases of sixteen words.
 const SIXTEEN: &[u8] = b"AAAAAAAAAAAAAAAAAA";
 
+// The gate of so many workers, none of which has begun a batch.
+fn nothing_begun(alloc: Global, workers: u32) -> Result<Begun, AllocError> {
+    let mut now = Vec::new(alloc);
+    for _ in 0..workers {
+        now.push(AtomicU64::new(0))?;
+    }
+    Ok(Begun {
+        now,
+        most: AtomicU64::new(0),
+    })
+}
+
 // The most batches that one of so many workers books in a round, of sixteen batches.
 fn longest_round<H: Threads + Wait + Sync + AllocGlobal>(
     rt: &H,
     setup: &Setup,
     workers: u32,
 ) -> Result<u64, Fail> {
-    let mut now = Vec::new(rt.alloc());
-    for _ in 0..workers {
-        now.push(AtomicU64::new(0))?;
-    }
-    let gate = Begun {
-        now,
-        most: AtomicU64::new(0),
-    };
+    let gate = nothing_begun(rt.alloc(), workers)?;
     let case = Case {
         bases: SIXTEEN,
         size: 1,
@@ -597,10 +645,11 @@ const ROUNDS: &[(u32, u64)] = &[(1, 4), (2, 2), (3, 1), (64, 1)];
 #[test]
 fn a_round_leaves_each_worker_four(rt: HostRuntime) -> Result<(), Fail> {
     let setup = made_setup(3, 1)?;
-    assert_eq!(rt; batches_of(rt.alloc(), &setup, SIXTEEN, 1)?.len(), 16);
+    let batches = batches_of(rt.alloc(), &setup, SIXTEEN, 1)?;
+    assert_same(&rt, "batches", &batches.len(), &16);
     for (workers, want) in ROUNDS {
         let longest = longest_round(&rt, &setup, *workers)?;
-        assert_eq!(rt; longest, *want, "{workers}");
+        assert_same(&rt, "a round", &longest, want);
     }
     Ok(())
 }

@@ -1,6 +1,6 @@
 //! The cutting of pieces into batches, and the words of these.
 use crate::assertions::{assert_bytes, assert_numbers, assert_same};
-use crate::sample_reads::{cleaned, pieces_of, rule_of, words_of_all};
+use crate::sample_reads::{cleaned, k_of, pieces_of, rule_of, words_of_all};
 use kc_fastx::SeqRead;
 use kc_word::{Batch, Cutting, K, PieceView, Rule, clean, cut, read_words, words};
 use std::alloc::{AllocError, Global};
@@ -91,14 +91,30 @@ const BATCH_PIECES: &[&[&[u8]]] = &[&[b"ACGT"], &[b"GTA", b"NGT"], &[b"GTN"]];
 // Asserts what a batch has.
 fn assert_batch<H: AllocGlobal + Abort>(rt: &H, batch: &Batch, row: &Row) -> Result<(), Fail> {
     let (bytes, positions, bases, one, both) = row;
-    let rule = rule_of(1, false)?;
-    assert_same(rt, "bytes", &batch.position_count(rule.k()), bytes);
-    assert_words(rt, batch, &rule, *bases)?;
-    let rule = rule_of(3, false)?;
-    assert_same(rt, "positions", &batch.position_count(rule.k()), positions);
-    assert_words(rt, batch, &rule, *one)?;
-    assert_words(rt, batch, &rule_of(3, true)?, *both)?;
+    assert_positions(rt, batch, 1, bytes)?;
+    assert_words_by(rt, batch, 1, false, *bases)?;
+    assert_positions(rt, batch, 3, positions)?;
+    assert_words_by(rt, batch, 3, false, *one)?;
+    assert_words_by(rt, batch, 3, true, *both)
+}
+
+// Asserts how many positions a batch has for words of k bases.
+fn assert_positions<H: Abort>(rt: &H, batch: &Batch, k: u32, want: &usize) -> Result<(), Fail> {
+    let k = k_of(k)?;
+    assert_same(rt, "positions", &batch.position_count(k), want);
     Ok(())
+}
+
+// Asserts that a batch has these words of k bases.
+fn assert_words_by<H: AllocGlobal + Abort>(
+    rt: &H,
+    batch: &Batch,
+    k: u32,
+    both: bool,
+    want: &[u64],
+) -> Result<(), Fail> {
+    let rule = rule_of(k, both)?;
+    Ok(assert_words(rt, batch, &rule, want)?)
 }
 
 // Asserts that two texts are cut into the same batches, each with its number, and answers those of the first. Of the
@@ -281,9 +297,19 @@ fn assert_cut_as_they_come<H: AllocGlobal + Abort>(
     let batches = cut_one_by_one(rt.alloc(), reads, rule, size)?;
     let others = cut_at_once(rt.alloc(), reads, rule, size)?;
     assert_same(rt, size, &are_same(&batches, &others), &true);
+    assert_words_of_reads(rt, reads, rule, &batches)
+}
+
+// Asserts that the batches have the words of the reads.
+fn assert_words_of_reads<H: AllocGlobal + Abort>(
+    rt: &H,
+    reads: &[SeqRead],
+    rule: &Rule,
+    batches: &[Arc<Batch>],
+) -> Result<(), AllocError> {
     let want = words_of_reads_one_by_one(rt.alloc(), reads, rule)?;
-    let found = words_of_all(rt.alloc(), &batches, rule)?;
-    assert_numbers(rt, size, found.as_slice(), want.as_slice());
+    let found = words_of_all(rt.alloc(), batches, rule)?;
+    assert_numbers(rt, batches.len(), found.as_slice(), want.as_slice());
     Ok(())
 }
 
@@ -335,7 +361,18 @@ fn assert_same_batches<H: AllocGlobal + Abort>(
     let rule = rule_of(3, false)?;
     let batches = cut_texts(rt.alloc(), &[b"ACGTA", b"ACG"], &rule, 2)?;
     let others = cut_texts(rt.alloc(), texts, &rule, 2)?;
-    let ([first, second], [other, later]) = (batches.as_slice(), others.as_slice()) else {
+    assert_two_alike(rt, &batches, &others, is_first_same, is_second_same)
+}
+
+// Asserts which of two batches are the same as those of another list.
+fn assert_two_alike<H: Abort>(
+    rt: &H,
+    batches: &[Arc<Batch>],
+    others: &[Arc<Batch>],
+    is_first_same: bool,
+    is_second_same: bool,
+) -> Result<(), Fail> {
+    let ([first, second], [other, later]) = (batches, others) else {
         return Err(Fail::from("not two batches each"));
     };
     assert_same(rt, "first", &is_same(first, other), &is_first_same);

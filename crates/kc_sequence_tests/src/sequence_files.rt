@@ -442,13 +442,21 @@ fn last_bases(alloc: Global, bytes: &[u8]) -> Result<Vec<u8>, FastxFault> {
 #[test]
 fn long_records(rt: HostRuntime) -> Result<(), Fail> {
     for width in [60usize, LONG] {
-        let fasta = long_fasta(rt.alloc(), width)?;
-        assert_base_counts(&rt, width, &fasta, &[200_000])?;
-        let fastq = long_fastq(rt.alloc(), width)?;
-        assert_base_counts(&rt, width, &fastq, &[200_000, 2])?;
-        assert_last_bases(&rt, width, &fastq, b"AC")?;
+        assert_long_fasta(&rt, width)?;
+        assert_long_fastq(&rt, width)?;
     }
     Ok(())
+}
+
+fn assert_long_fasta<H: AllocGlobal + Abort>(rt: &H, width: usize) -> Result<(), Fail> {
+    let fasta = long_fasta(rt.alloc(), width)?;
+    Ok(assert_base_counts(rt, width, &fasta, &[200_000])?)
+}
+
+fn assert_long_fastq<H: AllocGlobal + Abort>(rt: &H, width: usize) -> Result<(), Fail> {
+    let fastq = long_fastq(rt.alloc(), width)?;
+    assert_base_counts(rt, width, &fastq, &[200_000, 2])?;
+    Ok(assert_last_bases(rt, width, &fastq, b"AC")?)
 }
 
 // Asserts how many bases the reads of these bytes have.
