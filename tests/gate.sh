@@ -25,7 +25,9 @@ minutes() {
 # the same, so its files are linked before that; what is missed is only proved once more.
 link_what_is_kept() {
     while sleep 2; do
-        for folder in "$work"/tmp/rt-edits-*/seed/; do
+        for folder in "$work"/tmp/rt-edits-*/; do
+            # (some versions of the toolchain keep it one folder below)
+            [ ! -d "${folder}seed" ] || folder=${folder}seed/
             cp -alf "$folder." "$work/kept/" 2> /dev/null || true
         done
     done
