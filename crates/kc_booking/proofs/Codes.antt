@@ -1,8 +1,6 @@
 -- Codes of words: their low bits are the stripe, the rest is the key.
-use Rattle.std.proofs.Common.{◌≡◌, ◌≢◌, ℕ, ◌+◌, ◌-◌, ◌*◌, ◌/◌, ◌%◌, ◌^◌, ◌<◌, ◌≤◌, List, length, ap, ap₂, sym, ◌∙◌, subst, arith, ⊎_elim, bit_and, true, false, Bool, ◌&&◌, nat_eq, refl}
-use mathlib.Core.Bool.{beq}
-use Rattle.std.specs.Cmp.Lexicographic.{pointwise, nat_list_eq_equiv}
-use Rattle.std.proofs.lemmas.Bool.{cases_lt, and_from, eq-eqb}
+use Rattle.std.proofs.Common.{◌≡◌, ◌≢◌, ℕ, ◌+◌, ◌-◌, ◌*◌, ◌/◌, ◌%◌, ◌^◌, ◌<◌, ◌≤◌, List, length, ap, ap₂, sym, ◌∙◌, subst, arith, ⊎_elim, bit_and}
+use Rattle.std.proofs.lemmas.Bool.{cases_lt}
 use Rattle.std.proofs.lemmas.Nat.{pow-add, pow_below, one_shl, shl_whole, and_mask, shr_below, shr_split, mul-add-lt, div-mul-add, mod-mul-add}
 use Rattle.std.proofs.Math.Pow.{pow_mono}
 use Rattle.kc_hash.specs.Product.{product, AreInverse, IsOneToOne, IsOnto}

@@ -167,6 +167,19 @@ pub record WordLaws : Type 0 where
   pub joined : JoinedOccurrences
   pub below : WordsAreBelow
 
+-- a word of the stripe occurs as often more as its key stands among the keys of one cut more
+pub occurrences-more : (setup : StripeSetup) (number word : ℕ) (journal : List NumberedPieces) (batch : NumberedPieces) → WordLaws → DividesWords setup
+    → word < word_count setup → stripe_of setup word ≡ number
+    → word_occurrences setup (journal ++ batch ∷ []) word
+    ≡ word_occurrences setup journal word + count_by (λ key. eqb key (key_of setup word)) (keys_of (cut_at setup batch number))
+occurrences-more setup number word journal batch laws divided below in_stripe =
+    let more = as_reads batch.pieces in
+    let times = key_times setup number word (words_of setup.rule more) divided below in_stripe (laws.below setup.rule more) in
+    let occurs = laws.counted setup.rule more word below in
+    let both = laws.joined setup.rule (reads_in journal) more (text setup.rule.k word) in
+    let whole = ap (λ reads. occurrences setup.rule reads (text setup.rule.k word)) (reads_in-push journal batch) in
+    omega arith
+
 -- what was known before of a stripe and a cut of it
 pub record IsBookedInto (setup : StripeSetup) (number : ℕ) (journal : List NumberedPieces) (old new : KeyCounts) (batch : NumberedPieces) : Type 0 where
   pub divided : DividesWords setup
@@ -176,13 +189,9 @@ pub record IsBookedInto (setup : StripeSetup) (number : ℕ) (journal : List Num
 pub CountsWords-more : (setup : StripeSetup) (number : ℕ) (journal : List NumberedPieces) (old new : KeyCounts) (batch : NumberedPieces) → WordLaws
     → IsBookedInto setup number journal old new batch → CountsWords setup number (journal ++ batch ∷ []) new
 CountsWords-more setup number journal old new batch laws booked word below in_stripe =
-    let more = as_reads batch.pieces in
     let sum = booked.added (key_of setup word) in
     let was = booked.before word below in_stripe in
-    let times = key_times setup number word (words_of setup.rule more) booked.divided below in_stripe (laws.below setup.rule more) in
-    let occurs = laws.counted setup.rule more word below in
-    let both = laws.joined setup.rule (reads_in journal) more (text setup.rule.k word) in
-    let whole = ap (λ reads. occurrences setup.rule reads (text setup.rule.k word)) (reads_in-push journal batch) in
+    let occurs = occurrences-more setup number word journal batch laws booked.divided below in_stripe in
     omega arith
 
 pub keys-fit : (setup : StripeSetup) (number bits : ℕ) (batch : NumberedPieces) → WordsAreBelow → DividesWords setup → bits ≡ key_bits setup

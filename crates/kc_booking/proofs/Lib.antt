@@ -2,7 +2,9 @@ pub mod Codes
 pub mod Parts
 pub mod CountedTables
 pub mod Lawful
+pub mod RoundLemmas
 pub mod StripeRows
 pub mod Forms
 pub mod Logs
+pub mod PartOrder
 pub mod ListedLemmas

@@ -1,19 +1,15 @@
 -- Setups with lists of words: when they are the same, and which of the words of a batch count.
-use Rattle.std.proofs.Common.{◌≡◌, ℕ, ◌+◌, ◌<◌, Bool, length, drop, get_or, arith, true, false, ◌&&◌, eqb, List, filter, map, Option, Some, None, option_map, All, Decides, refl, ap, ap₂, sym, ◌∙◌, subst, cond, eqb-true, eq-eqb, true≢false}
+use Rattle.std.proofs.Common.{◌≡◌, ℕ, ◌+◌, ◌<◌, length, drop, get_or, arith, true, List, filter, Option, Some, None, All, Decides, refl, ap, ap₂, sym, ◌∙◌, subst, eqb-true, eq-eqb, true≢false}
 use Rattle.std.proofs.lemmas.Bool.{and_parts, and_from}
 use Rattle.std.proofs.lemmas.Slice.Eq.{bytes_eq-Decides}
 use Rattle.std.proofs.lemmas.List.{get_or-drop}
-use Rattle.std.specs.Bool.{beq}
 use Rattle.std.specs.Cmp.{booleans_Decides}
-use Rattle.std.specs.Cmp.Lexicographic.{pointwise}
-use Rattle.std.specs.Option.{option_eq}
-use Rattle.std.specs.Prelude.{nat_eq}
 use Rattle.kc_fastx.specs.Reads.{Read}
 use Rattle.kc_kmer.specs.Rule.{CountingRule, is_listed, without_list}
 use Rattle.kc_kmer.specs.Occurrences.{words_of}
 use Rattle.kc_kmer.specs.Laws.{ListedWords}
 use Rattle.kc_booking.specs.Setup.{StripeSetup}
-use Rattle.kc_booking.specs.Listed.{counts_alike, are_same_words, is_same_setup}
+use Rattle.kc_booking.specs.Listed.{are_same_words, is_same_setup}
 
 -- ---- equal setups
 

@@ -12,7 +12,7 @@ use Rattle.kc_kmer.specs.Rule.{CountingRule}
 use Rattle.kc_kmer.specs.Occurrences.{words_of}
 use Rattle.kc_word.specs.Cutting.{NumberedPieces, as_reads}
 use Rattle.kc_booking.specs.Setup.{StripeSetup, HasBits, stripe_count, code_of}
-use Rattle.kc_booking.specs.Cut.{StripeCut, cut_at, cuts_of, keys_of, key_parts, keys_among}
+use Rattle.kc_booking.specs.Cut.{cut_at, cuts_of, keys_of, key_parts, keys_among}
 use Rattle.kc_booking.proofs.Codes.{low-bits, stripes-few, word-fits}
 
 -- ---- a function applied in place
@@ -245,11 +245,11 @@ words-fit setup call k d within =
     let small : get_or call.words k d < 4 ^ setup.rule.k = rw (← call.rule_is) (call.below k d within) in
     rw call.tables_are (word-fits setup.rule.k (length setup.hash) (get_or call.words k d) call.bits.word_bits small)
 
-map-map : {X Y Z : Type 0} (f : Y → Z) (g : X → Y) (xs : List X) → map f (map g xs) ≡ map (λ x. f (g x)) xs
+pub map-map : {X Y Z : Type 0} (f : Y → Z) (g : X → Y) (xs : List X) → map f (map g xs) ≡ map (λ x. f (g x)) xs
 map-map f g [] = refl
 map-map f g (x ∷ xs) = ap (λ ys. f (g x) ∷ ys) (map-map f g xs)
 
-keys_in-hashed : (setup : StripeSetup) (stripe : ℕ) (words : List ℕ) → keys_in setup.stripe_bits stripe (map (code_of setup) words) ≡ keys_among setup stripe words
+pub keys_in-hashed : (setup : StripeSetup) (stripe : ℕ) (words : List ℕ) → keys_in setup.stripe_bits stripe (map (code_of setup) words) ≡ keys_among setup stripe words
 keys_in-hashed setup stripe words =
     ap (map (λ code. code / 2 ^ setup.stripe_bits)) (filter-map_after (falls_in setup.stripe_bits stripe) (code_of setup) words)
     ∙ map-map (λ code. code / 2 ^ setup.stripe_bits) (code_of setup) (filter (λ word. falls_in setup.stripe_bits stripe (code_of setup word)) words)
@@ -281,13 +281,12 @@ part-keys setup batch parts i part divided (within, is) =
     ∙ ap (λ xs. get_or xs i []) (divided ∙ map-map keys_of (cut_at setup batch) (range_with_len 0 (stripe_count setup)))
     ∙ get_or-map-range_with_len (λ stripe. keys_of (cut_at setup batch stripe)) 0 (stripe_count setup) i i [] (omega arith) (omega arith)
 
-pub cuts-more : (setup : StripeSetup) (batch : NumberedPieces) (cuts : List StripeCut) (i : ℕ) → cuts ≡ map (cut_at setup batch) (range_with_len 0 i)
-    → cuts ++ cut_at setup batch i ∷ [] ≡ map (cut_at setup batch) (range_with_len 0 (i + 1))
-cuts-more setup batch cuts i so_far =
-    ap (λ xs. xs ++ cut_at setup batch i ∷ []) so_far ∙ sym (ap (map (cut_at setup batch)) (range_more i) ∙ map_push (cut_at setup batch) (range_with_len 0 i) i)
+-- one more is made, for the next stripe
+pub made-more : {X : Type 0} (f : ℕ → X) (made : List X) (i : ℕ) → made ≡ map f (range_with_len 0 i) → made ++ f i ∷ [] ≡ map f (range_with_len 0 (i + 1))
+made-more f made i so_far = ap (λ xs. xs ++ f i ∷ []) so_far ∙ sym (ap (map f) (range_more i) ∙ map_push f (range_with_len 0 i) i)
 
-pub length-cuts : (setup : StripeSetup) (batch : NumberedPieces) (cuts : List StripeCut) (i : ℕ) → cuts ≡ map (cut_at setup batch) (range_with_len 0 i) → length cuts ≡ i
-length-cuts setup batch cuts i is = ap length is ∙ length-map-range_with_len (cut_at setup batch) 0 i
+pub length-made : {X : Type 0} (f : ℕ → X) (made : List X) (i : ℕ) → made ≡ map f (range_with_len 0 i) → length made ≡ i
+length-made f made i is = ap length is ∙ length-map-range_with_len f 0 i
 
 pub few-parts : (s : ℕ) (codes : List ℕ) (parts : List Part) → s ≤ 6 → map (λ p. p.items) parts ≡ key_parts s codes → length parts ≤ 64
 few-parts s codes parts few divided =

@@ -1,6 +1,7 @@
 -- A table of counts, with the histogram and the sum of its counts.
 use Rattle.std.specs.Prelude.{◌≡◌, ℕ, ◌<◌, ◌≤◌, ◌^◌, ◌↔◌, List, length, map, take, fold, sum, slice_index}
 use Rattle.std.specs.List.{range_with_len}
+use Rattle.std.specs.List.Sorted.{IsPermutation}
 use Rattle.kc_table.specs.Counts.{KeyCounts, count_at, readied}
 use Rattle.kc_tally.specs.Histogram.{bins_of}
 
@@ -34,3 +35,8 @@ all_readied counts keys = fold readied counts keys
 abbrev pub SomeMayBeFull : (KeyCounts → ℕ → Type 0) → KeyCounts → List ℕ → Type 0
 SomeMayBeFull may_be_full counts keys =
     (i : ℕ) × (i < length keys) × may_be_full (all_readied counts (take i keys)) (slice_index keys i)
+
+-- the same, where the keys are stored in another order, which may be any
+abbrev pub SomeMayBeFullInSomeOrder : (KeyCounts → ℕ → Type 0) → KeyCounts → List ℕ → Type 0
+SomeMayBeFullInSomeOrder may_be_full counts keys =
+    (order : List ℕ) × IsPermutation keys order × SomeMayBeFull may_be_full counts order

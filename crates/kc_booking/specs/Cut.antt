@@ -4,7 +4,7 @@ use Rattle.std.specs.Prelude.{ℕ, ◌/◌, ◌%◌, ◌^◌, ◌==◌, List, ma
 use Rattle.std.specs.List.{range_with_len}
 use Rattle.kc_kmer.specs.Occurrences.{words_of}
 use Rattle.kc_word.specs.Cutting.{NumberedPieces, as_reads}
-use Rattle.kc_booking.specs.Setup.{StripeSetup, stripe_count, stripe_of, key_of}
+use Rattle.kc_booking.specs.Setup.{StripeSetup, stripe_count, code_of, stripe_of, key_of}
 
 -- the words of a batch, as they are divided by a setup, in one of its stripes
 pub record StripeCut : Type 0 where
@@ -19,6 +19,10 @@ keys_among setup stripe words = map (key_of setup) (filter (λ word. stripe_of s
 -- the keys of a cut: those of the words of its batch in its stripe, in order
 abbrev pub keys_of : StripeCut → List ℕ
 keys_of cut = keys_among cut.setup cut.stripe (words_of cut.setup.rule (as_reads cut.batch.pieces))
+
+-- the codes of a batch's words, in order
+abbrev pub batch_codes : StripeSetup → NumberedPieces → List ℕ
+batch_codes setup batch = map (code_of setup) (words_of setup.rule (as_reads batch.pieces))
 
 -- a batch cut up: one cut for each stripe, in the order of the stripes
 abbrev pub cut_at : StripeSetup → NumberedPieces → ℕ → StripeCut

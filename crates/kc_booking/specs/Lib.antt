@@ -2,6 +2,7 @@ pub mod Setup
 pub mod Listed
 pub mod SetupEquality
 pub mod Cut
+pub mod Cuts
 pub mod Counted
 pub mod Stripe
 pub mod Faults

@@ -1,7 +1,5 @@
 -- The laws of the equality of setups. They are proofs, and stand in specs/ since an `impl` may name only what stands
 -- there.
-use Rattle.std.specs.Prelude.{ℕ, List, Option}
-use Rattle.std.specs.Option.{option_eq}
 use Rattle.std.specs.Cmp.{IsEquivalence, IsPartialEquivalence, partial_equiv_from_equiv, nat_eq_equiv, on_equiv}
 use Rattle.std.specs.Cmp.{and_equiv, bool_eq_equiv}
 use Rattle.std.specs.Cmp.Lexicographic.{nat_list_eq_equiv, options_equiv}

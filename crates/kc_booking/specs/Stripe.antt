@@ -28,6 +28,14 @@ pub record StripeState (C : Type 0) : Type 0 where
 abbrev pub numbers_of : List NumberedPieces → List ℕ
 numbers_of journal = map (λ batch. batch.number) journal
 
+-- no number stands twice among the batches of a journal
+abbrev pub NumbersDiffer : List NumberedPieces → Type 0
+NumbersDiffer journal = IsDistinct nat_eq (numbers_of journal)
+
+-- it is known of each number whether it is in the journal
+abbrev pub KnowsNumbers : (ℕ → Bool) → List NumberedPieces → Type 0
+KnowsNumbers known journal = (n : ℕ) → known n ≡ list_any (nat_eq n) (numbers_of journal)
+
 -- the pieces of the batches in a journal, each as a read without qualities
 abbrev pub reads_in : List NumberedPieces → List Read
 reads_in journal = flat_map (λ batch. as_reads batch.pieces) journal
@@ -45,7 +53,7 @@ stripe_occurrences setup number journal = map (word_occurrences setup journal) (
 -- occur more often than 10,000 times. The total is the sum of the counts, and at most 2 ^ 62.
 pub record IsLawful (setup : StripeSetup) (number : ℕ) (journal : List NumberedPieces)
     (counts : KeyCounts) (bins : List ℕ) (total : ℕ) : Type 0 where
-  pub numbers_differ : IsDistinct nat_eq (numbers_of journal)
+  pub numbers_differ : NumbersDiffer journal
   pub counts_are : (word : ℕ) → word < word_count setup → stripe_of setup word ≡ number
       → count_at counts (key_of setup word) ≡ word_occurrences setup journal word
   pub bins_are : bins ≡ bins_of (stripe_occurrences setup number journal)
@@ -83,4 +91,4 @@ pub record IsKept (setup : StripeSetup) (number : ℕ) (journal : List NumberedP
   pub own : number < stripe_count setup
   pub divided : DividesWords setup
   pub bits_are : bits ≡ key_bits setup
-  pub known_are : (n : ℕ) → known n ≡ list_any (nat_eq n) (numbers_of journal)
+  pub known_are : KnowsNumbers known journal

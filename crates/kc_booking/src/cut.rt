@@ -6,7 +6,7 @@ ghost use Rattle.kc_hash.specs.Product.{product};
 ghost use Rattle.kc_kmer.specs.Rule.{is_listed};
 ghost use Rattle.kc_kmer.specs.Occurrences.{words_of};
 ghost use Rattle.kc_word.specs.Cutting.{as_reads};
-ghost use Rattle.kc_booking.specs.Cut.{StripeCut, keys_of, cuts_of, key_parts};
+ghost use Rattle.kc_booking.specs.Cut.{StripeCut, keys_of, cuts_of, key_parts, batch_codes};
 
 use crate::setup::Setup;
 use kc_hash::MatrixTables;
@@ -93,10 +93,23 @@ fn stripe_keys(alloc: Global, setup: &Setup, batch: &Batch) -> Result<Vec<Vec<u6
         map (λ part. part.items) parts.items ≡ map keys_of (cuts_of setup.now batch.now)) }
     ensures few { IfOk result (λ parts. length parts.items ≤ 64) }
 {
-    let stripe_bits = setup.stripe_bits();
+    let codes = hashed_words(alloc, setup, batch)?;
+    divided(alloc, &codes, setup.stripe_bits())
+}
+
+/// The codes of the batch's words, in order.
+pub(crate) fn hashed_words(
+    alloc: Global,
+    setup: &Setup,
+    batch: &Batch,
+) -> Result<Vec<u64>, AllocError>
+    ensures { IfOk result (λ codes. codes.items ≡ batch_codes setup.now batch.now) }
+{
+    // what is known of the hash's bits
+    let _bits = setup.stripe_bits();
     let mut codes = counted_words(alloc, setup, batch)?;
     hash_all(&setup.hash().forward_tables(), &mut codes);
-    divided(alloc, &codes, stripe_bits)
+    Ok(codes)
 }
 
 // The words of the batch that count: where a list is given, the listed ones.
@@ -142,8 +155,12 @@ fn hash_all(tables: &MatrixTables, words: &mut [u64])
     }
 }
 
-// The codes divided by their low bits: for each stripe its keys, which are the other bits, in order.
-fn divided(alloc: Global, codes: &[u64], stripe_bits: u32) -> Result<Vec<Vec<u64>>, AllocError>
+/// The codes divided by their low bits: for each stripe its keys, which are the other bits, in order.
+pub(crate) fn divided(
+    alloc: Global,
+    codes: &[u64],
+    stripe_bits: u32,
+) -> Result<Vec<Vec<u64>>, AllocError>
     requires { stripe_bits ≤ 6 }
     ensures { IfOk result (λ parts. map (λ part. part.items) parts.items ≡ key_parts stripe_bits codes.now) }
 {
@@ -171,8 +188,8 @@ fn empty_parts(alloc: Global, codes: &[u64], stripe_bits: u32) -> Result<Vec<Vec
     Ok(parts)
 }
 
-// How many codes fall in each stripe.
-fn part_sizes(codes: &[u64], stripe_bits: u32) -> [usize; 64]
+/// How many codes fall in each stripe.
+pub(crate) fn part_sizes(codes: &[u64], stripe_bits: u32) -> [usize; 64]
     requires { stripe_bits ≤ 6 }
     ensures { (stripe : ℕ) → slice_index result stripe ≡ count_by (λ code. code % 2 ^ stripe_bits == stripe) codes.now }
 {

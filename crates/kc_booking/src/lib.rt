@@ -1,9 +1,10 @@
 //! One stripe of a count: how the words are divided among stripes, the keys of a batch's words in each stripe, and a
 //! stripe that always holds exactly the counts of the batches that its journal names.
 //!
-//! A [`Setup`] divides the words, all of them or those of a list alone. [`cut_up`] cuts a batch up into one [`Cut`] for each stripe, and [`Stripe::book`]
-//! counts a cut whole or not at all. A stripe begins with an empty table: [`plain_tables`] and [`quotient_tables`] make
-//! one for each.
+//! A [`Setup`] divides the words, all of them or those of a list alone. [`cut_up`] cuts a batch up into one [`Cut`] for
+//! each stripe, and [`Stripe::book`] counts a cut whole or not at all. [`cut_up_all`] cuts several batches up, and
+//! [`Stripe::book_all`] counts all their words in a stripe, its [`Cuts`], or none. A stripe begins with an empty table:
+//! [`plain_tables`] and [`quotient_tables`] make one for each.
 //!
 //! ```ignore
 //! let mut stripe = Stripe::new(alloc, &setup, 0, table)?;    // the one stripe of the setup
@@ -17,12 +18,15 @@
 mod booking_fault;
 mod counted;
 mod cut;
+mod cuts;
+mod part_order;
 mod setup;
 mod starting_tables;
 mod stripe;
 
 pub use booking_fault::BookFault;
 pub use cut::{Cut, cut_up};
+pub use cuts::{Cuts, cut_up_all, shared};
 pub use setup::Setup;
 pub use starting_tables::{plain_tables, quotient_tables};
 pub use stripe::Stripe;

@@ -102,7 +102,7 @@ impl Setup {
     }
 
     /// The list of the words that count, where one is given.
-    pub(crate) fn list(&self) -> Option<&Only>
+    pub fn list(&self) -> Option<&Only>
         ensures none { IfNone result (self.now.rule.only ≡ None) }
         ensures words { IfSome result (λ list. self.now.rule.only ≡ Some list.now.words) }
         ensures k { IfSome result (λ list. list.now.k ≡ self.now.rule.k) }

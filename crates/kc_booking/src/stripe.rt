@@ -1,19 +1,24 @@
 //! A stripe, which always holds exactly the counts of the batches that its journal names.
 ghost use Rattle.std.specs.Prelude.{◌≡◌, ℕ, ◌+◌, ◌<◌, ◌≤◌, ◌^◌, ◌≢◌, ◌==◌, ◌↔◌, ◌⊎◌, [], ◌∷◌, ◌++◌, length, sum_by};
-ghost use Rattle.std.specs.Prelude.{count_by, max, ◌*◌, IfOk, OnOk, OnErr};
+ghost use Rattle.std.specs.Prelude.{count_by, max, ◌*◌, IfOk, OnOk, OnErr, MatchBool, List, nat_eq};
+ghost use Rattle.std.specs.HashSet.{contains, spare};
 ghost use Rattle.std.specs.Vec.{vec_len, vec_capacity};
 ghost use Rattle.std.specs.FinMap.{empty};
+ghost use Rattle.kc_word.specs.Cutting.{NumberedPieces};
 ghost use Rattle.kc_word.specs.Shared.{values};
 ghost use Rattle.kc_tally.specs.Histogram.{last_bin, bin_of, bin_at};
 ghost use Rattle.kc_booking.specs.Setup.{word_count, stripe_count, key_bits, stripe_of, stripe_words};
 ghost use Rattle.kc_booking.specs.Cut.{keys_of};
-ghost use Rattle.kc_booking.specs.Counted.{KeepsLimits, SomeMayBeFull};
+ghost use Rattle.kc_booking.specs.Cuts.{all_keys_of, IsOwnRound, FirstIsBooked, FirstIsNew};
+ghost use Rattle.kc_booking.specs.Counted.{KeepsLimits, SomeMayBeFull, SomeMayBeFullInSomeOrder};
 ghost use Rattle.kc_booking.specs.Stripe.{StripeState, IsLawful, IsBooked, IsOwnCut, IsUnchanged, AreStripeRows};
-ghost use Rattle.kc_booking.specs.Stripe.{word_occurrences};
+ghost use Rattle.kc_booking.specs.Stripe.{word_occurrences, NumbersDiffer, KnowsNumbers};
 
 use crate::booking_fault::BookFault;
 use crate::counted::CountedTable;
 use crate::cut::Cut;
+use crate::cuts::{Cuts, shared};
+use crate::part_order::part_by_part;
 use crate::setup::Setup;
 use kc_lemmas::room_for_each;
 use kc_table::Counts;
@@ -227,6 +232,124 @@ impl<C: Counts> Stripe<C> {
             return Err(BookFault::Full);
         }
         Ok(())
+    }
+
+    /// Books several batches, all or none: their words that fall in this stripe are counted, and the journal names
+    /// them in their order. No batch is booked where there is none.
+    ///
+    /// It is refused as the first cut is that `book` would refuse, those before it being booked; a number that stands
+    /// twice is told before a stripe that is full. The keys are stored in the order of the table's parts, so that a
+    /// full table may refuse another one of them than `book` would find.
+    pub fn book_all(&mut self, cuts: &Cuts) -> Result<(), BookFault>
+        ensures setup { self.new.setup ≡ self.old.setup }
+        ensures number { self.new.number ≡ self.old.number }
+        ensures journal { OnOk result (self.new.journal ≡ self.old.journal ++ cuts.now.batches) }
+        ensures total { OnOk result (self.new.total ≡ self.old.total + length (all_keys_of cuts.now)) }
+        ensures own { OnOk result ((cuts.now.batches ≡ []) ⊎ IsOwnRound self.old cuts.now) }
+        ensures unchanged { OnErr result (IsUnchanged C.counts self.old self.new) }
+        ensures twice { result ≡ Err BookFault.Twice ↔ (FirstIsBooked self.old.journal cuts.now.batches
+            ⊎ (IsOwnRound self.old cuts.now × ¬ NumbersDiffer (self.old.journal ++ cuts.now.batches))) }
+        ensures stranger { result ≡ Err BookFault.Stranger
+            ↔ (FirstIsNew self.old.journal cuts.now.batches × ¬ IsOwnRound self.old cuts.now) }
+        ensures full { result ≡ Err BookFault.Full → (2 ^ 62 < self.old.total + length (all_keys_of cuts.now))
+            ⊎ SomeMayBeFullInSomeOrder (C.may_be_full self.old.table) (C.counts self.old.table)
+            (all_keys_of cuts.now) }
+        ensures memory { result ≡ Err BookFault.Memory
+            → self.old.total + length (all_keys_of cuts.now) ≤ 2 ^ 62 }
+        ensures limits { KeepsLimits C.bits C.may_be_full self.old.table self.new.table }
+    {
+        if cuts.batches().is_empty() {
+            // No number stands twice in the journal.
+            self.is_lawful();
+            return Ok(());
+        }
+        self.check_all(cuts)?;
+        // what is known of the words of batches
+        word_laws::words_of_reads();
+        word_laws::counted_words();
+        word_laws::joined_occurrences();
+        // what can fail comes first, and changes no count and no name in the journal
+        let mut batches = shared(*self.journal.allocator(), cuts.batches())?;
+        self.booked.reserve(batches.len())?;
+        let keys = part_by_part(*self.journal.allocator(), self.counted.table(), cuts.keys())?;
+        self.counted.ready_all(&keys)?;
+        self.journal.append(&mut batches)?;
+        remember(&mut self.booked, cuts.batches());
+        self.counted.add_all(&keys);
+        Ok(())
+    }
+
+    // Whether the batches are new ones of this stripe, and the total stays within its limit. Condition: there is one.
+    fn check_all(&self, cuts: &Cuts) -> Result<(), BookFault>
+        requires { 1 ≤ length cuts.now.batches }
+        ensures new { OnOk result (NumbersDiffer (self.now.journal ++ cuts.now.batches)) }
+        ensures own { OnOk result (IsOwnRound self.now cuts.now) }
+        ensures room { OnOk result (self.now.total + length (all_keys_of cuts.now) ≤ 2 ^ 62) }
+        ensures twice { result ≡ Err BookFault.Twice ↔ (FirstIsBooked self.now.journal cuts.now.batches
+            ⊎ (IsOwnRound self.now cuts.now × ¬ NumbersDiffer (self.now.journal ++ cuts.now.batches))) }
+        ensures stranger { result ≡ Err BookFault.Stranger
+            ↔ (FirstIsNew self.now.journal cuts.now.batches × ¬ IsOwnRound self.now cuts.now) }
+        ensures full { result ≡ Err BookFault.Full → 2 ^ 62 < self.now.total + length (all_keys_of cuts.now) }
+        ensures memory { ¬ (result ≡ Err BookFault.Memory) }
+    {
+        if self.has_first(cuts.batches()) {
+            return Err(BookFault::Twice);
+        }
+        if !self.is_own(cuts) {
+            return Err(BookFault::Stranger);
+        }
+        if !self.are_new(cuts) {
+            return Err(BookFault::Twice);
+        }
+        if cuts.keys().len() as u64 > MOST_WORDS - self.counted.total() {
+            return Err(BookFault::Full);
+        }
+        Ok(())
+    }
+
+    // Whether the first of the batches is in the journal. Condition: there is one.
+    fn has_first(&self, batches: &[Arc<Batch>]) -> bool
+        requires { 1 ≤ length batches.now }
+        ensures { MatchBool result (FirstIsBooked self.now.journal (values batches.now))
+            (FirstIsNew self.now.journal (values batches.now)) }
+    {
+        self.booked.contains(&batches[0].number())
+    }
+
+    // Whether the words are divided as the stripe's are, and are those of this stripe.
+    fn is_own(&self, cuts: &Cuts) -> bool
+        ensures { MatchBool result (IsOwnRound self.now cuts.now) (¬ IsOwnRound self.now cuts.now) }
+    {
+        *cuts.setup() == self.setup && cuts.stripe() == self.number
+    }
+
+    // Whether no number stands twice in the journal once the batches stand behind it.
+    fn are_new(&self, cuts: &Cuts) -> bool
+        ensures { MatchBool result (NumbersDiffer (self.now.journal ++ cuts.now.batches))
+            (¬ NumbersDiffer (self.now.journal ++ cuts.now.batches)) }
+    {
+        if !cuts.numbers_differ() {
+            return false;
+        }
+        for batch in cuts.batches() {
+            if self.booked.contains(&batch.number()) {
+                return false;
+            }
+        }
+        true
+    }
+}
+
+// Puts the numbers of the batches to those that are booked. Condition: there is room for them.
+fn remember(booked: &mut HashSet<u64>, batches: &[Arc<Batch>])
+    requires { length batches.now ≤ spare booked.old }
+    ensures { (journal : List NumberedPieces) → KnowsNumbers (contains nat_eq booked.old) journal
+        → KnowsNumbers (contains nat_eq booked.new) (journal ++ values batches.now) }
+{
+    for batch in batches {
+        let Ok(_) = booked.insert(batch.number()) else {
+            return;
+        };
     }
 }
 

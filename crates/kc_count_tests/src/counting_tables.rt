@@ -225,6 +225,26 @@ fn with_a_slot_for_each_key_each_stands_at_its_home(rt: HostRuntime) -> Result<(
     Ok(())
 }
 
+fn part_of<C: Counts>(rt: &impl Abort, table: &C, key: u64) -> u32 {
+    assert_key(rt, table, key);
+    table.part_of(key)
+}
+
+#[test]
+fn a_key_stands_in_the_part_of_its_home(rt: HostRuntime) -> Result<(), Fail> {
+    let alloc = rt.alloc();
+    // 4 slots to a part, and a single one
+    let table = QuotientTable::new(alloc, 16, 12, 12)?;
+    assert_eq!(rt; part_of(&rt, &table, 4103), 1);
+    assert_eq!(rt; part_of(&rt, &table, 4095), 1023);
+    let small = QuotientTable::new(alloc, 16, 8, 8)?;
+    assert_eq!(rt; part_of(&rt, &small, 773), 5);
+    let limited = LimitedCounts::new(alloc, 16, 2, TableFault::Full);
+    assert_eq!(rt; part_of(&rt, &limited, 773), 0);
+    assert_eq!(rt; part_of(&rt, &PlainCounts::new(alloc, 16), 773), 0);
+    Ok(())
+}
+
 // The greatest key of 62 bits, which has the longest remainder.
 const LONGEST: u64 = (1 << 62) - 1;
 

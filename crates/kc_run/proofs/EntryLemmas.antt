@@ -51,3 +51,7 @@ HaveMoreIn-more stripe at entry share new booked before =
           let apart : at ≢ other = λ here. absurd (omega (arith, here, same, more)) in
           omega (arith, one_more other, none_elsewhere other at entry apart, before.behind other more);
     }
+
+-- nothing booked yet
+pub HaveMoreIn-none : (from to : ℕ) (booked : List Booking) → HaveMoreIn from to 0 booked booked
+HaveMoreIn-none from to booked = record { there = λ stripe low high. omega arith; before = λ stripe less. refl; behind = λ stripe more. refl }

@@ -2,15 +2,16 @@
 -- own.
 use Rattle.std.specs.Prelude.{◌≡◌, ℕ, ◌+◌, ◌<◌, ◌≤◌, ◌⊎◌, List, [], All, Some, Result, Ok, Err, IfOk, IfErr}
 use Rattle.std.specs.Prelude.{length, map, sum_by, slice_get}
+use Rattle.kc_word.specs.Shared.{values}
 use Rattle.kc_share.specs.declared.entry.Plan.{Plan}
 use Rattle.kc_share.specs.declared.entry.Booking.{Booking}
 use Rattle.kc_share.specs.Share.{ShareSeen, share_of, entry_total_in}
 use Rattle.kc_booking.specs.Setup.{StripeSetup, stripe_count}
-use Rattle.kc_booking.specs.Cut.{cuts_of}
+use Rattle.kc_booking.specs.Cuts.{rounds_of}
 use Rattle.kc_booking.specs.declared.booking_fault.BookFault.{BookFault}
 use Rattle.kc_booking.specs.declared.booking_fault.BookFault.TheVariants as book
 use Rattle.kc_tickets.specs.Tickets.{Roll, Drawer, IsSeatOf, IsDone, answers_of}
-use Rattle.kc_run.specs.declared.round.CutBatch.{CutBatch}
+use Rattle.kc_run.specs.declared.round.Round.{Round}
 use Rattle.kc_run.specs.declared.run_fault.RunFault.{RunFault}
 use Rattle.kc_run.specs.declared.run_fault.RunFault.TheVariants as run
 
@@ -32,8 +33,8 @@ pub record IsReady (roll : Roll) (plan : Plan) (seat : Drawer) (share : ShareSee
   pub unused : share ≡ share_of plan 1 []
 
 -- the batches of a round are cut up by this setup
-abbrev pub AreCutUp : StripeSetup → List CutBatch → Type 0
-AreCutUp setup round = All (λ it. it.cuts.items ≡ cuts_of setup it.batch.now.value) round
+abbrev pub IsCutUp : StripeSetup → Round → Type 0
+IsCutUp setup round = round.cuts.items ≡ rounds_of setup (values round.batches.items)
 
 -- in each of so many stripes n batches more were booked
 abbrev pub HaveMore : ℕ → ℕ → List Booking → List Booking → Type 0

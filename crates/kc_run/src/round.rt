@@ -1,16 +1,14 @@
-//! A round of a worker: batches that are cut up, and then booked stripe by stripe, so that the lines of a stripe that
-//! one batch has fetched are still near for the next.
+//! A round of a worker: batches that are cut up together, and then booked stripe by stripe, by one call each, so that
+//! the lines of a stripe that one batch has fetched are still near for the next.
 ghost use Rattle.std.specs.Prelude.{◌≡◌, ◌+◌, ◌*◌, ◌%◌, ◌^◌, ◌≤◌, ◌<◌, ◌⊎◌, OnOk, IfErr, length};
-ghost use Rattle.kc_share.specs.Share.{with_booking};
 ghost use Rattle.kc_booking.specs.Setup.{stripe_count};
-ghost use Rattle.kc_stripe.specs.Locked.{cut_entry};
-ghost use Rattle.kc_run.specs.Runs.{AreCutUp, HaveMore, HaveMoreIn, IsOfBooking, IsWorkerFault};
+ghost use Rattle.kc_run.specs.Runs.{IsCutUp, HaveMore, HaveMoreIn, IsOfBooking, IsWorkerFault};
 
 use crate::run_fault::RunFault;
 use kc_share::{Books, Share};
-use kc_stripe::{Cut, Stripes};
+use kc_stripe::{Cuts, Setup, Stripes};
 use kc_table::Counts;
-use kc_word::{Batch, K};
+use kc_word::Batch;
 use std::sync::{Arc, Wait};
 
 // How many positions make a round.
@@ -19,16 +17,17 @@ const POSITIONS: u64 = 4_000_000;
 // How many rounds each worker has at the least, where there are so many batches.
 const ROUNDS: u64 = 4;
 
-/// A batch that is cut up.
+/// The batches of a round, and all their words in each stripe.
 #[derive(Drop)]
-pub(crate) struct CutBatch<'a> {
-    pub batch: &'a Arc<Batch>,
-    pub cuts: Vec<Cut>,
+pub(crate) struct Round {
+    pub batches: Vec<Arc<Batch>>,
+    pub cuts: Vec<Cuts>,
 }
 
-/// How many batches make a round, where all have as many positions as the first: some 4 million positions, or fewer,
-/// so that each worker has four rounds; one at the least.
-pub(crate) fn round_len(batches: &[Arc<Batch>], k: K, workers: u32) -> u64
+/// How many batches make a round, where all have as many positions as the first: some 4 million positions, and as many
+/// at least as the list has words, since each booking compares the lists; or fewer, so that each worker has four
+/// rounds; one at the least.
+pub(crate) fn round_len(batches: &[Arc<Batch>], setup: &Setup, workers: u32) -> u64
     requires { 1 ≤ workers }
     ensures some { 1 ≤ result }
     ensures four { (result ≡ 1) ⊎ (result * (4 * workers) ≤ length batches.now) }
@@ -37,7 +36,12 @@ pub(crate) fn round_len(batches: &[Arc<Batch>], k: K, workers: u32) -> u64
         return 1;
     };
     let most = batches.len() as u64 / (ROUNDS * u64::from(workers));
-    let wanted = POSITIONS / (first.position_count(k) as u64).max(1);
+    let listed = match setup.list() {
+        Some(list) => list.words().len() as u64,
+        None => 0,
+    };
+    let positions = first.position_count(setup.rule().k()) as u64;
+    let wanted = POSITIONS.max(listed) / positions.max(1);
     wanted.min(most).max(1)
 }
 
@@ -54,14 +58,14 @@ pub(crate) fn first_stripe(stripes: u32, apart: u32, number: u32) -> u32
 pub(crate) fn book_round<H: Wait, C: Counts, N: Books>(
     rt: &H,
     stripes: &Stripes<C, N>,
-    round: &[CutBatch<'_>],
+    round: &Round,
     first: u32,
     share: &mut Share<N>,
 ) -> Result<(), RunFault>
-    requires cut_up { AreCutUp stripes.now.setup round.now }
+    requires cut_up { IsCutUp stripes.now.setup round.now }
     requires first { first ≤ stripe_count stripes.now.setup }
     ensures kept { (share.new.parts ≡ share.old.parts) × (share.new.plan ≡ share.old.plan) }
-    ensures booked { OnOk result (HaveMore (stripe_count stripes.now.setup) (length round.now)
+    ensures booked { OnOk result (HaveMore (stripe_count stripes.now.setup) (length round.now.batches.items)
         share.old.booked share.new.booked) }
     ensures refused { IfErr result (IsWorkerFault (stripe_count stripes.now.setup)) }
 {
@@ -73,15 +77,16 @@ pub(crate) fn book_round<H: Wait, C: Counts, N: Books>(
 fn book_range<H: Wait, C: Counts, N: Books>(
     rt: &H,
     stripes: &Stripes<C, N>,
-    round: &[CutBatch<'_>],
+    round: &Round,
     from: u32,
     to: u32,
     share: &mut Share<N>,
 ) -> Result<(), RunFault>
-    requires cut_up { AreCutUp stripes.now.setup round.now }
+    requires cut_up { IsCutUp stripes.now.setup round.now }
     requires range { (from ≤ to) × (to ≤ stripe_count stripes.now.setup) }
     ensures kept { (share.new.parts ≡ share.old.parts) × (share.new.plan ≡ share.old.plan) }
-    ensures booked { OnOk result (HaveMoreIn from to (length round.now) share.old.booked share.new.booked) }
+    ensures booked { OnOk result (HaveMoreIn from to (length round.now.batches.items)
+        share.old.booked share.new.booked) }
     ensures refused { IfErr result (IsWorkerFault to) }
 {
     for stripe in from..to {
@@ -90,41 +95,23 @@ fn book_range<H: Wait, C: Counts, N: Books>(
     Ok(())
 }
 
-// Books the batches of a round into the stripe of this number.
+// Books the batches of a round into the stripe of this number, with which a refusal ends the run.
 fn book_stripe<H: Wait, C: Counts, N: Books>(
     rt: &H,
     stripes: &Stripes<C, N>,
-    round: &[CutBatch<'_>],
+    round: &Round,
     stripe: u32,
     share: &mut Share<N>,
 ) -> Result<(), RunFault>
-    requires cut_up { AreCutUp stripes.now.setup round.now }
+    requires cut_up { IsCutUp stripes.now.setup round.now }
     requires stripe { stripe < stripe_count stripes.now.setup }
     ensures kept { (share.new.parts ≡ share.old.parts) × (share.new.plan ≡ share.old.plan) }
-    ensures booked { OnOk result (HaveMoreIn stripe (stripe + 1) (length round.now)
+    ensures booked { OnOk result (HaveMoreIn stripe (stripe + 1) (length round.now.batches.items)
         share.old.booked share.new.booked) }
     ensures refused { IfErr result (IsOfBooking stripe) }
 {
-    for it in round {
-        book_cut(rt, stripes, &it.cuts[stripe as usize], share)?;
-    }
-    Ok(())
-}
-
-// Books the cut of a batch into its stripe. A refusal ends the run with the stripe's number.
-fn book_cut<H: Wait, C: Counts, N: Books>(
-    rt: &H,
-    stripes: &Stripes<C, N>,
-    cut: &Cut,
-    share: &mut Share<N>,
-) -> Result<(), RunFault>
-    requires { cut.now.stripe < stripe_count stripes.now.setup }
-    ensures kept { (share.new.parts ≡ share.old.parts) × (share.new.plan ≡ share.old.plan) }
-    ensures booked { OnOk result (share.new ≡ with_booking share.old cut.now.stripe (cut_entry cut.now)) }
-    ensures refused { IfErr result (IsOfBooking cut.now.stripe) }
-{
-    match stripes.book(rt, share, cut) {
+    match stripes.book_all(rt, share, &round.cuts[stripe as usize]) {
         Ok(()) => Ok(()),
-        Err(fault) => Err(RunFault::of_booking(cut.stripe(), fault)),
+        Err(fault) => Err(RunFault::of_booking(stripe, fault)),
     }
 }

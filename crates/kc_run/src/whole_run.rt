@@ -110,7 +110,7 @@ fn run_named<
         plan,
         tickets: &tickets,
         gate,
-        round_len: round_len(batches, setup.rule().k(), workers),
+        round_len: round_len(batches, setup, workers),
         stripes_apart: (setup.stripes() / workers).max(1),
     };
     let ended = work_all(rt, alloc, &job, ready)?;

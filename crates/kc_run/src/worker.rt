@@ -2,15 +2,14 @@
 ghost use Rattle.std.specs.Prelude.{◌≡◌, ◌+◌, ◌<◌, ◌≤◌, ◌⊎◌, IfOk, IfErr, IfSome, IsNone, MatchOption};
 ghost use Rattle.std.specs.Prelude.{length};
 ghost use Rattle.kc_booking.specs.Setup.{stripe_count};
-ghost use Rattle.kc_booking.specs.Cut.{cuts_of};
 ghost use Rattle.kc_tickets.specs.Tickets.{IsSeatOf, IsDone, answers_of};
-ghost use Rattle.kc_run.specs.Runs.{IsJob, IsReady, HasWorked, AreCutUp, IsWorkerFault};
+ghost use Rattle.kc_run.specs.Runs.{IsJob, IsReady, HasWorked, IsCutUp, IsWorkerFault};
 
 use crate::gate::Gate;
-use crate::round::{CutBatch, book_round, first_stripe};
+use crate::round::{Round, book_round, first_stripe};
 use crate::run_fault::RunFault;
 use kc_share::{Books, Plan, Share};
-use kc_stripe::{Stripes, cut_up};
+use kc_stripe::{Stripes, cut_up_all};
 use kc_table::Counts;
 use kc_tickets::{Seat, Tickets};
 use kc_word::Batch;
@@ -58,9 +57,9 @@ impl<N: Books> Worker<N> {
         let first = first_stripe(job.stripes.setup().stripes(), job.stripes_apart, number);
         while let Some(drawn) = self.draw(job.tickets) {
             let round = self.draw_round(alloc, job, drawn)?;
-            tell_before(job.gate, number, &round);
+            tell_before(job.gate, number, &round.batches);
             book_round(rt, job.stripes, &round, first, &mut self.share)?;
-            tell_after(job.gate, number, &round);
+            tell_after(job.gate, number, &round.batches);
         }
         Ok(self)
     }
@@ -85,60 +84,69 @@ impl<N: Books> Worker<N> {
 
     // The batches of a round, cut up: that of a number that was drawn, and those of as many more as a round has, or as
     // there are.
-    fn draw_round<'a, C: Counts, G: Gate>(
+    fn draw_round<C: Counts, G: Gate>(
         &mut self,
         alloc: Global,
-        job: &Job<'a, C, N, G>,
+        job: &Job<'_, C, N, G>,
         drawn: u64,
-    ) -> Result<Vec<CutBatch<'a>>, AllocError>
+    ) -> Result<Round, AllocError>
         requires own { IsSeatOf job.now.tickets.now self.old.seat }
         requires limit { job.now.tickets.now.limit ≡ length job.now.batches.now }
         requires drawn { drawn < length job.now.batches.now }
         ensures own { IsSeatOf job.now.tickets.now self.new.seat }
         ensures share { self.new.share ≡ self.old.share }
-        ensures answered { IfOk result (λ round.
-            length (answers_of self.new.seat) + 1 ≡ length (answers_of self.old.seat) + length round.items) }
-        ensures some { IfOk result (λ round. 1 ≤ length round.items) }
+        ensures answered { IfOk result (λ round. length (answers_of self.new.seat) + 1
+            ≡ length (answers_of self.old.seat) + length round.batches.items) }
+        ensures some { IfOk result (λ round. 1 ≤ length round.batches.items) }
         ensures few { IfOk result (λ round.
-            (length round.items ≡ 1) ⊎ (length round.items ≤ job.now.round_len)) }
-        ensures cut_up { IfOk result (λ round. AreCutUp job.now.stripes.now.setup round.items) }
+            (length round.batches.items ≡ 1) ⊎ (length round.batches.items ≤ job.now.round_len)) }
+        ensures cut_up { IfOk result (IsCutUp job.now.stripes.now.setup) }
+    {
+        let batches = self.draw_batches(alloc, job, drawn)?;
+        let cuts = cut_up_all(alloc, job.stripes.setup(), &batches)?;
+        Ok(Round { batches, cuts })
+    }
+
+    // The batch of a number that was drawn, and those of as many more as a round has, or as there are.
+    fn draw_batches<C: Counts, G: Gate>(
+        &mut self,
+        alloc: Global,
+        job: &Job<'_, C, N, G>,
+        drawn: u64,
+    ) -> Result<Vec<Arc<Batch>>, AllocError>
+        requires own { IsSeatOf job.now.tickets.now self.old.seat }
+        requires limit { job.now.tickets.now.limit ≡ length job.now.batches.now }
+        requires drawn { drawn < length job.now.batches.now }
+        ensures own { IsSeatOf job.now.tickets.now self.new.seat }
+        ensures share { self.new.share ≡ self.old.share }
+        ensures answered { IfOk result (λ batches. length (answers_of self.new.seat) + 1
+            ≡ length (answers_of self.old.seat) + length batches.items) }
+        ensures some { IfOk result (λ batches. 1 ≤ length batches.items) }
+        ensures few { IfOk result (λ batches.
+            (length batches.items ≡ 1) ⊎ (length batches.items ≤ job.now.round_len)) }
     {
         let mut round = Vec::new(alloc);
-        round.push(cut_batch(alloc, job, drawn)?)?;
+        round.push(job.batches[drawn as usize].clone()?)?;
         for _ in 1..job.round_len {
             let Some(drawn) = self.draw(job.tickets) else {
                 return Ok(round);
             };
-            round.push(cut_batch(alloc, job, drawn)?)?;
+            round.push(job.batches[drawn as usize].clone()?)?;
         }
         Ok(round)
     }
 }
 
-// The batch of this number, cut up.
-fn cut_batch<'a, C: Counts, N: Books, G: Gate>(
-    alloc: Global,
-    job: &Job<'a, C, N, G>,
-    number: u64,
-) -> Result<CutBatch<'a>, AllocError>
-    requires { number < length job.now.batches.now }
-    ensures { IfOk result (λ it. it.cuts.items ≡ cuts_of job.now.stripes.now.setup it.batch.now.value) }
-{
-    let batch = &job.batches[number as usize];
-    let cuts = cut_up(alloc, job.stripes.setup(), batch)?;
-    Ok(CutBatch { batch, cuts })
-}
-
-// Tells the gate that the batches of this round are about to be booked.
-fn tell_before<G: Gate>(gate: &G, worker: u32, round: &[CutBatch<'_>]) {
-    for it in round {
-        gate.before_book(worker, it.batch.number());
+// Tells the gate that these batches are about to be booked.
+fn tell_before<G: Gate>(gate: &G, worker: u32, batches: &[Arc<Batch>]) {
+    for batch in batches {
+        gate.before_book(worker, batch.number());
     }
 }
 
-// Tells the gate that the batches of this round were booked into every stripe.
-fn tell_after<G: Gate>(gate: &G, worker: u32, round: &[CutBatch<'_>]) {
-    for it in round {
-        gate.after_book(worker, it.batch.number());
+// Tells the gate that these batches were booked into every stripe.
+fn tell_after<G: Gate>(gate: &G, worker: u32, batches: &[Arc<Batch>]) {
+    for batch in batches {
+        gate.after_book(worker, batch.number());
     }
 }

@@ -1,1 +1,2 @@
 pub mod LockedLemmas
+pub mod CutsLemmas

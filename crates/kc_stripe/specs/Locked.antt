@@ -1,11 +1,11 @@
 -- A stripe behind its lock, and what its journal's entries are on the sheet of the shares. It is this project's own.
-use Rattle.std.specs.Prelude.{◌≡◌, ℕ, ◌≤◌, ◌^◌, List, length, map}
+use Rattle.std.specs.Prelude.{◌≡◌, ℕ, ◌≤◌, ◌^◌, List, [], ◌∷◌, ◌++◌, length, map}
 use Rattle.kc_word.specs.Cutting.{NumberedPieces}
 use Rattle.kc_share.specs.declared.entry.Entry.{Entry}
 use Rattle.kc_share.specs.declared.entry.Booking.{Booking}
 use Rattle.kc_share.specs.declared.entry.KeptStripe.{KeptStripe}
 use Rattle.kc_share.specs.Entries.{entry_of, entries_in, word_total, AreSame}
-use Rattle.kc_share.specs.Share.{word_total_in, entry_total_in}
+use Rattle.kc_share.specs.Share.{ShareSeen, word_total_in, entry_total_in, kept_stripe, with_booking}
 use Rattle.kc_booking.specs.Setup.{StripeSetup}
 use Rattle.kc_booking.specs.Cut.{StripeCut, keys_of, cut_at}
 use Rattle.kc_booking.specs.Stripe.{StripeState}
@@ -13,6 +13,15 @@ use Rattle.kc_booking.specs.Stripe.{StripeState}
 -- the entry of a cut: its batch, and how many of the batch's words fall in its stripe
 abbrev pub cut_entry : StripeCut → Entry
 cut_entry cut = entry_of cut.batch (length (keys_of cut))
+
+-- a booking more for each of the cuts, in order
+abbrev pub with_bookings : ShareSeen → List StripeCut → ShareSeen
+with_bookings share [] = share
+with_bookings share (cut ∷ cuts) = with_bookings (with_booking share cut.stripe (cut_entry cut)) cuts
+
+-- an entry more for each of the cuts, in order
+abbrev pub with_entries : KeptStripe → List StripeCut → KeptStripe
+with_entries kept cuts = kept_stripe kept.stripe (kept.journal ++ map cut_entry cuts)
 
 -- the entries of a stripe's journal
 abbrev pub journal_entries : StripeSetup → ℕ → List NumberedPieces → List Entry

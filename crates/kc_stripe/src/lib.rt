@@ -1,8 +1,8 @@
 //! The stripes of a count, each behind a lock of its own, which threads share: what was booked with the shares is,
 //! taken together, what the stripes' journals have.
 //!
-//! [`Stripes`] books the cuts of `kc_booking`, tells what was counted so far of a word ([`Seen`]), and gives the plain
-//! stripes back at the end.
+//! [`Stripes`] books the cuts of `kc_booking`, of one batch or of several at once, tells what was counted so far of a
+//! word ([`Seen`]), and gives the plain stripes back at the end.
 //!
 //! ```ignore
 //! let other = stripes.split(&mut one);
@@ -17,7 +17,7 @@ mod seen;
 mod stripes;
 
 /// One stripe of a count, and what is booked into it.
-pub use kc_booking::{BookFault, Cut, Setup, Stripe, cut_up};
+pub use kc_booking::{BookFault, Cut, Cuts, Setup, Stripe, cut_up, cut_up_all};
 /// What the shares of a count are made of.
 pub use kc_share::{Books, Share, Sheet};
 pub use seen::Seen;

@@ -1,15 +1,17 @@
 //! A stripe together with its keeper, as they lie behind the stripe's lock.
-ghost use Rattle.std.specs.Prelude.{◌≡◌, ◌+◌, ◌<◌, ◌≤◌, ◌^◌, ◌↔◌, ◌⊎◌, ◌++◌, ◌∷◌, [], length, IfOk, OnOk, OnErr};
+ghost use Rattle.std.specs.Prelude.{◌≡◌, ◌+◌, ◌<◌, ◌≤◌, ◌^◌, ◌↔◌, ◌⊎◌, ◌++◌, ◌∷◌, [], length, All, IfOk, OnOk, OnErr};
+ghost use Rattle.kc_share.specs.Entries.{word_total};
 ghost use Rattle.kc_share.specs.Share.{kept_stripe, with_booking};
 ghost use Rattle.kc_booking.specs.Setup.{word_count};
 ghost use Rattle.kc_booking.specs.Cut.{keys_of};
-ghost use Rattle.kc_booking.specs.Counted.{SomeMayBeFull};
-ghost use Rattle.kc_booking.specs.Stripe.{IsBooked, IsOwnCut, IsUnchanged};
-ghost use Rattle.kc_stripe.specs.Locked.{cut_entry, IsAllOf};
+ghost use Rattle.kc_booking.specs.Cuts.{cuts_in, all_keys_of, IsOwnRound, FirstIsBooked, FirstIsNew};
+ghost use Rattle.kc_booking.specs.Counted.{SomeMayBeFull, SomeMayBeFullInSomeOrder};
+ghost use Rattle.kc_booking.specs.Stripe.{IsBooked, IsOwnCut, IsUnchanged, NumbersDiffer};
+ghost use Rattle.kc_stripe.specs.Locked.{cut_entry, with_bookings, with_entries, IsAllOf};
 ghost use Rattle.kc_stripe.specs.Seen.{form_stripe, AreNamed, IsStripeOf};
 
 use crate::seen::Seen;
-use kc_booking::{BookFault, Cut, Setup, Stripe};
+use kc_booking::{BookFault, Cut, Cuts, Setup, Stripe};
 use kc_share::{Books, Keeper, OpenSheet, Share, share_laws};
 use kc_table::Counts;
 use kc_word::Word;
@@ -75,6 +77,36 @@ impl<C: Counts, N: Books> Locked<C, N> {
         Ok(())
     }
 
+    /// Books several batches into the stripe, and into a share, all or none. A refused booking leaves both as they
+    /// were.
+    pub(crate) fn book_all(
+        &mut self,
+        sheet: &OpenSheet<N>,
+        share: &mut Share<N>,
+        cuts: &Cuts,
+    ) -> Result<(), BookFault>
+        ensures share { OnOk result (share.new ≡ with_bookings share.old (cuts_in cuts.now)) }
+        ensures journal { OnOk result (self.new.journal ≡ self.old.journal ++ cuts.now.batches) }
+        ensures refused { OnErr result (share.new ≡ share.old) }
+        ensures unchanged { OnErr result (IsUnchanged C.counts self.old self.new) }
+        ensures twice { result ≡ Err BookFault.Twice ↔ (FirstIsBooked self.old.journal cuts.now.batches
+            ⊎ (IsOwnRound self.old cuts.now × ¬ NumbersDiffer (self.old.journal ++ cuts.now.batches))) }
+        ensures stranger { result ≡ Err BookFault.Stranger
+            ↔ (FirstIsNew self.old.journal cuts.now.batches × ¬ IsOwnRound self.old cuts.now) }
+        ensures full { result ≡ Err BookFault.Full → (2 ^ 62 < self.old.total + length (all_keys_of cuts.now))
+            ⊎ SomeMayBeFullInSomeOrder (C.may_be_full self.old.table) (C.counts self.old.table)
+            (all_keys_of cuts.now) }
+        ensures memory { result ≡ Err BookFault.Memory
+            → self.old.total + length (all_keys_of cuts.now) ≤ 2 ^ 62 }
+    {
+        self.stripe.book_all(cuts)?;
+        // What is known of the sums, which stay small.
+        let _total = self.stripe.total();
+        let _length = self.stripe.journal().len();
+        note_all(sheet, share, &mut self.keeper, cuts);
+        Ok(())
+    }
+
     /// What the stripe tells of a word, where it is the one in which the word counts: it has this setup, and the number
     /// of the word's stripe.
     ///
@@ -120,5 +152,23 @@ impl<C: Counts, N: Books> Locked<C, N> {
         sheet.look(share, &mut self.keeper);
         let Locked { stripe, keeper: _ } = self;
         stripe
+    }
+}
+
+// Notes the batches of one booking, each with how many words it has in the stripe.
+fn note_all<N: Books>(
+    sheet: &OpenSheet<N>,
+    share: &mut Share<N>,
+    keeper: &mut Keeper<N>,
+    cuts: &Cuts,
+)
+    requires stripe { All (λ cut. cut.stripe ≡ keeper.old.stripe) (cuts_in cuts.now) }
+    requires words { word_total keeper.old.journal + length (all_keys_of cuts.now) < 2 ^ 64 }
+    requires entries { length keeper.old.journal + length cuts.now.batches < 2 ^ 64 }
+    ensures share { share.new ≡ with_bookings share.old (cuts_in cuts.now) }
+    ensures keeper { keeper.new ≡ with_entries keeper.old (cuts_in cuts.now) }
+{
+    for i in 0..cuts.batches().len() {
+        sheet.note(share, keeper, &cuts.batches()[i], cuts.sizes()[i] as u64);
     }
 }

@@ -4,7 +4,7 @@ ghost use Rattle.kc_word.specs.Shared.{values};
 ghost use Rattle.kc_booking.specs.Setup.{word_count};
 ghost use Rattle.kc_stripe.specs.Seen.{IsSeen, form_stripe};
 
-use kc_booking::{Setup, Stripe};
+use kc_booking::{Setup, Stripe, shared};
 use kc_table::Counts;
 use kc_word::{Batch, Word};
 use std::alloc::{AllocError, Global};
@@ -90,15 +90,4 @@ impl Seen {
     {
         &self.batches
     }
-}
-
-// The batches of a list, in a list of their own. No batch is copied.
-fn shared(alloc: Global, batches: &[Arc<Batch>]) -> Result<Vec<Arc<Batch>>, AllocError>
-    ensures { IfOk result (λ more. values more.items ≡ values batches.now) }
-{
-    let mut more = Vec::with_capacity(alloc, batches.len())?;
-    for batch in batches {
-        more.push(batch.clone()?)?;
-    }
-    Ok(more)
 }

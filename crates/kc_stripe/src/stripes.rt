@@ -3,13 +3,14 @@ ghost use Rattle.std.specs.Prelude.{◌≡◌, ◌<◌, ◌≤◌, [], All, IfOk
 ghost use Rattle.std.specs.FinMap.{empty};
 ghost use Rattle.kc_share.specs.Share.{share_of, with_booking, with_one_part_less, new_share, joined_shares};
 ghost use Rattle.kc_booking.specs.Setup.{word_count, stripe_count, key_bits};
+ghost use Rattle.kc_booking.specs.Cuts.{cuts_in};
 ghost use Rattle.kc_booking.specs.Stripe.{IsLawful};
-ghost use Rattle.kc_stripe.specs.Locked.{cut_entry, IsAllOf};
+ghost use Rattle.kc_stripe.specs.Locked.{cut_entry, with_bookings, IsAllOf};
 ghost use Rattle.kc_stripe.specs.Seen.{form_stripe, AreNamed};
 
 use crate::locked::Locked;
 use crate::seen::Seen;
-use kc_booking::{BookFault, Cut, Setup, Stripe};
+use kc_booking::{BookFault, Cut, Cuts, Setup, Stripe};
 use kc_share::{Books, OpenSheet, Share, Sheet};
 use kc_table::Counts;
 use kc_word::Word;
@@ -135,6 +136,26 @@ impl<C: Counts, N: Books> Stripes<C, N> {
         self.locks[cut.stripe() as usize]
             .lock(rt)
             .book(&self.sheet, share, cut)
+    }
+
+    /// Books several batches into one stripe by one call, under that stripe's lock, and into a share, all or none. The
+    /// share has a booking more for each batch, in their order.
+    ///
+    /// The stripe of the cuts is one of these. A refused booking leaves the share as it was.
+    pub fn book_all<R: Wait>(
+        &self,
+        rt: &R,
+        share: &mut Share<N>,
+        cuts: &Cuts,
+    ) -> Result<(), BookFault>
+        requires { cuts.now.stripe < stripe_count self.now.setup }
+        ensures booked { OnOk result (share.new ≡ with_bookings share.old (cuts_in cuts.now)) }
+        ensures kept { (share.new.parts ≡ share.old.parts) × (share.new.plan ≡ share.old.plan) }
+        ensures refused { OnErr result (share.new ≡ share.old) }
+    {
+        self.locks[cuts.stripe() as usize]
+            .lock(rt)
+            .book_all(&self.sheet, share, cuts)
     }
 
     /// How often a word occurs in the batches that were booked, and in which: all that stand in the stripe of the form

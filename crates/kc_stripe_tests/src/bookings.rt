@@ -200,7 +200,10 @@ const ONE_WORD: Held<'static> = Held {
 const THREE_AND_ONE: &[&[u8]] = &[b"ACGTA", b"ACG"];
 
 // A stripe over a table that takes two keys, and refuses a third like this.
-fn limited_stripe(alloc: Global, refusal: TableFault) -> Result<Stripe<LimitedCounts>, Fail> {
+pub(crate) fn limited_stripe(
+    alloc: Global,
+    refusal: TableFault,
+) -> Result<Stripe<LimitedCounts>, Fail> {
     let setup = made_setup(3, 1)?;
     if setup.stripes() != 1 {
         return Err(Fail::from("another setup"));

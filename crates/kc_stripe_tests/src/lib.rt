@@ -5,7 +5,7 @@
 #[cfg(test)]
 mod bookings;
 #[cfg(test)]
-mod cuts;
+mod cut_rows;
 #[cfg(test)]
 mod gathered_tallies;
 #[cfg(test)]
@@ -18,6 +18,8 @@ mod many_threads;
 mod meetings;
 #[cfg(test)]
 mod refusals;
+#[cfg(test)]
+mod rounds;
 #[cfg(test)]
 mod sample_batches;
 #[cfg(test)]

@@ -71,6 +71,10 @@ impl Counts for MeetingCounts<'_> {
         self.plain.get(key)
     }
 
+    fn part_of(&self, key: u64) -> u32 {
+        self.plain.part_of(key)
+    }
+
     fn rows(&self, alloc: Global) -> Result<Vec<(u64, u64)>, AllocError> {
         self.plain.rows(alloc)
     }

@@ -8,3 +8,4 @@ pub mod SlotSteps
 pub mod SlotWords
 pub mod Soundness
 pub mod Writing
+pub mod Parts

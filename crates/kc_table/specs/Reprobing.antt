@@ -3,7 +3,7 @@
 use Rattle.std.specs.Prelude.{◌≡◌, ◌≢◌, refl, ℕ, ◌+◌, ◌-◌, ◌*◌, ◌/◌, ◌%◌, ◌^◌, ◌<◌}
 use Rattle.kc_table.specs.declared.reprobes.Reprobing.{Reprobing}
 use Rattle.kc_table.specs.declared.reprobes.Reprobing.TheVariants.{Found, Free, Crowded}
-use Rattle.kc_table.specs.Sizes.{place_count, tag_step}
+use Rattle.kc_table.specs.Sizes.{place_count, tag_step, part_bits}
 
 -- the sum of the numbers up to i
 abbrev pub triangle : ℕ → ℕ
@@ -17,6 +17,15 @@ place key i log = (key % 2 ^ log + triangle i) % 2 ^ log
 -- the first places of the keys 5, 261 and 773 in a table of 256 slots, and one round its end
 place_rows : (place 5 0 8 ≡ 5) × (place 261 1 8 ≡ 6) × (place 773 3 8 ≡ 11) × (place 255 2 8 ≡ 2)
 place_rows = (refl, refl, refl, refl)
+
+-- The part of a table in which a key's home is, where the table is cut into 1,024 parts of as many slots each, one
+-- behind another; a smaller table has a part for each slot.
+abbrev pub home_part : ℕ → ℕ → ℕ
+home_part log key = key % 2 ^ log / 2 ^ (log - part_bits)
+
+-- in a table of 4,096 slots there are 4 to a part, and in one of 256 slots a single one
+part_rows : (home_part 12 4103 ≡ 1) × (home_part 12 4095 ≡ 1023) × (home_part 8 773 ≡ 5)
+part_rows = (refl, refl, refl)
 
 -- slot is one of the key's places
 abbrev pub IsPlaceOf : ℕ → ℕ → ℕ → Type 0

@@ -31,6 +31,14 @@ least_log = 4
 abbrev pub most_log : ℕ
 most_log = 40
 
+-- A table tells by so many bits in which part of it a key stands.
+abbrev pub part_bits : ℕ
+part_bits = 10
+
+-- So a table has at most so many parts, which is 2 to `part_bits`.
+abbrev pub most_parts : ℕ
+most_parts = 1024
+
 -- A count is below 2 to this before one is added.
 abbrev pub count_bits : ℕ
 count_bits = 62

@@ -1,6 +1,6 @@
 //! `Counts`, the finite map from keys to counts that every table is.
 ghost use Rattle.std.specs.Prelude.{◌≡◌, ℕ, ◌+◌, ◌<◌, ◌≤◌, ◌^◌, ◌↔◌, OnOk, OnErr, IsOk, IfOk, All};
-ghost use Rattle.kc_table.specs.Sizes.{most_bits, count_bits};
+ghost use Rattle.kc_table.specs.Sizes.{most_bits, most_parts, count_bits};
 ghost use Rattle.kc_table.specs.Counts.{KeyCounts, IsStored, IsWithin, count_at, readied, added, AreRowsOf};
 
 use crate::table_fault::TableFault;
@@ -56,6 +56,12 @@ pub trait Counts {
     fn get(&self, key: u64) -> u64
         requires { key < 2 ^ bits self.now }
         ensures { result ≡ count_at (counts self.now) key };
+
+    /// In which part of the table the key stands, for speed alone: keys of one part are near each other in memory, so
+    /// that whoever goes through keys part by part waits for memory less often. There are at most 1,024 parts.
+    fn part_of(&self, key: u64) -> u32
+        requires { key < 2 ^ bits self.now }
+        ensures { result < most_parts };
 
     /// Each key whose count is at least 1, once, with its count, in any order.
     fn rows(&self, alloc: Global) -> Result<Vec<(u64, u64)>, AllocError>

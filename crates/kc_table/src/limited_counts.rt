@@ -3,7 +3,7 @@ ghost use Rattle.std.specs.Prelude.{◌≡◌, ℕ, ◌<◌, ◌≤◌, ◌^◌,
 ghost use Rattle.std.specs.FinMap as map;
 ghost use Rattle.kc_table.specs.Counts.{KeyCounts, IsStored, readied};
 ghost use Rattle.kc_table.specs.LimitedCounts.{Limited, HasReachedLimit, IsAtLimit};
-ghost use Rattle.kc_table.specs.Sizes.{most_bits};
+ghost use Rattle.kc_table.specs.Sizes.{most_bits, most_parts};
 
 use crate::counts::Counts;
 use crate::plain_counts::PlainCounts;
@@ -94,6 +94,14 @@ impl Counts for LimitedCounts {
 
     fn get(&self, key: u64) -> u64 {
         self.plain.get(key)
+    }
+
+    fn part_of(&self, key: u64) -> u32
+        requires { key < 2 ^ self.now.bits }
+        ensures few { result < most_parts }
+        ensures one { result ≡ 0 }
+    {
+        self.plain.part_of(key)
     }
 
     fn rows(&self, alloc: Global) -> Result<Vec<(u64, u64)>, AllocError> {

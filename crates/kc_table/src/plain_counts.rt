@@ -1,10 +1,10 @@
 //! The finite map as a `BTreeMap`, to compare the hash table with.
-ghost use Rattle.std.specs.Prelude.{◌≡◌, ◌≤◌, IfOk, filter, nat_lt};
+ghost use Rattle.std.specs.Prelude.{◌≡◌, ◌<◌, ◌≤◌, ◌^◌, IfOk, filter, nat_lt};
 ghost use Rattle.std.specs.Ordering.{nat_cmp};
 ghost use Rattle.std.specs.BTreeMap.{IsOrdered};
 ghost use Rattle.std.specs.FinMap as map;
 ghost use Rattle.kc_table.specs.PlainCounts.{Plain};
-ghost use Rattle.kc_table.specs.Sizes.{most_bits};
+ghost use Rattle.kc_table.specs.Sizes.{most_bits, most_parts};
 
 use crate::counts::Counts;
 use crate::table_fault::TableFault;
@@ -92,6 +92,15 @@ impl Counts for PlainCounts {
 
     fn get(&self, key: u64) -> u64 {
         self.map.get(&key).copied().unwrap_or(0)
+    }
+
+    /// The map is one part, whatever the key.
+    fn part_of(&self, _key: u64) -> u32
+        requires { _key < 2 ^ self.now.bits }
+        ensures few { result < most_parts }
+        ensures one { result ≡ 0 }
+    {
+        0
     }
 
     fn rows(&self, alloc: Global) -> Result<Vec<(u64, u64)>, AllocError> {

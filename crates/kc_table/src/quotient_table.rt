@@ -6,11 +6,13 @@ ghost use Rattle.kc_table.specs.Counts.{KeyCounts, IsStored, count_at, readied, 
 ghost use Rattle.kc_table.specs.QuotientTable.{Table, counts_in, HoldsKey, IsShutOut, IsFoundAfter, IsMissedAfter};
 ghost use Rattle.kc_table.specs.QuotientTable.{IsSearchedBy};
 ghost use Rattle.kc_table.specs.QuotientTable.{IsCrowded, MayBeTooSmall, MayBeFull};
-ghost use Rattle.kc_table.specs.Reprobing.{IsPlaceOf};
-ghost use Rattle.kc_table.specs.Sizes.{place_count, spread_log, most_bits, least_log, most_log, count_bits};
+ghost use Rattle.kc_table.specs.Reprobing.{IsPlaceOf, home_part};
+ghost use Rattle.kc_table.specs.Sizes.{place_count, spread_log, most_bits, least_log, most_log, most_parts};
+ghost use Rattle.kc_table.specs.Sizes.{count_bits};
 
 use crate::counts::Counts;
 use crate::reprobes::Reprobing;
+use crate::sizes::PART_BITS;
 use crate::slots::Slots;
 use crate::table_fault::TableFault;
 use kc_lemmas::Counter;
@@ -210,6 +212,17 @@ impl Counts for QuotientTable {
     #[inline]
     fn get(&self, key: u64) -> u64 {
         self.count_by_one_find(key, &mut Counter::zero())
+    }
+
+    /// The part of the table in which the key's home is.
+    #[inline]
+    fn part_of(&self, key: u64) -> u32
+        requires { key < 2 ^ self.now.bits }
+        ensures few { result < most_parts }
+        ensures home { result ≡ home_part self.now.log key }
+    {
+        let home = key as usize & (self.slots.slots.len() - 1);
+        (home >> self.slots.log.saturating_sub(PART_BITS)) as u32
     }
 
     fn rows(&self, alloc: Global) -> Result<Vec<(u64, u64)>, AllocError> {

@@ -13,4 +13,10 @@ pub(crate) const TAG_STEP: u64 = 1 << REPROBE_BITS;
 /// A remainder has at most so many bits.
 pub(crate) const REMAINDER_BITS: u32 = 64 - REPROBE_BITS;
 
+/// By so many bits of a key's home it is told in which part of a table the key stands.
+pub(crate) const PART_BITS: u32 = 10;
+
+/// So many parts has a table at most.
+pub const PARTS: usize = 1 << PART_BITS;
+
 const _: () = prove!(PLACES + 1 == TAG_STEP as usize);

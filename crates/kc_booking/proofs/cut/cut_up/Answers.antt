@@ -6,14 +6,14 @@ use Rattle.std.proofs.lemmas.Iterator.Consumers.{YieldsList-turn, YieldsList-end
 use Rattle.std.proofs.lemmas.List.{length_push}
 use Rattle.kc_booking.specs.Setup.{StripeSetup}
 use Rattle.kc_booking.specs.Cut.{cut_at, keys_of}
-use Rattle.kc_booking.proofs.Parts.{part-keys, cuts-more, length-cuts, length-parts}
+use Rattle.kc_booking.proofs.Parts.{part-keys, made-more, length-made, length-parts}
 use Rattle.kc_booking.proofs.cut.cut_up.Goals as goal
 
 pub overflow_cast-cut : goal.overflow_cast-cut
 overflow_cast-cut c =
     let turn = YieldsList-turn (YieldsList-from_vec {s = c.into_iter-keys-iterator.result} c.in_ok-parts.parts.items (search rules) (search rules)) c.loop-keys.yielded c.loop-keys.keys-iterator c.loop-keys.yielded_by c.next.result c.next.new.self c.in-Some.keys c.in-Some.is c.next.ensures.steps in
     let whole : vec_len c.loop-keys.cuts ≡ length c.loop-keys.cuts.items = search rules in
-    let place : c.len.result ≡ length c.loop-keys.yielded = c.len.ensures ∙ whole ∙ length-cuts _ _ _ _ c.loop-keys.invariant in
+    let place : c.len.result ≡ length c.loop-keys.yielded = c.len.ensures ∙ whole ∙ length-made _ _ _ c.loop-keys.invariant in
     let few : length c.in_ok-parts.parts.items ≤ 64 = c.in_ok-parts.ensures.few in
     search rules
 
@@ -21,7 +21,7 @@ pub invariant_of-cut : goal.invariant_of-cut
 invariant_of-cut c =
     let turn = YieldsList-turn (YieldsList-from_vec {s = c.into_iter-keys-iterator.result} c.in_ok-parts.parts.items (search rules) (search rules)) c.loop-keys.yielded c.loop-keys.keys-iterator c.loop-keys.yielded_by c.next.result c.next.new.self c.in-Some.keys c.in-Some.is c.next.ensures.steps in
     let whole : vec_len c.loop-keys.cuts ≡ length c.loop-keys.cuts.items = search rules in
-    let place : c.len.result ≡ length c.loop-keys.yielded = c.len.ensures ∙ whole ∙ length-cuts _ _ _ _ c.loop-keys.invariant in
+    let place : c.len.result ≡ length c.loop-keys.yielded = c.len.ensures ∙ whole ∙ length-made _ _ _ c.loop-keys.invariant in
     rw c.in_ok-setup.ensures.cases
     (part-keys c.args.setup.now _ c.in_ok-parts.parts.items (length c.loop-keys.yielded) c.in-Some.keys c.in_ok-parts.ensures.keys turn
     ∙ ap₂ (λ (batch : NumberedPieces) (i : ℕ). keys_of (cut_at c.args.setup.now batch i)) (c.deref.ensures ∙ sym c.in_ok-clone.ensures.cases) (sym place))
@@ -29,12 +29,12 @@ invariant_of-cut c =
 pub loop-keys-preserved : goal.loop-keys-preserved
 loop-keys-preserved c =
     let whole : vec_len c.loop-keys.cuts ≡ length c.loop-keys.cuts.items = search rules in
-    let place : c.len.result ≡ length c.loop-keys.yielded = c.len.ensures ∙ whole ∙ length-cuts _ _ _ _ c.loop-keys.invariant in
+    let place : c.len.result ≡ length c.loop-keys.yielded = c.len.ensures ∙ whole ∙ length-made _ _ _ c.loop-keys.invariant in
     rw length_push
     (c.in_ok-push.ensures.items
     ∙ ap (λ (s : StripeSetup). c.loop-keys.cuts.items ++ cut_at s c.in_ok-clone.field-0.value c.len.result ∷ []) c.in_ok-setup.ensures.cases
     ∙ ap₂ (λ (batch : NumberedPieces) (i : ℕ). c.loop-keys.cuts.items ++ cut_at c.args.setup.now batch i ∷ []) c.in_ok-clone.ensures.cases place
-    ∙ cuts-more c.args.setup.now c.args.batch.now.value c.loop-keys.cuts.items (length c.loop-keys.yielded) c.loop-keys.invariant)
+    ∙ made-more (cut_at c.args.setup.now c.args.batch.now.value) c.loop-keys.cuts.items (length c.loop-keys.yielded) c.loop-keys.invariant)
 
 pub returns : goal.returns
 returns c =

@@ -8,5 +8,5 @@ invariant-loop-stripe g l = record {
   plan : l.share.plan ≡ l.initial.share.plan;
   low : l.from ≤ l.stripe;
   high : l.stripe ≤ l.to;
-  booked : HaveMoreIn l.from l.stripe (length l.round) l.initial.share.booked l.share.booked;
+  booked : HaveMoreIn l.from l.stripe (length l.round.batches.items) l.initial.share.booked l.share.booked;
 }

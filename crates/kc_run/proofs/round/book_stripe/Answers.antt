@@ -1,40 +1,33 @@
-use Rattle.std.proofs.Common.{◌∙◌, subst, arith}
-use Rattle.std.proofs.lemmas.Result.{err_from_is_err_and}
-use Rattle.kc_run.proofs.EntryLemmas.{HaveMoreIn-more}
-use Rattle.kc_run.proofs.RoundLemmas.{IsCutIn, cut_there, stripe_of_cut}
-use Rattle.kc_run.specs.Runs.{IsOfBooking}
+use Rattle.std.proofs.Common.{◌≡◌, ◌∙◌, ◌+◌, ap, arith, length, rules, subst, sym, vec_len}
+use Rattle.std.proofs.lemmas.List.{length-map}
+use Rattle.kc_word.specs.Shared.{values}
+use Rattle.kc_share.specs.Share.{ShareSeen}
+use Rattle.kc_booking.specs.Cuts.{RoundCut, cuts_in, round_at}
+use Rattle.kc_stripe.specs.Locked.{with_bookings}
+use Rattle.kc_run.specs.Runs.{HaveMoreIn}
+use Rattle.kc_run.proofs.RoundLemmas.{IsCutIn, cuts_there, cuts_of_stripe, all_booked}
 use Rattle.kc_run.proofs.round.book_stripe.Goals as goal
 
 pub index-requires : goal.index-requires
 index-requires g c =
-    let found : IsCutIn c.args.stripes.now.setup c.args.round.now c.loop-it.it-index c.it-item.result =
-    record { cut_up = c.requires.cut_up; within = c.loop-it-test.true; is = c.it-item.is } in
-    omega (arith, cut_there found c.args.stripe c.requires.stripe)
+    let found : IsCutIn c.args.stripes.now.setup c.args.round.now c.args.stripe = record { cut_up = c.requires.cut_up; less = c.requires.stripe } in
+    let whole : vec_len c.args.round.now.cuts ≡ length c.args.round.now.cuts.items = search rules in
+    omega (arith, cuts_there found, whole)
 
-pub book_cut-requires : goal.book_cut-requires
-book_cut-requires g c =
-    let found : IsCutIn c.args.stripes.now.setup c.args.round.now c.loop-it.it-index c.it-item.result =
-    record { cut_up = c.requires.cut_up; within = c.loop-it-test.true; is = c.it-item.is } in
-    let here = stripe_of_cut found c.args.stripe c.index.result.now c.requires.stripe c.index.ensures in
-    omega (arith, here, c.requires.stripe)
+pub book_all-requires : goal.book_all-requires
+book_all-requires g c =
+    let found : IsCutIn c.args.stripes.now.setup c.args.round.now c.args.stripe = record { cut_up = c.requires.cut_up; less = c.requires.stripe } in
+    let here = cuts_of_stripe found c.index.result.now c.index.ensures in
+    omega (arith, ap (λ (cuts : RoundCut). cuts.stripe) here, c.requires.stripe)
 
-pub loop-it-preserved : goal.loop-it-preserved
-loop-it-preserved g c =
-    let i = c.loop-it.invariant in
-    let found : IsCutIn c.args.stripes.now.setup c.args.round.now c.loop-it.it-index c.it-item.result =
-    record { cut_up = c.requires.cut_up; within = c.loop-it-test.true; is = c.it-item.is } in
-    let here = stripe_of_cut found c.args.stripe c.index.result.now c.requires.stripe c.index.ensures in
-    record {
-      parts = c.book_cut.ensures.kept.0 ∙ i.parts;
-      plan = c.book_cut.ensures.kept.1 ∙ i.plan;
-      booked = HaveMoreIn-more c.args.stripe c.index.result.now.stripe _ c.loop-it.share c.book_cut.new.share
-          (record { is = c.in_ok-book_cut.ensures.booked; here = here }) i.booked;
-    }
-
-pub returns-in_err-book_cut-clause-refused : goal.returns-in_err-book_cut-clause-refused
-returns-in_err-book_cut-clause-refused g c =
-    let found : IsCutIn c.args.stripes.now.setup c.args.round.now c.loop-it.it-index c.it-item.result =
-    record { cut_up = c.requires.cut_up; within = c.loop-it-test.true; is = c.it-item.is } in
-    let here = stripe_of_cut found c.args.stripe c.index.result.now c.requires.stripe c.index.ensures in
-    let p = err_from_is_err_and c.from_residual.result c.from_residual.ensures.1 in
-    rw (p.1, p.2) (subst (λ stripe. IsOfBooking stripe c.in_err-book_cut.field-0.0) here c.in_err-book_cut.ensures.refused)
+pub returns-in-Ok-clause-booked : goal.returns-in-Ok-clause-booked
+returns-in-Ok-clause-booked g c =
+    let found : IsCutIn c.args.stripes.now.setup c.args.round.now c.args.stripe = record { cut_up = c.requires.cut_up; less = c.requires.stripe } in
+    let here = cuts_of_stripe found c.index.result.now c.index.ensures in
+    let batches = values c.args.round.now.batches.items in
+    let booked : c.book_all.new.share ≡ with_bookings c.args.share.now (cuts_in (round_at c.args.stripes.now.setup batches c.args.stripe)) =
+    c.in-Ok.ensures.booked ∙ ap (λ (cuts : RoundCut). with_bookings c.args.share.now (cuts_in cuts)) here in
+    subst (λ n. HaveMoreIn c.args.stripe (c.args.stripe + 1) n c.args.share.now.booked c.book_all.new.share.booked)
+    (length-map c.args.round.now.batches.items (λ b. b.value))
+    (subst (λ (share : ShareSeen). HaveMoreIn c.args.stripe (c.args.stripe + 1) (length batches) c.args.share.now.booked share.booked) (sym booked)
+    (all_booked c.args.stripes.now.setup c.args.stripe batches c.args.share.now))

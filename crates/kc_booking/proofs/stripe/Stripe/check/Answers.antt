@@ -2,7 +2,7 @@ use Rattle.std.proofs.Common.{◌≡◌, ◌∙◌, ℕ, List, ap, ap₂, sym, r
 use Rattle.std.specs.List.{list_any}
 use Rattle.kc_word.specs.Cutting.{NumberedPieces}
 use Rattle.kc_booking.specs.Stripe.{numbers_of}
-use Rattle.kc_booking.proofs.ListedLemmas.{is_same_setup-same, is_same_setup-Decides}
+use Rattle.kc_booking.proofs.ListedLemmas.{is_same_setup-same}
 use Rattle.kc_booking.proofs.Lawful.{IsBooked-found, IsBooked-missing}
 use Rattle.kc_booking.proofs.stripe.Stripe.check.Goals as goal
 use Rattle.kc_booking.proofs.stripe.Stripe.check.Goals.{then-ne-via-then-ne, then-ne-via-else-ne+then-stripe-self}

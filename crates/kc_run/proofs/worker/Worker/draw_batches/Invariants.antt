@@ -1,7 +1,6 @@
 use Rattle.std.proofs.Common.{◌≡◌, ◌+◌, ◌≤◌, ◌⊎◌, length}
 use Rattle.kc_tickets.specs.Tickets.{IsSeatOf, answers_of}
-use Rattle.kc_run.specs.Runs.{AreCutUp}
-use Rattle.kc_run.proofs.worker.Worker.draw_round.Given as goal
+use Rattle.kc_run.proofs.worker.Worker.draw_batches.Given as goal
 
 abbrev pub invariant-loop : goal.invariant-loop
 invariant-loop g l = record {
@@ -11,5 +10,4 @@ invariant-loop g l = record {
   few : length l.round.items ≤ l.counter;
   bounded : (length l.round.items ≡ 1) ⊎ (length l.round.items ≤ l.job.round_len);
   some : 1 ≤ length l.round.items;
-  cut_up : AreCutUp l.job.stripes.now.setup l.round.items;
 }

@@ -1,0 +1,284 @@
+-- The cuts of several batches in one stripe: their keys, and the stripe when they are booked.
+use Rattle.std.proofs.Common.{◌≡◌, ◌≢◌, ◌⊎◌, ℕ, ◌+◌, ◌/◌, ◌^◌, ◌<◌, ◌≤◌, Bool, true, false, cond, eqb, nat_eq, List, [], ◌∷◌, ◌++◌, length, get_or, take, drop, map, filter, count_by, All, Contains, append-nil, append_assoc, refl, ap, ap₂, sym, subst, ◌∙◌, arith, ⊎_elim, below_more}
+use Rattle.std.specs.Bool.{MatchBool}
+use Rattle.std.specs.declared.sync.Arc.{Arc}
+use Rattle.std.specs.declared.alloc.Global.{Global}
+use Rattle.std.specs.List.{flat_map, list_any, IsDistinct, AllByRecursion}
+use Rattle.std.proofs.lemmas.List.{length-map, get_or-map, map-append, length-drop, get_or-drop, get_or_default, take-append-drop, take_more, take_all}
+use Rattle.std.proofs.lemmas.List.Concat.{flat_map-append}
+use Rattle.std.specs.List.Sorted.{IsPermutation}
+use Rattle.std.proofs.lemmas.List.Sorted.{All-permutation}
+use Rattle.std.proofs.lemmas.List.Sums.{length-filter, sum_by-append}
+use Rattle.std.proofs.lemmas.List.Elements.{filter-append, All-map, Contains-append_cases, Contains-append_right}
+use Rattle.std.proofs.lemmas.List.FromFn.{length-map-range_with_len, get_or-map-range_with_len}
+use Rattle.std.proofs.lemmas.Bool.Decides.{eqb_tells}
+use Rattle.std.proofs.lemmas.Map.Keys.{IsDistinct-cons, IsDistinct-tail}
+use Rattle.kc_lemmas.proofs.Distinct.{stands_or_not, head_apart}
+use Rattle.kc_lemmas.proofs.Lists.{map-same, All-flat_map, Contains-cons, Contains-cons_cases, Contains-map}
+use Rattle.kc_kmer.specs.Laws.{WordsAreBelow}
+use Rattle.kc_kmer.specs.Occurrences.{words_of}
+use Rattle.kc_word.specs.Cutting.{NumberedPieces, as_reads}
+use Rattle.kc_word.specs.Shared.{values}
+use Rattle.kc_word.specs.declared.batch.Batch.{Batch}
+use Rattle.kc_table.specs.Counts.{KeyCounts, count_at}
+use Rattle.kc_booking.specs.Setup.{StripeSetup, DividesWords, stripe_count, key_bits, word_count, stripe_of, key_of}
+use Rattle.kc_booking.specs.Cut.{keys_of, cut_at, batch_codes, key_parts}
+use Rattle.kc_booking.specs.Cuts.{RoundCut, round_at, cuts_in, all_keys_of, sizes_of, FirstIsBooked, FirstIsNew}
+use Rattle.kc_booking.specs.Stripe.{numbers_of, NumbersDiffer, KnowsNumbers, IsBooked, word_occurrences}
+use Rattle.kc_booking.proofs.Parts.{Part, falls_in, keys_in, keys_in-hashed, map-map}
+use Rattle.kc_booking.proofs.Lawful.{CountsWords, WordLaws, occurrences-more, keys-fit, known-more, IsBooked-found, IsBooked-missing}
+
+-- ---- the keys of several batches
+
+keys_in-append : (s stripe : ℕ) (xs ys : List ℕ) → keys_in s stripe (xs ++ ys) ≡ keys_in s stripe xs ++ keys_in s stripe ys
+keys_in-append s stripe xs ys =
+    ap (map (λ code. code / 2 ^ s)) (filter-append (falls_in s stripe) xs ys)
+    ∙ map-append (λ code. code / 2 ^ s) (filter (falls_in s stripe) xs) (filter (falls_in s stripe) ys)
+
+-- the codes of the batches that fall in a stripe are the keys of their cuts
+pub round-keys : (setup : StripeSetup) (stripe : ℕ) (batches : List NumberedPieces)
+    → keys_in setup.stripe_bits stripe (flat_map (batch_codes setup) batches) ≡ all_keys_of (round_at setup batches stripe)
+round-keys setup stripe [] = refl
+round-keys setup stripe (batch ∷ batches) =
+    keys_in-append setup.stripe_bits stripe (batch_codes setup batch) (flat_map (batch_codes setup) batches)
+    ∙ ap₂ (λ (xs ys : List ℕ). xs ++ ys) (keys_in-hashed setup stripe (words_of setup.rule (as_reads batch.pieces))) (round-keys setup stripe batches)
+
+-- and so many of each batch
+pub round-sizes : (setup : StripeSetup) (stripe : ℕ) (batches : List NumberedPieces)
+    → map (λ batch. count_by (falls_in setup.stripe_bits stripe) (batch_codes setup batch)) batches ≡ sizes_of (round_at setup batches stripe)
+round-sizes setup stripe batches =
+    map-same (λ batch. count_by (falls_in setup.stripe_bits stripe) (batch_codes setup batch)) (λ batch. length (keys_of (cut_at setup batch stripe))) batches
+    (λ k d within. one (get_or batches k d))
+    ∙ sym (map-map (λ cut. length (keys_of cut)) (λ batch. cut_at setup batch stripe) batches)
+  where
+    one : (batch : NumberedPieces) → count_by (falls_in setup.stripe_bits stripe) (batch_codes setup batch) ≡ length (keys_of (cut_at setup batch stripe))
+    one batch =
+        sym (length-map (filter (falls_in setup.stripe_bits stripe) (batch_codes setup batch)) (λ code. code / 2 ^ setup.stripe_bits)
+        ∙ length-filter (falls_in setup.stripe_bits stripe) (batch_codes setup batch))
+        ∙ ap length (keys_in-hashed setup stripe (words_of setup.rule (as_reads batch.pieces)))
+
+-- one batch's codes more
+pub codes-more : (setup : StripeSetup) (front : List NumberedPieces) (batch : NumberedPieces)
+    → flat_map (batch_codes setup) (front ++ batch ∷ []) ≡ flat_map (batch_codes setup) front ++ batch_codes setup batch
+codes-more setup front batch =
+    flat_map-append (batch_codes setup) front (batch ∷ []) ∙ ap (λ codes. flat_map (batch_codes setup) front ++ codes) (append-nil (batch_codes setup batch))
+
+pub length-key_parts : (s : ℕ) (codes : List ℕ) (parts : List Part) → map (λ p. p.items) parts ≡ key_parts s codes → length parts ≡ 2 ^ s
+length-key_parts s codes parts divided =
+    sym (length-map parts (λ p. p.items)) ∙ ap length divided ∙ length-map-range_with_len (λ stripe. keys_in s stripe codes) 0 (2 ^ s)
+
+-- the part at a stripe's place has the keys of the batches in that stripe
+pub part-round_keys : (setup : StripeSetup) (batches : List NumberedPieces) (parts : List Part) (i : ℕ) (part : Part)
+    → map (λ p. p.items) parts ≡ key_parts setup.stripe_bits (flat_map (batch_codes setup) batches)
+    → (i < length parts) × (part ≡ get_or parts i part) → part.items ≡ all_keys_of (round_at setup batches i)
+part-round_keys setup batches parts i part divided (within, is) =
+    let codes = flat_map (batch_codes setup) batches in
+    let long : length parts ≡ stripe_count setup = length-key_parts setup.stripe_bits codes parts divided in
+    ap (λ (p : Part). p.items) is
+    ∙ sym (get_or-map (λ p. p.items) parts i part [] within)
+    ∙ ap (λ xs. get_or xs i []) divided
+    ∙ get_or-map-range_with_len (λ stripe. keys_in setup.stripe_bits stripe codes) 0 (stripe_count setup) i i [] (omega arith) (omega arith)
+    ∙ round-keys setup i batches
+
+-- ---- lists whose keys differ, put together
+
+module _ {K : Type 0} (equal : K → K → Bool) (tells : (x y : K) → ((equal x y ≡ true) × (x ≡ y)) ⊎ ((equal x y ≡ false) × (x ≢ y))) where
+  pub IsDistinct-append_right : (xs ys : List K) → IsDistinct equal (xs ++ ys) → IsDistinct equal ys
+  IsDistinct-append_right [] ys distinct = distinct
+  IsDistinct-append_right (x ∷ xs) ys distinct = IsDistinct-append_right xs ys (IsDistinct-tail equal x (xs ++ ys) distinct)
+
+  pub IsDistinct-append_apart : (xs ys : List K) (y : K) → IsDistinct equal (xs ++ ys) → Contains xs y → ¬ Contains ys y
+  IsDistinct-append_apart [] ys y distinct (k, within, is) there = absurd (omega arith)
+  IsDistinct-append_apart (x ∷ xs) ys y distinct here there = ⊎_elim
+      (λ (first : x ≡ y). head_apart equal tells x (xs ++ ys) distinct (Contains-append_right xs ys x (subst (Contains ys) (sym first) there)))
+      (λ (later : Contains xs y). IsDistinct-append_apart xs ys y (IsDistinct-tail equal x (xs ++ ys) distinct) later there)
+      (Contains-cons_cases xs y x here)
+
+  pub IsDistinct-append : (xs ys : List K) → IsDistinct equal xs → IsDistinct equal ys → ((y : K) → Contains xs y → ¬ Contains ys y)
+      → IsDistinct equal (xs ++ ys)
+  IsDistinct-append [] ys left right apart = right
+  IsDistinct-append (x ∷ xs) ys left right apart =
+      let rest = IsDistinct-append xs ys (IsDistinct-tail equal x xs left) right (λ y here. apart y (Contains-cons xs y x here)) in
+      ⊎_elim
+      (λ (again : Contains (xs ++ ys) x). absurd (⊎_elim
+      (λ (here : Contains xs x). head_apart equal tells x xs left here)
+      (λ (there : Contains ys x). apart x (0, omega arith, refl) there)
+      (Contains-append_cases xs ys x again)))
+      (λ (others : AllByRecursion (λ y. equal x y ≡ false) (xs ++ ys)). IsDistinct-cons equal x (xs ++ ys) others rest)
+      (stands_or_not equal tells x (xs ++ ys))
+
+-- ---- batches whose numbers differ
+
+numbers_of-append : (journal batches : List NumberedPieces) → numbers_of (journal ++ batches) ≡ numbers_of journal ++ numbers_of batches
+numbers_of-append journal batches = map-append (λ (b : NumberedPieces). b.number) journal batches
+
+pub NumbersDiffer-right : (journal batches : List NumberedPieces) → NumbersDiffer (journal ++ batches) → NumbersDiffer batches
+NumbersDiffer-right journal batches differ =
+    IsDistinct-append_right nat_eq eqb_tells (numbers_of journal) (numbers_of batches) (subst (IsDistinct nat_eq) (numbers_of-append journal batches) differ)
+
+-- the batch of this index
+pub record IsBatchAt (batches : List NumberedPieces) (i : ℕ) (batch : NumberedPieces) : Type 0 where
+  pub within : i < length batches
+  pub is : batch ≡ get_or batches i batch
+
+-- a batch whose number is in the journal
+pub booked_before : (journal batches : List NumberedPieces) (i : ℕ) (batch : NumberedPieces) → IsBatchAt batches i batch → IsBooked journal batch.number
+    → ¬ NumbersDiffer (journal ++ batches)
+booked_before journal batches i batch at booked differ =
+    IsDistinct-append_apart nat_eq eqb_tells (numbers_of journal) (numbers_of batches) batch.number
+    (subst (IsDistinct nat_eq) (numbers_of-append journal batches) differ) booked
+    (Contains-map (λ (b : NumberedPieces). b.number) batches batch (i, at.within, sym at.is))
+
+-- a batch whose number stands before it
+pub stands_before : (batches : List NumberedPieces) (i : ℕ) (batch : NumberedPieces) → IsBatchAt batches i batch → IsBooked (take i batches) batch.number
+    → ¬ NumbersDiffer batches
+stands_before batches i batch at booked =
+    let none : i + 0 ≡ i = omega arith in
+    let first : IsBatchAt (drop i batches) 0 batch = record {
+      within = omega (arith, length-drop i batches, at.within);
+      is = at.is ∙ ap (λ k. get_or batches k batch) (sym none) ∙ sym (get_or-drop i batches 0 batch);
+    } in
+    subst (λ (bs : List NumberedPieces). ¬ NumbersDiffer bs) (take-append-drop i batches)
+    (booked_before (take i batches) (drop i batches) 0 batch first booked)
+
+-- one batch more is known
+pub known-then : (front : List NumberedPieces) (batch : NumberedPieces) (number : ℕ) (old new : ℕ → Bool) → KnowsNumbers old front
+    → number ≡ batch.number → ((n : ℕ) → new n ≡ cond (nat_eq number n) true (old n)) → KnowsNumbers new (front ++ batch ∷ [])
+known-then front batch number old new known is updated =
+    known-more front batch old new known (λ n. updated n ∙ ap (λ m. cond (nat_eq m n) true (old n)) is)
+
+-- none of the first i batches is in the journal
+abbrev pub NoneBooked : List NumberedPieces → List NumberedPieces → ℕ → Type 0
+NoneBooked journal batches i = (k : ℕ) → k < i → (d : NumberedPieces) → k < length batches → ¬ IsBooked journal (get_or batches k d).number
+
+pub NoneBooked-more : (journal batches : List NumberedPieces) (i : ℕ) (batch : NumberedPieces) → IsBatchAt batches i batch → ¬ IsBooked journal batch.number
+    → NoneBooked journal batches i → NoneBooked journal batches (i + 1)
+NoneBooked-more journal batches i batch at new none = below_more _ i none
+    (λ d within booked. new (subst (λ (b : NumberedPieces). IsBooked journal b.number) (get_or_default batches i d batch within ∙ sym at.is) booked))
+
+pub NumbersDiffer-both : (journal batches : List NumberedPieces) (i : ℕ) → length batches ≤ i → NumbersDiffer journal → NumbersDiffer batches
+    → NoneBooked journal batches i → NumbersDiffer (journal ++ batches)
+NumbersDiffer-both journal batches i end old new none =
+    subst (IsDistinct nat_eq) (sym (numbers_of-append journal batches))
+    (IsDistinct-append nat_eq eqb_tells (numbers_of journal) (numbers_of batches) old new apart)
+  where
+    blank : NumberedPieces
+    blank = record { number = 0; pieces = [] }
+
+    apart : (n : ℕ) → IsBooked journal n → ¬ Contains (numbers_of batches) n
+    apart n booked (k, within, is) =
+        let less : k < length batches = omega (arith, within, length-map batches (λ (b : NumberedPieces). b.number)) in
+        let number : (get_or batches k blank).number ≡ n = sym (get_or-map (λ (b : NumberedPieces). b.number) batches k blank n less) ∙ is in
+        none k (omega arith) blank less (subst (IsBooked journal) (sym number) booked)
+
+-- ---- batches that are shared
+
+abbrev pub Shared : Type 0
+Shared = Arc Batch Global
+
+pub length-values : (batches : List Shared) → length (values batches) ≡ length batches
+length-values batches = length-map batches (λ (b : Shared). b.value)
+
+-- the shared batch of this index
+pub record IsSharedAt (batches : List Shared) (i : ℕ) (batch : Shared) : Type 0 where
+  pub within : i < length batches
+  pub is : batch ≡ get_or batches i batch
+
+pub value_at : {batches : List Shared} {i : ℕ} {batch : Shared} → IsSharedAt batches i batch → IsBatchAt (values batches) i batch.value
+value_at {batches} {i} {batch} at = record {
+  within = omega (arith, at.within, length-values batches);
+  is = ap (λ (b : Shared). b.value) at.is ∙ sym (get_or-map (λ (b : Shared). b.value) batches i batch batch.value at.within);
+}
+
+pub values-more : {batches : List Shared} {i : ℕ} {batch : Shared} → IsSharedAt batches i batch
+    → take (i + 1) (values batches) ≡ take i (values batches) ++ batch.value ∷ []
+values-more {batches} {i} {batch} at =
+    let value = value_at at in
+    take_more (values batches) i batch.value value.within ∙ ap (λ (b : NumberedPieces). take i (values batches) ++ b ∷ []) (sym value.is)
+
+pub values-all : (batches : List Shared) (i : ℕ) → length batches ≤ i → take i (values batches) ≡ values batches
+values-all batches i end = take_all i (values batches) (omega (arith, end, length-values batches))
+
+pub no_values : (batches : List Shared) (more : List NumberedPieces) → values batches ≡ more → length batches ≡ 0 → more ≡ []
+no_values [] more is none = sym is
+no_values (batch ∷ batches) more is none = absurd (omega arith)
+
+-- the first of them
+pub first_tells : (journal : List NumberedPieces) (batches : List Shared) (first : Shared) (found : Bool) → IsSharedAt batches 0 first
+    → found ≡ list_any (nat_eq first.value.number) (numbers_of journal)
+    → MatchBool found (FirstIsBooked journal (values batches)) (FirstIsNew journal (values batches))
+first_tells journal [] first found at is = absurd (omega (arith, at.within))
+first_tells journal (batch ∷ batches) first found at is = by found (is ∙ ap (λ (b : Shared). list_any (nat_eq b.value.number) (numbers_of journal)) at.is)
+  where
+    by : (found : Bool) → found ≡ list_any (nat_eq batch.value.number) (numbers_of journal)
+        → MatchBool found (IsBooked journal batch.value.number) (¬ IsBooked journal batch.value.number)
+    by true is = IsBooked-found journal batch.value.number true is refl
+    by false is = IsBooked-missing journal batch.value.number false is refl
+
+pub new_first : (journal batches : List NumberedPieces) → FirstIsNew journal batches → ¬ FirstIsBooked journal batches
+new_first journal [] new booked = booked
+new_first journal (batch ∷ batches) new booked = new booked
+
+pub first_booked : (journal batches : List NumberedPieces) → FirstIsBooked journal batches → ¬ NumbersDiffer (journal ++ batches)
+first_booked journal [] booked = absurd booked
+first_booked journal (batch ∷ batches) booked = booked_before journal (batch ∷ batches) 0 batch (record { within = omega arith; is = refl }) booked
+
+-- where there is no batch, none is refused
+pub none_refused : (journal batches : List NumberedPieces) (Own : Type 0) → batches ≡ [] → NumbersDiffer journal
+    → FirstIsBooked journal batches ⊎ (Own × ¬ NumbersDiffer (journal ++ batches)) → ⊥
+none_refused journal [] Own none differ refused =
+    ⊎_elim (λ (first : FirstIsBooked journal []). first)
+    (λ (again : Own × ¬ NumbersDiffer (journal ++ [])). again.1 (subst NumbersDiffer (sym (append-nil journal)) differ)) refused
+none_refused journal (batch ∷ batches) Own none differ refused = absurd (cc)
+
+-- ---- the stripe
+
+pub own_round_keys : (setup : StripeSetup) (number : ℕ) (round : RoundCut) → round.setup ≡ setup → round.stripe ≡ number
+    → all_keys_of round ≡ all_keys_of (round_at setup round.batches number)
+own_round_keys setup number round same_setup same_stripe = λ i. all_keys_of (record { setup = same_setup i; stripe = same_stripe i; batches = round.batches })
+
+pub round-keys-fit : (setup : StripeSetup) (number bits : ℕ) (batches : List NumberedPieces) → WordsAreBelow → DividesWords setup → bits ≡ key_bits setup
+    → All (λ key. key < 2 ^ bits) (all_keys_of (round_at setup batches number))
+round-keys-fit setup number bits batches below divided is =
+    All-flat_map (λ key. key < 2 ^ bits) keys_of (cuts_in (round_at setup batches number))
+    (All-map (λ cut. All (λ key. key < 2 ^ bits) (keys_of cut)) (λ batch. cut_at setup batch number) batches
+    (λ k d within. keys-fit setup number bits (get_or batches k d) below divided is))
+
+-- the keys of the stripe's own round fit, and so they do in another order
+pub own-keys-fit : (setup : StripeSetup) (number bits : ℕ) (round : RoundCut) (keys : List ℕ) → keys ≡ all_keys_of round
+    → (round.setup ≡ setup) × (round.stripe ≡ number) → WordsAreBelow → DividesWords setup → bits ≡ key_bits setup → All (λ key. key < 2 ^ bits) keys
+own-keys-fit setup number bits round keys is (same_setup, same_stripe) below divided bits_are =
+    subst (All (λ key. key < 2 ^ bits)) (sym (is ∙ own_round_keys setup number round same_setup same_stripe))
+    (round-keys-fit setup number bits round.batches below divided bits_are)
+
+pub ordered-keys-fit : (bits : ℕ) (keys ordered again : List ℕ) → again ≡ ordered → IsPermutation keys ordered → All (λ key. key < 2 ^ bits) keys
+    → All (λ key. key < 2 ^ bits) again
+ordered-keys-fit bits keys ordered again same order fit =
+    subst (All (λ key. key < 2 ^ bits)) (sym same) (All-permutation (λ key. key < 2 ^ bits) keys ordered order fit)
+
+word_occurrences-all : (setup : StripeSetup) (number word : ℕ) (journal batches : List NumberedPieces) → WordLaws → DividesWords setup
+    → word < word_count setup → stripe_of setup word ≡ number
+    → word_occurrences setup (journal ++ batches) word
+    ≡ word_occurrences setup journal word + count_by (λ key. eqb key (key_of setup word)) (all_keys_of (round_at setup batches number))
+word_occurrences-all setup number word journal [] laws divided below in_stripe =
+    omega (arith, ap (λ (bs : List NumberedPieces). word_occurrences setup bs word) (append-nil journal))
+word_occurrences-all setup number word journal (batch ∷ batches) laws divided below in_stripe =
+    let here = occurrences-more setup number word journal batch laws divided below in_stripe in
+    let later = word_occurrences-all setup number word (journal ++ batch ∷ []) batches laws divided below in_stripe in
+    let shifted = ap (λ (bs : List NumberedPieces). word_occurrences setup bs word) (append_assoc journal (batch ∷ []) batches) in
+    let split = sum_by-append (λ key. cond (eqb key (key_of setup word)) 1 0) (keys_of (cut_at setup batch number)) (all_keys_of (round_at setup batches number)) in
+    omega (arith, here, later, shifted, split)
+
+-- what was known before of a stripe and a round of it
+pub record IsRoundBookedInto (setup : StripeSetup) (number : ℕ) (journal batches : List NumberedPieces) (old new : KeyCounts) : Type 0 where
+  pub divided : DividesWords setup
+  pub before : CountsWords setup number journal old
+  pub added : (q : ℕ) → count_at new q ≡ count_at old q + count_by (λ key. eqb key q) (all_keys_of (round_at setup batches number))
+
+pub CountsWords-all : (setup : StripeSetup) (number : ℕ) (journal batches : List NumberedPieces) (old new : KeyCounts) → WordLaws
+    → IsRoundBookedInto setup number journal batches old new → CountsWords setup number (journal ++ batches) new
+CountsWords-all setup number journal batches old new laws booked word below in_stripe =
+    let sum = booked.added (key_of setup word) in
+    let was = booked.before word below in_stripe in
+    let occurs = word_occurrences-all setup number word journal batches laws booked.divided below in_stripe in
+    omega (arith, sum, was, occurs)

@@ -1,0 +1,56 @@
+-- The words of several batches that fall in one stripe, and when a stripe refuses them.
+-- Source: this project's own; a worker books the batches of a round into each stripe by one call.
+use Rattle.std.specs.Prelude.{◌≡◌, ℕ, Bool, List, [], ◌∷◌, map, length}
+use Rattle.std.specs.Bool.{MatchBool}
+use Rattle.std.specs.List.{range_with_len, flat_map}
+use Rattle.kc_word.specs.Cutting.{NumberedPieces}
+use Rattle.kc_booking.specs.Setup.{StripeSetup, stripe_count}
+use Rattle.kc_booking.specs.Cut.{StripeCut, keys_of, cut_at}
+use Rattle.kc_booking.specs.Stripe.{StripeState, NumbersDiffer, IsBooked}
+
+-- the words of several batches, as they are divided by a setup, in one of its stripes
+pub record RoundCut : Type 0 where
+  pub setup : StripeSetup
+  pub stripe : ℕ
+  pub batches : List NumberedPieces
+
+-- its cuts: one for each batch, in order
+abbrev pub cuts_in : RoundCut → List StripeCut
+cuts_in round = map (λ batch. cut_at round.setup batch round.stripe) round.batches
+
+-- the keys of its cuts, one cut's behind another's
+abbrev pub all_keys_of : RoundCut → List ℕ
+all_keys_of round = flat_map keys_of (cuts_in round)
+
+-- how many keys each of its cuts has
+abbrev pub sizes_of : RoundCut → List ℕ
+sizes_of round = map (λ cut. length (keys_of cut)) (cuts_in round)
+
+-- several batches cut up: for each stripe, in order, all their words that fall in it
+abbrev pub round_at : StripeSetup → List NumberedPieces → ℕ → RoundCut
+round_at setup batches stripe = record { setup = setup; stripe = stripe; batches = batches }
+
+abbrev pub rounds_of : StripeSetup → List NumberedPieces → List RoundCut
+rounds_of setup batches = map (round_at setup batches) (range_with_len 0 (stripe_count setup))
+
+-- what is kept with them: the keys, how many each batch has, and whether no number stands twice among the batches
+pub record AreCuts (round : RoundCut) (keys sizes : List ℕ) (differ : Bool) : Type 0 where
+  pub keys_are : keys ≡ all_keys_of round
+  pub sizes_are : sizes ≡ sizes_of round
+  pub differ_is : MatchBool differ (NumbersDiffer round.batches) (¬ NumbersDiffer round.batches)
+
+-- the words are divided as the stripe's are, and it is the stripe whose words they are
+abbrev pub IsOwnRound : {C : Type 0} → StripeState C → RoundCut → Type 0
+IsOwnRound stripe round = (round.setup ≡ stripe.setup) × (round.stripe ≡ stripe.number)
+
+-- there is a first batch, and this holds of it
+abbrev pub OfFirst : (NumberedPieces → Type 0) → List NumberedPieces → Type 0
+OfFirst P [] = ⊥
+OfFirst P (batch ∷ more) = P batch
+
+-- there is a first batch, and its number is in the journal; or it isn't
+abbrev pub FirstIsBooked : List NumberedPieces → List NumberedPieces → Type 0
+FirstIsBooked journal batches = OfFirst (λ batch. IsBooked journal batch.number) batches
+
+abbrev pub FirstIsNew : List NumberedPieces → List NumberedPieces → Type 0
+FirstIsNew journal batches = OfFirst (λ batch. ¬ IsBooked journal batch.number) batches

@@ -1,0 +1,197 @@
+//! Several batches that are cut up at once, and booked into a stripe by one call.
+ghost use Rattle.std.specs.Prelude.{◌≡◌};
+ghost use Rattle.kc_booking.specs.Setup.{stripe_count};
+
+use crate::bookings::{Held, NOTHING, assert_held, limited_stripe, map_stripe, quotient_stripe};
+use crate::sample_batches::{batches_in, made_setup};
+use crate::sharings::stripes_of;
+use kc_share::{Books, Sheet};
+use kc_stripe::{BookFault, Cuts, Setup, Stripe, cut_up_all};
+use kc_table::{Counts, TableFault};
+use kc_word::Batch;
+use std::alloc::Global;
+use std::marker::Brand;
+use std::process::Abort;
+use std::sync::{Arc, Wait};
+use std::test::Fail;
+
+// The batches of these places, in their order, as one list.
+pub(crate) fn picked(
+    alloc: Global,
+    batches: &[Arc<Batch>],
+    places: &[usize],
+) -> Result<Vec<Arc<Batch>>, Fail> {
+    let mut round = Vec::new(alloc);
+    for place in places {
+        let batch = batches.get(*place).ok_or("no batch")?;
+        round.push(batch.clone()?)?;
+    }
+    Ok(round)
+}
+
+// The keys of ACGT and of ACG in each of four stripes, and how many each has.
+const ROUND: [(&[u64], [usize; 2]); 4] = [
+    (&[], [0, 0]),
+    (&[], [0, 0]),
+    (&[1, 1], [1, 1]),
+    (&[6], [1, 0]),
+];
+
+fn assert_cuts(rt: &impl Abort, setup: &Setup, cuts: &Cuts, stripe: usize) {
+    let (keys, sizes) = ROUND[stripe % 4];
+    assert_eq!(rt; cuts.keys(), keys);
+    assert_eq!(rt; cuts.sizes(), sizes.as_slice());
+    assert_eq!(rt; (cuts.stripe() as usize, cuts.batches().len()), (stripe, 2));
+    assert!(rt; *cuts.setup() == *setup && cuts.numbers_differ());
+}
+
+#[test]
+fn cuts_of_two_batches(rt: HostRuntime) -> Result<(), Fail> {
+    let alloc = rt.alloc();
+    let setup = made_setup(3, 4)?;
+    let batches = batches_in(alloc, &setup, &[b"ACGT", b"ACG"], 2)?;
+    let rounds = cut_up_all(alloc, &setup, &batches)?;
+    assert_eq!(rt; rounds.len(), 4);
+    for (stripe, cuts) in rounds.iter().enumerate() {
+        assert_cuts(&rt, &setup, cuts, stripe);
+    }
+    Ok(())
+}
+
+#[test]
+fn a_number_that_stands_twice(rt: HostRuntime) -> Result<(), Fail> {
+    let alloc = rt.alloc();
+    let setup = made_setup(3, 1)?;
+    let batches = batches_in(alloc, &setup, TWO_BATCHES, 2)?;
+    let rounds = cut_up_all(alloc, &setup, &picked(alloc, &batches, &[1, 0, 1])?)?;
+    assert!(rt; !rounds.first().ok_or("no stripe")?.numbers_differ());
+    Ok(())
+}
+
+// AAA twice in batch 0, and once in batch 1.
+const TWO_BATCHES: &[&[u8]] = &[b"AAAA", b"AAA"];
+
+// AAA three times, the batches booked in this order.
+const TURNED: Held<'static> = Held {
+    journal: &[1, 0],
+    total: 3,
+    bins: [0, 0, 1],
+    counts: &[(0, 3)],
+};
+
+// The number of stripes of the setup by which a round is cut up, the places of its batches, what is answered where it
+// is booked, and what the stripe then holds. The stripe is of one stripe's setup.
+const STEPS: &[(u32, &[usize], Result<(), BookFault>, Held<'static>)] = &[
+    (1, &[], Ok(()), NOTHING),
+    (2, &[], Ok(()), NOTHING),
+    (1, &[0, 1, 0], Err(BookFault::Twice), NOTHING),
+    (2, &[0, 0], Err(BookFault::Stranger), NOTHING),
+    (1, &[1, 0], Ok(()), TURNED),
+    (2, &[1], Err(BookFault::Twice), TURNED),
+    (1, &[0], Err(BookFault::Twice), TURNED),
+];
+
+// The words of the batches of these places in stripe 0 of so many.
+fn round_of(alloc: Global, stripes: u32, places: &[usize]) -> Result<Cuts, Fail> {
+    let setup = made_setup(3, stripes)?;
+    let batches = batches_in(alloc, &setup, TWO_BATCHES, 2)?;
+    let mut rounds = cut_up_all(alloc, &setup, &picked(alloc, &batches, places)?)?;
+    if rounds.is_empty() {
+        return Err(Fail::from("no stripe"));
+    }
+    Ok(rounds.swap_remove(0))
+}
+
+// The stripe takes the steps one after another.
+fn takes_the_steps<C: Counts + Drop>(
+    rt: &impl Abort,
+    alloc: Global,
+    mut stripe: Stripe<C>,
+) -> Result<(), Fail> {
+    for (stripes, places, answer, held) in STEPS {
+        let cuts = round_of(alloc, *stripes, places)?;
+        assert_eq!(rt; stripe.book_all(&cuts), *answer);
+        assert_held(rt, &stripe, held);
+    }
+    Ok(())
+}
+
+#[test]
+fn rounds_are_booked_or_refused(rt: HostRuntime) -> Result<(), Fail> {
+    let alloc = rt.alloc();
+    takes_the_steps(&rt, alloc, map_stripe(alloc)?)?;
+    takes_the_steps(&rt, alloc, quotient_stripe(alloc)?)
+}
+
+// ACG and CGT in batch 0, TTT in batch 1.
+const THREE_WORDS: &[&[u8]] = &[b"ACGT", b"TTT"];
+
+// Batch 0 alone.
+const FIRST: Held<'static> = Held {
+    journal: &[0],
+    total: 2,
+    bins: [2, 0, 0],
+    counts: &[(6, 1), (27, 1)],
+};
+
+// A table of two keys refuses the third, which is that of the second batch: neither is booked. The first alone then is.
+fn refuses_the_second(
+    rt: &impl Abort,
+    alloc: Global,
+    refusal: TableFault,
+    fault: BookFault,
+) -> Result<(), Fail> {
+    let setup = made_setup(3, 1)?;
+    let batches = batches_in(alloc, &setup, THREE_WORDS, 2)?;
+    let mut stripe = limited_stripe(alloc, refusal)?;
+    let both = cut_up_all(alloc, &setup, &batches)?;
+    assert_eq!(rt;
+        stripe.book_all(both.first().ok_or("no stripe")?),
+        Err(fault)
+    );
+    assert_held(rt, &stripe, &NOTHING);
+    let first = cut_up_all(alloc, &setup, &picked(alloc, &batches, &[0])?)?;
+    stripe.book_all(first.first().ok_or("no stripe")?)?;
+    assert_held(rt, &stripe, &FIRST);
+    Ok(())
+}
+
+#[test]
+fn a_round_that_is_full_in_its_second_batch(rt: HostRuntime) -> Result<(), Fail> {
+    refuses_the_second(&rt, rt.alloc(), TableFault::Full, BookFault::Full)?;
+    refuses_the_second(&rt, rt.alloc(), TableFault::Memory, BookFault::Memory)
+}
+
+// Books the round twice with the share of everything: what is answered, and what the share then tells of the stripe.
+fn share_twice<N: Books, R: Wait>(
+    rt: &R,
+    alloc: Global,
+    setup: &Setup,
+    sheet: Sheet,
+    cuts: &Cuts,
+) -> Result<(Result<(), BookFault>, [u64; 2]), Fail>
+    requires name { sheet.table ≡ N.table }
+    requires plan { (sheet.plan.stripes ≡ 1) × (stripe_count setup.now ≡ 1) }
+{
+    if cuts.stripe() != 0 {
+        return Err(Fail::from("another stripe"));
+    }
+    let (stripes, mut share) = stripes_of::<N>(alloc, setup, sheet)?;
+    stripes.book_all(rt, &mut share, cuts)?;
+    let again = stripes.book_all(rt, &mut share, cuts);
+    Ok((again, [share.words(0), share.entries(0)]))
+}
+
+#[test]
+fn a_share_has_the_batches_of_a_round_once(rt: HostRuntime) -> Result<(), Fail> {
+    let alloc = rt.alloc();
+    let setup = made_setup(3, 1)?;
+    let cuts = round_of(alloc, 1, &[0, 1])?;
+    if setup.stripes() != 1 {
+        return Err(Fail::from("another setup"));
+    }
+    let sheet = Sheet::new(alloc, 1, 1)?;
+    let (again, told) = share_twice::<Brand, _>(&rt, alloc, &setup, sheet, &cuts)?;
+    assert_eq!(rt; (again, told), (Err(BookFault::Twice), [3, 2]));
+    Ok(())
+}
