@@ -73,9 +73,11 @@ impl<C: Counts> CountedTable<C> {
         self.total
     }
 
-    /// Stores the keys, one after another, as the table's `ready` does. The first refusal is answered.
-    pub fn ready_all(&mut self, keys: &[u64]) -> Result<(), TableFault>
-        requires { All (λ key. key < 2 ^ C.bits self.old.table) keys.now }
+    /// Stores the keys, one after another, as the table's `ready` does, and notes what it tells of each. The first
+    /// refusal is answered.
+    pub fn ready_all(&mut self, keys: &[u64], reprobes: &mut [u8]) -> Result<(), TableFault>
+        requires in_range { All (λ key. key < 2 ^ C.bits self.old.table) keys.now }
+        requires each { length reprobes.old ≡ length keys.now }
         ensures stored { OnOk result (C.counts self.new.table ≡ all_readied (C.counts self.old.table) keys.now) }
         ensures same_counts { (q : ℕ) → count_at (C.counts self.new.table) q ≡ count_at (C.counts self.old.table) q }
         ensures full { result ≡ Err TableFault.Full
@@ -83,16 +85,19 @@ impl<C: Counts> CountedTable<C> {
         ensures limits { KeepsLimits C.bits C.may_be_full self.old.table self.new.table }
         ensures same_bins { self.new.bins ≡ self.old.bins }
         ensures same_total { self.new.total ≡ self.old.total }
+        ensures each { length reprobes.new ≡ length reprobes.old }
     {
-        for key in keys {
-            self.ready(*key)?;
+        for i in 0..keys.len() {
+            reprobes[i] = self.ready(keys[i])?;
         }
         Ok(())
     }
 
-    /// Adds one to the count of each key, as often as it stands among the keys. It takes no memory.
-    pub fn add_all(&mut self, keys: &[u64])
+    /// Adds one to the count of each key, as often as it stands among the keys. It takes no memory. What was noted of
+    /// each key when it was stored is for speed alone.
+    pub fn add_all(&mut self, keys: &[u64], reprobes: &[u8])
         requires in_range { All (λ key. key < 2 ^ C.bits self.old.table) keys.now }
+        requires each { length reprobes.now ≡ length keys.now }
         requires stored { All (λ key. IsStored (C.counts self.old.table) key) keys.now }
         requires room { self.old.total + length keys.now ≤ 2 ^ 62 }
         ensures counts { (q : ℕ) → count_at (C.counts self.new.table) q
@@ -103,13 +108,13 @@ impl<C: Counts> CountedTable<C> {
     {
         // what is known of an empty list of keys
         let _total = self.total();
-        for key in keys {
-            self.add(*key);
+        for i in 0..keys.len() {
+            self.add(keys[i], reprobes[i]);
         }
     }
 
-    // Makes sure that the key has a slot, so that it can be counted without a refusal.
-    fn ready(&mut self, key: u64) -> Result<(), TableFault>
+    // Makes sure that the key has a slot, so that it can be counted without a refusal, and tells what the table does.
+    fn ready(&mut self, key: u64) -> Result<u8, TableFault>
         requires { key < 2 ^ C.bits self.old.table }
         ensures stored { OnOk result (C.counts self.new.table ≡ readied (C.counts self.old.table) key) }
         ensures refused { OnErr result (C.counts self.new.table ≡ C.counts self.old.table) }
@@ -122,7 +127,7 @@ impl<C: Counts> CountedTable<C> {
     }
 
     // Counts a stored key once: its count, the histogram and the sum of the counts rise.
-    fn add(&mut self, key: u64)
+    fn add(&mut self, key: u64, reprobes: u8)
         requires in_range { key < 2 ^ C.bits self.old.table }
         requires stored { IsStored (C.counts self.old.table) key }
         requires room { self.old.total < 2 ^ 62 }
@@ -131,7 +136,7 @@ impl<C: Counts> CountedTable<C> {
         ensures total { self.new.total ≡ self.old.total + 1 }
         ensures counted { IsCounted (C.bits self.new.table) (C.counts self.new.table) self.new.bins self.new.total }
     {
-        let count = self.table.increment(key);
+        let count = self.table.increment_after(key, reprobes);
         self.histogram.raise(count - 1);
         self.total += 1;
     }

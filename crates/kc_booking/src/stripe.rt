@@ -202,11 +202,13 @@ impl<C: Counts> Stripe<C> {
         // what can fail comes first, and changes no count and no name in the journal
         let batch = cut.batch().clone()?;
         make_room(&mut self.journal)?;
-        self.counted.ready_all(cut.keys())?;
+        let keys = cut.keys();
+        let mut reprobes = vec![in *self.journal.allocator(); 0; keys.len()]?;
+        self.counted.ready_all(keys, &mut reprobes)?;
         let Ok(_) = self.booked.insert(batch.number()) else {
             return Err(BookFault::Memory);
         };
-        self.counted.add_all(cut.keys());
+        self.counted.add_all(keys, &reprobes);
         self.journal.push_reserved(batch);
         Ok(())
     }
@@ -272,10 +274,11 @@ impl<C: Counts> Stripe<C> {
         let mut batches = shared(*self.journal.allocator(), cuts.batches())?;
         self.booked.reserve(batches.len())?;
         let keys = part_by_part(*self.journal.allocator(), self.counted.table(), cuts.keys())?;
-        self.counted.ready_all(&keys)?;
+        let mut reprobes = vec![in *self.journal.allocator(); 0; keys.len()]?;
+        self.counted.ready_all(&keys, &mut reprobes)?;
         self.journal.append(&mut batches)?;
         remember(&mut self.booked, cuts.batches());
-        self.counted.add_all(&keys);
+        self.counted.add_all(&keys, &reprobes);
         Ok(())
     }
 

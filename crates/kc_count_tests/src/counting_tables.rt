@@ -18,10 +18,16 @@ fn assert_key<C: Counts>(rt: &impl Abort, table: &C, key: u64)
     assert!(rt; key >> bits == 0);
 }
 
-// Stores the key.
-fn ready<C: Counts>(rt: &impl Abort, table: &mut C, key: u64) -> Result<(), TableFault> {
+// Stores the key, and gives what is told of it: behind how many reprobes it stands.
+fn reprobes_of<C: Counts>(rt: &impl Abort, table: &mut C, key: u64) -> Result<u8, TableFault> {
     assert_key(rt, table, key);
     table.ready(key)
+}
+
+// Stores the key.
+fn ready<C: Counts>(rt: &impl Abort, table: &mut C, key: u64) -> Result<(), TableFault> {
+    reprobes_of(rt, table, key)?;
+    Ok(())
 }
 
 // Stores the keys from the first up to the last, which is left out.
@@ -242,6 +248,50 @@ fn a_key_stands_in_the_part_of_its_home(rt: HostRuntime) -> Result<(), Fail> {
     let limited = LimitedCounts::new(alloc, 16, 2, TableFault::Full);
     assert_eq!(rt; part_of(&rt, &limited, 773), 0);
     assert_eq!(rt; part_of(&rt, &PlainCounts::new(alloc, 16), 773), 0);
+    Ok(())
+}
+
+// Stores the key and adds one to its count, with this as the number of reprobes that it was told.
+fn count_after<C: Counts>(
+    rt: &impl Abort,
+    table: &mut C,
+    key: u64,
+    reprobes: u8,
+) -> Result<u64, TableFault> {
+    assert_key(rt, table, key);
+    table.ready(key)?;
+    assert!(rt; table.get(key) < 1 << 62);
+    Ok(table.increment_after(key, reprobes))
+}
+
+#[test]
+fn a_key_is_told_its_reprobes(rt: HostRuntime) -> Result<(), Fail> {
+    let alloc = rt.alloc();
+    let mut table = QuotientTable::new(alloc, 16, 8, 8)?;
+    // four keys of the home 5 stand in the slots 5, 6, 8 and 11, and the key 6 behind its home, in slot 7
+    for (key, reprobes) in [(5, 0), (261, 1), (517, 2), (773, 3), (6, 1), (773, 3), (5, 0)] {
+        assert_same(&rt, key, &reprobes_of(&rt, &mut table, key), &Ok(reprobes));
+    }
+    assert_same(&rt, 5, &reprobes_of(&rt, &mut PlainCounts::new(alloc, 16), 5), &Ok(0));
+    Ok(())
+}
+
+// Counts one of two keys with numbers of reprobes that are right or wrong.
+fn assert_counted_after_any<C: Counts>(rt: &impl Abort, table: &mut C) -> Result<(), TableFault> {
+    ready(rt, table, 5)?;
+    for (reprobes, count) in [(1, 1), (0, 2), (62, 3), (63, 4), (255, 5)] {
+        assert_same(rt, reprobes, &count_after(rt, table, 261, reprobes)?, &count);
+    }
+    assert_counts(rt, table, &[(5, 0), (261, 5)]);
+    Ok(())
+}
+
+#[test]
+fn a_key_is_counted_after_any_reprobes(rt: HostRuntime) -> Result<(), Fail> {
+    let alloc = rt.alloc();
+    assert_counted_after_any(&rt, &mut QuotientTable::new(alloc, 16, 8, 8)?)?;
+    assert_counted_after_any(&rt, &mut LimitedCounts::new(alloc, 16, 2, TableFault::Full))?;
+    assert_counted_after_any(&rt, &mut PlainCounts::new(alloc, 16))?;
     Ok(())
 }
 

@@ -52,7 +52,7 @@ impl Counts for MeetingCounts<'_> {
         self.plain.key_bits()
     }
 
-    fn ready(&mut self, key: u64) -> Result<(), TableFault> {
+    fn ready(&mut self, key: u64) -> Result<u8, TableFault> {
         self.own.store(true, Ordering::SeqCst);
         let met = is_raised_in_time(self.other);
         self.met.store(met, Ordering::SeqCst);
@@ -65,6 +65,10 @@ impl Counts for MeetingCounts<'_> {
 
     fn increment(&mut self, key: u64) -> u64 {
         self.plain.increment(key)
+    }
+
+    fn increment_after(&mut self, key: u64, reprobes: u8) -> u64 {
+        self.plain.increment_after(key, reprobes)
     }
 
     fn get(&self, key: u64) -> u64 {

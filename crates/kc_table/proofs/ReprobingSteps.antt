@@ -1,7 +1,7 @@
 -- How far the walk over a key's places has come.
 use Rattle.std.proofs.Common.{◌≡◌, ◌≢◌, ◌∙◌, ℕ, ◌+◌, ◌-◌, ◌*◌, ◌/◌, ◌%◌, ◌^◌, ◌<◌, ◌≤◌, sym, ap, arith, subst, bit_and}
 use Rattle.std.proofs.Common.{add-zero, inl, inr, mod-lt, mod-eq_of_lt, pow_mono}
-use Rattle.std.proofs.Math.Nat.{mod-mod}
+use Rattle.std.proofs.Math.Nat.{mod-add-mod, mod-mod}
 use Rattle.std.proofs.lemmas.Nat.{and_mask, mul-le}
 use Rattle.std.proofs.lemmas.Bool.{cases_lt}
 use Rattle.kc_table.specs.Reprobing.{triangle, place, tag_of, reprobe_of, IsTaken, IsFound, IsFree, AreTakenBefore}
@@ -47,6 +47,10 @@ pub next_place : (log key i stand mask : ℕ) → mask ≡ 2 ^ log - 1 → stand
     → bit_and (stand + i) mask ≡ place key i log
 next_place log key i stand mask is here =
     masked log (stand + i) mask is ∙ ap (λ n. (n + i) % 2 ^ log) here ∙ place_step key i log
+
+-- the place behind so many reprobes
+pub place_behind : (log key i mask : ℕ) → mask ≡ 2 ^ log - 1 → bit_and (key + triangle i) mask ≡ place key i log
+place_behind log key i mask is = masked log (key + triangle i) mask is ∙ sym (mod-add-mod key (2 ^ log) (triangle i))
 
 pub walked_none : (log : ℕ) (tag : ℕ → ℕ) (key mask begun : ℕ) → mask ≡ 2 ^ log - 1
     → IsWalked (record {

@@ -22,9 +22,10 @@ pub trait Counts {
         ensures few { result ≤ most_bits }
         ensures within { IsWithin result (counts self.now) };
 
-    /// Stores the key, with the count 0 where it was not stored; a stored key is never refused. `Full` comes only
-    /// where the type's `may_be_full` allows it, and `Memory` where a growth was refused.
-    fn ready(&mut self, key: u64) -> Result<(), TableFault>
+    /// Stores the key, with the count 0 where it was not stored, and tells the number of reprobes for
+    /// `increment_after`. A stored key is never refused. `Full` comes only where the type's `may_be_full` allows it,
+    /// and `Memory` where a growth was refused.
+    fn ready(&mut self, key: u64) -> Result<u8, TableFault>
         requires { key < 2 ^ bits self.old }
         ensures known { IsStored (counts self.old) key → IsOk result }
         ensures stored { OnOk result (counts self.new ≡ readied (counts self.old) key) }
@@ -44,6 +45,18 @@ pub trait Counts {
 
     /// Adds one to the count of a stored key, as `add` does, and tells the new count.
     fn increment(&mut self, key: u64) -> u64
+        requires in_range { key < 2 ^ bits self.old }
+        requires stored { IsStored (counts self.old) key }
+        requires room { count_at (counts self.old) key < 2 ^ count_bits }
+        ensures told { result ≡ count_at (counts self.old) key + 1 }
+        ensures counted { counts self.new ≡ added (counts self.old) key }
+        ensures same_bits { bits self.new ≡ bits self.old }
+        ensures same_limits { (m : KeyCounts) (q : ℕ) → may_be_full self.new m q ↔ may_be_full self.old m q };
+
+    /// Adds one to the count of a stored key and tells the new count, as `increment` does. The number of reprobes is for
+    /// speed alone, so any is right: with that which `ready` told of the key the table need not search for it, as long
+    /// as it did not grow since then.
+    fn increment_after(&mut self, key: u64, reprobes: u8) -> u64
         requires in_range { key < 2 ^ bits self.old }
         requires stored { IsStored (counts self.old) key }
         requires room { count_at (counts self.old) key < 2 ^ count_bits }

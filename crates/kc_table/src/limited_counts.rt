@@ -61,7 +61,7 @@ impl Counts for LimitedCounts {
     }
 
     /// Stores the key, as the trait says. Where the map has as many keys as it takes, a new key is refused.
-    fn ready(&mut self, key: u64) -> Result<(), TableFault>
+    fn ready(&mut self, key: u64) -> Result<u8, TableFault>
         requires { key < 2 ^ self.old.bits }
         ensures known { IsStored self.old.counts key → IsOk result }
         ensures stored { OnOk result (self.new.counts ≡ readied self.old.counts key) }
@@ -74,14 +74,14 @@ impl Counts for LimitedCounts {
         ensures same_limits { (m : KeyCounts) (q : ℕ) → IsAtLimit self.new m q ↔ IsAtLimit self.old m q }
     {
         if self.plain.is_stored(key) {
-            return Ok(());
+            return Ok(0);
         }
         if self.stored >= self.limit {
             return Err(self.refusal);
         }
-        self.plain.ready(key)?;
+        let reprobes = self.plain.ready(key)?;
         self.stored += 1;
-        Ok(())
+        Ok(reprobes)
     }
 
     fn add(&mut self, key: u64) {
@@ -90,6 +90,10 @@ impl Counts for LimitedCounts {
 
     fn increment(&mut self, key: u64) -> u64 {
         self.plain.increment(key)
+    }
+
+    fn increment_after(&mut self, key: u64, reprobes: u8) -> u64 {
+        self.plain.increment_after(key, reprobes)
     }
 
     fn get(&self, key: u64) -> u64 {

@@ -66,14 +66,14 @@ impl Counts for PlainCounts {
         self.bits
     }
 
-    fn ready(&mut self, key: u64) -> Result<(), TableFault> {
+    fn ready(&mut self, key: u64) -> Result<u8, TableFault> {
         if self.map.contains_key(&key) {
-            return Ok(());
+            return Ok(0);
         }
         let Ok(_) = self.map.insert(key, 0) else {
             return Err(TableFault::Memory);
         };
-        Ok(())
+        Ok(0)
     }
 
     fn add(&mut self, key: u64) {
@@ -88,6 +88,10 @@ impl Counts for PlainCounts {
             }
             None => unreachable!(),
         }
+    }
+
+    fn increment_after(&mut self, key: u64, _reprobes: u8) -> u64 {
+        self.increment(key)
     }
 
     fn get(&self, key: u64) -> u64 {

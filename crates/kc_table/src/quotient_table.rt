@@ -142,10 +142,11 @@ impl Counts for QuotientTable {
         self.slots.bits
     }
 
-    /// Stores the key, as the trait says. The table grows only where other keys stand at all places of this one, and
+    /// Stores the key, as the trait says, and tells behind how many reprobes it stands, or 0 where the table grew. The
+    /// table grows only where other keys stand at all places of this one, and
     /// then to the smallest size at which neither this key nor a stored one finds all its places taken.
     #[inline]
-    fn ready(&mut self, key: u64) -> Result<(), TableFault>
+    fn ready(&mut self, key: u64) -> Result<u8, TableFault>
         requires { key < 2 ^ self.old.bits }
         ensures known { IsStored (counts_in self.old.slots) key → IsOk result }
         ensures stored { OnOk result (counts_in self.new.slots ≡ readied (counts_in self.old.slots) key) }
@@ -157,7 +158,7 @@ impl Counts for QuotientTable {
         ensures untouched { IsStored (counts_in self.old.slots) key → self.new ≡ self.old }
         ensures same_max_log { self.new.max_log ≡ self.old.max_log }
         ensures within_max_log { self.new.log ≤ self.new.max_log }
-        ensures placed { ¬ IsShutOut self.old key → result ≡ Ok tt }
+        ensures placed { ¬ IsShutOut self.old key → IsOk result }
         ensures stays { ¬ IsShutOut self.old key → self.new.log ≡ self.old.log }
         ensures uncrowded { ¬ IsCrowded (counts_in self.old.slots) self.old.log key → self.new.log ≡ self.old.log }
         ensures grown { OnOk result (IsShutOut self.old key → self.old.log < self.new.log) }
@@ -166,14 +167,14 @@ impl Counts for QuotientTable {
             → MayBeTooSmall self.old.bits log (counts_in self.old.slots) key }
     {
         match self.slots.reprobe(key, &mut Counter::zero()) {
-            Reprobing::Found { .. } => Ok(()),
+            Reprobing::Found { place } => Ok(self.slots.slots.tag(place).reprobes() as u8),
             Reprobing::Free { place, tag } => {
                 self.slots.put(key, place, tag, 0);
-                Ok(())
+                Ok(tag.reprobes() as u8)
             }
             Reprobing::Crowded => {
                 self.slots = self.slots.grown(self.alloc, key, self.max_log)?;
-                Ok(())
+                Ok(0)
             }
         }
     }
@@ -207,6 +208,26 @@ impl Counts for QuotientTable {
         ensures same_max_log { self.new.max_log ≡ self.old.max_log }
     {
         self.increment_by_one_find(key, &mut Counter::zero())
+    }
+
+    /// Adds one to the key's count and tells the new count, as the trait says. It reads one slot where the key stands
+    /// behind so many reprobes.
+    #[inline]
+    fn increment_after(&mut self, key: u64, reprobes: u8) -> u64
+        requires in_range { key < 2 ^ self.old.bits }
+        requires stored { IsStored (counts_in self.old.slots) key }
+        requires room { count_at (counts_in self.old.slots) key < 2 ^ count_bits }
+        ensures told { result ≡ count_at (counts_in self.old.slots) key + 1 }
+        ensures counted { counts_in self.new.slots ≡ added (counts_in self.old.slots) key }
+        ensures same_bits { self.new.bits ≡ self.old.bits }
+        ensures same_limits { (m : KeyCounts) (q : ℕ) → MayBeFull self.new m q ↔ MayBeFull self.old m q }
+        ensures same_log { self.new.log ≡ self.old.log }
+        ensures same_max_log { self.new.max_log ≡ self.old.max_log }
+    {
+        match self.slots.place_after(key, reprobes as usize) {
+            Some(place) => self.slots.count_key(key, place),
+            None => self.increment(key),
+        }
     }
 
     #[inline]

@@ -1,11 +1,11 @@
 //! A table of fixed size, whose slots hold a key's remainder, its number of reprobes and its count.
 ghost use Rattle.std.specs.Prelude.{◌≡◌, ◌≢◌, ℕ, ◌+◌, ◌-◌, ◌<◌, ◌≤◌, ◌^◌, length, true, false, None};
-ghost use Rattle.std.specs.Prelude.{IfOk, IfSome, IfNone};
+ghost use Rattle.std.specs.Prelude.{IfOk, IfSome, IfNone, IsSome};
 ghost use Rattle.std.specs.FinMap.{empty, insert, get};
 ghost use Rattle.std.specs.Vec.{vec_capacity};
 ghost use Rattle.kc_table.specs.QuotientTable.{Holds, HasStoredCrowd, MayBeTooSmall};
-ghost use Rattle.kc_table.specs.Reprobing.{IsFound, IsFree, IsOut, IsReprobing};
-ghost use Rattle.kc_table.specs.Sizes.{most_bits, most_log, remainder_bits, count_bits};
+ghost use Rattle.kc_table.specs.Reprobing.{place, tag_of, IsFound, IsFree, IsOut, IsReprobing};
+ghost use Rattle.kc_table.specs.Sizes.{most_bits, most_log, place_count, remainder_bits, count_bits};
 ghost use Rattle.kc_table.specs.Slot.{key_in, IsSound, tag_at};
 
 use crate::packed_slots::PackedSlots;
@@ -77,6 +77,26 @@ impl Slots {
             }
         }
         Reprobing::Crowded
+    }
+
+    /// The key's place behind so many reprobes, where the key stands there.
+    #[inline(always)]
+    pub fn place_after(&self, key: u64, reprobes: usize) -> Option<usize>
+        requires { key < 2 ^ self.now.bits }
+        ensures found { IfSome result (λ slot. IsFound self.now.log (slot_tags self.now) key slot) }
+        ensures there { reprobes < place_count
+            → slot_tags self.now (place key reprobes self.now.log) ≡ tag_of self.now.log key reprobes → IsSome result }
+    {
+        if reprobes >= PLACES {
+            return None;
+        }
+        let mask = self.slots.len() - 1;
+        let place = (key as usize + reprobes * (reprobes + 1) / 2) & mask;
+        if self.slots.tag(place) == Tag::of(key >> self.log, reprobes) {
+            Some(place)
+        } else {
+            None
+        }
     }
 
     /// Puts a new key at its first free place.

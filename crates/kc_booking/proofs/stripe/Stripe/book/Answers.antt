@@ -13,11 +13,11 @@ use Rattle.kc_booking.proofs.CountedTables.{IsStored-all_readied}
 use Rattle.kc_booking.proofs.Lawful.{IsLawful-from, CountsWords-more, keys-fit, known-more, numbers_differ-more, own_keys, was_full}
 use Rattle.kc_booking.proofs.stripe.Stripe.book.Goals as goal
 
-pub ready_all-requires : goal.ready_all-requires
-ready_all-requires g c =
+pub ready_all-requires-clause-in_range : goal.ready_all-requires-clause-in_range
+ready_all-requires-clause-in_range g c =
     let kept = c.self.invariant.1 in
     let own = rw (← c.self.view_is) at c.in_ok-check.ensures.own in
-    rw (c.keys.ensures, own_keys c.self.inside.setup c.self.inside.number c.args.cut.now.batch c.args.cut.now own.0 own.1 refl)
+    rw (c.keys-keys.ensures, own_keys c.self.inside.setup c.self.inside.number c.args.cut.now.batch c.args.cut.now own.0 own.1 refl)
     (keys-fit c.self.inside.setup c.self.inside.number _ c.args.cut.now.batch c.words_of_reads.ensures.below kept.divided kept.bits_are)
 
 pub returns-in_err-ready_all-clause-full : goal.returns-in_err-ready_all-clause-full
@@ -26,18 +26,18 @@ returns-in_err-ready_all-clause-full g c = λ is.
     let fault : booking_fault c.in_err-ready_all.field-0.0 ≡ book.Full = cc in
     let refused = c.in_err-ready_all.ensures.full (ap Err (was_full _ fault)) in
     inr (subst (λ (table : g.row.C.Denot). SomeMayBeFull (g.C.Counts.may_be_full table) (g.C.Counts.counts table) (keys_of c.args.cut.now)) (ap (λ s. s.table) c.self.view_is)
-    (subst (λ (keys : List ℕ). SomeMayBeFull (g.C.Counts.may_be_full c.self.inside.counted.table) (g.C.Counts.counts c.self.inside.counted.table) keys) c.keys.ensures refused))
+    (subst (λ (keys : List ℕ). SomeMayBeFull (g.C.Counts.may_be_full c.self.inside.counted.table) (g.C.Counts.counts c.self.inside.counted.table) keys) c.keys-keys.ensures refused))
 
 pub add_all-requires-clause-in_range : goal.add_all-requires-clause-in_range
 add_all-requires-clause-in_range g c =
     let kept = c.self.invariant.1 in
     let own = rw (← c.self.view_is) at c.in_ok-check.ensures.own in
-    rw (c.keys-2.ensures, own_keys c.self.inside.setup c.self.inside.number c.args.cut.now.batch c.args.cut.now own.0 own.1 refl)
+    rw (c.keys-keys.ensures, own_keys c.self.inside.setup c.self.inside.number c.args.cut.now.batch c.args.cut.now own.0 own.1 refl)
     (keys-fit c.self.inside.setup c.self.inside.number _ c.args.cut.now.batch c.words_of_reads.ensures.below kept.divided (c.in_ok-ready_all.ensures.limits.same_bits ∙ kept.bits_are))
 
 pub add_all-requires-clause-stored : goal.add_all-requires-clause-stored
 add_all-requires-clause-stored g c =
-    rw (c.in_ok-ready_all.ensures.stored, c.keys-2.ensures, ← c.keys.ensures) (IsStored-all_readied c.keys.result.now _)
+    rw (c.in_ok-ready_all.ensures.stored) (IsStored-all_readied c.keys-keys.result.now _)
 
 pub invariant_of-self-2 : goal.invariant_of-self-2
 invariant_of-self-2 g c =
@@ -54,8 +54,8 @@ invariant_of-self-2 g c =
     let new : ¬ IsBooked old batch.number = λ stands. c.in_ok-check.ensures.new
     (subst (λ (n : ℕ). IsBooked c.args.self.now.journal n) (ap (λ (b : NumberedPieces). b.number) named)
     (subst (λ (xs : List NumberedPieces). IsBooked xs batch.number) (ap (λ s. s.journal) c.self.view_is) stands)) in
-    let keys : c.keys-2.result.now ≡ keys_of (cut_at setup batch c.self.inside.number) =
-    c.keys-2.ensures ∙ own_keys setup c.self.inside.number batch c.args.cut.now own.0 own.1 (sym named) in
+    let keys : c.keys-keys.result.now ≡ keys_of (cut_at setup batch c.self.inside.number) =
+    c.keys-keys.ensures ∙ own_keys setup c.self.inside.number batch c.args.cut.now own.0 own.1 (sym named) in
     let kept : IsKept setup c.self.inside.number (old ++ batch ∷ []) (g.C.Counts.bits c.add_all.new.self.table) (contains nat_eq c.insert.new.self) = record {
       own = held.own;
       divided = held.divided;

@@ -32,8 +32,8 @@ part_by_part-requires g c =
     (own-keys-fit c.self.inside.setup c.self.inside.number (g.C.Counts.bits c.self.inside.counted.table) c.args.cuts.now c.keys.result.now c.keys.ensures own
     c.words_of_reads.ensures.below kept.divided kept.bits_are)
 
-pub ready_all-requires : goal.ready_all-requires
-ready_all-requires g c =
+pub ready_all-requires-clause-in_range : goal.ready_all-requires-clause-in_range
+ready_all-requires-clause-in_range g c =
     let kept = c.self.invariant.1 in
     let own = rw (← c.self.view_is) at c.in_ok-check_all.ensures.own in
     ordered-keys-fit (g.C.Counts.bits c.self.inside.counted.table) c.keys.result.now c.in_ok-keys.keys.items c.deref.result.now c.deref.ensures.value c.in_ok-keys.ensures

@@ -8,6 +8,6 @@ invariant_of-self-2 c =
     let new : contains_key c.self.inside.plain.counts c.args.key ≡ false =
     sym c.is_stored.ensures ∙ c.if-is_stored.false in (
       ap (λ n. n + 1) c.self.invariant.0
-          ∙ sym (ap len c.in_ok-ready.ensures.stored ∙ len-readied_new c.self.inside.plain.counts c.args.key new),
+          ∙ sym (ap len c.in_ok-reprobes.ensures.stored ∙ len-readied_new c.self.inside.plain.counts c.args.key new),
       omega arith,
     )
