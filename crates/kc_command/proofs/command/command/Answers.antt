@@ -18,5 +18,6 @@ returns c =
     let with_histo = joined c.in_ok-subcommand-3.ensures refl c.in_ok-histo_command.ensures with_dump in
     let with_stats = joined c.in_ok-subcommand-4.ensures refl c.in_ok-stats_command.ensures with_histo in
     let with_query = joined c.in_ok-subcommand-5.ensures refl c.in_ok-query_command.ensures with_stats in
-    IfOk-weaker c.subcommand-6.result _ _
-    (λ command adds. joined adds refl c.in_ok-merge_command.ensures with_query) c.subcommand-6.ensures
+    let with_merge = joined c.in_ok-subcommand-6.ensures refl c.in_ok-merge_command.ensures with_query in
+    IfOk-weaker c.subcommand-7.result _ _
+    (λ command adds. joined adds refl c.in_ok-select_command.ensures with_merge) c.subcommand-7.ensures
