@@ -193,6 +193,13 @@ select_shape = record (new_shape (codes "select")) {
       ∷ [];
 }
 
+-- `kcount` before it has commands
+abbrev pub bare_app : App
+bare_app = record {
+  top = record (new_shape (codes "kcount")) { has_version = true; subcommand_required = true };
+  subs = [];
+}
+
 -- `kcount`, which has a version and wants a command
 abbrev pub kcount_app : App
 kcount_app = record {

@@ -2,6 +2,7 @@
 ghost use Rattle.std.specs.Prelude.{◌≡◌, IfOk};
 ghost use Rattle.clap.specs.Words.{app_of, new_app, shape_of};
 ghost use Rattle.kc_command.specs.Command.{
+  bare_app,
   count_shape,
   dump_shape,
   histo_shape,
@@ -46,9 +47,7 @@ pub const SELECT: &str = "select";
 pub fn command<'a>(alloc: Global) -> Result<Command<'a>, AllocError>
     ensures { IfOk result (λ command. app_of command ≡ kcount_app) }
 {
-    described(alloc, "kcount", help::KCOUNT, help::AFTER_KCOUNT)
-        .version("0.1.0")
-        .subcommand_required(true)
+    without_commands(alloc)
         .subcommand(count_command(alloc)?)?
         .subcommand(dump_command(alloc)?)?
         .subcommand(histo_command(alloc)?)?
@@ -56,6 +55,15 @@ pub fn command<'a>(alloc: Global) -> Result<Command<'a>, AllocError>
         .subcommand(query_command(alloc)?)?
         .subcommand(merge_command(alloc)?)?
         .subcommand(select_command(alloc)?)
+}
+
+// `kcount` before it has commands, of which it wants one.
+fn without_commands<'a>(alloc: Global) -> Command<'a>
+    ensures { app_of result ≡ bare_app }
+{
+    described(alloc, "kcount", help::KCOUNT, help::AFTER_KCOUNT)
+        .version("0.1.0")
+        .subcommand_required(true)
 }
 
 // The command that counts.

@@ -27,16 +27,17 @@ SelectsNext task number old new (Err (Fastx source fault)) =
 SelectsNext task number old new (Err Write) = Selects task old new (Err why.Write)
 SelectsNext task number old new (Err fault) = ⊥
 
--- each source gave its records in this call, up to the end that it told, and all together no more bytes than the limit.
--- Of each source the first list has what is seen before the call, the second what is seen after it
-abbrev pub GaveRecords : ℕ → List Seen → List Seen → List (List Record) → Type 0
-GaveRecords limit [] [] [] = Unit {0}
-GaveRecords limit (old ∷ olds) (new ∷ news) (here ∷ others) = (gives : GivesRecords old new limit here)
-    × GaveRecords (limit - length gives.0) olds news others
-GaveRecords limit _ _ _ = ⊥
+-- each source gave its records in this call, up to the end that it told, and all together no more bytes than the limit,
+-- of which so many are left. Of each source the first list has what is seen before the call, the second what is seen
+-- after it
+abbrev pub GaveRecords : ℕ → ℕ → List Seen → List Seen → List (List Record) → Type 0
+GaveRecords limit left [] [] [] = left ≡ limit
+GaveRecords limit left (old ∷ olds) (new ∷ news) (here ∷ others) = (gives : GivesRecords old new limit here)
+    × GaveRecords (limit - length gives.0) left olds news others
+GaveRecords limit left _ _ _ = ⊥
 
--- the sources before the number-th, from 1, gave these records; of that one these came first; and those behind it are
--- as they were
+-- the sources before the number-th, from 1, gave these records; of that one, which might give what they left of the
+-- limit, these came first; and those behind it are as they were
 pub record StopsAt (rule : SelectionRule) (tally : TallySeen) (old new : List Seen) (number : ℕ) : Type 0 where
   pub before : List Seen
   pub given : List Seen
@@ -47,8 +48,8 @@ pub record StopsAt (rule : SelectionRule) (tally : TallySeen) (old new : List Se
   pub are : new ≡ given ++ left ∷ behind
   pub counted : number ≡ length before + 1
   pub earlier : List (List Record)
-  pub gave : GaveRecords most_bytes before given earlier
   pub limit : ℕ
+  pub gave : GaveRecords most_bytes limit before given earlier
   pub first : List Record
   pub came : BeginWith (task_within rule tally limit) here first
 
@@ -56,8 +57,9 @@ pub record StopsAt (rule : SelectionRule) (tally : TallySeen) (old new : List Se
 -- written. Where the writer failed, a beginning of the text of those that had come was taken.
 abbrev pub SelectsFrom : SelectionRule → TallySeen → List Seen → List Seen → Written → Written
     → Result (Unit {0}) ToolFault → Type 0
-SelectsFrom rule tally old new before after (Ok done) = (records : List (List Record))
-    × GaveRecords most_bytes old new records × HasWritten before after (selected_text tally rule (concat records))
+SelectsFrom rule tally old new before after (Ok done) = (records : List (List Record)) × (left : ℕ)
+    × GaveRecords most_bytes left old new records
+    × HasWritten before after (selected_text tally rule (concat records))
 SelectsFrom rule tally old new before after (Err (Fastx number fault)) = (stop : StopsAt rule tally old new number)
     × Meets (task_within rule tally stop.limit) stop.here stop.left fault
     × HasWritten before after (selected_text tally rule (concat stop.earlier ++ stop.first))

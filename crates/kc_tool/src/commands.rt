@@ -31,7 +31,7 @@ use crate::files::{FileSource, NamedFiles, open_failed, open_files, take_sources
 use crate::given_options::{dump_options, high_of, options, select_options};
 use crate::named_sources::NamedSource;
 use crate::reports::{Report, report_of, write_report};
-use crate::selected_sources::{select_input, select_sources};
+use crate::selected_sources::select_files;
 use crate::task_tallies::{table_from, tally_for};
 use crate::tool_faults::ToolFault;
 use clap::ArgMatches;
@@ -264,12 +264,9 @@ fn select_by_table<R: Source, F: Source, W: Sink>(
     ensures input { KeepsInput (drop 1 (seen_of F.seen files.old)) (R.seen input.old) (R.seen input.new) }
     ensures names { names_of files.new ≡ names_of files.old }
 {
-    let (tally, _) = table_from(alloc, &mut files[0].source)?;
+    let (tally, _origin) = table_from(alloc, &mut files[0].source)?;
     let sources = &mut files[1..];
-    if sources.is_empty() {
-        return select_input(alloc, input, &tally, selection, output);
-    }
-    select_sources(alloc, sources, &tally, selection, output)
+    select_files(alloc, sources, input, &tally, selection, output)
 }
 
 // The task of a command: what it asks for with these options.

@@ -1,6 +1,7 @@
 //! The reads of several sources that a table selects.
-ghost use Rattle.std.specs.Prelude.{◌≡◌, ◌≤◌, ◌∷◌, []};
+ghost use Rattle.std.specs.Prelude.{◌≡◌, ◌≤◌, ◌∷◌, [], length};
 ghost use Rattle.kc_fastx.specs.Parsing.{most_bytes};
+ghost use Rattle.kc_tool.specs.Commands.{KeepsInput, sources_from};
 ghost use Rattle.kc_tool.specs.NamedSources.{names_of, seen_of};
 ghost use Rattle.kc_tool.specs.Selections.{SelectsFrom, SelectsNext};
 
@@ -13,18 +14,40 @@ use kc_select::{SelectFault, Selection, select};
 use kc_tally::Tally;
 use std::alloc::Global;
 
-/// Writes the reads of all sources that the selection keeps, in order. The sources keep their names.
+/// Writes the reads of all files that the selection keeps, in order, or where there are no files those of the given
+/// input. The files keep their names.
 ///
 /// # Errors
 /// `Fastx` with the fault of the first source that has one, and its number from 1. The selected ones of the reads
 /// before it were written. `Write` where the writer failed or took no byte.
-pub(crate) fn select_sources<R: Source, W: Sink>(
+pub(crate) fn select_files<R: Source, F: Source, W: Sink>(
+    alloc: Global,
+    files: &mut [NamedSource<'_, F>],
+    input: &mut R,
+    tally: &Tally,
+    selection: Selection,
+    writer: &mut W,
+) -> Result<(), ToolFault>
+    ensures selects { let Selects = SelectsFrom selection tally.now (sources_from (R.seen input.old) (seen_of F.seen files.old)) in
+        Selects (sources_from (R.seen input.new) (seen_of F.seen files.new)) (W.seen writer.old) (W.seen writer.new) result }
+    ensures input { KeepsInput (seen_of F.seen files.old) (R.seen input.old) (R.seen input.new) }
+    ensures names { names_of files.new ≡ names_of files.old }
+{
+    if files.is_empty() {
+        return select_input(alloc, input, tally, selection, writer);
+    }
+    select_sources(alloc, files, tally, selection, writer)
+}
+
+// The same of sources, of which there is one at the least.
+fn select_sources<R: Source, W: Sink>(
     alloc: Global,
     sources: &mut [NamedSource<'_, R>],
     tally: &Tally,
     selection: Selection,
     writer: &mut W,
 ) -> Result<(), ToolFault>
+    requires { 1 ≤ length sources.old }
     ensures selects { let Selects = SelectsFrom selection tally.now in
         Selects (seen_of R.seen sources.old) (seen_of R.seen sources.new) (W.seen writer.old) (W.seen writer.new) result }
     ensures names { names_of sources.new ≡ names_of sources.old }
@@ -34,7 +57,7 @@ pub(crate) fn select_sources<R: Source, W: Sink>(
     let _fits = sources.len();
     for source in sources.iter_mut() {
         number += 1;
-        left -= select_next(
+        let taken = select_next(
             alloc,
             &mut source.source,
             number,
@@ -43,15 +66,13 @@ pub(crate) fn select_sources<R: Source, W: Sink>(
             selection,
             writer,
         )?;
+        left -= taken;
     }
     Ok(())
 }
 
-/// The same of one source, the input.
-///
-/// # Errors
-/// As with a list of this source alone.
-pub(crate) fn select_input<R: Source, W: Sink>(
+// The same of one source, the input.
+fn select_input<R: Source, W: Sink>(
     alloc: Global,
     input: &mut R,
     tally: &Tally,
