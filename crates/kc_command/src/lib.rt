@@ -2,7 +2,7 @@
 //!
 //! `command::command` makes the command line that `clap` reads, with the text of its help, and the module `command` has
 //! the names of its commands. From what `clap` found, `options` makes the `Options` of a count, `dump_options` how a
-//! dump is laid out, and `high_of` how far a histogram goes; `text_of` gives the text of an option as it stands. The
+//! dump is laid out, `high_of` how far a histogram goes, and `select_options` which reads are selected; `text_of` gives the text of an option as it stands. The
 //! first option whose value is outside its limits is answered as its `OptionName`. `command_laws` has worked command
 //! lines.
 //!
@@ -22,4 +22,4 @@ mod settings_of_options;
 
 pub use option_name::OptionName;
 pub use settings::{Options, Print};
-pub use settings_of_options::{dump_options, high_of, options, text_of};
+pub use settings_of_options::{dump_options, high_of, options, select_options, text_of};

@@ -55,7 +55,8 @@ has_verb name (inr (inl is)) = (verb.Dump, is)
 has_verb name (inr (inr (inl is))) = (verb.Histo, is)
 has_verb name (inr (inr (inr (inl is)))) = (verb.Stats, is)
 has_verb name (inr (inr (inr (inr (inl is))))) = (verb.Query, is)
-has_verb name (inr (inr (inr (inr (inr is))))) = (verb.Merge, is)
+has_verb name (inr (inr (inr (inr (inr (inl is)))))) = (verb.Merge, is)
+has_verb name (inr (inr (inr (inr (inr (inr is)))))) = (verb.Select, is)
 
 -- `clap` takes the arguments where nothing fails
 taken : (arguments : List Text) (matches : ArgMatches) → fault_of kcount_app arguments ≡ [] → subcommand_rows_of matches ≡ subcommand_of kcount_app arguments
@@ -87,6 +88,7 @@ verb_found verb.Histo = refl
 verb_found verb.Stats = refl
 verb_found verb.Query = refl
 verb_found verb.Merge = refl
+verb_found verb.Select = refl
 
 module _ {Z : Type 0} where
   name_with_rows : (sub : Option (Box SubCommand Z)) → option_map (λ b. (out-SubCommand (box_value b)).name.now) sub ≡ option_map (λ p. p.0) (subcommand_rows sub)

@@ -19,6 +19,7 @@ use Rattle.kc_tool.specs.FileEvents.{FileEvent, created, not_created, opened, wr
 use Rattle.kc_tool.specs.NamedSources.{names_of, seen_of}
 use Rattle.kc_tool.specs.Files.{AreOf, AreOpened, FailsToOpen, FileRead, LacksFile, OpensAll, TellsName}
 use Rattle.kc_tool.specs.Files.{files_named, given_back, openings, output_of, returned, unread}
+use Rattle.kc_tool.specs.Commands.{DoesByTally, IsAboutTally, Stage}
 use Rattle.kc_tool.specs.Commands.{Answers, Does, HasFilesFor, HasNoTallyFor, IsTallyFor, TellNoSum, TellNoTable, behind_list, given_of, most_table_bytes, sources_from, sources_in}
 use Rattle.kc_tool.specs.Commands.{AsksForTask, DoesTask, DoesTaskInto, EndsSo, IsRefused, IsRefusedOption, KeepsInput, LacksOutput}
 use Rattle.kc_tool.specs.Commands.{Surroundings, files_of, first_refused, stage_after}
@@ -26,7 +27,7 @@ use Rattle.kc_tool.specs.declared.named_sources.NamedSource.{NamedSource}
 use Rattle.kc_tool.specs.declared.tool_faults.ToolFault.{ToolFault}
 use Rattle.kc_tool.specs.declared.tool_faults.ToolFault.TheVariants.{Fastx, BadHeader, BadRow, BadEnd, TableTooLong, TableRead, Memory, BadOption, BadWord, Write, Run, OpenFailed, Unlike, TooLarge}
 use Rattle.kc_tool.specs.declared.commands.Task.{Task}
-use Rattle.kc_tool.specs.declared.commands.Task.TheVariants.{Count, CountListed, Report, Query, Merge}
+use Rattle.kc_tool.specs.declared.commands.Task.TheVariants.{Count, CountListed, Report, Query, Merge, Select}
 use Rattle.kc_tool.specs.declared.commands.Verb.{Verb}
 use Rattle.kc_tool.specs.declared.commands.Verb.TheVariants as verb
 use Rattle.kc_tool.proofs.FilesLemmas.{PairedTo, unread_back}
@@ -71,31 +72,43 @@ module _ (rows : List Row) where
   has_files verb.Count (Report report) sources asks are = absurd asks
   has_files verb.Count (Query words) sources asks are = absurd asks
   has_files verb.Count Merge sources asks are = absurd asks
+  has_files verb.Count (Select rule) sources asks are = absurd asks
   has_files verb.Dump (Count settings) sources asks are = absurd asks
   has_files verb.Dump (CountListed settings) sources asks are = absurd asks
   has_files verb.Dump (Report report) sources asks are = one_of (files_named rows) sources are
   has_files verb.Dump (Query words) sources asks are = absurd asks
   has_files verb.Dump Merge sources asks are = absurd asks
+  has_files verb.Dump (Select rule) sources asks are = absurd asks
   has_files verb.Histo (Count settings) sources asks are = absurd asks
   has_files verb.Histo (CountListed settings) sources asks are = absurd asks
   has_files verb.Histo (Report report) sources asks are = one_of (files_named rows) sources are
   has_files verb.Histo (Query words) sources asks are = absurd asks
   has_files verb.Histo Merge sources asks are = absurd asks
+  has_files verb.Histo (Select rule) sources asks are = absurd asks
   has_files verb.Stats (Count settings) sources asks are = absurd asks
   has_files verb.Stats (CountListed settings) sources asks are = absurd asks
   has_files verb.Stats (Report report) sources asks are = one_of (files_named rows) sources are
   has_files verb.Stats (Query words) sources asks are = absurd asks
   has_files verb.Stats Merge sources asks are = absurd asks
+  has_files verb.Stats (Select rule) sources asks are = absurd asks
   has_files verb.Query (Count settings) sources asks are = absurd asks
   has_files verb.Query (CountListed settings) sources asks are = absurd asks
   has_files verb.Query (Report report) sources asks are = absurd asks
   has_files verb.Query (Query words) sources asks are = one_of (files_named rows) sources are
   has_files verb.Query Merge sources asks are = absurd asks
+  has_files verb.Query (Select rule) sources asks are = absurd asks
   has_files verb.Merge (Count settings) sources asks are = absurd asks
   has_files verb.Merge (CountListed settings) sources asks are = absurd asks
   has_files verb.Merge (Report report) sources asks are = absurd asks
   has_files verb.Merge (Query words) sources asks are = absurd asks
   has_files verb.Merge Merge sources asks are = has_tables _ _ sources are
+  has_files verb.Merge (Select rule) sources asks are = absurd asks
+  has_files verb.Select (Count settings) sources asks are = absurd asks
+  has_files verb.Select (CountListed settings) sources asks are = absurd asks
+  has_files verb.Select (Report report) sources asks are = absurd asks
+  has_files verb.Select (Query words) sources asks are = absurd asks
+  has_files verb.Select Merge sources asks are = absurd asks
+  has_files verb.Select (Select rule) sources asks are = has_list _ (files_named rows) sources are
 
 -- No table is refused since a writer failed.
 no_write : (why : ReportFault) (source later : Seen) → RefusesTable source later most_table_bytes why → Write ≡ report_fault why → ⊥
@@ -151,11 +164,12 @@ read_before (CountListed settings) old new h = not_counted old new settings h
 read_before (Report report) old new h = told_table old.sources new.sources h
 read_before (Query words) old new h = told_table old.sources new.sources h
 read_before Merge old new h = told_sum old.sources new.sources h
+read_before (Select rule) old new h = h
 
 module _ (old new : Given) (task : Task) where
   -- Without a tally nothing is written.
   pub unanswered : (output : Written) (fault : ToolFault) → HasNoTallyFor old new task fault
-      → Does task (record { given = old; output = output }) (record { given = new; output = output }) (Err fault)
+      → DoesByTally task (record { given = old; output = output }) (record { given = new; output = output }) (Err fault)
   unanswered output Write h = absurd (read_before task old new h)
   unanswered output (Fastx number fault) h = (refl, inl h)
   unanswered output BadHeader h = (refl, inl h)
@@ -173,7 +187,7 @@ module _ (old new : Given) (task : Task) where
 
   -- The answer about the tally was written, or a beginning of it, or nothing.
   pub answered : (before after : Written) (table : TableSeen) (outcome : Result (Unit {0}) ToolFault) → IsTallyFor old new task table
-      → Answers task table before after outcome → Does task (record { given = old; output = before }) (record { given = new; output = after }) outcome
+      → Answers task table before after outcome → DoesByTally task (record { given = old; output = before }) (record { given = new; output = after }) outcome
   answered before after table (Ok done) is h = (h.0, (table, is, h.1), h.2)
   answered before after table (Err Write) is h = (h.0, (table, is, h.1), h.2)
   answered before after table (Err (Fastx number fault)) is h = (h.0, inr (table, is, h.1))
@@ -189,6 +203,16 @@ module _ (old new : Given) (task : Task) where
   answered before after table (Err (OpenFailed name)) is h = (h.0, inr (table, is, h.1))
   answered before after table (Err Unlike) is h = (h.0, inr (table, is, h.1))
   answered before after table (Err TooLarge) is h = (h.0, inr (table, is, h.1))
+
+-- What a task does about a tally is what it does, where it is no selection.
+pub about_tally : (task : Task) (old new : Stage) (outcome : Result (Unit {0}) ToolFault) → IsAboutTally task
+    → DoesByTally task old new outcome → Does task old new outcome
+about_tally (Count settings) old new outcome about done = done
+about_tally (CountListed settings) old new outcome about done = done
+about_tally (Report report) old new outcome about done = done
+about_tally (Query words) old new outcome about done = done
+about_tally Merge old new outcome about done = done
+about_tally (Select rule) old new outcome about done = absurd about
 
 -- The files of a task were read, and are given back.
 pub task_done : {sources later : List (NamedSource Seen)} {task : Task} {old new : Surroundings} {outcome : Result (Unit {0}) ToolFault} (files : List FileRead)

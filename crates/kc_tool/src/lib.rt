@@ -31,6 +31,7 @@ mod named_sources;
 mod process;
 pub mod report_laws;
 mod reports;
+mod selected_sources;
 mod task_tallies;
 mod tool_faults;
 

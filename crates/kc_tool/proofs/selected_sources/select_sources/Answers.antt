@@ -1,0 +1,62 @@
+use Rattle.std.proofs.Common.{◌∙◌, ◌≤◌, ◌<◌, ◌+◌, length, get_or, ap, arith, refl}
+use Rattle.std.proofs.lemmas.List.{length-map}
+use Rattle.std.proofs.lemmas.Result.{err_from_is_err_and}
+use Rattle.std.proofs.Math.Seq.{map-set_same}
+use Rattle.kc_tool.specs.NamedSources.{seen_of}
+use Rattle.kc_tool.proofs.SelectionsLemmas.{selected_none, selected_kept, refused_selection, selected_all}
+use Rattle.kc_tool.proofs.selected_sources.select_sources.Goals as goal
+
+pub loop-source-init : goal.loop-source-init
+loop-source-init g c = record {
+  so_far = selected_none c.args.selection c.args.tally.now (seen_of g.R.Source.seen c.args.sources.now)
+      (g.W.Sink.seen c.args.writer.now);
+  counted = refl;
+  names = refl;
+}
+
+pub loop-source-preserved : goal.loop-source-preserved
+loop-source-preserved g c =
+    let loop = c.loop-source in
+    let item = get_or loop.sources loop.source-index c.source-item.result in
+    let is = ap (λ v. get_or loop.sources loop.source-index v) c.source-item.is in
+    let within : loop.source-index < length loop.sources = omega arith in
+    let read = record item { source = c.select_next.new.source } in
+    record {
+      so_far = selected_kept (λ source. g.R.Source.seen source.source) loop.sources item read is within
+          (g.W.Sink.seen c.select_next.new.writer) loop.invariant.counted loop.invariant.so_far c.in_ok-taken.taken
+          c.in_ok-taken.ensures;
+      counted = ap (λ n. n + 1) loop.invariant.counted;
+      names = map-set_same (λ source. source.name.now) loop.sources loop.source-index read item
+          (ap (λ source. source.name.now) is) ∙ loop.invariant.names;
+    }
+
+pub returns-in_err-taken-clause-selects : goal.returns-in_err-taken-clause-selects
+returns-in_err-taken-clause-selects g c =
+    let p = err_from_is_err_and c.from_residual.result c.from_residual.ensures.1 in
+    let loop = c.loop-source in
+    let item = get_or loop.sources loop.source-index c.source-item.result in
+    let is = ap (λ v. get_or loop.sources loop.source-index v) c.source-item.is in
+    let within : loop.source-index < length loop.sources = omega arith in
+    let read = record item { source = c.select_next.new.source } in
+    rw (p.1, p.2) (refused_selection (λ source. g.R.Source.seen source.source) loop.sources item read is within
+    (g.W.Sink.seen c.select_next.new.writer) loop.invariant.counted loop.invariant.so_far c.in_err-taken.field-0.0
+    c.in_err-taken.ensures)
+
+pub returns-in_err-taken-clause-names : goal.returns-in_err-taken-clause-names
+returns-in_err-taken-clause-names g c =
+    let loop = c.loop-source in
+    let item = get_or loop.sources loop.source-index c.source-item.result in
+    let is = ap (λ v. get_or loop.sources loop.source-index v) c.source-item.is in
+    let read = record item { source = c.select_next.new.source } in
+    map-set_same (λ source. source.name.now) loop.sources loop.source-index read item
+    (ap (λ source. source.name.now) is) ∙ loop.invariant.names
+
+pub returns-clause-selects : goal.returns-clause-selects
+returns-clause-selects g c =
+    let seen = g.R.Source.seen in
+    let sources = c.loop-source.sources in
+    let all : length (seen_of seen sources) ≤ c.loop-source.number =
+    rw (length-map sources (λ source. seen source.source), c.loop-source.invariant.counted) (omega arith) in
+    let some : 1 ≤ length (seen_of seen sources) =
+    rw (length-map sources (λ source. seen source.source)) (omega arith) in
+    selected_all c.loop-source.invariant.so_far all some
