@@ -88,13 +88,14 @@ abbrev pub sources_from : Seen → List Seen → List Seen
 sources_from input [] = input ∷ []
 sources_from input (file ∷ files) = file ∷ files
 
--- of the files of a task the first is its list, where it has one, and the others are sources
+-- of the files of a task the first is its list, or its table, where it has one beside its sources, and the others are
+-- sources
 abbrev pub sources_in : Task → List Seen → List Seen
 sources_in (CountListed settings) files = drop 1 files
 sources_in (Select rule) files = drop 1 files
 sources_in task files = files
 
--- what a count with a list is given: the first file is its list
+-- what a count with a list is given, or a selection: the first file is the list, or the table
 abbrev pub given_listed : Seen → List Seen → Given
 given_listed input [] = given None (input ∷ [])
 given_listed input (list ∷ files) = given (Some list) (sources_from input files)
@@ -115,8 +116,8 @@ abbrev pub HasWritableReport : Task → Type 0
 HasWritableReport (Report report) = IsWritable report
 HasWritableReport task = ⊤
 
--- a task has files: a list where it is to have one, at most one source where it is about a table, and two tables for
--- their sum
+-- a task has files: a list where it is to have one, a table for a selection, at most one source where it is about a
+-- table, and two tables for their sum
 abbrev pub HasFilesFor : Task → List Seen → Type 0
 HasFilesFor (Count settings) files = ⊤
 HasFilesFor (CountListed settings) files = 1 ≤ length files
@@ -264,8 +265,9 @@ abbrev pub behind_list : Option Text → List Text → List Text
 behind_list None names = names
 behind_list (Some list) names = list ∷ names
 
--- the files that a command reads, in order: a count its list and all that are named, a sum its two tables, any other the
--- first that is named. A table that a sum lacks, which `clap` lets none, has an empty name
+-- the files that a command reads, in order: a count its list and all that are named, a selection its table and all that
+-- are named, a sum its two tables, any other the first that is named. A table that a selection or a sum lacks, which
+-- `clap` lets none, has an empty name
 abbrev pub files_of : Verb → List Row → List Text
 files_of verb.Count rows = behind_list (only_of rows) (files_named rows)
 files_of verb.Select rows = unwrap_or (first_of (codes "table") rows) [] ∷ files_named rows

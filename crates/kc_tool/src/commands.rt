@@ -308,8 +308,8 @@ fn task_of(alloc: Global, verb: Verb, matches: &ArgMatches<'_>) -> Result<Task, 
     }
 }
 
-// The names of the files that a command reads: a count reads its list and all that are named, a sum its two tables, and
-// any other command the first that is named.
+// The names of the files that a command reads: a count reads its list and all that are named, a selection its table and
+// all that are named, a sum its two tables, and any other command the first that is named.
 fn file_names<'a>(
     alloc: Global,
     verb: Verb,
