@@ -15,7 +15,7 @@ _kcount() {
         dump) options='-c --column -t --tab -L --lower-count -U --upper-count -o --output -h --help' ;;
         histo) options='--high -o --output -h --help' ;;
         stats | query | merge) options='-o --output -h --help' ;;
-        select) options='--min-count --min-share --min-qual-char --invert -o --output -h --help' ;;
+        select) options='--min-count --min-share --min-qual-char --invert --stats -o --output -h --help' ;;
     esac
     case $before in
         --print) mapfile -t COMPREPLY < <(compgen -W 'table dump histo stats' -- "$word") ;;

@@ -46,4 +46,5 @@ complete -c kcount -n '__fish_seen_subcommand_from select' -l min-count -x -d 'L
 complete -c kcount -n '__fish_seen_subcommand_from select' -l min-share -x -d 'Least percentage of solid k-mers'
 complete -c kcount -n '__fish_seen_subcommand_from select' -l min-qual-char -x -d 'Least quality character that counts'
 complete -c kcount -n '__fish_seen_subcommand_from select' -l invert -d 'Write the other reads instead'
+complete -c kcount -n '__fish_seen_subcommand_from select' -l stats -d 'Tell how many reads and k-mers there were'
 complete -c kcount -n '__fish_seen_subcommand_from select' -s o -l output -r -d 'Write to this file'

@@ -382,6 +382,19 @@ printf '%s' "$some" > some.fa
 selects $'>a one two\nACG\n>c>c\nacgt\n@p\nCGT\n+\nIII\n' '>r' some.fa reads.fq
 selects $'@q\nGTA\n+\nIII\n>b\nAAA\n' '>r' --invert reads.fq some.fa
 selects $'@p\nCGT\n+\nIII\n' "$reads" reads.fq reads.fa
+# the counts are told on the errors where they are asked for, and where there is no fault: reads, those that are kept,
+# k-mers and those that are solid
+tells() {
+    local counts=$1 output=$2 input=$3
+    shift 3
+    wants 0 "$output" "kcount: $counts"$'\n' "$input" kcount select --stats two.kct "$@"
+}
+tells '0 reads, 0 kept, 0 k-mers, 0 solid' '' ''
+tells '3 reads, 2 kept, 4 k-mers, 3 solid' $'>a one two\nACG\n>c>c\nacgt\n' "$some"
+tells '3 reads, 1 kept, 4 k-mers, 3 solid' $'>b\nAAA\n' "$some" --invert
+tells '1 reads, 0 kept, 3 k-mers, 2 solid' '' "$reads"
+tells '3 reads, 1 kept, 5 k-mers, 3 solid' $'@p\nCGT\n+\nIII\n' '>r' reads.fq reads.fa
+wants 1 '' $'kcount: 1: bad start, source 1, line 1\n' 'ACG' kcount select --stats two.kct
 # those before a fault are written
 written_before() {
     local line=$1 output=$2 input=$3
@@ -513,7 +526,8 @@ if [ -c /dev/full ]; then
         # shellcheck disable=SC2086
         fault 1 '53: write failed' "$table" into_a_full_device $command
     done
-    fault 1 '53: write failed' "$reads" into_a_full_device select --min-count 1 two.kct
+    fault 1 '53: write failed' "$reads" into_a_full_device select --stats --min-count 1 two.kct
+    wants 0 "$reads" '' "$reads" with_full_errors select --stats --min-count 1 two.kct
     wants 0 "$one" '' "$reads" with_full_errors count -m 3
     wants 1 '' '' '>' with_full_errors stats
     wants 2 '' '' '' with_full_errors count -m 32
@@ -523,6 +537,7 @@ else
     echo "program: an output that takes nothing was not tried, since there is no /dev/full"
 fi
 wants 0 "$one" '' "$reads" with_closed_errors count -m 3
+wants 0 "$reads" '' "$reads" with_closed_errors select --stats --min-count 1 two.kct
 wants 1 '' '' '>' with_closed_errors stats
 wants 2 '' '' '' with_closed_errors count -m 32
 wants 2 '' '' '' with_closed_errors frob

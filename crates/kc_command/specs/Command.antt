@@ -102,6 +102,10 @@ min_share_option = value_option (codes "min-share")
 abbrev pub invert_option : Rule
 invert_option = flag_option (codes "invert")
 
+-- `--stats`
+abbrev pub stats_option : Rule
+stats_option = flag_option (codes "stats")
+
 -- FILE, any number of them
 abbrev pub files_argument : Rule
 files_argument = several_arguments (codes "file")
@@ -187,6 +191,7 @@ select_shape = record (new_shape (codes "select")) {
       ∷ min_share_option
       ∷ min_qual_char_option
       ∷ invert_option
+      ∷ stats_option
       ∷ output_option
       ∷ counted_argument
       ∷ files_argument

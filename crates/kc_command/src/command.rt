@@ -15,7 +15,7 @@ ghost use Rattle.kc_command.specs.Command.{
 
 use crate::command_arguments::{
     batch, canonical, column, counted, file, files, first, high, invert, lower_count, mer_len,
-    min_count, min_qual_char, min_share, only, output, print, second, size, stripes, tab, table,
+    min_count, min_qual_char, min_share, only, output, print, second, size, stats, stripes, tab, table,
     threads, upper_count, with_short, words,
 };
 use crate::help;
@@ -150,6 +150,7 @@ fn select_command<'a>(alloc: Global) -> Result<Command<'a>, AllocError>
         .arg(min_share(alloc))?
         .arg(min_qual_char(alloc))?
         .arg(invert(alloc))?
+        .arg(stats(alloc))?
         .arg(output(alloc))?
         .arg(counted(alloc))?
         .arg(files(alloc))

@@ -25,6 +25,7 @@ ghost use Rattle.kc_command.specs.Command.{
   second_argument,
   several_arguments,
   size_option,
+  stats_option,
   stripes_option,
   tab_option,
   table_argument,
@@ -203,6 +204,15 @@ pub(crate) fn invert<'a>(alloc: Global) -> Arg<'a>
 {
     let help = "Write the other reads instead";
     flag_option(alloc, "invert", help)
+}
+
+/// `--stats`
+pub(crate) fn stats<'a>(alloc: Global) -> Arg<'a>
+    ensures rule { rule_of result ≡ stats_option }
+    ensures own { result.global ≡ false }
+{
+    let help = "Tell on standard error how many reads and k-mers there were";
+    flag_option(alloc, "stats", help)
 }
 
 /// FILE, any number of them

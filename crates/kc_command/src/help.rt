@@ -123,7 +123,8 @@ pub(crate) const AFTER_SELECT: &str = "\
 A k-mer is solid where the table counts it at least --min-count times, and a read is written where at
 least --min-share of a hundred of its k-mers are; a read without k-mers is. Reads are written whole and
 in order, FASTA as FASTA and FASTQ as FASTQ, with sequence and quality in one line each. Those before a
-fault are written.
+fault are written. --stats tells how many reads there were and how many were written, and how many k-mers
+there were and how many of these are solid.
 
 Exit status: 0; 1 for a fault, whose line goes to standard error; 2 for a command line that is refused.
 

@@ -322,8 +322,8 @@ pub fn text_of<'a>(matches: &ArgMatches<'a>, name: &str) -> Option<&'a str>
     matches.get_str(name)
 }
 
-// Whether a flag was given.
-fn has_flag(matches: &ArgMatches<'_>, name: &str) -> bool
+/// Whether a flag was given. It takes no memory.
+pub fn has_flag(matches: &ArgMatches<'_>, name: &str) -> bool
     ensures { IsFlag (rows_of (found_of matches.now)) name.now result }
 {
     matches.get_flag(name)

@@ -17,7 +17,7 @@ use Rattle.kc_select.specs.Solid.{SelectionRule, rule_for, words_for, is_solid_w
 use Rattle.kc_select.specs.Counts.{counts_of, both_counts}
 
 -- of some reads and of others, it is the sum
-counts_append : (tally : TallySeen) (rule : SelectionRule) (reads more : List Read)
+pub counts_append : (tally : TallySeen) (rule : SelectionRule) (reads more : List Read)
     → counts_of tally rule (reads ++ more) ≡ both_counts (counts_of tally rule reads) (counts_of tally rule more)
 counts_append tally rule reads more =
     let reads_are = length-append reads more in

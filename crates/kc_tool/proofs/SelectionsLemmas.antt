@@ -3,16 +3,24 @@ use Rattle.std.proofs.Common.{◌≡◌, ◌≤◌, ◌<◌, ◌+◌, ◌-◌, �
 use Rattle.std.proofs.Common.{ap, ap₂, subst, arith, append_assoc, append-nil, length-append, ◌⊎◌, inl, inr}
 use Rattle.std.proofs.Common.{Result, Ok, Err}
 use Rattle.std.specs.List.{concat}
-use Rattle.std.proofs.lemmas.List.{nil_from_length, length-map, get_or-map, map-set}
+use Rattle.std.proofs.lemmas.List.{nil_from_length, length-map, get_or-map, map-set, map-append}
+use Rattle.std.proofs.lemmas.List.Sums.{count_by-le-length}
 use Rattle.std.proofs.Math.Seq.{get_or-append_seam, set-append_seam}
 use Rattle.kc_io.specs.Sources.{Seen}
 use Rattle.kc_io.specs.Sinks.{Written, HasTaken, HasWritten, HasBegun}
 use Rattle.kc_io.proofs.SinksLemmas.{Pending, begin, began_front, taken_both}
 use Rattle.kc_fastx.specs.Parsing.{most_bytes}
-use Rattle.kc_fastx.specs.Titles.{Record, GivesRecords}
+use Rattle.kc_fastx.specs.Titles.{Record, GivesRecords, reads_in}
+use Rattle.kc_fastx.specs.Parsing.{GivesReads}
+use Rattle.kc_fastx.proofs.ReadingLemmas.{base_count-gives}
+use Rattle.kc_tool.proofs.ReadCountLemmas.{read_count-gives}
 use Rattle.kc_tally.specs.Tally.{TallySeen}
+use Rattle.kc_select.specs.Counts.{counts_of, both_counts, no_counts}
 use Rattle.kc_select.specs.Selecting.{BeginWith, Streams, Task}
-use Rattle.kc_select.specs.Solid.{SelectionRule}
+use Rattle.kc_select.specs.Solid.{SelectionRule, is_selected}
+use Rattle.kc_select.specs.declared.selection_counts.Selected.{Selected}
+use Rattle.kc_select.specs.declared.selection_counts.SelectionCounts.{SelectionCounts}
+use Rattle.kc_select.proofs.CountsLemmas.{counts_append, words_few, solid_fewer}
 use Rattle.kc_select.specs.Texts.{text_of_selected, selected_text}
 use Rattle.kc_tool.specs.Selections.{GaveRecords, SelectsFrom, SelectsNext, StopsAt, task_within}
 use Rattle.kc_tool.specs.declared.tool_faults.ToolFault.{ToolFault}
@@ -54,9 +62,67 @@ GaveRecords-push limit left (first ∷ olds) [] [] old new here gives h = absurd
 GaveRecords-push limit left (first ∷ olds) [] (these ∷ records) old new here gives h = absurd h
 GaveRecords-push limit left (first ∷ olds) (later ∷ news) [] old new here gives h = absurd h
 
--- The selected reads of the sources before this one were written, and it and those behind it are as they were.
+-- ---- what is counted of them
+
+reads_in-append : (xs ys : List Record) → reads_in (xs ++ ys) ≡ reads_in xs ++ reads_in ys
+reads_in-append xs ys = map-append (λ (r : Record). r.read) xs ys
+
+counts_push-list : (tally : TallySeen) (rule : SelectionRule) (lists : List (List Record)) (here : List Record)
+    (counts more : SelectionCounts) → counts ≡ counts_of tally rule (reads_in (concat lists))
+    → more ≡ counts_of tally rule (reads_in here)
+    → both_counts counts more ≡ counts_of tally rule (reads_in (concat (lists ++ here ∷ [])))
+counts_push-list tally rule lists here counts more before one =
+    ap₂ (λ v w. both_counts v w) before one
+    ∙ sym (counts_append tally rule (reads_in (concat lists)) (reads_in here))
+    ∙ ap (λ v. counts_of tally rule v) (sym (ap (λ v. reads_in v) (concat-push lists here) ∙ reads_in-append (concat lists) here))
+
+-- no count is greater than what was used of a limit, of which so many bytes are left
+pub record FitBeside (left : ℕ) (counts : SelectionCounts) : Type 0 where
+  pub reads : counts.reads + left ≤ most_bytes
+  pub kept : counts.kept + left ≤ most_bytes
+  pub words : counts.words + left ≤ most_bytes
+  pub solid : counts.solid + left ≤ most_bytes
+
+-- no count of the records of a source is greater than the number of its bytes, of which it gave no more than it might
+record AreWithin (limit bytes : ℕ) (counts : SelectionCounts) : Type 0 where
+  bounded : bytes ≤ limit
+  reads : counts.reads ≤ bytes
+  kept : counts.kept ≤ bytes
+  words : counts.words ≤ bytes
+  solid : counts.solid ≤ bytes
+
+within_bytes : (tally : TallySeen) (rule : SelectionRule) → 1 ≤ tally.k → (old new : Seen) (limit : ℕ)
+    (records : List Record) (gives : GivesRecords old new limit records)
+    → AreWithin limit (length gives.0) (counts_of tally rule (reads_in records))
+within_bytes tally rule some old new limit records gives =
+    let reads = reads_in records in
+    let given : GivesReads old new limit reads (length gives.0) =
+    record { bytes = gives.0; taken = gives.1; has_reads = gives.2.reads; counted = refl } in
+    let bases = base_count-gives old new limit reads (length gives.0) given in
+    let count = read_count-gives old new limit reads (length gives.0) given in
+    let words = words_few tally rule some reads in
+    let solid = solid_fewer tally rule reads in
+    let kept = count_by-le-length (λ read. is_selected tally rule read) reads in
+    record {
+      bounded = gives.1.within;
+      reads = count;
+      kept = omega (arith, kept, count);
+      words = omega (arith, words, bases);
+      solid = omega (arith, solid, words, bases);
+    }
+
+-- what is counted of one source more
+within_next : {rule : SelectionRule} {tally : TallySeen} {limit number : ℕ} {old new : Streams} (selected : Selected)
+    → 1 ≤ tally.k → SelectsNext (task_within rule tally limit) number old new (Ok selected)
+    → AreWithin limit selected.bytes selected.counts
+within_next {rule} {tally} {limit} {number} {old} {new} selected some h =
+    let are = within_bytes tally rule some old.source new.source limit h.0 h.1 in
+    subst (λ (v : Selected). AreWithin limit v.bytes v.counts) (sym h.3) are
+
+-- The selected reads of the sources before this one were written, and all were counted; it and those behind it are as
+-- they were.
 pub record SelectedSoFar (rule : SelectionRule) (tally : TallySeen) (old new : List Seen) (before after : Written)
-    (left number : ℕ) : Type 0 where
+    (counts : SelectionCounts) (left number : ℕ) : Type 0 where
   pub done : List Seen
   pub given : List Seen
   pub rest : List Seen
@@ -67,12 +133,15 @@ pub record SelectedSoFar (rule : SelectionRule) (tally : TallySeen) (old new : L
   pub earlier : List (List Record)
   pub gave : GaveRecords most_bytes left done given earlier
   pub within : left ≤ most_bytes
+  pub totals : counts ≡ counts_of tally rule (reads_in (concat earlier))
+  pub fit : FitBeside left counts
   pub taken : HasTaken before after (selected_text tally rule (concat earlier))
   pub flushed : (number ≡ 0) ⊎ (after.history.flushed ≡ length after.history.bytes)
 
 pub selected_none : (rule : SelectionRule) (tally : TallySeen) (sources : List Seen) (sink : Written)
-    → SelectedSoFar rule tally sources sources sink sink most_bytes 0
-selected_none rule tally sources sink = record {
+    (counts : SelectionCounts) → counts ≡ no_counts
+    → SelectedSoFar rule tally sources sources sink sink counts most_bytes 0
+selected_none rule tally sources sink counts nothing = record {
   done = [];
   given = [];
   rest = sources;
@@ -83,12 +152,16 @@ selected_none rule tally sources sink = record {
   earlier = [];
   gave = refl;
   within = omega arith;
+  totals = nothing;
+  fit = subst (λ v. FitBeside most_bytes v) (sym nothing)
+      (record { reads = omega arith; kept = omega arith; words = omega arith; solid = omega arith });
   taken = let none = begin sink [] in none.taken;
   flushed = inl refl;
 }
 
-module _ {rule : SelectionRule} {tally : TallySeen} {old new : List Seen} {before now : Written} {left number : ℕ}
-    (d later : Seen) (after : Written) (s : SelectedSoFar rule tally old new before now left number)
+module _ {rule : SelectionRule} {tally : TallySeen} {old new : List Seen} {before now : Written}
+    {counts : SelectionCounts} {left number : ℕ}
+    (d later : Seen) (after : Written) (s : SelectedSoFar rule tally old new before now counts left number)
     (within : number < length new) where
   next : (rest : List Seen) → s.rest ≡ rest → (behind : List Seen) × (s.rest ≡ get_or new number d ∷ behind)
   next [] none =
@@ -121,13 +194,16 @@ module _ {rule : SelectionRule} {tally : TallySeen} {old new : List Seen} {befor
   stands_after = record { source = later; sink = after }
 
   -- Its selected reads were written too.
-  pub selected_more : (bytes : ℕ) → SelectsNext (task_within rule tally left) (number + 1) stands stands_after (Ok bytes)
-      → SelectedSoFar rule tally old (set new number later) before after (left - bytes) (number + 1)
-  selected_more bytes h =
-      let records = h.1.0 in
-      let gives = h.1.1.0 in
-      let written = h.1.1.1.0 in
-      let used : length gives.0 ≡ bytes = sym (h.2 ∙ ap (λ selected. selected.bytes) h.1.1.1.1) in
+  pub selected_more : (selected : Selected) → 1 ≤ tally.k
+      → SelectsNext (task_within rule tally left) (number + 1) stands stands_after (Ok selected)
+      → SelectedSoFar rule tally old (set new number later) before after (both_counts counts selected.counts)
+      (left - selected.bytes) (number + 1)
+  selected_more selected some h =
+      let records = h.0 in
+      let gives = h.1 in
+      let written = h.2 in
+      let used : length gives.0 ≡ selected.bytes = sym (ap (λ (v : Selected). v.bytes) h.3) in
+      let fits = within_next {rule} {tally} {left} {number + 1} {stands} {stands_after} selected some h in
       let done = s.done ++ here ∷ [] in
       let given = s.given ++ later ∷ [] in
       let earlier = s.earlier ++ records ∷ [] in
@@ -143,6 +219,14 @@ module _ {rule : SelectionRule} {tally : TallySeen} {old new : List Seen} {befor
         gave = subst (λ n. GaveRecords most_bytes (left - n) done given earlier) used
             (GaveRecords-push most_bytes left s.done s.given s.earlier here later records gives s.gave);
         within = omega (arith, s.within);
+        totals = counts_push-list tally rule s.earlier records counts selected.counts s.totals
+            (ap (λ (v : Selected). v.counts) h.3);
+        fit = record {
+          reads = omega (arith, s.fit.reads, fits.reads, fits.bounded);
+          kept = omega (arith, s.fit.kept, fits.kept, fits.bounded);
+          words = omega (arith, s.fit.words, fits.words, fits.bounded);
+          solid = omega (arith, s.fit.solid, fits.solid, fits.bounded);
+        };
         taken = subst (λ v. HasTaken before after v) (sym (text-push tally rule s.earlier records))
             (taken_both before now after _ _ s.taken written.taken);
         flushed = inr written.flushed;
@@ -210,9 +294,9 @@ module _ {rule : SelectionRule} {tally : TallySeen} {old new : List Seen} {befor
 
 -- The selected reads of all sources were written.
 pub selected_all : {rule : SelectionRule} {tally : TallySeen} {old new : List Seen} {before after : Written}
-    {left number : ℕ} → SelectedSoFar rule tally old new before after left number → length new ≤ number
-    → 1 ≤ length new → SelectsFrom rule tally old new before after (Ok tt)
-selected_all {rule} {tally} {old} {new} {before} {after} {left} {number} s all some =
+    {counts : SelectionCounts} {left number : ℕ} → SelectedSoFar rule tally old new before after counts left number
+    → length new ≤ number → 1 ≤ length new → SelectsFrom rule tally old new before after (Ok counts)
+selected_all {rule} {tally} {old} {new} {before} {after} {counts} {left} {number} s all some =
     let joined : length new ≡ length s.given + length s.rest = ap length s.are ∙ length-append s.given s.rest in
     let none : s.rest ≡ [] = nil_from_length s.rest (omega (arith, joined, all, s.counted, s.paired)) in
     let were : s.done ≡ old = sym (s.were ∙ ap (λ v. s.done ++ v) none ∙ append-nil s.done) in
@@ -227,13 +311,29 @@ selected_all {rule} {tally} {old} {new} {before} {after} {left} {number} s all s
       subst (λ v. GaveRecords most_bytes left old v s.earlier) are
           (subst (λ v. GaveRecords most_bytes left v s.given s.earlier) were s.gave),
       record { taken = s.taken; flushed = flushed },
+      s.totals,
     )
+
+-- Those of one source alone were.
+pub selected_one : {rule : SelectionRule} {tally : TallySeen} (old new : Seen) (before after : Written)
+    (selected : Selected)
+    → SelectsNext (task_within rule tally most_bytes) 1 (record { source = old; sink = before })
+    (record { source = new; sink = after }) (Ok selected)
+    → SelectsFrom rule tally (old ∷ []) (new ∷ []) before after (Ok selected.counts)
+selected_one {rule} {tally} old new before after selected h = (
+  h.0 ∷ [],
+  most_bytes - length h.1.0,
+  (h.1, refl),
+  subst (λ (v : List Record). HasWritten before after (selected_text tally rule v)) (sym (append-nil h.0)) h.2,
+  ap (λ (v : Selected). v.counts) h.3
+      ∙ ap (λ (v : List Record). counts_of tally rule (reads_in v)) (sym (append-nil h.0)),
+)
 
 -- The same, where the sources are seen by `see`, and this one is replaced in their list.
 module _ {X : Type 0} (see : X → Seen) (xs : List X) {i : ℕ} (x y : X) (is : x ≡ get_or xs i x) (within : i < length xs)
     {rule : SelectionRule} {tally : TallySeen} {old : List Seen} {before now : Written} (after : Written)
-    {left number : ℕ} (counted : number ≡ i)
-    (s : SelectedSoFar rule tally old (map see xs) before now left number) where
+    {counts : SelectionCounts} {left number : ℕ} (counted : number ≡ i)
+    (s : SelectedSoFar rule tally old (map see xs) before now counts left number) where
   found : see x ≡ get_or (map see xs) number (see x)
   found = ap see is ∙ sym (get_or-map see xs i x (see x) within) ∙ ap (λ n. get_or (map see xs) n (see x)) (sym counted)
 
@@ -243,15 +343,17 @@ module _ {X : Type 0} (see : X → Seen) (xs : List X) {i : ℕ} (x y : X) (is :
   replaced : set (map see xs) number (see y) ≡ map see (set xs i y)
   replaced = ap (λ n. set (map see xs) n (see y)) counted ∙ sym (map-set see xs i y)
 
-  Next : Seen → Result ℕ ToolFault → Type 0
+  Next : Seen → Result Selected ToolFault → Type 0
   Next source outcome = SelectsNext (task_within rule tally left) (number + 1) (record { source = source; sink = now })
       (record { source = see y; sink = after }) outcome
 
-  pub selected_kept : (bytes : ℕ) → Next (see x) (Ok bytes)
-      → SelectedSoFar rule tally old (map see (set xs i y)) before after (left - bytes) (number + 1)
-  selected_kept bytes h =
-      subst (λ v. SelectedSoFar rule tally old v before after (left - bytes) (number + 1)) replaced
-      (selected_more (see x) (see y) after s below bytes (subst (λ v. Next v (Ok bytes)) found h))
+  pub selected_kept : (selected : Selected) → 1 ≤ tally.k → Next (see x) (Ok selected)
+      → SelectedSoFar rule tally old (map see (set xs i y)) before after (both_counts counts selected.counts)
+      (left - selected.bytes) (number + 1)
+  selected_kept selected some h =
+      subst (λ v. SelectedSoFar rule tally old v before after (both_counts counts selected.counts)
+      (left - selected.bytes) (number + 1)) replaced
+      (selected_more (see x) (see y) after s below selected some (subst (λ v. Next v (Ok selected)) found h))
 
   pub refused_selection : (fault : ToolFault) → Next (see x) (Err fault)
       → SelectsFrom rule tally old (map see (set xs i y)) before after (Err fault)

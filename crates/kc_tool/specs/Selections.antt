@@ -1,10 +1,12 @@
 -- The reads of several sources that a table selects: source, our formats page.
 use Rattle.std.specs.List.{concat}
-use Rattle.std.specs.Prelude.{◌≡◌, ℕ, ◌-◌, ◌+◌, List, [], ◌∷◌, ◌++◌, length, Result, Ok, Err}
+use Rattle.std.specs.Prelude.{◌≡◌, ℕ, ◌-◌, ◌+◌, List, [], ◌∷◌, ◌++◌, length, Option, Result, Ok, Err, codes, decimal}
 use Rattle.kc_io.specs.Sinks.{Written, HasWritten, HasBegun}
 use Rattle.kc_io.specs.Sources.{Seen}
 use Rattle.kc_fastx.specs.Parsing.{most_bytes}
-use Rattle.kc_fastx.specs.Titles.{Record, GivesRecords}
+use Rattle.kc_fastx.specs.Titles.{Record, GivesRecords, reads_in}
+use Rattle.kc_select.specs.Counts.{counts_of}
+use Rattle.kc_select.specs.declared.selection_counts.SelectionCounts.{SelectionCounts}
 use Rattle.kc_select.specs.declared.select_fault.SelectFault.TheVariants as why
 use Rattle.kc_select.specs.declared.selection_counts.Selected.{Selected}
 use Rattle.kc_select.specs.Selecting.{BeginWith, Meets, Selects, Streams, Task}
@@ -14,14 +16,24 @@ use Rattle.kc_tally.specs.Tally.{TallySeen}
 use Rattle.kc_tool.specs.declared.tool_faults.ToolFault.{ToolFault}
 use Rattle.kc_tool.specs.declared.tool_faults.ToolFault.TheVariants.{Fastx, Write}
 
+-- what a command that went well tells on the errors: what was counted of the reads that were selected, or nothing
+abbrev pub Told : Type 0
+Told = Option SelectionCounts
+
+-- the line that tells it
+abbrev pub counts_line : SelectionCounts → List ℕ
+counts_line counts = codes "kcount: " ++ decimal counts.reads ++ codes " reads, "
+    ++ decimal counts.kept ++ codes " kept, "
+    ++ decimal counts.words ++ codes " k-mers, "
+    ++ decimal counts.solid ++ codes " solid\n"
+
 -- what is told of one source, which may give so many bytes
 abbrev pub task_within : SelectionRule → TallySeen → ℕ → Task
 task_within rule tally limit = record { tally = tally; rule = rule; limit = limit }
 
--- of the number-th source the selected reads were written, and so many bytes came
-abbrev pub SelectsNext : Task → ℕ → Streams → Streams → Result ℕ ToolFault → Type 0
-SelectsNext task number old new (Ok bytes) =
-    (selected : Selected) × Selects task old new (Ok selected) × (bytes ≡ selected.bytes)
+-- of the number-th source the selected reads were written, and this was counted
+abbrev pub SelectsNext : Task → ℕ → Streams → Streams → Result Selected ToolFault → Type 0
+SelectsNext task number old new (Ok selected) = Selects task old new (Ok selected)
 SelectsNext task number old new (Err (Fastx source fault)) =
     (source ≡ number) × Selects task old new (Err (why.Reads fault))
 SelectsNext task number old new (Err Write) = Selects task old new (Err why.Write)
@@ -53,13 +65,14 @@ pub record StopsAt (rule : SelectionRule) (tally : TallySeen) (old new : List Se
   pub first : List Record
   pub came : BeginWith (task_within rule tally limit) here first
 
--- Ok: the selected reads of all sources were written, in order. Where a source has a fault, those before it were
+-- Ok: the selected reads of all sources were written, in order, and all were counted. Where a source has a fault, those before it were
 -- written. Where the writer failed, a beginning of the text of those that had come was taken.
 abbrev pub SelectsFrom : SelectionRule → TallySeen → List Seen → List Seen → Written → Written
-    → Result (Unit {0}) ToolFault → Type 0
-SelectsFrom rule tally old new before after (Ok done) = (records : List (List Record)) × (left : ℕ)
+    → Result SelectionCounts ToolFault → Type 0
+SelectsFrom rule tally old new before after (Ok counts) = (records : List (List Record)) × (left : ℕ)
     × GaveRecords most_bytes left old new records
     × HasWritten before after (selected_text tally rule (concat records))
+    × (counts ≡ counts_of tally rule (reads_in (concat records)))
 SelectsFrom rule tally old new before after (Err (Fastx number fault)) = (stop : StopsAt rule tally old new number)
     × Meets (task_within rule tally stop.limit) stop.here stop.left fault
     × HasWritten before after (selected_text tally rule (concat stop.earlier ++ stop.first))

@@ -36,10 +36,10 @@ use crate::task_tallies::{table_from, tally_for};
 use crate::tool_faults::ToolFault;
 use clap::ArgMatches;
 use kc_command::command::{COUNT, DUMP, HISTO, MERGE, QUERY, SELECT, STATS};
-use kc_command::{Options, Print, text_of};
+use kc_command::{Options, Print, has_flag, text_of};
 use kc_io::{Sink, Source};
 use kc_report::{Dump, Origin, query, write_table};
-use kc_select::Selection;
+use kc_select::{Selection, SelectionCounts};
 use kc_tally::Tally;
 use std::alloc::{AllocError, Global};
 use std::rt::Files;
@@ -97,13 +97,14 @@ pub(crate) enum Task {
     Query(Vec<String>),
     /// To read two tables, and write the table of both together.
     Merge,
-    /// To read a table, which is the first file, and write the reads of the others that it selects.
-    Select(Selection),
+    /// To read a table, which is the first file, and write the reads of the others that it selects, and whether to tell
+    /// what was counted of the reads.
+    Select(Selection, bool),
 }
 
 /// Runs a command with its options: opens its files, takes the tally that it is about, and writes its answer. Files are
 /// opened in order before anything is read, the file for the output is created, or emptied, behind them, and at the end
-/// all are given back. How far a count has come is told.
+/// all are given back. How far a count has come is told. It answers what is to be told of a selection.
 ///
 /// # Errors
 /// `BadOption` with the first option whose value is outside its limits, before any file is asked for. `OpenFailed` with
@@ -125,7 +126,7 @@ pub(crate) fn run_command<
     input: &mut R,
     output: &mut W,
     progress: &P,
-) -> Result<(), ToolFault>
+) -> Result<Option<SelectionCounts>, ToolFault>
     ensures { EndsSo verb (rows_of (found_of matches.now))
         (record { input = R.seen input.old; output = W.seen output.old; asked = files.old })
         (record { input = R.seen input.new; output = W.seen output.new; asked = files.new }) result }
@@ -150,7 +151,7 @@ fn do_task<H: Threads + Wait + Sync, S: Files, R: Source, W: Sink, P: Progress +
     input: &mut R,
     output: &mut W,
     progress: &P,
-) -> Result<(), ToolFault>
+) -> Result<Option<SelectionCounts>, ToolFault>
     requires files { HasFilesFor task.now (seen_of (λ s. s) sources.items) }
     requires writable { HasWritableReport task.now }
     ensures { DoesTask sources.entry.items task.now
@@ -173,7 +174,7 @@ fn do_task_into<H: Threads + Wait + Sync, S: Files, R: Source, P: Progress + Syn
     input: &mut R,
     name: &str,
     progress: &P,
-) -> Result<(), ToolFault>
+) -> Result<Option<SelectionCounts>, ToolFault>
     requires files { HasFilesFor task.now (seen_of (λ s. s) sources.items) }
     requires writable { HasWritableReport task.now }
     ensures { DoesTaskInto name.now sources.entry.items task.now (R.seen input.old) (R.seen input.new) files.old files.new result
@@ -206,7 +207,7 @@ fn answer<H: Threads + Wait + Sync, R: Source, F: Source, W: Sink, P: Progress +
     input: &mut R,
     output: &mut W,
     progress: &P,
-) -> Result<(), ToolFault>
+) -> Result<Option<SelectionCounts>, ToolFault>
     requires files { HasFilesFor task.now (seen_of F.seen files.old) }
     requires writable { HasWritableReport task.now }
     ensures done { Does task.now
@@ -217,8 +218,13 @@ fn answer<H: Threads + Wait + Sync, R: Source, F: Source, W: Sink, P: Progress +
     ensures names { names_of files.new ≡ names_of files.old }
 {
     match task {
-        Task::Select(selection) => select_by_table(alloc, *selection, files, input, output),
-        _ => answer_by_tally(rt, alloc, task, files, input, output, progress),
+        Task::Select(selection, tells) => {
+            select_by_table(alloc, *selection, *tells, files, input, output)
+        }
+        _ => {
+            answer_by_tally(rt, alloc, task, files, input, output, progress)?;
+            Ok(None)
+        }
     }
 }
 
@@ -248,16 +254,18 @@ fn answer_by_tally<H: Threads + Wait + Sync, R: Source, F: Source, W: Sink, P: P
 }
 
 // Reads the table of the first file, and writes the reads of the others that it selects or, where there are none, those
-// of the given input. Condition: there is a first file. The files keep their names.
+// of the given input. It answers what was counted of the reads, where that is to be told. Condition: there is a first
+// file. The files keep their names.
 fn select_by_table<R: Source, F: Source, W: Sink>(
     alloc: Global,
     selection: Selection,
+    tells: bool,
     files: &mut [NamedSource<'_, F>],
     input: &mut R,
     output: &mut W,
-) -> Result<(), ToolFault>
+) -> Result<Option<SelectionCounts>, ToolFault>
     requires { 1 ≤ length files.old }
-    ensures done { SelectsBy selection
+    ensures done { SelectsBy selection tells
         (record { given = given_listed (R.seen input.old) (seen_of F.seen files.old); output = W.seen output.old })
         (record { given = given_listed (R.seen input.new) (seen_of F.seen files.new); output = W.seen output.new })
         result }
@@ -266,7 +274,8 @@ fn select_by_table<R: Source, F: Source, W: Sink>(
 {
     let (tally, _origin) = table_from(alloc, &mut files[0].source)?;
     let sources = &mut files[1..];
-    select_files(alloc, sources, input, &tally, selection, output)
+    let counts = select_files(alloc, sources, input, &tally, selection, output)?;
+    if tells { Ok(Some(counts)) } else { Ok(None) }
 }
 
 // The task of a command: what it asks for with these options.
@@ -304,7 +313,10 @@ fn task_of(alloc: Global, verb: Verb, matches: &ArgMatches<'_>) -> Result<Task, 
             Ok(Task::Query(owned_texts(alloc, &words)?))
         }
         Verb::Merge => Ok(Task::Merge),
-        Verb::Select => Ok(Task::Select(select_options(matches)?)),
+        Verb::Select => {
+            let selection = select_options(matches)?;
+            Ok(Task::Select(selection, has_flag(matches, "stats")))
+        }
     }
 }
 
@@ -402,6 +414,6 @@ fn write_answer<W: Sink>(
         Task::Report(report) => write_report(alloc, writer, tally, origin, *report),
         Task::Query(words) => Ok(query(writer, tally, words)?),
         Task::Merge => Ok(write_table(writer, tally, origin.as_ref())?),
-        Task::Select(_) => unreachable!(),
+        Task::Select(_, _) => unreachable!(),
     }
 }

@@ -70,7 +70,7 @@ pub(crate) fn tally_for<H: Threads + Wait + Sync, R: Source, F: Source, P: Progr
         Task::CountListed(options) => count_listed(rt, alloc, options, files, input, progress),
         Task::Merge => return sum_of(alloc, files),
         Task::Report(_) | Task::Query(_) => return table_of(alloc, files, input),
-        Task::Select(_) => unreachable!(),
+        Task::Select(_, _) => unreachable!(),
     };
     progress.ends();
     counted

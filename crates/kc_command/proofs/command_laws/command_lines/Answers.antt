@@ -92,6 +92,7 @@ selects_reads = record {
   alone = refl;
   usual_least = refl;
   usual_share = refl;
+  told = refl;
   no_file = refl;
   no_table = refl;
   share_above = refl;

@@ -9,7 +9,7 @@ use Rattle.kc_tool.proofs.selected_sources.select_sources.Goals as goal
 pub loop-source-init : goal.loop-source-init
 loop-source-init g c = record {
   so_far = selected_none c.args.selection c.args.tally.now (seen_of g.R.Source.seen c.args.sources.now)
-      (g.W.Sink.seen c.args.writer.now);
+      (g.W.Sink.seen c.args.writer.now) c.none-counts.result c.none-counts.ensures;
   counted = refl;
   names = refl;
 }
@@ -23,15 +23,15 @@ loop-source-preserved g c =
     let read = record item { source = c.select_next.new.source } in
     record {
       so_far = selected_kept (λ source. g.R.Source.seen source.source) loop.sources item read is within
-          (g.W.Sink.seen c.select_next.new.writer) loop.invariant.counted loop.invariant.so_far c.in_ok-taken.taken
-          c.in_ok-taken.ensures;
+          (g.W.Sink.seen c.select_next.new.writer) loop.invariant.counted loop.invariant.so_far c.in_ok-selected.selected
+          some c.in_ok-selected.ensures;
       counted = ap (λ n. n + 1) loop.invariant.counted;
       names = map-set_same (λ source. source.name.now) loop.sources loop.source-index read item
           (ap (λ source. source.name.now) is) ∙ loop.invariant.names;
     }
 
-pub returns-in_err-taken-clause-selects : goal.returns-in_err-taken-clause-selects
-returns-in_err-taken-clause-selects g c =
+pub returns-in_err-selected-clause-selects : goal.returns-in_err-selected-clause-selects
+returns-in_err-selected-clause-selects g c =
     let p = err_from_is_err_and c.from_residual.result c.from_residual.ensures.1 in
     let loop = c.loop-source in
     let item = get_or loop.sources loop.source-index c.source-item.result in
@@ -39,11 +39,11 @@ returns-in_err-taken-clause-selects g c =
     let within : loop.source-index < length loop.sources = omega arith in
     let read = record item { source = c.select_next.new.source } in
     rw (p.1, p.2) (refused_selection (λ source. g.R.Source.seen source.source) loop.sources item read is within
-    (g.W.Sink.seen c.select_next.new.writer) loop.invariant.counted loop.invariant.so_far c.in_err-taken.field-0.0
-    c.in_err-taken.ensures)
+    (g.W.Sink.seen c.select_next.new.writer) loop.invariant.counted loop.invariant.so_far c.in_err-selected.field-0.0
+    c.in_err-selected.ensures)
 
-pub returns-in_err-taken-clause-names : goal.returns-in_err-taken-clause-names
-returns-in_err-taken-clause-names g c =
+pub returns-in_err-selected-clause-names : goal.returns-in_err-selected-clause-names
+returns-in_err-selected-clause-names g c =
     let loop = c.loop-source in
     let item = get_or loop.sources loop.source-index c.source-item.result in
     let is = ap (λ v. get_or loop.sources loop.source-index v) c.source-item.is in
