@@ -111,6 +111,19 @@ fn reads_with_a_floor(rt: HostRuntime) -> Result<(), Fail> {
 }
 
 #[test]
+fn one_read_of_three_words(rt: HostRuntime) -> Result<(), Fail> {
+    let alloc = rt.alloc();
+    let tally = table_of(alloc, TABLE)?;
+    let selection = Selection::new(2, 100).with_floor(b'#');
+    let mut source = FromBytes::new(b">r\nACGTA\n");
+    let mut sink = ToVec::new(Vec::new(alloc));
+    let selected = select(alloc, &mut source, 1 << 36, &mut sink, &tally, selection)?;
+    assert_eq!(rt; numbers_of(Ok(selected)), Ok([9, 1, 0, 3, 2]));
+    assert_eq!(rt; sink.as_slice(), b"".as_slice());
+    Ok(())
+}
+
+#[test]
 fn a_selection_is_what_it_was_made_of(rt: HostRuntime) -> Result<(), Fail> {
     let usual = Selection::new(7, 100);
     assert_eq!(rt; usual.floor(), 33);
