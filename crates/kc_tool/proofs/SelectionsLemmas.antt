@@ -2,7 +2,6 @@
 use Rattle.std.proofs.Common.{◌≡◌, ◌≤◌, ◌<◌, ◌+◌, ◌-◌, ◌++◌, ◌∙◌, ℕ, List, [], ◌∷◌, length, get_or, set, map, refl, sym}
 use Rattle.std.proofs.Common.{ap, ap₂, subst, arith, append_assoc, append-nil, length-append, ◌⊎◌, inl, inr}
 use Rattle.std.proofs.Common.{Result, Ok, Err}
-use Rattle.std.specs.List.{concat}
 use Rattle.std.proofs.lemmas.List.{nil_from_length, length-map, get_or-map, map-set, map-append}
 use Rattle.std.proofs.lemmas.List.Sums.{count_by-le-length}
 use Rattle.std.proofs.Math.Seq.{get_or-append_seam, set-append_seam}
@@ -20,9 +19,9 @@ use Rattle.kc_select.specs.Selecting.{BeginWith, Streams, Task}
 use Rattle.kc_select.specs.Solid.{SelectionRule, is_selected}
 use Rattle.kc_select.specs.declared.selection_counts.Selected.{Selected}
 use Rattle.kc_select.specs.declared.selection_counts.SelectionCounts.{SelectionCounts}
-use Rattle.kc_select.proofs.CountsLemmas.{counts_append, words_few, solid_fewer}
+use Rattle.kc_select.proofs.CountsLemmas.{AreFew, counts_append, words_few, solid_fewer}
 use Rattle.kc_select.specs.Texts.{text_of_selected, selected_text}
-use Rattle.kc_tool.specs.Selections.{GaveRecords, SelectsFrom, SelectsNext, StopsAt, task_within}
+use Rattle.kc_tool.specs.Selections.{all_records, GaveRecords, SelectsFrom, SelectsNext, StopsAt, task_within}
 use Rattle.kc_tool.specs.declared.tool_faults.ToolFault.{ToolFault}
 use Rattle.kc_tool.specs.declared.tool_faults.ToolFault.TheVariants.{Fastx, BadHeader, BadRow, BadEnd, TableTooLong, TableRead, Memory, BadOption, BadWord, Write, Run, OpenFailed, Unlike, TooLarge}
 
@@ -35,16 +34,16 @@ selected_text-append tally rule (x ∷ xs) ys =
     ap (λ v. text_of_selected tally rule x ++ v) (selected_text-append tally rule xs ys)
     ∙ sym (append_assoc (text_of_selected tally rule x) (selected_text tally rule xs) (selected_text tally rule ys))
 
-concat-push : (lists : List (List Record)) (here : List Record) → concat (lists ++ here ∷ []) ≡ concat lists ++ here
-concat-push [] here = append-nil here
-concat-push (first ∷ lists) here = ap (λ v. first ++ v) (concat-push lists here) ∙ sym (append_assoc first (concat lists) here)
+records-push : (lists : List (List Record)) (here : List Record) → all_records (lists ++ here ∷ []) ≡ all_records lists ++ here
+records-push [] here = append-nil here
+records-push (first ∷ lists) here = ap (λ v. first ++ v) (records-push lists here) ∙ sym (append_assoc first (all_records lists) here)
 
 text-push : (tally : TallySeen) (rule : SelectionRule) (lists : List (List Record)) (here : List Record)
-    → selected_text tally rule (concat (lists ++ here ∷ []))
-    ≡ selected_text tally rule (concat lists) ++ selected_text tally rule here
+    → selected_text tally rule (all_records (lists ++ here ∷ []))
+    ≡ selected_text tally rule (all_records lists) ++ selected_text tally rule here
 text-push tally rule lists here =
-    ap (λ records. selected_text tally rule records) (concat-push lists here)
-    ∙ selected_text-append tally rule (concat lists) here
+    ap (λ records. selected_text tally rule records) (records-push lists here)
+    ∙ selected_text-append tally rule (all_records lists) here
 
 -- ---- one source more gave its records
 
@@ -68,13 +67,13 @@ reads_in-append : (xs ys : List Record) → reads_in (xs ++ ys) ≡ reads_in xs 
 reads_in-append xs ys = map-append (λ (r : Record). r.read) xs ys
 
 counts_push-list : (tally : TallySeen) (rule : SelectionRule) (lists : List (List Record)) (here : List Record)
-    (counts more : SelectionCounts) → counts ≡ counts_of tally rule (reads_in (concat lists))
+    (counts more : SelectionCounts) → counts ≡ counts_of tally rule (reads_in (all_records lists))
     → more ≡ counts_of tally rule (reads_in here)
-    → both_counts counts more ≡ counts_of tally rule (reads_in (concat (lists ++ here ∷ [])))
+    → both_counts counts more ≡ counts_of tally rule (reads_in (all_records (lists ++ here ∷ [])))
 counts_push-list tally rule lists here counts more before one =
     ap₂ (λ v w. both_counts v w) before one
-    ∙ sym (counts_append tally rule (reads_in (concat lists)) (reads_in here))
-    ∙ ap (λ v. counts_of tally rule v) (sym (ap (λ v. reads_in v) (concat-push lists here) ∙ reads_in-append (concat lists) here))
+    ∙ sym (counts_append tally rule (reads_in (all_records lists)) (reads_in here))
+    ∙ ap (λ v. counts_of tally rule v) (sym (ap (λ v. reads_in v) (records-push lists here) ∙ reads_in-append (all_records lists) here))
 
 -- no count is greater than what was used of a limit, of which so many bytes are left
 pub record FitBeside (left : ℕ) (counts : SelectionCounts) : Type 0 where
@@ -84,12 +83,12 @@ pub record FitBeside (left : ℕ) (counts : SelectionCounts) : Type 0 where
   pub solid : counts.solid + left ≤ most_bytes
 
 -- no count of the records of a source is greater than the number of its bytes, of which it gave no more than it might
-record AreWithin (limit bytes : ℕ) (counts : SelectionCounts) : Type 0 where
-  bounded : bytes ≤ limit
-  reads : counts.reads ≤ bytes
-  kept : counts.kept ≤ bytes
-  words : counts.words ≤ bytes
-  solid : counts.solid ≤ bytes
+pub record AreWithin (limit bytes : ℕ) (counts : SelectionCounts) : Type 0 where
+  pub bounded : bytes ≤ limit
+  pub reads : counts.reads ≤ bytes
+  pub kept : counts.kept ≤ bytes
+  pub words : counts.words ≤ bytes
+  pub solid : counts.solid ≤ bytes
 
 within_bytes : (tally : TallySeen) (rule : SelectionRule) → 1 ≤ tally.k → (old new : Seen) (limit : ℕ)
     (records : List Record) (gives : GivesRecords old new limit records)
@@ -112,12 +111,22 @@ within_bytes tally rule some old new limit records gives =
     }
 
 -- what is counted of one source more
-within_next : {rule : SelectionRule} {tally : TallySeen} {limit number : ℕ} {old new : Streams} (selected : Selected)
-    → 1 ≤ tally.k → SelectsNext (task_within rule tally limit) number old new (Ok selected)
+pub within_next : (rule : SelectionRule) (tally : TallySeen) (limit number : ℕ) (old new : Streams)
+    (selected : Selected) → 1 ≤ tally.k → SelectsNext (task_within rule tally limit) number old new (Ok selected)
     → AreWithin limit selected.bytes selected.counts
-within_next {rule} {tally} {limit} {number} {old} {new} selected some h =
+within_next rule tally limit number old new selected some h =
     let are = within_bytes tally rule some old.source new.source limit h.0 h.1 in
     subst (λ (v : Selected). AreWithin limit v.bytes v.counts) (sym h.3) are
+
+-- it can be added
+pub sums_fit : (left bytes : ℕ) (counts more : SelectionCounts) → FitBeside left counts → AreWithin left bytes more
+    → AreFew (both_counts counts more)
+sums_fit left bytes counts more fit within = record {
+  reads = omega (arith, fit.reads, within.reads, within.bounded);
+  kept = omega (arith, fit.kept, within.kept, within.bounded);
+  words = omega (arith, fit.words, within.words, within.bounded);
+  solid = omega (arith, fit.solid, within.solid, within.bounded);
+}
 
 -- The selected reads of the sources before this one were written, and all were counted; it and those behind it are as
 -- they were.
@@ -133,9 +142,9 @@ pub record SelectedSoFar (rule : SelectionRule) (tally : TallySeen) (old new : L
   pub earlier : List (List Record)
   pub gave : GaveRecords most_bytes left done given earlier
   pub within : left ≤ most_bytes
-  pub totals : counts ≡ counts_of tally rule (reads_in (concat earlier))
+  pub totals : counts ≡ counts_of tally rule (reads_in (all_records earlier))
   pub fit : FitBeside left counts
-  pub taken : HasTaken before after (selected_text tally rule (concat earlier))
+  pub taken : HasTaken before after (selected_text tally rule (all_records earlier))
   pub flushed : (number ≡ 0) ⊎ (after.history.flushed ≡ length after.history.bytes)
 
 pub selected_none : (rule : SelectionRule) (tally : TallySeen) (sources : List Seen) (sink : Written)
@@ -155,7 +164,8 @@ selected_none rule tally sources sink counts nothing = record {
   totals = nothing;
   fit = subst (λ v. FitBeside most_bytes v) (sym nothing)
       (record { reads = omega arith; kept = omega arith; words = omega arith; solid = omega arith });
-  taken = let none = begin sink [] in none.taken;
+  taken = let none = begin sink [] in
+      subst (λ v. HasTaken sink sink v) (sym (none.whole ∙ append-nil none.front)) none.taken;
   flushed = inl refl;
 }
 
@@ -173,10 +183,10 @@ module _ {rule : SelectionRule} {tally : TallySeen} {old new : List Seen} {befor
       ap₂ (λ xs n. get_or xs n d) split (s.counted ∙ sym s.paired) ∙ get_or-append_seam s.given here behind d in
       (behind, is ∙ ap (λ x. x ∷ behind) (sym found))
 
-  here : Seen
+  abbrev here : Seen
   here = get_or new number d
 
-  behind : List Seen
+  abbrev behind : List Seen
   behind = (next s.rest refl).0
 
   there : s.rest ≡ here ∷ behind
@@ -187,10 +197,10 @@ module _ {rule : SelectionRule} {tally : TallySeen} {old new : List Seen} {befor
       ap₂ (λ xs n. set xs n later) (s.are ∙ ap (λ v. s.given ++ v) there) (s.counted ∙ sym s.paired)
       ∙ set-append_seam s.given here behind later
 
-  stands : Streams
+  abbrev stands : Streams
   stands = record { source = here; sink = now }
 
-  stands_after : Streams
+  abbrev stands_after : Streams
   stands_after = record { source = later; sink = after }
 
   -- Its selected reads were written too.
@@ -203,7 +213,7 @@ module _ {rule : SelectionRule} {tally : TallySeen} {old new : List Seen} {befor
       let gives = h.1 in
       let written = h.2 in
       let used : length gives.0 ≡ selected.bytes = sym (ap (λ (v : Selected). v.bytes) h.3) in
-      let fits = within_next {rule} {tally} {left} {number + 1} {stands} {stands_after} selected some h in
+      let fits = within_next rule tally left (number + 1) stands stands_after selected some h in
       let done = s.done ++ here ∷ [] in
       let given = s.given ++ later ∷ [] in
       let earlier = s.earlier ++ records ∷ [] in
@@ -232,7 +242,7 @@ module _ {rule : SelectionRule} {tally : TallySeen} {old new : List Seen} {befor
         flushed = inr written.flushed;
       }
 
-  stops : (first : List Record) → BeginWith (task_within rule tally left) here first
+  abbrev stops : (first : List Record) → BeginWith (task_within rule tally left) here first
       → StopsAt rule tally old (set new number later) (number + 1)
   stops first came = record {
     before = s.done;
@@ -251,21 +261,21 @@ module _ {rule : SelectionRule} {tally : TallySeen} {old new : List Seen} {befor
   }
 
   written_first : (first : List Record) → HasWritten now after (selected_text tally rule first)
-      → HasWritten before after (selected_text tally rule (concat s.earlier ++ first))
+      → HasWritten before after (selected_text tally rule (all_records s.earlier ++ first))
   written_first first w = record {
-    taken = subst (λ v. HasTaken before after v) (sym (selected_text-append tally rule (concat s.earlier) first))
+    taken = subst (λ v. HasTaken before after v) (sym (selected_text-append tally rule (all_records s.earlier) first))
         (taken_both before now after _ _ s.taken w.taken);
     flushed = w.flushed;
   }
 
   begun_first : (first : List Record) → HasBegun now after (selected_text tally rule first)
-      → HasBegun before after (selected_text tally rule (concat s.earlier ++ first))
+      → HasBegun before after (selected_text tally rule (all_records s.earlier ++ first))
   begun_first first h =
       let text = selected_text tally rule first in
-      let pending : Pending before now (selected_text tally rule (concat s.earlier ++ first)) (text ++ []) = record {
-        front = selected_text tally rule (concat s.earlier);
-        whole = selected_text-append tally rule (concat s.earlier) first
-            ∙ ap (λ v. selected_text tally rule (concat s.earlier) ++ v) (sym (append-nil text));
+      let pending : Pending before now (selected_text tally rule (all_records s.earlier ++ first)) (text ++ []) = record {
+        front = selected_text tally rule (all_records s.earlier);
+        whole = selected_text-append tally rule (all_records s.earlier) first
+            ∙ ap (λ v. selected_text tally rule (all_records s.earlier) ++ v) (sym (append-nil text));
         taken = s.taken;
       } in
       began_front before now after _ text [] pending h
@@ -275,10 +285,10 @@ module _ {rule : SelectionRule} {tally : TallySeen} {old new : List Seen} {befor
       → SelectsNext (task_within rule tally left) (number + 1) stands stands_after (Err fault)
       → SelectsFrom rule tally old (set new number later) before after (Err fault)
   selected_no_more (Fastx at fault) h =
-      let stop = stops h.1.0 h.1.1.0 in
+      let stop = stops h.1.0 h.1.1 in
       subst (λ n. SelectsFrom rule tally old (set new number later) before after (Err (Fastx n fault))) (sym h.0)
-      (stop, h.1.1.1.0, written_first h.1.0 h.1.1.1.1)
-  selected_no_more Write h = (number + 1, stops h.0 h.1.0, begun_first h.0 h.1.1)
+      (stop, h.1.2, written_first h.1.0 h.1.3)
+  selected_no_more Write h = (number + 1, stops h.0 h.1, begun_first h.0 h.2)
   selected_no_more BadHeader h = absurd h
   selected_no_more (BadRow line) h = absurd h
   selected_no_more BadEnd h = absurd h
@@ -315,12 +325,12 @@ selected_all {rule} {tally} {old} {new} {before} {after} {counts} {left} {number
     )
 
 -- Those of one source alone were.
-pub selected_one : {rule : SelectionRule} {tally : TallySeen} (old new : Seen) (before after : Written)
+pub selected_one : (rule : SelectionRule) (tally : TallySeen) (old new : Seen) (before after : Written)
     (selected : Selected)
     → SelectsNext (task_within rule tally most_bytes) 1 (record { source = old; sink = before })
     (record { source = new; sink = after }) (Ok selected)
     → SelectsFrom rule tally (old ∷ []) (new ∷ []) before after (Ok selected.counts)
-selected_one {rule} {tally} old new before after selected h = (
+selected_one rule tally old new before after selected h = (
   h.0 ∷ [],
   most_bytes - length h.1.0,
   (h.1, refl),
@@ -343,7 +353,7 @@ module _ {X : Type 0} (see : X → Seen) (xs : List X) {i : ℕ} (x y : X) (is :
   replaced : set (map see xs) number (see y) ≡ map see (set xs i y)
   replaced = ap (λ n. set (map see xs) n (see y)) counted ∙ sym (map-set see xs i y)
 
-  Next : Seen → Result Selected ToolFault → Type 0
+  abbrev Next : Seen → Result Selected ToolFault → Type 0
   Next source outcome = SelectsNext (task_within rule tally left) (number + 1) (record { source = source; sink = now })
       (record { source = see y; sink = after }) outcome
 

@@ -14,7 +14,7 @@ use Rattle.kc_select.specs.Solid.{SelectionRule}
 use Rattle.kc_tool.specs.Commands.{KeepsInput, SelectsBy}
 use Rattle.kc_tool.specs.Commands.{TellNoSum, TellsNoTable, given_listed, most_table_bytes, sources_from}
 use Rattle.kc_tool.specs.Faults.{report_fault}
-use Rattle.kc_tool.specs.NamedSources.{seen_of}
+use Rattle.kc_tool.specs.NamedSources.{names_of, seen_of}
 use Rattle.kc_tool.specs.Tallies.{Given, TableSeen, given}
 use Rattle.kc_tool.specs.declared.named_sources.NamedSource.{NamedSource}
 use Rattle.kc_tool.specs.declared.tool_faults.ToolFault.{ToolFault}
@@ -65,6 +65,12 @@ module _ {S : Type 0} (seen : S → Seen) where
       (record { given = given_listed input (seen_of seen (moved files 0 d later)); output = output }) (Err fault)
   untold input [] some d later rule tells output fault h = absurd (omega (arith, some))
   untold input (f ∷ fs) some d later rule tells output fault h = inr (fault, refl, h, refl, refl)
+
+  -- The files have their names.
+  pub first_named : (files : List (NamedSource S)) (d : NamedSource S) (later : S)
+      → names_of (moved files 0 d later) ≡ names_of files
+  first_named [] d later = refl
+  first_named (f ∷ fs) d later = refl
 
   -- The given input is as it was.
   pub same_input : (input : Seen) (sources : List Seen) → KeepsInput sources input input

@@ -1,5 +1,4 @@
 -- The reads of several sources that a table selects: source, our formats page.
-use Rattle.std.specs.List.{concat}
 use Rattle.std.specs.Prelude.{◌≡◌, ℕ, ◌-◌, ◌+◌, List, [], ◌∷◌, ◌++◌, length, Option, Result, Ok, Err, codes, decimal}
 use Rattle.kc_io.specs.Sinks.{Written, HasWritten, HasBegun}
 use Rattle.kc_io.specs.Sources.{Seen}
@@ -39,6 +38,11 @@ SelectsNext task number old new (Err (Fastx source fault)) =
 SelectsNext task number old new (Err Write) = Selects task old new (Err why.Write)
 SelectsNext task number old new (Err fault) = ⊥
 
+-- the records of all sources, in order
+abbrev pub all_records : List (List Record) → List Record
+all_records [] = []
+all_records (records ∷ others) = records ++ all_records others
+
 -- each source gave its records in this call, up to the end that it told, and all together no more bytes than the limit,
 -- of which so many are left. Of each source the first list has what is seen before the call, the second what is seen
 -- after it
@@ -71,11 +75,11 @@ abbrev pub SelectsFrom : SelectionRule → TallySeen → List Seen → List Seen
     → Result SelectionCounts ToolFault → Type 0
 SelectsFrom rule tally old new before after (Ok counts) = (records : List (List Record)) × (left : ℕ)
     × GaveRecords most_bytes left old new records
-    × HasWritten before after (selected_text tally rule (concat records))
-    × (counts ≡ counts_of tally rule (reads_in (concat records)))
+    × HasWritten before after (selected_text tally rule (all_records records))
+    × (counts ≡ counts_of tally rule (reads_in (all_records records)))
 SelectsFrom rule tally old new before after (Err (Fastx number fault)) = (stop : StopsAt rule tally old new number)
     × Meets (task_within rule tally stop.limit) stop.here stop.left fault
-    × HasWritten before after (selected_text tally rule (concat stop.earlier ++ stop.first))
+    × HasWritten before after (selected_text tally rule (all_records stop.earlier ++ stop.first))
 SelectsFrom rule tally old new before after (Err Write) = (number : ℕ) × (stop : StopsAt rule tally old new number)
-    × HasBegun before after (selected_text tally rule (concat stop.earlier ++ stop.first))
+    × HasBegun before after (selected_text tally rule (all_records stop.earlier ++ stop.first))
 SelectsFrom rule tally old new before after (Err fault) = ⊥

@@ -2,11 +2,20 @@ use Rattle.std.proofs.Common.{inl, sym, ap, refl}
 use Rattle.std.specs.Prelude.{None, Ok, Err, Some}
 use Rattle.std.proofs.lemmas.Result.{err_from_is_err_and}
 use Rattle.kc_tool.specs.Commands.{SelectsBy, told_of}
-use Rattle.kc_tool.proofs.TablesLemmas.{listed_done, same_input, untold}
+use Rattle.kc_tool.proofs.TablesLemmas.{first_named, listed_done, same_input, untold}
 use Rattle.kc_tool.proofs.commands.select_by_table.Goals as goal
 
 pub returns-in_err-tally : goal.returns-in_err-tally
-returns-in_err-tally g c = ?
+returns-in_err-tally g c =
+    let seen = g.F.Source.seen in
+    let input = g.R.Source.seen c.args.input.now in
+    let p = err_from_is_err_and c.from_residual.result c.from_residual.ensures.1 in
+    record {
+      done = rw (p.1, p.2) (untold seen input c.args.files.now c.requires c.index-files-0.result c.table_from.new.source
+          c.args.selection c.args.tells (g.W.Sink.seen c.args.output.now) c.in_err-tally.field-0.0 c.in_err-tally.ensures.fault);
+      input = same_input seen input _;
+      names = first_named seen c.args.files.now c.index-files-0.result c.table_from.new.source;
+    }
 
 pub returns-in_err-counts-clause-done : goal.returns-in_err-counts-clause-done
 returns-in_err-counts-clause-done g c =

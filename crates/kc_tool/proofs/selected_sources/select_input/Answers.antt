@@ -17,5 +17,5 @@ pub returns : goal.returns
 returns g c =
     let old = g.R.Source.seen c.args.input.now in
     let new = g.R.Source.seen c.select_next.new.source in
-    selected_one old new (g.W.Sink.seen c.args.writer.now) (g.W.Sink.seen c.select_next.new.writer) c.in_ok-selected.selected
+    selected_one c.args.selection c.args.tally.now old new (g.W.Sink.seen c.args.writer.now) (g.W.Sink.seen c.select_next.new.writer) c.in_ok-selected.selected
     c.in_ok-selected.ensures

@@ -5,7 +5,7 @@ pub returns-in-Ok : goal.returns-in-Ok
 returns-in-Ok g c = c.in-Ok.ensures
 
 pub returns-in-Err-Reads : goal.returns-in-Err-Reads
-returns-in-Err-Reads g c = (refl, c.in-Err-Reads.ensures)
+returns-in-Err-Reads g c = (refl, rw c.in-Err-Reads.field-0-is at c.in-Err-Reads.ensures)
 
 pub returns-in-Err-Write : goal.returns-in-Err-Write
-returns-in-Err-Write g c = c.in-Err-Write.ensures
+returns-in-Err-Write g c = rw c.in-Err-Write.field-0-is at c.in-Err-Write.ensures

@@ -2,8 +2,9 @@ use Rattle.std.proofs.Common.{◌∙◌, ◌≤◌, ◌<◌, ◌+◌, length, ge
 use Rattle.std.proofs.lemmas.List.{length-map}
 use Rattle.std.proofs.lemmas.Result.{err_from_is_err_and}
 use Rattle.std.proofs.Math.Seq.{map-set_same}
+use Rattle.kc_select.specs.Selecting.{Streams}
 use Rattle.kc_tool.specs.NamedSources.{seen_of}
-use Rattle.kc_tool.proofs.SelectionsLemmas.{selected_none, selected_kept, refused_selection, selected_all}
+use Rattle.kc_tool.proofs.SelectionsLemmas.{selected_none, selected_kept, refused_selection, selected_all, sums_fit, within_next}
 use Rattle.kc_tool.proofs.selected_sources.select_sources.Goals as goal
 
 pub loop-source-init : goal.loop-source-init
@@ -20,15 +21,42 @@ loop-source-preserved g c =
     let item = get_or loop.sources loop.source-index c.source-item.result in
     let is = ap (λ v. get_or loop.sources loop.source-index v) c.source-item.is in
     let within : loop.source-index < length loop.sources = omega arith in
+    let some : 1 ≤ c.args.tally.now.k = omega (arith, c.get-bases.ensures.some, c.k.ensures) in
     let read = record item { source = c.select_next.new.source } in
     record {
-      so_far = selected_kept (λ source. g.R.Source.seen source.source) loop.sources item read is within
+      so_far = rw c.and-counts.ensures (selected_kept (λ source. g.R.Source.seen source.source) loop.sources item read is within
           (g.W.Sink.seen c.select_next.new.writer) loop.invariant.counted loop.invariant.so_far c.in_ok-selected.selected
-          some c.in_ok-selected.ensures;
+          some c.in_ok-selected.ensures);
       counted = ap (λ n. n + 1) loop.invariant.counted;
       names = map-set_same (λ source. source.name.now) loop.sources loop.source-index read item
           (ap (λ source. source.name.now) is) ∙ loop.invariant.names;
     }
+
+pub and-counts-requires : goal.and-counts-requires
+and-counts-requires g c =
+    let loop = c.loop-source in
+    let item = get_or loop.sources loop.source-index c.source-item.result in
+    let some : 1 ≤ c.args.tally.now.k = omega (arith, c.get-bases.ensures.some, c.k.ensures) in
+    let before : Streams = record { source = g.R.Source.seen item.source; sink = g.W.Sink.seen loop.writer } in
+    let after : Streams =
+    record { source = g.R.Source.seen c.select_next.new.source; sink = g.W.Sink.seen c.select_next.new.writer } in
+    let selected = c.in_ok-selected.selected in
+    let more = within_next c.args.selection c.args.tally.now loop.left (loop.number + 1) before after selected some
+    c.in_ok-selected.ensures in
+    let few = sums_fit loop.left selected.bytes loop.counts selected.counts loop.invariant.so_far.fit more in
+    record { reads = few.reads; kept = few.kept; words = few.words; solid = few.solid }
+
+pub overflow_sub-left : goal.overflow_sub-left
+overflow_sub-left g c =
+    let loop = c.loop-source in
+    let item = get_or loop.sources loop.source-index c.source-item.result in
+    let some : 1 ≤ c.args.tally.now.k = omega (arith, c.get-bases.ensures.some, c.k.ensures) in
+    let before : Streams = record { source = g.R.Source.seen item.source; sink = g.W.Sink.seen loop.writer } in
+    let after : Streams =
+    record { source = g.R.Source.seen c.select_next.new.source; sink = g.W.Sink.seen c.select_next.new.writer } in
+    let more = within_next c.args.selection c.args.tally.now loop.left (loop.number + 1) before after
+    c.in_ok-selected.selected some c.in_ok-selected.ensures in
+    more.bounded
 
 pub returns-in_err-selected-clause-selects : goal.returns-in_err-selected-clause-selects
 returns-in_err-selected-clause-selects g c =
