@@ -4,7 +4,7 @@ _kcount() {
     local options=
     COMPREPLY=()
     if [ "$COMP_CWORD" = 1 ]; then
-        mapfile -t COMPREPLY < <(compgen -W 'count dump histo stats query merge help -h --help -V --version' -- "$word")
+        mapfile -t COMPREPLY < <(compgen -W 'count dump histo stats query merge select help -h --help -V --version' -- "$word")
         return
     fi
     case $command in
@@ -15,11 +15,13 @@ _kcount() {
         dump) options='-c --column -t --tab -L --lower-count -U --upper-count -o --output -h --help' ;;
         histo) options='--high -o --output -h --help' ;;
         stats | query | merge) options='-o --output -h --help' ;;
+        select) options='--min-count --min-share --min-qual-char --invert --stats -o --output -h --help' ;;
     esac
     case $before in
         --print) mapfile -t COMPREPLY < <(compgen -W 'table dump histo stats' -- "$word") ;;
         --stripes) mapfile -t COMPREPLY < <(compgen -W '1 2 4 8 16 32 64' -- "$word") ;;
-        -m | --mer-len | -s | --size | --threads | --min-qual-char | --batch | -L | --lower-count | -U | --upper-count | --high) ;;
+        -m | --mer-len | -s | --size | --threads | --min-qual-char | --batch | -L | --lower-count | -U | --upper-count | --high \
+            | --min-count | --min-share) ;;
         *)
             if [[ $command$before != count-t ]]; then
                 case $word in

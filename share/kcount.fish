@@ -6,6 +6,7 @@ complete -c kcount -n __fish_use_subcommand -a histo -d 'Write how many k-mers o
 complete -c kcount -n __fish_use_subcommand -a stats -d 'Write four numbers about the k-mers of a table'
 complete -c kcount -n __fish_use_subcommand -a query -d 'Look k-mers up in a table'
 complete -c kcount -n __fish_use_subcommand -a merge -d 'Write the sum of two tables'
+complete -c kcount -n __fish_use_subcommand -a select -d 'Write the reads whose k-mers a table counts often'
 complete -c kcount -n __fish_use_subcommand -a help -d 'Write help'
 complete -c kcount -n __fish_use_subcommand -s V -l version -d 'Write the version'
 complete -c kcount -s h -l help -d 'Write help'
@@ -40,3 +41,10 @@ complete -c kcount -n '__fish_seen_subcommand_from stats' -s o -l output -r -d '
 complete -c kcount -n '__fish_seen_subcommand_from query' -s o -l output -r -d 'Write to this file'
 
 complete -c kcount -n '__fish_seen_subcommand_from merge' -s o -l output -r -d 'Write to this file'
+
+complete -c kcount -n '__fish_seen_subcommand_from select' -l min-count -x -d 'Least count of a solid k-mer'
+complete -c kcount -n '__fish_seen_subcommand_from select' -l min-share -x -d 'Least percentage of solid k-mers'
+complete -c kcount -n '__fish_seen_subcommand_from select' -l min-qual-char -x -d 'Least quality character that counts'
+complete -c kcount -n '__fish_seen_subcommand_from select' -l invert -d 'Write the other reads instead'
+complete -c kcount -n '__fish_seen_subcommand_from select' -l stats -d 'Tell how many reads and k-mers there were'
+complete -c kcount -n '__fish_seen_subcommand_from select' -s o -l output -r -d 'Write to this file'

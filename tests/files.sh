@@ -52,6 +52,7 @@ one=$'ACG 1\nCGT 1\nGTA 1'
 table=$'KCT 2 3 s a 33 1\nACG 1\nCGT 1\nGTA 1\nEND 3 3'
 both=$'KCT 2 3 s a 33 2\nACG 1\nCCC 1\nCGT 1\nGTA 1\nEND 4 4'
 count=(count -m 3 --print dump --column)
+select=(select --min-count 1)
 
 # files are read in order, and standard input only where none is named
 wants 0 "$one" '' old "${count[@]}"
@@ -63,6 +64,9 @@ wants 0 "$one" '' old dump -c one.kct
 wants 0 'CGT 1' '' old query one.kct cgt
 wants 0 "$both" '' old merge one.kct two.kct
 wants 0 $'KCT 2 3 s a 33 2\nACG 2\nCGT 2\nGTA 2\nEND 3 6' '' old merge one.kct one.kct
+wants 0 $'>r1\nACGTA' '' old "${select[@]}" one.kct
+wants 0 $'@r2\nCCC\n+\nIII' '' old "${select[@]}" two.kct one.fa two.fq
+wants 0 $'>r1\nACGTA\n>r1\nACGTA' '' old "${select[@]}" one.kct one.fa two.fq one.fa
 # a list is no source, and standard input is read beside it where no source is named
 wants 0 "$one" '' old "${count[@]}" --only one.fa
 wants 0 '' '' old "${count[@]}" --only two.fq
@@ -74,6 +78,9 @@ wants 1 '' 'kcount: 2: bad base, source 1, line 2' old "${count[@]}" --only one.
 # FIRST is read before SECOND
 wants 1 '' 'kcount: 41: bad header' old merge one.fa a-directory
 wants 1 '' 'kcount: 45: table read failed' old merge a-directory one.fa
+# the table of a selection is read before its reads, and those before a fault are written
+wants 1 '' 'kcount: 41: bad header' old "${select[@]}" one.fa a-directory
+wants 1 $'>r1\nACGTA' 'kcount: 2: bad base, source 2, line 2' old "${select[@]}" one.kct one.fa bad.fa a-directory
 
 # the file of the output has what would have been printed
 wants 0 '' '' "$one" "${count[@]}" -o out one.fa
@@ -82,6 +89,7 @@ wants 0 '' '' "$one" dump -c -o out one.kct
 wants 0 '' '' 'ACG 1' query -o out one.kct ACG
 wants 0 '' '' "$both" merge -o out two.kct one.kct
 wants 0 '' '' $'KCT 2 3 s o 33 2\nCCC 1\nEND 1 1' count -m 3 --only two.fq -o out one.fa two.fq
+wants 0 '' '' $'>r1\nACGTA' "${select[@]}" -o out one.kct one.fa two.fq
 # a fault of the work comes behind its creation
 wants 1 '' 'kcount: 2: bad base, source 1, line 2' '' "${count[@]}" -o out bad.fa
 wants 1 '' 'kcount: 2: bad base, source 0, line 2' '' "${count[@]}" --only bad.fa -o out one.fa
@@ -90,12 +98,16 @@ wants 1 '' 'kcount: 41: bad header' '' merge -o out one.kct one.fa
 wants 1 '' 'kcount: 42: bad row, line 2' '' merge -o out row.kct one.kct
 wants 1 '' 'kcount: 61: tables do not match' '' merge -o out one.kct floor.kct
 wants 1 '' 'kcount: 62: sums too large' '' merge -o out one.kct most.kct
+wants 1 '' 'kcount: 42: bad row, line 2' '' "${select[@]}" -o out row.kct one.fa
+wants 1 '' 'kcount: 2: bad base, source 2, line 2' $'>r1\nACGTA' "${select[@]}" -o out one.kct one.fa bad.fa
 # a file that is read and written is emptied before it is read
 wants 0 '' '' $'KCT 2 3 s a 33 0\nEND 0 0' count -m 3 -o out out
 wants 0 '' '' $'KCT 2 3 s o 33 1\nEND 0 0' count -m 3 --only out -o out one.fa
 wants 1 '' 'kcount: 41: bad header' '' dump -o out out
 wants 1 '' 'kcount: 41: bad header' '' merge -o out out one.kct
 wants 1 '' 'kcount: 41: bad header' '' merge -o out one.kct out
+wants 1 '' 'kcount: 41: bad header' '' "${select[@]}" -o out out one.fa
+wants 0 '' '' '' "${select[@]}" -o out one.kct out
 
 # a file that can't be opened is told, the first of several, before the file of the output is emptied
 wants 1 '' 'kcount: 54: cannot open missing' old "${count[@]}" missing
@@ -106,6 +118,8 @@ wants 1 '' 'kcount: 54: cannot open ' old "${count[@]}" ''
 wants 1 '' 'kcount: 54: cannot open missing' old merge -o out missing lost
 wants 1 '' 'kcount: 54: cannot open missing' old merge -o out one.kct missing
 wants 1 '' 'kcount: 54: cannot open missing' old merge -o out one.fa missing
+wants 1 '' 'kcount: 54: cannot open missing' old "${select[@]}" -o out missing lost
+wants 1 '' 'kcount: 54: cannot open missing' old "${select[@]}" -o out one.kct bad.fa missing
 # the list is opened before the sources
 wants 1 '' 'kcount: 54: cannot open missing' old "${count[@]}" --only missing -o out one.fa
 wants 1 '' 'kcount: 54: cannot open missing' old "${count[@]}" --only missing -o out lost
@@ -118,6 +132,7 @@ wants 1 '' 'kcount: 54: cannot open a-directory' old "${count[@]}" -o a-director
 wants 1 '' 'kcount: 54: cannot open missing' old "${count[@]}" -o no-such/out missing
 wants 1 '' 'kcount: 54: cannot open no-such/out' old "${count[@]}" --only bad.fa -o no-such/out one.fa
 wants 1 '' 'kcount: 54: cannot open no-such/out' old merge -o no-such/out one.fa two.kct
+wants 1 '' 'kcount: 54: cannot open no-such/out' old "${select[@]}" -o no-such/out one.fa bad.fa
 wants 1 '' 'kcount: 54: cannot open missing' old merge -o no-such/out one.kct missing
 # a directory opens, and then can't be read
 wants 1 '' 'kcount: 7: read failed, source 1' old "${count[@]}" a-directory
@@ -126,10 +141,13 @@ wants 1 '' 'kcount: 7: read failed, source 0' old "${count[@]}" --only a-directo
 wants 1 '' 'kcount: 7: read failed, source 0' '' "${count[@]}" --only a-directory -o out one.fa
 wants 1 '' 'kcount: 45: table read failed' old stats a-directory
 wants 1 '' 'kcount: 45: table read failed' old merge one.kct a-directory
+wants 1 '' 'kcount: 45: table read failed' old "${select[@]}" a-directory bad.fa
+wants 1 $'>r1\nACGTA' 'kcount: 7: read failed, source 2' old "${select[@]}" one.kct one.fa a-directory
 
 # a bad option is told before a file is looked for
 wants 2 '' 'kcount: 51: bad option --mer-len' old count -m 32 -o out missing
 wants 2 '' 'kcount: 51: bad option --high' old count -m 3 --high 0 --only missing -o out one.fa
+wants 2 '' 'kcount: 51: bad option --min-share' old select --min-share 101 -o out missing
 # an argument that is not UTF-8 refuses the command line
 wants 2 '' 'kcount: an argument is not UTF-8' old "${count[@]}" -o out $'\xff'
 
@@ -137,6 +155,7 @@ wants 2 '' 'kcount: an argument is not UTF-8' old "${count[@]}" -o out $'\xff'
 if [ -c /dev/full ]; then
     wants 1 '' 'kcount: 53: write failed' old "${count[@]}" -o /dev/full one.fa
     wants 1 '' 'kcount: 53: write failed' old merge -o /dev/full one.kct two.kct
+    wants 1 '' 'kcount: 53: write failed' old "${select[@]}" -o /dev/full one.kct one.fa bad.fa
 fi
 # a pipe whose reader goes after one line, while far more is to be written than a pipe holds
 awk 'BEGIN { srand(1); print ">r"; for (i = 0; i < 60000; i++) print substr("ACGT", int(rand() * 4) + 1, 1) }' > many.fa

@@ -1,9 +1,9 @@
 #!/bin/bash
 # Refuses each growth in turn, and looks at what is answered:
 #   tests/memory.sh
-# Each run of the program, a count over FASTA, over FASTQ and of listed k-mers, and a merge, either does without that
-# growth and writes all that it should, or writes nothing, says on standard error that there is no memory, and ends with
-# status 1. Tickets, a growing table, a stripe and a gathering are asked the same by a test. It needs bin/kcount, the
+# Each run of the program, a count over FASTA, over FASTQ and of listed k-mers, a merge and a selection, either does
+# without that growth and writes all that it should, or writes nothing (a selection the reads before), says on standard
+# error that there is no memory, and ends with status 1. Tickets, a growing table, a stripe and a gathering are asked the same by a test. It needs bin/kcount, the
 # crates of tests as built, and a C compiler.
 set -euo pipefail
 here=$(cd "$(dirname "$0")" && pwd)
@@ -18,6 +18,10 @@ printf '>x\nNACG\n>y\nTTT\n' > "$work/list.fa"
 printf 'KCT 2 3 c a 33 1\nACG 2\nGTA 1\nEND 2 3\n' > "$work/first.kct"
 printf 'KCT 2 3 c a 33 2\nAAA 4\nGTA 1\nEND 2 5\n' > "$work/second.kct"
 
+# Nothing was written, or by a selection a beginning of the wanted text.
+written_rightly() {
+    [ ! -s "$work/got" ] || { [ "$1" = select ] && cmp -s -n "$(wc -c < "$work/got")" "$work/got" "$work/wanted"; }
+}
 # Refuses one growth after the other of a command line on this input, until twenty in a row are not missed. These
 # numbers have to be met among the answers, and no others but that of a thread, and that of a file whose name found no
 # room.
@@ -37,7 +41,7 @@ refuse_growths() {
             [ "$passed" -lt 20 ] || break
         else
             [ "$status" = 1 ] || { echo "growth $n of $what refused: status $status"; cat "$work/said"; exit 1; }
-            [ ! -s "$work/got" ] || { echo "growth $n of $what refused: something was written"; exit 1; }
+            written_rightly "$1" || { echo "growth $n of $what refused: something was written"; exit 1; }
             grep -qxE "$allowed" "$work/said" || { echo "growth $n of $what refused: $(cat "$work/said")"; exit 1; }
             cat "$work/said" >> "$work/answers"
             refused=$((refused + 1))
@@ -56,6 +60,7 @@ refuse_growths 'a count of FASTQ' $'ACG 2\nGTA 1\n' '8 34 46' "$work/reads.fq" "
 refuse_growths 'a count of listed k-mers' $'ACG 2\n' '8 34 46' "$work/reads.fq" "${count[@]}" --only "$work/list.fa"
 refuse_growths 'a merge' $'KCT 2 3 c a 33 3\nAAA 4\nACG 2\nGTA 2\nEND 3 8\n' 46 /dev/null \
     merge "$work/first.kct" "$work/second.kct"
+refuse_growths 'a selection' $'@a\nACGTA\n+\nIIIII\n' '8 46' "$work/reads.fq" select --min-share 60 "$work/first.kct"
 
 # one test of a crate, with its n-th growth refused
 refused_test() {

@@ -69,6 +69,7 @@ more=$'\nFor more information, try \'--help\'.\n'
 usage=$'\nUsage: kcount <COMMAND>\n'
 usage_of_count=$'\nUsage: kcount count [OPTIONS] [FILE]...\n'
 usage_of_merge=$'\nUsage: kcount merge <FIRST> <SECOND>\n'
+usage_of_select=$'\nUsage: kcount select <TABLE> [FILE]...\n'
 
 # The help goes to the output, and the version does.
 helps() {
@@ -80,7 +81,7 @@ helps() {
 helps kcount --help
 helps kcount -h
 helps kcount help
-for command in count dump histo stats query merge; do
+for command in count dump histo stats query merge select; do
     helps "$command" "$command" --help
     helps "$command" "$command" -h
     helps "$command" help "$command"
@@ -95,7 +96,7 @@ refuses() {
     shift
     wants 2 '' "error: $text$more" "$reads" kcount "$@"
 }
-refuses $'\'kcount\' requires a subcommand but one was not provided\n  [subcommands: count, dump, histo, stats, query, merge, help]\n'"$usage"
+refuses $'\'kcount\' requires a subcommand but one was not provided\n  [subcommands: count, dump, histo, stats, query, merge, select, help]\n'"$usage"
 refuses $'unrecognized subcommand \'frob\'\n'"$usage" frob
 refuses $'unrecognized subcommand \'frob\'\n'"$usage" frob --help
 refuses $'unrecognized subcommand \'coun\'\n\n  tip: a similar subcommand exists: \'count\'\n'"$usage" coun -m 3
@@ -115,6 +116,8 @@ refuses $'the following required arguments were not provided:\n  <FIRST>\n  <SEC
 refuses $'the following required arguments were not provided:\n  <SECOND>\n'"$usage_of_merge" merge two.kct
 refuses $'unexpected argument \'c\' found\n\nUsage: kcount merge [OPTIONS] <FIRST> <SECOND>\n' merge two.kct two.kct c
 refuses $'unexpected argument \'-C\' found\n\n  tip: to pass \'-C\' as a value, use \'-- -C\'\n\nUsage: kcount merge [OPTIONS] <FIRST> <SECOND>\n' merge -C two.kct two.kct
+refuses $'the following required arguments were not provided:\n  <TABLE>\n'"$usage_of_select" select
+refuses $'a value is required for \'--min-share <P>\' but none was supplied\n' select two.kct --min-share
 
 # The program hands on what it is given: each report goes to the output, and its input, all of it, and its arguments
 # arrive.
@@ -147,6 +150,8 @@ wants 0 "$stats" '' "$older" kcount stats
 wants 0 $'ACG 2\nAAA 0\n' '' '' kcount query older.kct CGT aaa
 wants 0 $'KCT 1 3 c\nACG 4\nGTA 2\nEND 2 6\n' '' '' kcount merge older.kct older.kct
 mapfile -t words < <(for _ in $(seq 50); do printf 'TAC\naaa\n'; done)
+wants 0 $'>r1\nACGTAACG\n' '' "$reads" through_a_pipe select --min-count 0 two.kct
+wants 0 "$reads" '' "$reads" kcount select --min-share 66 older.kct
 wants 0 "$(for _ in $(seq 50); do printf 'GTA 1\nAAA 0\n'; done)"$'\n' '' '' kcount query two.kct "${words[@]}"
 
 # The help tells a range of an option, the ends of which are taken and give these outputs; one less and one more are
@@ -158,6 +163,10 @@ ranges() {
     if [ "$command" = count ]; then
         input=$reads
         [ "$option" = mer-len ] || run+=(-m 3)
+    fi
+    if [ "$command" = select ]; then
+        input=$reads
+        run+=(two.kct)
     fi
     least=${range%%[ ,]*}
     most=${range##* }
@@ -200,18 +209,21 @@ ranges count high '1 to 10000000' "$one" "$one"
 ranges dump lower-count '0 to 2^62' "$dump" ''
 ranges dump upper-count '0 to 2^62' '' "$dump"
 ranges histo high '1 to 10000000' "$histo" "$histo"
+ranges select min-count '0 to 2^62' "$reads" ''
+ranges select min-share '0 to 100' "$reads" ''
+ranges select min-qual-char '33 to 126' '' ''
 for stripes in 2 4 8 16 32; do wants 0 "$one" '' "$reads" kcount count -m 3 --stripes "$stripes"; done
 for size in 500 20k 2M 2G; do wants 0 "$one" '' "$reads" kcount count -m 3 -s "$size"; done
 
-# The help tells a default, and the definitions of what a count is asked for have it.
+# The help tells a default, and the definitions of what a count, or a selection, is asked for have it.
 defaults() {
-    local option=$1 told=$2 setting=$3 asked=$4 command help
-    for command in count dump histo; do
+    local option=$1 told=$2 setting=$3 asked=$4 of=${5:-count} command help
+    for command in count dump histo select; do
         help=$(told_of "$command" "$option")
-        [ -n "$help" ] || [ "$command" != count ] || fails "the help of count has no --$option"
+        [ -n "$help" ] || [ "$command" != "$of" ] || fails "the help of $of has no --$option"
         [[ -z $help || $help == *"[default: $told"[],]* ]] || fails "the help of $command has another default of --$option"
     done
-    grep -qE "(^| )$setting(;| \})" "$definitions/Settings.antt" || fails "Settings.antt doesn't have $setting, as the help tells"
+    [ -z "$setting" ] || grep -qE "(^| )$setting(;| \})" "$definitions/Settings.antt" || fails "Settings.antt doesn't have $setting, as the help tells"
     grep -qE "or_default $asked .*\(codes \"$option\"\) rows\)" "$definitions/Arguments.antt" \
         || fails "Arguments.antt doesn't have $asked for --$option, as the help tells"
 }
@@ -224,6 +236,8 @@ defaults print table 'print = Table' 'report\.Table'
 defaults lower-count 0 'lower = 0' 0
 defaults upper-count 2^62 'upper = 2 \^ 62' '\(2 \^ 62\)'
 defaults high 10000 'high = 10000' 10000
+defaults min-count 2 '' 2 select
+defaults min-share 100 '' 100 select
 
 # Without an option the output is as with its default, and another value gives another output.
 usual() {
@@ -250,6 +264,9 @@ for high in 9999 10001; do
     usual "$often" high 10000 $'9999 1\n10000 1\n10001 2\n' "$high" "$another" count -m 1 --print histo
     usual "$frequent" high 10000 $'9999 1\n10000 1\n10001 2\n' "$high" "$another" histo
 done
+usual "$reads" min-count 2 '' 1 "$reads" select two.kct
+usual "$reads" min-share 100 '' 66 "$reads" select two.kct
+usual $'@q\nACGTA\n+\nIIII!\n' min-qual-char '!' '' '"' $'@q\nACGTA\n+\nIIII!\n' select two.kct
 
 # Where a list is given, the k-mers of its reads alone are counted, by the rule of the count; the table says that there
 # was one.
@@ -339,6 +356,64 @@ unlike '62: sums too large' "$many_reads" "$acg"
 unlike '61: tables do not match' "$most" "${acg/3 s/3 c}"
 unlike '61: tables do not match' "$many_reads" "${acg/33/34}"
 
+# The reads that a table selects are written whole and in order, with their titles, FASTA as FASTA and FASTQ as FASTQ. In
+# the table ACG and CGT occur twice, and GTA and TAC once.
+selects() {
+    local output=$1 input=$2
+    shift 2
+    wants 0 "$output" '' "$input" kcount select two.kct "$@"
+}
+some=$'>a one two\nACG\n>b\nAAA\n>c>c\nac\ngt\n'
+selects $'>a one two\nACG\n>c>c\nacgt\n' "$some"
+selects $'>b\nAAA\n' "$some" --invert
+selects "$reads" "$reads" --min-share 66
+selects '' "$reads" --min-share 67
+selects '' "$reads" --min-share 66 --invert
+selects "$reads" "$reads" --min-share 67 --invert
+selects $'@q x\nACGT\n+\n@I+I\n' $'\n@q x\r\nAC\nGT\n+q x\n@I\n+I\n'
+selects $'@q\n\n+\n\n' $'@q\n\n+\n'
+# a read without k-mers is kept, and none is where there are no reads
+selects $'>s\nAC\n>t\n\n>u\nACNGT\n' $'>s\nAC\n>t\n>u\nACNGT\n'
+selects '' $'>s\nAC\n' --invert
+selects '' ''
+# several files, of either format, and none of standard input beside them
+printf '@q\nGTA\n+\nIII\n@p\nCGT\n+\nIII\n' > reads.fq
+printf '%s' "$some" > some.fa
+selects $'>a one two\nACG\n>c>c\nacgt\n@p\nCGT\n+\nIII\n' '>r' some.fa reads.fq
+selects $'@q\nGTA\n+\nIII\n>b\nAAA\n' '>r' --invert reads.fq some.fa
+selects $'@p\nCGT\n+\nIII\n' "$reads" reads.fq reads.fa
+# the counts are told on the errors where they are asked for, and where there is no fault: reads, those that are kept,
+# k-mers and those that are solid
+tells() {
+    local counts=$1 output=$2 input=$3
+    shift 3
+    wants 0 "$output" "kcount: $counts"$'\n' "$input" kcount select --stats two.kct "$@"
+}
+tells '0 reads, 0 kept, 0 k-mers, 0 solid' '' ''
+tells '3 reads, 2 kept, 4 k-mers, 3 solid' $'>a one two\nACG\n>c>c\nacgt\n' "$some"
+tells '3 reads, 1 kept, 4 k-mers, 3 solid' $'>b\nAAA\n' "$some" --invert
+tells '1 reads, 0 kept, 3 k-mers, 2 solid' '' "$reads"
+tells '3 reads, 1 kept, 5 k-mers, 3 solid' $'@p\nCGT\n+\nIII\n' '>r' reads.fq reads.fa
+wants 1 '' $'kcount: 1: bad start, source 1, line 1\n' 'ACG' kcount select --stats two.kct
+# those before a fault are written
+written_before() {
+    local line=$1 output=$2 input=$3
+    shift 3
+    wants 1 "$output" "kcount: $line"$'\n' "$input" kcount select two.kct "$@"
+}
+written_before '2: bad base, source 1, line 4' $'>a\nACG\n' $'>a\nACG\n>b\nA@C\n>c\nACG\n'
+written_before '5: truncated, source 1, line 8' $'@p\nCGT\n+\nIII\n' $'@p\nCGT\n+\nIII\n@q\nACG\n+\nII'
+written_before '1: bad start, source 1, line 1' '' $'ACG\n'
+printf '>r\nACG\n>s\nA@C\n' > bad.fa
+written_before '2: bad base, source 2, line 4' $'@p\nCGT\n+\nIII\n>r\nACG\n' '' reads.fq bad.fa a-directory
+written_before '7: read failed, source 2' $'@p\nCGT\n+\nIII\n' '' reads.fq a-directory bad.fa
+wants 1 '' $'kcount: 2: bad base, source 1, line 4\n' '' kcount select -o out two.kct bad.fa
+same "the file out" $'>r\nACG\n' out "a selection with a fault"
+# no option stands for several of its values
+fault 2 '51: bad option --min-count' "$reads" kcount select --min-share 101 --min-count x missing
+fault 2 '51: bad option --min-share' "$reads" kcount select --min-qual-char 10 --min-share 1k missing
+fault 2 '51: bad option --min-qual-char' "$reads" kcount select --min-qual-char= missing
+
 # Each worker has a thread. Where the last one is refused, the fault names the last worker; one more would be no
 # worker's.
 for threads in 1 2 4 64; do
@@ -378,6 +453,8 @@ for name in - "$long" 'a b' 'é'; do
     fault 1 "54: cannot open $name" "$reads" kcount count -m 3 --only "$name"
     fault 1 "54: cannot open $name" "$table" kcount merge "$name" two.kct
     fault 1 "54: cannot open $name" "$table" kcount merge two.kct "$name"
+    fault 1 "54: cannot open $name" "$reads" kcount select "$name"
+    fault 1 "54: cannot open $name" "$reads" kcount select two.kct reads.fa "$name"
     fault 1 "54: cannot open no-such/$name" "$table" kcount stats -o "no-such/$name"
 done
 cp two.kct ./-
@@ -388,12 +465,16 @@ fault 1 '7: read failed, source 1' '' of_a_directory count -m 3
 fault 1 '45: table read failed' '' of_a_directory dump
 fault 1 '45: table read failed' '' kcount merge a-directory reads.fa
 fault 1 '45: table read failed' '' kcount merge two.kct a-directory
+fault 1 '45: table read failed' "$reads" kcount select a-directory
+fault 1 '7: read failed, source 1' '' of_a_directory select two.kct
 truncate -s 1T large
 fault 1 '8: no memory' '' in_little_memory count -m 3 large
 fault 1 '8: no memory' "$reads" in_little_memory count -m 3 --only large
 fault 1 '46: no memory' '' in_little_memory stats large
 fault 1 '46: no memory' '' in_little_memory merge large two.kct
 fault 1 '46: no memory' '' in_little_memory merge two.kct large
+fault 1 '46: no memory' "$reads" in_little_memory select large
+fault 1 '8: no memory' '' in_little_memory select two.kct large
 fault 1 '46: no memory' "$reads" in_little_memory count -m 31 -s 1000G
 
 # A text that is no table is refused by each command that reads one, also in a file, and before a bad word.
@@ -407,6 +488,7 @@ no_table() {
     fault 1 "$line" "$table" kcount query no.kct N
     fault 1 "$line" '' kcount merge no.kct a-directory
     fault 1 "$line" '' kcount merge two.kct no.kct
+    fault 1 "$line" '' kcount select no.kct a-directory
 }
 no_table '41: bad header' ''
 no_table '41: bad header' $'KCT 2 3 s\nEND 0 0\n'
@@ -444,6 +526,8 @@ if [ -c /dev/full ]; then
         # shellcheck disable=SC2086
         fault 1 '53: write failed' "$table" into_a_full_device $command
     done
+    fault 1 '53: write failed' "$reads" into_a_full_device select --stats --min-count 1 two.kct
+    wants 0 "$reads" '' "$reads" with_full_errors select --stats --min-count 1 two.kct
     wants 0 "$one" '' "$reads" with_full_errors count -m 3
     wants 1 '' '' '>' with_full_errors stats
     wants 2 '' '' '' with_full_errors count -m 32
@@ -453,6 +537,7 @@ else
     echo "program: an output that takes nothing was not tried, since there is no /dev/full"
 fi
 wants 0 "$one" '' "$reads" with_closed_errors count -m 3
+wants 0 "$reads" '' "$reads" with_closed_errors select --stats --min-count 1 two.kct
 wants 1 '' '' '>' with_closed_errors stats
 wants 2 '' '' '' with_closed_errors count -m 32
 wants 2 '' '' '' with_closed_errors frob

@@ -7,6 +7,7 @@ use Rattle.std.specs.Option.{option_and_then}
 use Rattle.std.specs.Str.{bytes_eq}
 use Rattle.clap.specs.Words.{Row, Text, first_of, one_of}
 use Rattle.kc_report.specs.declared.dump.Dump.{Dump}
+use Rattle.kc_select.specs.Solid.{SelectionRule}
 use Rattle.kc_command.specs.Numbers.{number_between, scaled_between}
 use Rattle.kc_command.specs.Settings.{Settings, lowered}
 use Rattle.kc_command.specs.declared.option_name.OptionName.{OptionName}
@@ -48,6 +49,14 @@ is_stripe_count number = list_any (λ power. number == power) (1 ∷ 2 ∷ 4 ∷
 -- the number, where it is one of them
 abbrev pub as_stripes : ℕ → Option ℕ
 as_stripes number = if is_stripe_count number then Some number else None
+
+-- `--min-count`, the least count of a word that is solid, 0 to 2^62; 2
+abbrev pub min_count_of : List Row → Option ℕ
+min_count_of rows = or_default 2 (number_between 0 (2 ^ 62)) (first_of (codes "min-count") rows)
+
+-- `--min-share`, how many of a hundred words of a read have to be solid, 0 to 100; 100
+abbrev pub min_share_of : List Row → Option ℕ
+min_share_of rows = or_default 100 (number_between 0 100) (first_of (codes "min-share") rows)
 
 -- `--stripes`, before it is lowered to the number of words; 16
 abbrev pub stripes_of : List Row → Option ℕ
@@ -136,6 +145,13 @@ first_bad_of_dump rows =
 abbrev pub first_bad_of_histo : List Row → Option OptionName
 first_bad_of_histo rows = first_of_bad (judged option.High (high_of rows) ∷ [])
 
+-- of `select`
+abbrev pub first_bad_of_select : List Row → Option OptionName
+first_bad_of_select rows = first_of_bad (judged option.MinCount (min_count_of rows)
+    ∷ judged option.MinShare (min_share_of rows)
+    ∷ judged option.MinQualChar (floor_of rows)
+    ∷ [])
+
 -- What all options together ask for.
 
 -- a flag is up where it was given, and down where it was not
@@ -150,6 +166,13 @@ pub record AsksForDump (rows : List Row) (dump : Dump) : Type 0 where
   pub tab : IsFlag rows (codes "tab") dump.tab
   pub lower : lower_of rows ≡ Some dump.lower
   pub upper : upper_of rows ≡ Some dump.upper
+
+-- the options of a selection ask for this rule
+pub record AsksForSelection (rows : List Row) (rule : SelectionRule) : Type 0 where
+  pub min_count : min_count_of rows ≡ Some rule.least
+  pub min_share : min_share_of rows ≡ Some rule.share
+  pub min_qual_char : floor_of rows ≡ Some rule.floor
+  pub invert : IsFlag rows (codes "invert") rule.inverted
 
 -- the options of a count ask for these settings
 pub record AsksFor (rows : List Row) (settings : Settings) : Type 0 where

@@ -90,6 +90,22 @@ high_option = value_option (codes "high")
 abbrev pub only_option : Rule
 only_option = value_option (codes "only")
 
+-- `--min-count`
+abbrev pub min_count_option : Rule
+min_count_option = value_option (codes "min-count")
+
+-- `--min-share`
+abbrev pub min_share_option : Rule
+min_share_option = value_option (codes "min-share")
+
+-- `--invert`
+abbrev pub invert_option : Rule
+invert_option = flag_option (codes "invert")
+
+-- `--stats`
+abbrev pub stats_option : Rule
+stats_option = flag_option (codes "stats")
+
 -- FILE, any number of them
 abbrev pub files_argument : Rule
 files_argument = several_arguments (codes "file")
@@ -101,6 +117,10 @@ file_argument = one_argument (codes "file")
 -- TABLE, a file that has to be given
 abbrev pub table_argument : Rule
 table_argument = required file_argument
+
+-- TABLE of a selection, a file that has to be given
+abbrev pub counted_argument : Rule
+counted_argument = required (one_argument (codes "table"))
 
 -- FIRST, a file that has to be given
 abbrev pub first_argument : Rule
@@ -164,11 +184,32 @@ query_shape = record (new_shape (codes "query")) { rules = output_option ∷ tab
 abbrev pub merge_shape : Shape
 merge_shape = record (new_shape (codes "merge")) { rules = output_option ∷ first_argument ∷ second_argument ∷ [] }
 
+-- `kcount select`, which takes a table and any number of files
+abbrev pub select_shape : Shape
+select_shape = record (new_shape (codes "select")) {
+  rules = min_count_option
+      ∷ min_share_option
+      ∷ min_qual_char_option
+      ∷ invert_option
+      ∷ stats_option
+      ∷ output_option
+      ∷ counted_argument
+      ∷ files_argument
+      ∷ [];
+}
+
+-- `kcount` before it has commands
+abbrev pub bare_app : App
+bare_app = record {
+  top = record (new_shape (codes "kcount")) { has_version = true; subcommand_required = true };
+  subs = [];
+}
+
 -- `kcount`, which has a version and wants a command
 abbrev pub kcount_app : App
 kcount_app = record {
   top = record (new_shape (codes "kcount")) { has_version = true; subcommand_required = true; is_leaf = false };
-  subs = count_shape ∷ dump_shape ∷ histo_shape ∷ stats_shape ∷ query_shape ∷ merge_shape ∷ [];
+  subs = count_shape ∷ dump_shape ∷ histo_shape ∷ stats_shape ∷ query_shape ∷ merge_shape ∷ select_shape ∷ [];
 }
 
 -- the name of a command
@@ -179,3 +220,4 @@ IsCommand name = (name ≡ codes "count")
     ⊎ (name ≡ codes "stats")
     ⊎ (name ≡ codes "query")
     ⊎ (name ≡ codes "merge")
+    ⊎ (name ≡ codes "select")

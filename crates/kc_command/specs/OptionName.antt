@@ -8,6 +8,8 @@ abbrev pub option_text : OptionName → List ℕ
 option_text option.MerLen = codes "--mer-len"
 option_text option.Size = codes "--size"
 option_text option.Threads = codes "--threads"
+option_text option.MinCount = codes "--min-count"
+option_text option.MinShare = codes "--min-share"
 option_text option.MinQualChar = codes "--min-qual-char"
 option_text option.Stripes = codes "--stripes"
 option_text option.Batch = codes "--batch"

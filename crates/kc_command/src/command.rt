@@ -2,18 +2,21 @@
 ghost use Rattle.std.specs.Prelude.{◌≡◌, IfOk};
 ghost use Rattle.clap.specs.Words.{app_of, new_app, shape_of};
 ghost use Rattle.kc_command.specs.Command.{
+  bare_app,
   count_shape,
   dump_shape,
   histo_shape,
   kcount_app,
   merge_shape,
   query_shape,
+  select_shape,
   stats_shape,
 };
 
 use crate::command_arguments::{
-    batch, canonical, column, file, files, first, high, lower_count, mer_len, min_qual_char, only,
-    output, print, second, size, stripes, tab, table, threads, upper_count, with_short, words,
+    batch, canonical, column, counted, file, files, first, high, invert, lower_count, mer_len,
+    min_count, min_qual_char, min_share, only, output, print, second, size, stats, stripes, tab, table,
+    threads, upper_count, with_short, words,
 };
 use crate::help;
 use clap::Command;
@@ -37,19 +40,30 @@ pub const QUERY: &str = "query";
 /// The name of the command that writes the sum of two tables.
 pub const MERGE: &str = "merge";
 
+/// The name of the command that writes the reads that a table selects.
+pub const SELECT: &str = "select";
+
 /// The command line of `kcount`. Options take texts, which are judged when the command line has been read.
 pub fn command<'a>(alloc: Global) -> Result<Command<'a>, AllocError>
     ensures { IfOk result (λ command. app_of command ≡ kcount_app) }
 {
-    described(alloc, "kcount", help::KCOUNT, help::AFTER_KCOUNT)
-        .version("0.1.0")
-        .subcommand_required(true)
+    without_commands(alloc)
         .subcommand(count_command(alloc)?)?
         .subcommand(dump_command(alloc)?)?
         .subcommand(histo_command(alloc)?)?
         .subcommand(stats_command(alloc)?)?
         .subcommand(query_command(alloc)?)?
-        .subcommand(merge_command(alloc)?)
+        .subcommand(merge_command(alloc)?)?
+        .subcommand(select_command(alloc)?)
+}
+
+// `kcount` before it has commands, of which it wants one.
+fn without_commands<'a>(alloc: Global) -> Command<'a>
+    ensures { app_of result ≡ bare_app }
+{
+    described(alloc, "kcount", help::KCOUNT, help::AFTER_KCOUNT)
+        .version("0.1.0")
+        .subcommand_required(true)
 }
 
 // The command that counts.
@@ -125,6 +139,21 @@ fn merge_command<'a>(alloc: Global) -> Result<Command<'a>, AllocError>
         .arg(output(alloc))?
         .arg(first(alloc))?
         .arg(second(alloc))
+}
+
+// The command that writes the reads that a table selects.
+fn select_command<'a>(alloc: Global) -> Result<Command<'a>, AllocError>
+    ensures { IfOk result (λ command. shape_of command ≡ select_shape) }
+{
+    described(alloc, SELECT, help::SELECT, help::AFTER_SELECT)
+        .arg(min_count(alloc))?
+        .arg(min_share(alloc))?
+        .arg(min_qual_char(alloc))?
+        .arg(invert(alloc))?
+        .arg(stats(alloc))?
+        .arg(output(alloc))?
+        .arg(counted(alloc))?
+        .arg(files(alloc))
 }
 
 // A command without arguments, with the text that stands at the top of its help and the one at the end.

@@ -5,14 +5,18 @@ ghost use Rattle.kc_command.specs.Command.{
   batch_option,
   canonical_option,
   column_option,
+  counted_argument,
   file_argument,
   files_argument,
   first_argument,
   flag_option,
   high_option,
+  invert_option,
   lower_count_option,
   mer_len_option,
+  min_count_option,
   min_qual_char_option,
+  min_share_option,
   one_argument,
   only_option,
   output_option,
@@ -21,6 +25,7 @@ ghost use Rattle.kc_command.specs.Command.{
   second_argument,
   several_arguments,
   size_option,
+  stats_option,
   stripes_option,
   tab_option,
   table_argument,
@@ -173,6 +178,43 @@ pub(crate) fn only<'a>(alloc: Global) -> Arg<'a>
     value_option(alloc, "only", "FILE", help)
 }
 
+/// `--min-count`
+pub(crate) fn min_count<'a>(alloc: Global) -> Arg<'a>
+    ensures rule { rule_of result ≡ min_count_option }
+    ensures own { result.global ≡ false }
+{
+    let help = "Least count of a k-mer that is solid, 0 to 2^62 [default: 2]";
+    value_option(alloc, "min-count", "N", help)
+}
+
+/// `--min-share`
+pub(crate) fn min_share<'a>(alloc: Global) -> Arg<'a>
+    ensures rule { rule_of result ≡ min_share_option }
+    ensures own { result.global ≡ false }
+{
+    let help = "Least percentage of the k-mers of a read that have to be solid, 0 to 100{n}\
+        [default: 100]";
+    value_option(alloc, "min-share", "P", help)
+}
+
+/// `--invert`
+pub(crate) fn invert<'a>(alloc: Global) -> Arg<'a>
+    ensures rule { rule_of result ≡ invert_option }
+    ensures own { result.global ≡ false }
+{
+    let help = "Write the other reads instead";
+    flag_option(alloc, "invert", help)
+}
+
+/// `--stats`
+pub(crate) fn stats<'a>(alloc: Global) -> Arg<'a>
+    ensures rule { rule_of result ≡ stats_option }
+    ensures own { result.global ≡ false }
+{
+    let help = "Tell on standard error how many reads and k-mers there were";
+    flag_option(alloc, "stats", help)
+}
+
 /// FILE, any number of them
 pub(crate) fn files<'a>(alloc: Global) -> Arg<'a>
     ensures rule { rule_of result ≡ files_argument }
@@ -198,6 +240,15 @@ pub(crate) fn table<'a>(alloc: Global) -> Arg<'a>
 {
     let help = "Table that `kcount count` wrote";
     required(one_argument(alloc, "file", "TABLE", help))
+}
+
+/// TABLE of a selection, a file that has to be given
+pub(crate) fn counted<'a>(alloc: Global) -> Arg<'a>
+    ensures rule { rule_of result ≡ counted_argument }
+    ensures own { result.global ≡ false }
+{
+    let help = "Table that `kcount count` wrote";
+    required(one_argument(alloc, "table", "TABLE", help))
 }
 
 /// FIRST, a file that has to be given

@@ -9,6 +9,7 @@ ghost use Rattle.kc_command.specs.Laws.{
   ReadsTables,
   Refuses,
   ScalesNumbers,
+  SelectsReads,
 };
 
 /// What some command lines ask for, and why others are refused.
@@ -18,6 +19,7 @@ pub fn command_lines()
     ensures listed { CountsListedWords }
     ensures tables { ReadsTables }
     ensures merges { MergesTables }
+    ensures selects { SelectsReads }
     ensures refuses { Refuses }
 {}
 

@@ -113,3 +113,22 @@ Examples:
   kcount count -m 21 -C -o first.kct reads_1.fq
   kcount count -m 21 -C -o second.kct reads_2.fq
   kcount merge -o both.kct first.kct second.kct";
+
+/// At the top of the help of `select`.
+pub(crate) const SELECT: &str = "\
+Writes the reads whose k-mers a table counts often enough.";
+
+/// At the end of the help of `select`.
+pub(crate) const AFTER_SELECT: &str = "\
+A k-mer is solid where the table counts it at least --min-count times, and a read is written where at
+least --min-share of a hundred of its k-mers are; a read without k-mers is. Reads are written whole and
+in order, FASTA as FASTA and FASTQ as FASTQ, with sequence and quality in one line each. Those before a
+fault are written. --stats tells how many reads there were and how many were written, and how many k-mers
+there were and how many of these are solid.
+
+Exit status: 0; 1 for a fault, whose line goes to standard error; 2 for a command line that is refused.
+
+Examples:
+  kcount count -m 21 -C -o reads.kct reads.fq
+  kcount select --min-count 3 -o solid.fq reads.kct reads.fq
+  zcat reads.fq.gz | kcount select --invert reads.kct > others.fq";

@@ -11,6 +11,10 @@ pub enum OptionName {
     Size,
     /// `--threads`
     Threads,
+    /// `--min-count`
+    MinCount,
+    /// `--min-share`
+    MinShare,
     /// `--min-qual-char`
     MinQualChar,
     /// `--stripes`
@@ -36,6 +40,8 @@ impl OptionName {
             OptionName::MerLen => "--mer-len",
             OptionName::Size => "--size",
             OptionName::Threads => "--threads",
+            OptionName::MinCount => "--min-count",
+            OptionName::MinShare => "--min-share",
             OptionName::MinQualChar => "--min-qual-char",
             OptionName::Stripes => "--stripes",
             OptionName::Batch => "--batch",

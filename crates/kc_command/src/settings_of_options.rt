@@ -4,16 +4,20 @@ ghost use Rattle.clap.specs.Words.{first_of, found_of, rows_of};
 ghost use Rattle.kc_command.specs.Arguments.{
   AsksFor,
   AsksForDump,
+  AsksForSelection,
   IsFlag,
   IsValueOf,
   batch_of,
   first_bad,
   first_bad_of_dump,
   first_bad_of_histo,
+  first_bad_of_select,
   floor_of,
   high_of,
   lower_of,
   mer_len_of,
+  min_count_of,
+  min_share_of,
   or_default,
   print_of,
   quality_byte,
@@ -35,7 +39,14 @@ use crate::settings::{
 use clap::ArgMatches;
 use kc_kmer::K;
 use kc_report::{Dump, GREATEST_COUNT, GREATEST_HIGH};
+use kc_select::Selection;
 use std::alloc::Global;
+
+/// The least count of a solid word where nothing else is asked for.
+const USUAL_LEAST: u64 = 2;
+
+/// All of a hundred words, which have to be solid where nothing else is asked for.
+const WHOLE_SHARE: u64 = 100;
 
 /// What the options of `count` ask for.
 ///
@@ -88,6 +99,25 @@ pub fn dump_options(matches: &ArgMatches<'_>) -> Result<Dump, OptionName>
         lower,
         upper,
     })
+}
+
+/// What the options of `select` ask for. It takes no memory.
+///
+/// # Errors
+/// The first of `--min-count`, `--min-share` and `--min-qual-char` whose value is outside its limits.
+pub fn select_options(matches: &ArgMatches<'_>) -> Result<Selection, OptionName>
+    ensures first_bad { MatchResult result (λ s. first_bad_of_select (rows_of (found_of matches.now)) ≡ None)
+        (λ name. first_bad_of_select (rows_of (found_of matches.now)) ≡ Some name) }
+    ensures asked { IfOk result (AsksForSelection (rows_of (found_of matches.now))) }
+{
+    let least = min_count(matches)?;
+    let share = min_share(matches)?;
+    let floor = min_qual_char(matches)?;
+    Ok(
+        Selection::new(least, share)
+            .with_floor(floor)
+            .with_inverted(has_flag(matches, "invert")),
+    )
 }
 
 /// The greatest count that has a line of its own in a histogram, as `--high` of `histo` and of `count` asks for. It
@@ -172,6 +202,23 @@ fn quality_byte(text: &[u8]) -> Option<u8>
         [byte @ 33..=126] => Some(*byte),
         _ => None,
     }
+}
+
+// The least count of a solid word.
+fn min_count(matches: &ArgMatches<'_>) -> Result<u64, OptionName>
+    ensures { IsValueOf OptionName.MinCount (min_count_of (rows_of (found_of matches.now))) result }
+{
+    let least = number_of(matches, "min-count", USUAL_LEAST, 0, GREATEST_COUNT);
+    least.ok_or(OptionName::MinCount)
+}
+
+// How many of a hundred words have to be solid.
+fn min_share(matches: &ArgMatches<'_>) -> Result<u64, OptionName>
+    ensures value { IsValueOf OptionName.MinShare (min_share_of (rows_of (found_of matches.now))) result }
+    ensures limits { IfOk result (λ share. share ≤ 100) }
+{
+    let share = number_of(matches, "min-share", WHOLE_SHARE, 0, WHOLE_SHARE);
+    share.ok_or(OptionName::MinShare)
 }
 
 // The stripes, before they are lowered to the number of words.
@@ -275,8 +322,8 @@ pub fn text_of<'a>(matches: &ArgMatches<'a>, name: &str) -> Option<&'a str>
     matches.get_str(name)
 }
 
-// Whether a flag was given.
-fn has_flag(matches: &ArgMatches<'_>, name: &str) -> bool
+/// Whether a flag was given. It takes no memory.
+pub fn has_flag(matches: &ArgMatches<'_>, name: &str) -> bool
     ensures { IsFlag (rows_of (found_of matches.now)) name.now result }
 {
     matches.get_flag(name)

@@ -1,4 +1,4 @@
-//! Tests of hashes, tables, tallies and reports, by what these crates show to their callers.
+//! Tests of hashes, tables, tallies, reports and selected reads, by what these crates show to their callers.
 #![tactic(auto)]
 
 #[cfg(test)]
@@ -13,5 +13,7 @@ mod merged_tables;
 mod refusing_streams;
 #[cfg(test)]
 mod report_rows;
+#[cfg(test)]
+mod selected_reads;
 #[cfg(test)]
 mod tally_rows;

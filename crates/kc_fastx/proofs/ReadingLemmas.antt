@@ -25,7 +25,7 @@ use Rattle.kc_fastx.specs.Reading.{HasGrown, first_stand, Stand, SaysFasta, Says
 use Rattle.kc_fastx.specs.Reading.{HasGiven, HasMet, MeetsFault, is_fasta_next, IsNext, NextFails, IsSure}
 use Rattle.kc_fastx.proofs.RecordsLemmas.{Records-push, passes_both}
 use Rattle.kc_fastx.proofs.ParsingLemmas.{at_true, at_false, RefusesFor-taking}
-use Rattle.kc_fastx.proofs.ReadsLemmas.{base_count-fasta, base_count-fastq}
+use Rattle.kc_fastx.proofs.ReadsLemmas.{base_count-fasta, base_count-fastq, base_count-fasta-front, base_count-fastq-front}
 use Rattle.kc_fastx.proofs.FastaLemmas.{fasta_shorter}
 use Rattle.kc_fastx.proofs.FastqLemmas.{fastq_shorter, length-skip_blanks}
 use Rattle.kc_fastx.proofs.ClosedLemmas.{lines_behind, none_behind}
@@ -43,7 +43,7 @@ NoFastq ls reads rest = ((reads ≡ []) × (rest ≡ ls)) ⊎ SaysFasta ls reads
 abbrev pub StaysBehind : List Line → List Line → Type 0
 StaysBehind left tail = (left ≢ []) ⊎ (tail ≡ [])
 
-ends_tail : (byte : ℕ) (left tail : List Line) → StaysBehind left tail → ends_or_begins_with byte left ≡ true
+pub ends_tail : (byte : ℕ) (left tail : List Line) → StaysBehind left tail → ends_or_begins_with byte left ≡ true
     → ends_or_begins_with byte (left ++ tail) ≡ true
 ends_tail byte [] tail stays h =
     ⊎_elim (λ (some : [] ≢ []). absurd (some refl)) (λ (none : tail ≡ []). ap (ends_or_begins_with byte) none) stays
@@ -54,7 +54,7 @@ text_front : (ls w tail : List Line) (line : Line) (more : List Line) → w ++ t
     → skip_blanks w ≡ line ∷ more → skip_blanks ls ≡ skip_blanks w ++ tail
 text_front ls w tail line more same some = ap skip_blanks (sym same) ∙ skip_blanks-append w tail line more some
 
-begins_tail : (byte : ℕ) (ls tail : List Line) (line : Line) (more : List Line) → ls ≡ line ∷ more
+pub begins_tail : (byte : ℕ) (ls tail : List Line) (line : Line) (more : List Line) → ls ≡ line ∷ more
     → next_begins_with byte (ls ++ tail) ≡ next_begins_with byte ls
 begins_tail byte ls tail line more e = ap (λ v. next_begins_with byte (v ++ tail)) e
     ∙ sym (ap (next_begins_with byte) e)
@@ -82,9 +82,9 @@ no_other ls reads w tail f other =
     cc
 
 -- a FASTA record comes next, and a line is left behind it, or none comes
-record FastaComes (w tail : List Line) (read : Read) (left : List Line) : Type 0 where
-  one : IsFastaRecord (skip_blanks w) read left
-  stays : StaysBehind left tail
+pub record FastaComes (w tail : List Line) (read : Read) (left : List Line) : Type 0 where
+  pub one : IsFastaRecord (skip_blanks w) read left
+  pub stays : StaysBehind left tail
 
 -- a FASTQ record comes next, and no title of FASTA
 record FastqComes (w : List Line) (read : Read) (left : List Line) : Type 0 where
@@ -305,7 +305,7 @@ no_next-read was count ls = no_fault-either (is_fasta_next was ls) _ _ (λ h. h.
 -- ---- bytes
 
 -- the unused bytes and what may still come are the whole lines, and then others
-lines_here : (ended : Bool) (bytes whole : List ℕ) (h : HasWhole ended bytes whole) (more : List ℕ) → (ended ≡ true
+pub lines_here : (ended : Bool) (bytes whole : List ℕ) (h : HasWhole ended bytes whole) (more : List ℕ) → (ended ≡ true
     → more ≡ [])
     → lines (bytes ++ more) ≡ lines whole ++ lines (h.tail ++ more)
 lines_here ended bytes whole h more none =
@@ -323,7 +323,7 @@ drop_front [] rest count e = ap (λ n. drop n rest) e
 drop_front (b ∷ front) rest count e = ap (λ n. drop n (b ∷ front ++ rest)) e ∙ drop_front front rest (length front) refl
 
 -- how many bytes were passed over, and what is left behind them
-left_behind : (stand : Stand) (whole : List ℕ) (h : HasWhole stand.ended stand.unread.bytes whole) (after : Cursor)
+pub left_behind : (stand : Stand) (whole : List ℕ) (h : HasWhole stand.ended stand.unread.bytes whole) (after : Cursor)
     → Reaches stand whole after → (count : ℕ)
     → count ≡ length whole - length after.bytes → (count ≤ length stand.unread.bytes) ×
     (drop count stand.unread.bytes ≡ after.bytes ++ h.tail)
@@ -359,7 +359,7 @@ stand_behind stand count lines_used q = record {
 abbrev pub Sure : Stand → List Line → Type 0
 Sure stand left = (stand.ended ≡ true) ⊎ (left ≢ [])
 
-stays : (stand : Stand) (whole : List ℕ) (h : HasWhole stand.ended stand.unread.bytes whole) (left : List Line)
+pub stays : (stand : Stand) (whole : List ℕ) (h : HasWhole stand.ended stand.unread.bytes whole) (left : List Line)
     (more : List ℕ) → MayCome stand.ended more → Sure stand left
     → StaysBehind left (lines (h.tail ++ more))
 stays stand whole h left more none sure =
@@ -940,3 +940,19 @@ used_within start now limit reads stand given =
     let counted = given.counted in
     let room = given.taken.room in
     omega (arith, counted, room, length-append given.used stand.unread.bytes)
+
+-- the reads that were given so far have no more bases together than bytes may be taken
+base_count-says : (is_fastq : Bool) (bytes : List ℕ) (reads : List Read) (rest : List Line)
+    → Says is_fastq (lines bytes) reads rest → base_count reads ≤ length bytes
+base_count-says true bytes reads rest h = base_count-fastq-front bytes reads rest h.1
+base_count-says false bytes reads rest (inl h) = subst (λ v. base_count v ≤ length bytes) (sym h.0) (omega arith)
+base_count-says false bytes reads rest (inr h) = base_count-fasta-front bytes reads rest h.1
+
+pub base_count-given : (start now : Seen) (limit : ℕ) (reads : List Read) (stand : Stand)
+    → HasGiven start now limit reads stand → base_count reads ≤ limit
+base_count-given start now limit reads stand given =
+    let said = given.said [] (λ ended. refl) in
+    let fits = base_count-says stand.is_fastq (given.used ++ stand.unread.bytes ++ []) reads
+    (lines (stand.unread.bytes ++ [])) said.says in
+    let room = given.taken.room in
+    omega (arith, fits, room, ap length (append-nil (given.used ++ stand.unread.bytes)))

@@ -6,3 +6,4 @@ pub mod Parsing
 pub mod Reading
 pub mod Reads
 pub mod Records
+pub mod Titles

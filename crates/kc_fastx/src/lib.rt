@@ -2,10 +2,10 @@
 //!
 //! `parse` answers the reads of bytes in memory, and `read_all` those of a `Source`, up to a limit of bytes. `Reads`
 //! gives the reads of a source that it owns one after another; so does `Reading`, which is handed the source at each
-//! call. A `SeqRead` has its bases as they stand in the file and, from FASTQ, a quality for each base. A `FastxFault`
-//! says why there are no reads, with its line. What the reads of some bytes are is defined in `specs/` (`Lines`,
-//! `Fasta`, `Fastq`, `Parsing`; `Reading` for those that were given so far), and `read_laws` says that any bytes have
-//! one answer.
+//! call, and which also gives them with their titles. A `SeqRead` has its bases as they stand in the file and, from
+//! FASTQ, a quality for each base. A `FastxFault` says why there are no reads, with its line. What the reads of some
+//! bytes are is defined in `specs/` (`Lines`, `Fasta`, `Fastq`, `Parsing`; `Titles` for reads with their titles;
+//! `Reading` for those that were given so far), and `read_laws` says that any bytes have one answer.
 //!
 //! ```ignore
 //! let mut source = FromBytes::new(b"@q\nACGT\n+\nII!I\n");

@@ -7,6 +7,7 @@ ghost use Rattle.kc_fastx.specs.Lines.{line_count, skip_blanks, Passes, HasWhole
 ghost use Rattle.kc_fastx.specs.Parsing.{most_bytes, RefusesFor};
 ghost use Rattle.kc_fastx.specs.Reading.{Stand, first_stand, HasGiven, MeetsFault, GivesNext, TellsNext};
 ghost use Rattle.kc_fastx.specs.Reading.{IsNext, NextFails, IsSure, Moves, Grows};
+ghost use Rattle.kc_fastx.specs.Titles.{Record, HasGivenRecords, GivesRecord, TellsRecord};
 ghost use Rattle.kc_fastx.specs.Faults.{UnlessMemory, kept_fault};
 
 use crate::fasta::next_fasta;
@@ -127,6 +128,45 @@ impl Reading {
         }
     }
 
+    /// The next read, as `next_read` gives it, and its title, which takes the place of what stands in `title`: the rest
+    /// of its first line, behind the byte that begins it. Where no read is given, nothing is said of `title`.
+    ///
+    /// # Errors
+    /// Those of `next_read`; `Memory` also where there was none for the title.
+    pub fn next_titled<S: Source>(
+        &mut self,
+        alloc: Global,
+        source: &mut S,
+        title: &mut Vec<u8>,
+    ) -> Result<Option<SeqRead>, FastxFault>
+        ensures given { (start : Seen) (limit : ℕ) (records : List Record)
+            → HasGivenRecords start (S.seen source.old) limit records self.old
+            → GivesRecord start (S.seen source.new) limit records self.new title.new.items result }
+        ensures used { IfOk result (λ next. IfSome next (λ read. self.old.used < self.new.used)) }
+        ensures again { IfSome self.old.failed (λ fault. result ≡ Err fault) }
+        ensures unchanged { OnSome self.old.failed (self.new ≡ self.old) }
+        ensures untaken { OnSome self.old.failed (S.seen source.new ≡ S.seen source.old) }
+        ensures kept { IfErr result (UnlessMemory (λ fault. self.new.failed ≡ Some fault)) }
+        ensures resumed { OnErr result (self.new.failed ≡ None → (start : Seen) (limit : ℕ) (records : List Record)
+            → HasGivenRecords start (S.seen source.old) limit records self.old
+            → HasGivenRecords start (S.seen source.new) limit records self.new) }
+    {
+        if let Some(fault) = self.failed {
+            return Err(fault);
+        }
+        'reading: loop {
+            match self.titled_of_whole(alloc, title) {
+                Ok(Next::Given(read)) => return Ok(Some(read)),
+                Ok(Next::End) => return Ok(None),
+                Ok(Next::Short) => self.grow(source)?,
+                Err(fault) => {
+                    self.keep(fault);
+                    return Err(fault);
+                }
+            }
+        }
+    }
+
     /// How many bytes were taken. Condition: no fault was kept, as where `next_read` has answered a read or none.
     pub fn byte_count(&self) -> u64
         requires { self.now.failed ≡ None }
@@ -205,6 +245,33 @@ impl Reading {
         let Some((read, is_fastq)) = next? else {
             return Ok(Next::End);
         };
+        let count = whole.len() - lines.rest().len();
+        let lines_used = lines.taken();
+        self.use_up(count, lines_used, is_fastq);
+        Ok(Next::Given(read))
+    }
+
+    // The next read and its title, as far as the lines that are whole in the block tell them.
+    fn titled_of_whole(&mut self, alloc: Global, title: &mut Vec<u8>) -> Result<Next, FastxFault>
+        requires { self.old.failed ≡ None }
+        ensures tells { (start now : Seen) (limit : ℕ) (reads : List Read)
+            → HasGiven start now limit reads self.old → TellsNext start now limit reads self.new result }
+        ensures moves { Moves self.old self.new result }
+        ensures titled { TellsRecord self.old self.new title.new.items result }
+    {
+        let whole = self.whole_lines();
+        let mut lines = LineCursor::behind(self.lines_used, whole);
+        lines.pass_blanks();
+        let line = lines.title();
+        let next = next_record(alloc, &mut lines, self.is_fastq);
+        if !self.ended && !is_sure(&next, &lines) {
+            return Ok(Next::Short);
+        }
+        let Some((read, is_fastq)) = next? else {
+            return Ok(Next::End);
+        };
+        title.clear();
+        title.extend_from_slice(line)?;
         let count = whole.len() - lines.rest().len();
         let lines_used = lines.taken();
         self.use_up(count, lines_used, is_fastq);

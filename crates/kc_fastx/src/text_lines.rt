@@ -4,6 +4,7 @@ ghost use Rattle.std.specs.Prelude.{IsOk, IsTrue, IfOk, IfSome, IfNone};
 ghost use Rattle.std.specs.Str.Lines.{strip_carriage_return};
 ghost use Rattle.kc_fastx.specs.Lines.{begins_with, ends_or_begins_with, next_begins_with};
 ghost use Rattle.kc_fastx.specs.Lines.{lines, line_count, skip_blanks, IsBehind, Passes};
+ghost use Rattle.kc_fastx.specs.Titles.{title_at};
 
 use memchr::memchr;
 use std::alloc::{AllocError, Global};
@@ -144,6 +145,16 @@ impl<'a> LineCursor<'a> {
         match self.here().next_line() {
             Some(line) => does_begin_with(line, byte),
             None => false,
+        }
+    }
+
+    // What stands in the next line behind its first byte; nothing where no line is left.
+    pub(crate) fn title(&self) -> &'a [u8]
+        ensures { result.now ≡ title_at self.now.left }
+    {
+        match self.here().next_line() {
+            Some([_, title @ ..]) => title,
+            _ => &[],
         }
     }
 

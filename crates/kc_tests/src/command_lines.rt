@@ -414,6 +414,10 @@ const UNKNOWN: &[&str] = &[
     "merge first.kct",
     "merge first.kct second.kct third.kct",
     "merge -C first.kct second.kct",
+    "select",
+    "select table --min-share",
+    "select table --invert=yes",
+    "select -m 3 table",
 ];
 
 // Command lines that ask for help or for the version.
@@ -428,6 +432,7 @@ const HELP: &[&str] = &[
     "query --help",
     "merge --help",
     "help merge",
+    "select --help",
     "--version",
 ];
 

@@ -14,6 +14,7 @@ use Rattle.clap.specs.declared.error.kind.ErrorKind.TheVariants.{DisplayHelp, Di
 use Rattle.kc_io.specs.Sources.{Seen}
 use Rattle.kc_command.specs.Command.{IsCommand, kcount_app}
 use Rattle.kc_tool.specs.CommandLine.{AskForHelp, AreTaken, CarriesOut, DoesCommand, IsHelp, IsTold, ShowsSo, status_of}
+use Rattle.kc_tool.specs.Selections.{Told}
 use Rattle.kc_tool.specs.Commands.{EndsSo, Surroundings, name_of, verb_named}
 use Rattle.kc_tool.specs.FileEvents.{FileEvent}
 use Rattle.kc_tool.specs.declared.commands.Verb.{Verb}
@@ -55,7 +56,8 @@ has_verb name (inr (inl is)) = (verb.Dump, is)
 has_verb name (inr (inr (inl is))) = (verb.Histo, is)
 has_verb name (inr (inr (inr (inl is)))) = (verb.Stats, is)
 has_verb name (inr (inr (inr (inr (inl is))))) = (verb.Query, is)
-has_verb name (inr (inr (inr (inr (inr is))))) = (verb.Merge, is)
+has_verb name (inr (inr (inr (inr (inr (inl is)))))) = (verb.Merge, is)
+has_verb name (inr (inr (inr (inr (inr (inr is)))))) = (verb.Select, is)
 
 -- `clap` takes the arguments where nothing fails
 taken : (arguments : List Text) (matches : ArgMatches) → fault_of kcount_app arguments ≡ [] → subcommand_rows_of matches ≡ subcommand_of kcount_app arguments
@@ -87,6 +89,7 @@ verb_found verb.Histo = refl
 verb_found verb.Stats = refl
 verb_found verb.Query = refl
 verb_found verb.Merge = refl
+verb_found verb.Select = refl
 
 module _ {Z : Type 0} where
   name_with_rows : (sub : Option (Box SubCommand Z)) → option_map (λ b. (out-SubCommand (box_value b)).name.now) sub ≡ option_map (λ p. p.0) (subcommand_rows sub)
@@ -103,7 +106,7 @@ same_verb : {found command : Verb} → Some found ≡ Some command → found ≡
 same_verb e = cc
 
 -- a command was carried out
-pub command_done : {arguments : List Text} {old new : Surroundings} {outcome : Result (Unit {0}) ToolFault} {matches : ArgMatches}
+pub command_done : {arguments : List Text} {old new : Surroundings} {outcome : Result Told ToolFault} {matches : ArgMatches}
     {name : Text} {rows : List Row} {command : Verb} → AreTaken arguments matches → Some name ≡ subcommand_name_of matches
     → Some rows ≡ option_map (λ p. p.1) (subcommand_rows_of matches) → Some command ≡ verb_named name → EndsSo command rows old new outcome
     → DoesCommand arguments old new outcome
@@ -118,11 +121,11 @@ abbrev with_output : Seen → List FileEvent → Written → Surroundings
 with_output input asked output = record { input = input; output = output; asked = asked }
 
 -- an answer of `clap` was shown
-pub shown : (input : Seen) (asked : List FileEvent) (arguments : List Text) (error : Error) (old new : Written) (r : Result (Unit {0}) Ending)
+pub shown : (input : Seen) (asked : List FileEvent) (arguments : List Text) (error : Error) (old new : Written) (r : Result Told Ending)
     → HasKind (fault_of kcount_app arguments) error → ShowsSo error old new r
     → CarriesOut arguments (record { input = input; output = old; asked = asked }) (record { input = input; output = new; asked = asked }) r
-shown input asked arguments error old new (Ok done) h s =
-    inr (s.0, asks_for_help arguments error h s.1, record { unread = refl; unasked = refl; happens = s.2 })
+shown input asked arguments error old new (Ok told) h s =
+    inr ((s.1.0, asks_for_help arguments error h s.1.1, record { unread = refl; unasked = refl; happens = s.1.2 }), s.0)
 shown input asked arguments error old new (Err (Fault Write)) h s =
     inr (inl (s.0, asks_for_help arguments error h s.1, refl, record { unread = refl; unasked = refl; happens = s.2 }))
 shown input asked arguments error old new (Err (Fault Memory)) h s = inr (inr (refl, ap (with_output input asked) s))

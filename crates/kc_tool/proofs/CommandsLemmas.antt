@@ -19,6 +19,8 @@ use Rattle.kc_tool.specs.FileEvents.{FileEvent, created, not_created, opened, wr
 use Rattle.kc_tool.specs.NamedSources.{names_of, seen_of}
 use Rattle.kc_tool.specs.Files.{AreOf, AreOpened, FailsToOpen, FileRead, LacksFile, OpensAll, TellsName}
 use Rattle.kc_tool.specs.Files.{files_named, given_back, openings, output_of, returned, unread}
+use Rattle.kc_tool.specs.Commands.{DoesByTally, IsAboutTally, Stage}
+use Rattle.kc_tool.specs.Selections.{Told}
 use Rattle.kc_tool.specs.Commands.{Answers, Does, HasFilesFor, HasNoTallyFor, IsTallyFor, TellNoSum, TellNoTable, behind_list, given_of, most_table_bytes, sources_from, sources_in}
 use Rattle.kc_tool.specs.Commands.{AsksForTask, DoesTask, DoesTaskInto, EndsSo, IsRefused, IsRefusedOption, KeepsInput, LacksOutput}
 use Rattle.kc_tool.specs.Commands.{Surroundings, files_of, first_refused, stage_after}
@@ -26,7 +28,7 @@ use Rattle.kc_tool.specs.declared.named_sources.NamedSource.{NamedSource}
 use Rattle.kc_tool.specs.declared.tool_faults.ToolFault.{ToolFault}
 use Rattle.kc_tool.specs.declared.tool_faults.ToolFault.TheVariants.{Fastx, BadHeader, BadRow, BadEnd, TableTooLong, TableRead, Memory, BadOption, BadWord, Write, Run, OpenFailed, Unlike, TooLarge}
 use Rattle.kc_tool.specs.declared.commands.Task.{Task}
-use Rattle.kc_tool.specs.declared.commands.Task.TheVariants.{Count, CountListed, Report, Query, Merge}
+use Rattle.kc_tool.specs.declared.commands.Task.TheVariants.{Count, CountListed, Report, Query, Merge, Select}
 use Rattle.kc_tool.specs.declared.commands.Verb.{Verb}
 use Rattle.kc_tool.specs.declared.commands.Verb.TheVariants as verb
 use Rattle.kc_tool.proofs.FilesLemmas.{PairedTo, unread_back}
@@ -71,31 +73,43 @@ module _ (rows : List Row) where
   has_files verb.Count (Report report) sources asks are = absurd asks
   has_files verb.Count (Query words) sources asks are = absurd asks
   has_files verb.Count Merge sources asks are = absurd asks
+  has_files verb.Count (Select rule tells) sources asks are = absurd asks
   has_files verb.Dump (Count settings) sources asks are = absurd asks
   has_files verb.Dump (CountListed settings) sources asks are = absurd asks
   has_files verb.Dump (Report report) sources asks are = one_of (files_named rows) sources are
   has_files verb.Dump (Query words) sources asks are = absurd asks
   has_files verb.Dump Merge sources asks are = absurd asks
+  has_files verb.Dump (Select rule tells) sources asks are = absurd asks
   has_files verb.Histo (Count settings) sources asks are = absurd asks
   has_files verb.Histo (CountListed settings) sources asks are = absurd asks
   has_files verb.Histo (Report report) sources asks are = one_of (files_named rows) sources are
   has_files verb.Histo (Query words) sources asks are = absurd asks
   has_files verb.Histo Merge sources asks are = absurd asks
+  has_files verb.Histo (Select rule tells) sources asks are = absurd asks
   has_files verb.Stats (Count settings) sources asks are = absurd asks
   has_files verb.Stats (CountListed settings) sources asks are = absurd asks
   has_files verb.Stats (Report report) sources asks are = one_of (files_named rows) sources are
   has_files verb.Stats (Query words) sources asks are = absurd asks
   has_files verb.Stats Merge sources asks are = absurd asks
+  has_files verb.Stats (Select rule tells) sources asks are = absurd asks
   has_files verb.Query (Count settings) sources asks are = absurd asks
   has_files verb.Query (CountListed settings) sources asks are = absurd asks
   has_files verb.Query (Report report) sources asks are = absurd asks
   has_files verb.Query (Query words) sources asks are = one_of (files_named rows) sources are
   has_files verb.Query Merge sources asks are = absurd asks
+  has_files verb.Query (Select rule tells) sources asks are = absurd asks
   has_files verb.Merge (Count settings) sources asks are = absurd asks
   has_files verb.Merge (CountListed settings) sources asks are = absurd asks
   has_files verb.Merge (Report report) sources asks are = absurd asks
   has_files verb.Merge (Query words) sources asks are = absurd asks
   has_files verb.Merge Merge sources asks are = has_tables _ _ sources are
+  has_files verb.Merge (Select rule tells) sources asks are = absurd asks
+  has_files verb.Select (Count settings) sources asks are = absurd asks
+  has_files verb.Select (CountListed settings) sources asks are = absurd asks
+  has_files verb.Select (Report report) sources asks are = absurd asks
+  has_files verb.Select (Query words) sources asks are = absurd asks
+  has_files verb.Select Merge sources asks are = absurd asks
+  has_files verb.Select (Select rule tells) sources asks are = has_list _ (files_named rows) sources are
 
 -- No table is refused since a writer failed.
 no_write : (why : ReportFault) (source later : Seen) → RefusesTable source later most_table_bytes why → Write ≡ report_fault why → ⊥
@@ -151,11 +165,12 @@ read_before (CountListed settings) old new h = not_counted old new settings h
 read_before (Report report) old new h = told_table old.sources new.sources h
 read_before (Query words) old new h = told_table old.sources new.sources h
 read_before Merge old new h = told_sum old.sources new.sources h
+read_before (Select rule tells) old new h = h
 
 module _ (old new : Given) (task : Task) where
   -- Without a tally nothing is written.
   pub unanswered : (output : Written) (fault : ToolFault) → HasNoTallyFor old new task fault
-      → Does task (record { given = old; output = output }) (record { given = new; output = output }) (Err fault)
+      → DoesByTally task (record { given = old; output = output }) (record { given = new; output = output }) (Err fault)
   unanswered output Write h = absurd (read_before task old new h)
   unanswered output (Fastx number fault) h = (refl, inl h)
   unanswered output BadHeader h = (refl, inl h)
@@ -173,7 +188,7 @@ module _ (old new : Given) (task : Task) where
 
   -- The answer about the tally was written, or a beginning of it, or nothing.
   pub answered : (before after : Written) (table : TableSeen) (outcome : Result (Unit {0}) ToolFault) → IsTallyFor old new task table
-      → Answers task table before after outcome → Does task (record { given = old; output = before }) (record { given = new; output = after }) outcome
+      → Answers task table before after outcome → DoesByTally task (record { given = old; output = before }) (record { given = new; output = after }) outcome
   answered before after table (Ok done) is h = (h.0, (table, is, h.1), h.2)
   answered before after table (Err Write) is h = (h.0, (table, is, h.1), h.2)
   answered before after table (Err (Fastx number fault)) is h = (h.0, inr (table, is, h.1))
@@ -190,8 +205,28 @@ module _ (old new : Given) (task : Task) where
   answered before after table (Err Unlike) is h = (h.0, inr (table, is, h.1))
   answered before after table (Err TooLarge) is h = (h.0, inr (table, is, h.1))
 
+-- What a task does about a tally is what it does, where it is no selection, and it tells nothing.
+pub about_tally : (task : Task) (old new : Stage) → IsAboutTally task → DoesByTally task old new (Ok tt)
+    → Does task old new (Ok None)
+about_tally (Count settings) old new about done = (refl, done)
+about_tally (CountListed settings) old new about done = (refl, done)
+about_tally (Report report) old new about done = (refl, done)
+about_tally (Query words) old new about done = (refl, done)
+about_tally Merge old new about done = (refl, done)
+about_tally (Select rule tells) old new about done = absurd about
+
+-- So it is where there is a fault.
+pub about_no_tally : (task : Task) (old new : Stage) (fault : ToolFault) → IsAboutTally task
+    → DoesByTally task old new (Err fault) → Does task old new (Err fault)
+about_no_tally (Count settings) old new fault about done = done
+about_no_tally (CountListed settings) old new fault about done = done
+about_no_tally (Report report) old new fault about done = done
+about_no_tally (Query words) old new fault about done = done
+about_no_tally Merge old new fault about done = done
+about_no_tally (Select rule tells) old new fault about done = absurd about
+
 -- The files of a task were read, and are given back.
-pub task_done : {sources later : List (NamedSource Seen)} {task : Task} {old new : Surroundings} {outcome : Result (Unit {0}) ToolFault} (files : List FileRead)
+pub task_done : {sources later : List (NamedSource Seen)} {task : Task} {old new : Surroundings} {outcome : Result Told ToolFault} (files : List FileRead)
     → PairedTo sources later files → KeepsInput (sources_in task (seen_of (λ seen. seen) sources)) old.input new.input → new.asked ≡ old.asked ++ given_back later
     → Does task (record { given = given_of task old.input (seen_of (λ seen. seen) sources); output = old.output })
     (record { given = given_of task new.input (seen_of (λ seen. seen) later); output = new.output }) outcome
@@ -209,7 +244,7 @@ task_done {sources} {later} {task} {old} {new} {outcome} files paired kept log d
 
 module _ (command : Verb) (rows : List Row) where
   -- An option was refused, or there was no memory, before anything was asked of files.
-  pub option_left : {old : Surroundings} {outcome : Result (Unit {0}) ToolFault} (fault : ToolFault) → outcome ≡ Err fault → IsRefusedOption command rows fault
+  pub option_left : {old : Surroundings} {outcome : Result Told ToolFault} (fault : ToolFault) → outcome ≡ Err fault → IsRefusedOption command rows fault
       → EndsSo command rows old old outcome
   option_left {old} fault is refused = inr (record {
     fault = fault;
@@ -255,7 +290,7 @@ module _ (command : Verb) (rows : List Row) where
   told_so name asked TooLarge lawful lacks tells = absurd tells
 
   -- A file that is to be read can't be opened.
-  pub file_left : {old : Surroundings} {log : List FileEvent} {outcome : Result (Unit {0}) ToolFault} (fault : ToolFault) → outcome ≡ Err fault
+  pub file_left : {old : Surroundings} {log : List FileEvent} {outcome : Result Told ToolFault} (fault : ToolFault) → outcome ≡ Err fault
       → first_refused command rows ≡ None → FailsToOpen (files_of command rows) old.asked log fault
       → EndsSo command rows old (record { input = old.input; output = old.output; asked = log }) outcome
   file_left {old} {log} fault is lawful (inl fails) = inr (record {
@@ -288,7 +323,7 @@ module _ (command : Verb) (rows : List Row) where
       → (files : List FileRead) → AreOf sources files → mid ≡ asked ++ openings files
   opening_log {asked} opens files are = opens.log ∙ ap (λ v. asked ++ map opened v) (sym (are.named ∙ opens.named))
 
-  module _ (task : Task) {sources : List (NamedSource Seen)} {outcome : Result (Unit {0}) ToolFault} (asks : AsksForTask command rows task)
+  module _ (task : Task) {sources : List (NamedSource Seen)} {outcome : Result Told ToolFault} (asks : AsksForTask command rows task)
       {old : Surroundings} {mid : List FileEvent} (opens : OpensAll (files_of command rows) old.asked mid sources) where
     -- The output has the answer.
     pub to_output : {new : Surroundings} → output_of rows ≡ None → DoesTask sources task (record { input = old.input; output = old.output; asked = mid }) new outcome
@@ -393,7 +428,7 @@ module _ {S : Type 0} (seen : S → Seen) (input input_after : Seen) where
 
 -- A task was done with a file that was created for it.
 pub done_into : {sources : List (NamedSource Seen)} {task : Task} {input input_after : Seen} {asked mid back asked_after : List FileEvent} {name told : Text}
-    {before after : Written} {outcome : Result (Unit {0}) ToolFault} → mid ≡ asked ++ created name ∷ [] → before.history ≡ no_history → told ≡ name
+    {before after : Written} {outcome : Result Told ToolFault} → mid ≡ asked ++ created name ∷ [] → before.history ≡ no_history → told ≡ name
     → DoesTask sources task (record { input = input; output = before; asked = mid }) (record { input = input_after; output = after; asked = back }) outcome
     → asked_after ≡ back ++ wrote told after.history ∷ [] → DoesTaskInto name sources task input input_after asked asked_after outcome
 done_into {sources} {task} {input} {input_after} {asked} {mid} {back} {asked_after} {name} {told} {before} {after} {outcome} creates fresh same does gone =

@@ -7,6 +7,7 @@ pub mod InputsLemmas
 pub mod MergedReportsLemmas
 pub mod ReadCountLemmas
 pub mod ReportsLemmas
+pub mod SelectionsLemmas
 pub mod SourcesLemmas
 pub mod TablesLemmas
 pub mod TalliesLemmas

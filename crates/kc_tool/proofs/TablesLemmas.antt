@@ -1,5 +1,5 @@
 -- Two tables that are read one after the other, and files of which the first is a list.
-use Rattle.std.proofs.Common.{◌≡◌, ◌∙◌, ◌≤◌, ◌-◌, ◌++◌, ℕ, Bor, List, [], ◌∷◌, length, take, drop, slice_index_or, slice_set, refl, sym, ap, subst, arith, inl, inr, append-nil, take_all}
+use Rattle.std.proofs.Common.{Bool, ◌≡◌, ◌∙◌, ◌≤◌, ◌-◌, ◌++◌, ℕ, Bor, List, [], ◌∷◌, length, take, drop, slice_index_or, slice_set, refl, sym, ap, subst, arith, inl, inr, append-nil, take_all}
 use Rattle.std.proofs.lemmas.List.{drop_all}
 use borrow.Rule.Slice.PartMut.{mid_of, put_mid}
 use Rattle.std.specs.Prelude.{Err, Option, Some, None, option_map}
@@ -9,9 +9,12 @@ use Rattle.kc_io.specs.Sources.{Seen}
 use Rattle.kc_report.specs.Merging.{Merges}
 use Rattle.kc_report.specs.TableReading.{GivesTable}
 use Rattle.kc_report.specs.declared.report_faults.ReportFault.{ReportFault}
+use Rattle.kc_io.specs.Sinks.{Written}
+use Rattle.kc_select.specs.Solid.{SelectionRule}
+use Rattle.kc_tool.specs.Commands.{KeepsInput, SelectsBy}
 use Rattle.kc_tool.specs.Commands.{TellNoSum, TellsNoTable, given_listed, most_table_bytes, sources_from}
 use Rattle.kc_tool.specs.Faults.{report_fault}
-use Rattle.kc_tool.specs.NamedSources.{seen_of}
+use Rattle.kc_tool.specs.NamedSources.{names_of, seen_of}
 use Rattle.kc_tool.specs.Tallies.{Given, TableSeen, given}
 use Rattle.kc_tool.specs.declared.named_sources.NamedSource.{NamedSource}
 use Rattle.kc_tool.specs.declared.tool_faults.ToolFault.{ToolFault}
@@ -53,6 +56,26 @@ module _ {S : Type 0} (seen : S → Seen) where
   not_added (a ∷ b ∷ []) two d later e other_later table other told other_told why h =
       inr (inr (table, other, record { told = told; other_told = other_told }, (why, h, refl)))
   not_added (a ∷ b ∷ c ∷ files) two d later e other_later table other told other_told why h = absurd (omega (arith, two))
+
+  -- The table of a selection is the first file. It told none, and the others are as they were.
+  pub untold : (input : Seen) (files : List (NamedSource S)) → 1 ≤ length files → (d : NamedSource S) (later : S)
+      (rule : SelectionRule) (tells : Bool) (output : Written) (fault : ToolFault)
+      → TellsNoTable (seen (slice_index_or files 0 d).source) (seen later) fault
+      → SelectsBy rule tells (record { given = given_listed input (seen_of seen files); output = output })
+      (record { given = given_listed input (seen_of seen (moved files 0 d later)); output = output }) (Err fault)
+  untold input [] some d later rule tells output fault h = absurd (omega (arith, some))
+  untold input (f ∷ fs) some d later rule tells output fault h = inr (fault, refl, h, refl, refl)
+
+  -- The files have their names.
+  pub first_named : (files : List (NamedSource S)) (d : NamedSource S) (later : S)
+      → names_of (moved files 0 d later) ≡ names_of files
+  first_named [] d later = refl
+  first_named (f ∷ fs) d later = refl
+
+  -- The given input is as it was.
+  pub same_input : (input : Seen) (sources : List Seen) → KeepsInput sources input input
+  same_input input [] = tt
+  same_input input (source ∷ sources) = refl
 
   -- Of files the first was read as a list, and then the others as sources.
   pub listed_done : (input input_after : Seen) (files : List (NamedSource S)) → 1 ≤ length files → (d : NamedSource S) (later : S) (rest : List (NamedSource S))

@@ -1,5 +1,5 @@
 -- How the program ends, for each command line: source, the README ("The exit status") and our formats page.
-use Rattle.std.specs.Prelude.{◌≡◌, ◌≢◌, ◌⊎◌, ℕ, List, [], Some, Result, Ok, Err}
+use Rattle.std.specs.Prelude.{◌≡◌, ◌≢◌, ◌⊎◌, ℕ, List, [], None, Some, Result, Ok, Err}
 use Rattle.clap.specs.Faults.{fault_of}
 use Rattle.clap.specs.Kinds.{IsAmong}
 use Rattle.clap.specs.Words.{Row, Text, kind_of, subcommand_of, subcommand_rows_of}
@@ -11,6 +11,7 @@ use Rattle.kc_io.specs.Sinks.{Written, HasWritten, HasBegun}
 use Rattle.kc_command.specs.Command.{kcount_app}
 use Rattle.kc_tool.specs.FaultLines.{fault_line}
 use Rattle.kc_tool.specs.Commands.{EndsSo, Surroundings, name_of}
+use Rattle.kc_tool.specs.Selections.{Told, counts_line}
 use Rattle.kc_tool.specs.declared.commands.Verb.{Verb}
 use Rattle.kc_tool.specs.declared.tool_faults.ToolFault.{ToolFault}
 use Rattle.kc_tool.specs.declared.tool_faults.ToolFault.TheVariants.{Memory, BadOption, Write}
@@ -47,7 +48,7 @@ pub record AreTaken (arguments : List Text) (matches : ArgMatches) : Type 0 wher
   pub entered : subcommand_rows_of matches ≡ Some (name_of command, options)
 
 -- the arguments ask for a command, and this is what comes of it
-abbrev pub DoesCommand : List Text → Surroundings → Surroundings → Result (Unit {0}) ToolFault → Type 0
+abbrev pub DoesCommand : List Text → Surroundings → Surroundings → Result Told ToolFault → Type 0
 DoesCommand arguments old new outcome = (command : Verb) × (options : List Row)
     × AskFor arguments command options × EndsSo command options old new outcome
 
@@ -80,10 +81,10 @@ FailsSo arguments old new fault = DoesCommand arguments old new (Err fault)
 abbrev pub IsHelp : Error → Type 0
 IsHelp error = (kind_of error ≡ DisplayHelp) ⊎ (kind_of error ≡ DisplayVersion)
 
--- what is done with an answer of `clap`: help and the version were written, or a beginning where writing failed; any
--- other refuses the arguments, and nothing was written
-abbrev pub ShowsSo : Error → Written → Written → Result (Unit {0}) Ending → Type 0
-ShowsSo error old new (Ok done) = (text : List ℕ) × IsHelp error × HasWritten old new text
+-- what is done with an answer of `clap`: help and the version were written, and nothing is told, or a beginning where
+-- writing failed; any other refuses the arguments, and nothing was written
+abbrev pub ShowsSo : Error → Written → Written → Result Told Ending → Type 0
+ShowsSo error old new (Ok told) = (told ≡ None) × ((text : List ℕ) × IsHelp error × HasWritten old new text)
 ShowsSo error old new (Err (Fault Write)) = (text : List ℕ) × IsHelp error × HasBegun old new text
 ShowsSo error old new (Err (Fault Memory)) = new ≡ old
 ShowsSo error old new (Err (Fault fault)) = ⊥
@@ -92,8 +93,9 @@ ShowsSo error old new (Err (Refused text)) = (new ≡ old) × (kind_of error ≢
 
 -- what is done with the arguments: the command or the help; or there was a fault; or they are refused, and nothing was
 -- read, written or asked of files
-abbrev pub CarriesOut : List Text → Surroundings → Surroundings → Result (Unit {0}) Ending → Type 0
-CarriesOut arguments old new (Ok done) = DoesCommand arguments old new (Ok done) ⊎ ShowsHelp arguments old new
+abbrev pub CarriesOut : List Text → Surroundings → Surroundings → Result Told Ending → Type 0
+CarriesOut arguments old new (Ok told) =
+    DoesCommand arguments old new (Ok told) ⊎ (ShowsHelp arguments old new × (told ≡ None))
 CarriesOut arguments old new (Err (Fault fault)) = FailsSo arguments old new fault
 CarriesOut arguments old new (Err (Refused text)) = AreRefused arguments × (new ≡ old)
 
@@ -101,10 +103,16 @@ CarriesOut arguments old new (Err (Refused text)) = AreRefused arguments × (new
 abbrev pub IsTold : Written → Written → List ℕ → Type 0
 IsTold old new text = HasWritten old new text ⊎ HasBegun old new text
 
--- status 0: the command or the help was carried out, and nothing was written to the errors
+-- what a command tells went to the errors; where it tells nothing, they are as they were
+abbrev pub IsToldOf : Told → Written → Written → Type 0
+IsToldOf None errors errors_after = errors_after ≡ errors
+IsToldOf (Some counts) errors errors_after = IsTold errors errors_after (counts_line counts)
+
+-- status 0: the command or the help was carried out, and to the errors went what it tells
 pub record EndsWell (arguments : List Text) (old new : Surroundings) (errors errors_after : Written) : Type 0 where
-  pub done : DoesCommand arguments old new (Ok tt) ⊎ ShowsHelp arguments old new
-  pub silent : errors_after ≡ errors
+  pub tells : Told
+  pub done : DoesCommand arguments old new (Ok tells) ⊎ (ShowsHelp arguments old new × (tells ≡ None))
+  pub told : IsToldOf tells errors errors_after
 
 -- a fault with this status, whose line went to the errors
 pub record EndsInFault (arguments : List Text) (old new : Surroundings) (errors errors_after : Written) (status : ℕ)

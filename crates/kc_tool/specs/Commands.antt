@@ -1,9 +1,9 @@
 -- What a command comes to: its task, its sources, and what is written.
 -- Source: the README ("The commands") and our formats page.
-use Rattle.std.specs.Prelude.{◌≡◌, ◌⊎◌, ◌^◌, ◌≤◌, ℕ, List, [], ◌∷◌, ◌++◌, Option, Some, None, All, map, length, take, drop}
+use Rattle.std.specs.Prelude.{◌≡◌, ◌⊎◌, ◌^◌, ◌≤◌, ℕ, Bool, List, [], ◌∷◌, ◌++◌, Option, Some, None, All, map, length, take, drop}
 use Rattle.std.specs.Prelude.{Result, Ok, Err, if◌then◌else◌, codes, string_bytes, unwrap_or, ⊤}
 use Rattle.std.specs.Str.{bytes_eq}
-use Rattle.clap.specs.Words.{Row, Text}
+use Rattle.clap.specs.Words.{Row, Text, first_of}
 use Rattle.kc_io.specs.Sinks.{Written, HasWritten, HasBegun}
 use Rattle.kc_io.specs.Sources.{Seen}
 use Rattle.kc_report.specs.declared.report_faults.ReportFault.{ReportFault}
@@ -12,7 +12,10 @@ use Rattle.kc_report.specs.Table.{table_text}
 use Rattle.kc_report.specs.TableReading.{GivesTable, RefusesTable}
 use Rattle.kc_report.specs.Merging.{Merges}
 use Rattle.kc_command.specs.Arguments.{AsksFor, AsksForDump, first_bad, first_bad_of_dump, first_bad_of_histo, high_of}
-use Rattle.kc_command.specs.Arguments.{first_table_of, only_of, second_table_of}
+use Rattle.kc_command.specs.Arguments.{first_table_of, only_of, second_table_of, AsksForSelection, IsFlag, first_bad_of_select}
+use Rattle.kc_select.specs.Solid.{SelectionRule}
+use Rattle.kc_select.specs.declared.selection_counts.SelectionCounts.{SelectionCounts}
+use Rattle.kc_tool.specs.Selections.{SelectsFrom, Told}
 use Rattle.kc_command.specs.declared.option_name.OptionName.{OptionName}
 use Rattle.kc_command.specs.declared.settings.Print.TheVariants as print
 use Rattle.kc_tool.specs.Faults.{report_fault}
@@ -26,7 +29,7 @@ use Rattle.kc_tool.specs.Tallies.{Counts, Given, RefusesCount, TableSeen, given}
 use Rattle.kc_tool.specs.declared.tool_faults.ToolFault.{ToolFault}
 use Rattle.kc_tool.specs.declared.tool_faults.ToolFault.TheVariants.{Memory, BadOption, BadWord, OpenFailed, Write}
 use Rattle.kc_tool.specs.declared.commands.Task.{Task}
-use Rattle.kc_tool.specs.declared.commands.Task.TheVariants.{Count, CountListed, Report, Query, Merge}
+use Rattle.kc_tool.specs.declared.commands.Task.TheVariants.{Count, CountListed, Report, Query, Merge, Select}
 use Rattle.kc_tool.specs.declared.commands.Verb.{Verb}
 use Rattle.kc_tool.specs.declared.commands.Verb.TheVariants as verb
 
@@ -48,6 +51,15 @@ TellsNoTable old new fault =
 abbrev pub TellNoTable : List Seen → List Seen → ToolFault → Type 0
 TellNoTable (old ∷ []) (new ∷ []) fault = TellsNoTable old new fault
 TellNoTable old new fault = ⊥
+
+-- the source of a table told this one, or none, for this reason
+abbrev pub TellsTableOf : Option Seen → Option Seen → TableSeen → Type 0
+TellsTableOf (Some old) (Some new) table = GivesTable old new most_table_bytes table
+TellsTableOf old new table = ⊥
+
+abbrev pub TellsNoTableOf : Option Seen → Option Seen → ToolFault → Type 0
+TellsNoTableOf (Some old) (Some new) fault = TellsNoTable old new fault
+TellsNoTableOf old new fault = ⊥
 
 -- two sources gave the table texts of these tallies
 pub record TellTables (first second first_after second_after : Seen) (table other : TableSeen) : Type 0 where
@@ -77,12 +89,14 @@ abbrev pub sources_from : Seen → List Seen → List Seen
 sources_from input [] = input ∷ []
 sources_from input (file ∷ files) = file ∷ files
 
--- of the files of a task the first is its list, where it has one, and the others are sources
+-- of the files of a task the first is its list, or its table, where it has one beside its sources, and the others are
+-- sources
 abbrev pub sources_in : Task → List Seen → List Seen
 sources_in (CountListed settings) files = drop 1 files
+sources_in (Select rule tells) files = drop 1 files
 sources_in task files = files
 
--- what a count with a list is given: the first file is its list
+-- what a count with a list is given, or a selection: the first file is the list, or the table
 abbrev pub given_listed : Seen → List Seen → Given
 given_listed input [] = given None (input ∷ [])
 given_listed input (list ∷ files) = given (Some list) (sources_from input files)
@@ -90,6 +104,7 @@ given_listed input (list ∷ files) = given (Some list) (sources_from input file
 -- what a task is given
 abbrev pub given_of : Task → Seen → List Seen → Given
 given_of (CountListed settings) input files = given_listed input files
+given_of (Select rule tells) input files = given_listed input files
 given_of task input files = given None (sources_from input files)
 
 -- where there are files, the given input is as it was
@@ -102,14 +117,15 @@ abbrev pub HasWritableReport : Task → Type 0
 HasWritableReport (Report report) = IsWritable report
 HasWritableReport task = ⊤
 
--- a task has files: a list where it is to have one, at most one source where it is about a table, and two tables for
--- their sum
+-- a task has files: a list where it is to have one, a table for a selection, at most one source where it is about a
+-- table, and two tables for their sum
 abbrev pub HasFilesFor : Task → List Seen → Type 0
 HasFilesFor (Count settings) files = ⊤
 HasFilesFor (CountListed settings) files = 1 ≤ length files
 HasFilesFor (Report report) files = length files ≤ 1
 HasFilesFor (Query words) files = length files ≤ 1
 HasFilesFor Merge files = length files ≡ 2
+HasFilesFor (Select rule tells) files = 1 ≤ length files
 
 -- the tally that a task is about, and its origin where that is told: of the reads that were given, of the table that
 -- its source told, or of the two that were told together
@@ -119,6 +135,7 @@ IsTallyFor old new (CountListed settings) table = Counts old new settings table
 IsTallyFor old new (Report report) table = TellOneTable old.sources new.sources table
 IsTallyFor old new (Query words) table = TellOneTable old.sources new.sources table
 IsTallyFor old new Merge table = TellSum old.sources new.sources table
+IsTallyFor old new (Select rule tells) table = ⊥
 
 -- why there is no tally for a task; of want of memory outside the readers of reads nothing is said
 abbrev pub HasNoTallyFor : Given → Given → Task → ToolFault → Type 0
@@ -127,6 +144,7 @@ HasNoTallyFor old new (CountListed settings) fault = RefusesCount old new settin
 HasNoTallyFor old new (Report report) fault = TellNoTable old.sources new.sources fault
 HasNoTallyFor old new (Query words) fault = TellNoTable old.sources new.sources fault
 HasNoTallyFor old new Merge fault = TellNoSum old.sources new.sources fault
+HasNoTallyFor old new (Select rule tells) fault = ⊥
 
 -- the text is what a task writes about a tally
 abbrev pub IsAnswer : Task → TableSeen → List ℕ → Type 0
@@ -136,6 +154,7 @@ IsAnswer (Report report) table text = text ≡ report_text report table
 IsAnswer (Query words) table text = All (IsAskable table.0.k) (map string_bytes words.items)
     × (text ≡ query_text table.0 (map string_bytes words.items))
 IsAnswer Merge table text = text ≡ table_text table.0 table.1
+IsAnswer (Select rule tells) table text = ⊥
 
 -- why a task has no answer about a tally; of want of memory for a report nothing is said
 abbrev pub HasNoAnswer : Task → TableSeen → ToolFault → Type 0
@@ -173,13 +192,39 @@ abbrev pub HasFaultFor : Given → Given → Task → ToolFault → Type 0
 HasFaultFor old new task fault = HasNoTallyFor old new task fault
     ⊎ ((table : TableSeen) × IsTallyFor old new task table × HasNoAnswer task table fault)
 
--- what a task does: its text was written; or a beginning of it, where writing failed; or nothing
-abbrev pub Does : Task → Stage → Stage → Result (Unit {0}) ToolFault → Type 0
-Does task old new (Ok done) =
+-- what is told of a selection, where it is asked to tell it
+abbrev pub told_of : Bool → Result SelectionCounts ToolFault → Result Told ToolFault
+told_of tells (Ok counts) = Ok (if tells then Some counts else None)
+told_of tells (Err fault) = Err fault
+
+-- what a selection does: the source of its table told one, and by it the reads of the sources were selected; or it told
+-- none, and nothing was read or written
+abbrev pub SelectsBy : SelectionRule → Bool → Stage → Stage → Result Told ToolFault → Type 0
+SelectsBy rule tells old new outcome =
+    ((table : TableSeen) × TellsTableOf old.given.list new.given.list table
+    × ((selected : Result SelectionCounts ToolFault) × (outcome ≡ told_of tells selected)
+    × SelectsFrom rule table.0 old.given.sources new.given.sources old.output new.output selected))
+    ⊎ ((fault : ToolFault) × (outcome ≡ Err fault) × TellsNoTableOf old.given.list new.given.list fault
+    × (new.given.sources ≡ old.given.sources) × (new.output ≡ old.output))
+
+-- what a task does about a tally: its text was written; or a beginning of it, where writing failed; or nothing
+abbrev pub DoesByTally : Task → Stage → Stage → Result (Unit {0}) ToolFault → Type 0
+DoesByTally task old new (Ok done) =
     (text : List ℕ) × IsTextFor old.given new.given task text × HasWritten old.output new.output text
-Does task old new (Err Write) =
+DoesByTally task old new (Err Write) =
     (text : List ℕ) × IsTextFor old.given new.given task text × HasBegun old.output new.output text
-Does task old new (Err fault) = (new.output ≡ old.output) × HasFaultFor old.given new.given task fault
+DoesByTally task old new (Err fault) = (new.output ≡ old.output) × HasFaultFor old.given new.given task fault
+
+-- a task other than a selection is about a tally
+abbrev pub IsAboutTally : Task → Type 0
+IsAboutTally (Select rule tells) = ⊥
+IsAboutTally task = ⊤
+
+-- what a task does, and what it tells: nothing, but for a selection
+abbrev pub Does : Task → Stage → Stage → Result Told ToolFault → Type 0
+Does (Select rule tells) old new outcome = SelectsBy rule tells old new outcome
+Does task old new (Ok told) = (told ≡ None) × DoesByTally task old new (Ok tt)
+Does task old new (Err fault) = DoesByTally task old new (Err fault)
 
 -- the name of a command
 abbrev pub name_of : Verb → Text
@@ -189,6 +234,7 @@ name_of verb.Histo = codes "histo"
 name_of verb.Stats = codes "stats"
 name_of verb.Query = codes "query"
 name_of verb.Merge = codes "merge"
+name_of verb.Select = codes "select"
 
 -- the command of a name
 abbrev pub verb_named : Text → Option Verb
@@ -198,6 +244,7 @@ verb_named name = if bytes_eq name (name_of verb.Count) then Some verb.Count
     else if bytes_eq name (name_of verb.Stats) then Some verb.Stats
     else if bytes_eq name (name_of verb.Query) then Some verb.Query
     else if bytes_eq name (name_of verb.Merge) then Some verb.Merge
+    else if bytes_eq name (name_of verb.Select) then Some verb.Select
     else None
 
 -- a command with these options asks for this task
@@ -210,6 +257,7 @@ AsksForTask verb.Histo rows (Report report) = (report.print ≡ print.Histo) × 
 AsksForTask verb.Stats rows (Report report) = report.print ≡ print.Stats
 AsksForTask verb.Query rows (Query words) = map string_bytes words.items ≡ words_asked rows
 AsksForTask verb.Merge rows Merge = ⊤
+AsksForTask verb.Select rows (Select rule tells) = AsksForSelection rows rule × IsFlag rows (codes "stats") tells
 AsksForTask verb rows task = ⊥
 
 -- the first option of a command whose value is outside its limits
@@ -217,6 +265,7 @@ abbrev pub first_refused : Verb → List Row → Option OptionName
 first_refused verb.Count rows = first_bad rows
 first_refused verb.Dump rows = first_bad_of_dump rows
 first_refused verb.Histo rows = first_bad_of_histo rows
+first_refused verb.Select rows = first_bad_of_select rows
 first_refused verb rows = None
 
 -- the list of a count in front of its files, where one is named
@@ -224,10 +273,12 @@ abbrev pub behind_list : Option Text → List Text → List Text
 behind_list None names = names
 behind_list (Some list) names = list ∷ names
 
--- the files that a command reads, in order: a count its list and all that are named, a sum its two tables, any other the
--- first that is named. A table that a sum lacks, which `clap` lets none, has an empty name
+-- the files that a command reads, in order: a count its list and all that are named, a selection its table and all that
+-- are named, a sum its two tables, any other the first that is named. A table that a selection or a sum lacks, which
+-- `clap` lets none, has an empty name
 abbrev pub files_of : Verb → List Row → List Text
 files_of verb.Count rows = behind_list (only_of rows) (files_named rows)
+files_of verb.Select rows = unwrap_or (first_of (codes "table") rows) [] ∷ files_named rows
 files_of verb.Merge rows = unwrap_or (first_table_of rows) [] ∷ unwrap_or (second_table_of rows) [] ∷ []
 files_of verb rows = take 1 (files_named rows)
 
@@ -239,7 +290,7 @@ pub record Surroundings : Type 0 where
 
 -- a task is done with sources that were opened, and they are given back
 pub record DoesTask (sources : List (NamedSource Seen)) (task : Task) (old new : Surroundings)
-    (outcome : Result (Unit {0}) ToolFault) : Type 0 where
+    (outcome : Result Told ToolFault) : Type 0 where
   pub files : List FileRead
   pub are : AreOf sources files
   pub input : KeepsInput (sources_in task (map (λ file. file.before) files)) old.input new.input
@@ -248,7 +299,7 @@ pub record DoesTask (sources : List (NamedSource Seen)) (task : Task) (old new :
 
 -- the same, and it writes to a file of this name, which is created before and given back too
 pub record DoesTaskInto (name : Text) (sources : List (NamedSource Seen)) (task : Task) (input input_after : Seen)
-    (asked asked_after : List FileEvent) (outcome : Result (Unit {0}) ToolFault) : Type 0 where
+    (asked asked_after : List FileEvent) (outcome : Result Told ToolFault) : Type 0 where
   pub files : List FileRead
   pub are : AreOf sources files
   pub input_kept : KeepsInput (sources_in task (map (λ file. file.before) files)) input input_after
@@ -259,7 +310,7 @@ pub record DoesTaskInto (name : Text) (sources : List (NamedSource Seen)) (task 
 
 -- the file of this name can't be created, which is told, and the sources are given back as they were
 pub record LacksOutput (name : Text) (sources : List (NamedSource Seen)) (input input_after : Seen)
-    (asked asked_after : List FileEvent) (outcome : Result (Unit {0}) ToolFault) : Type 0 where
+    (asked asked_after : List FileEvent) (outcome : Result Told ToolFault) : Type 0 where
   pub fault : ToolFault
   pub is : outcome ≡ Err fault
   pub told : TellsName name fault
@@ -269,7 +320,7 @@ pub record LacksOutput (name : Text) (sources : List (NamedSource Seen)) (input 
 -- a task is done with these files, which were opened for it, or with the given input where there are none. It writes to
 -- the given output; or, where a file is named for the output, to that file, which was created behind the opening, and
 -- the given output is as it was. That is all that is asked of files
-abbrev pub DoesWith : Option Text → Task → Surroundings → Surroundings → List FileRead → Result (Unit {0}) ToolFault
+abbrev pub DoesWith : Option Text → Task → Surroundings → Surroundings → List FileRead → Result Told ToolFault
     → Type 0
 DoesWith None task old new files outcome = (new.asked ≡ old.asked ++ log_without_output files)
     × Does task (stage_before task old.input files old.output) (stage_after task new.input files new.output) outcome
@@ -279,7 +330,7 @@ DoesWith (Some name) task old new files outcome = (new.output ≡ old.output)
 
 -- a command comes to its task, with its files, and this is the outcome
 pub record ComesToTask (command : Verb) (rows : List Row) (old new : Surroundings)
-    (outcome : Result (Unit {0}) ToolFault) : Type 0 where
+    (outcome : Result Told ToolFault) : Type 0 where
   pub task : Task
   pub asks : AsksForTask command rows task
   pub files : List FileRead
@@ -305,7 +356,7 @@ IsRefused command rows asked fault = ⊥
 
 -- a command does not come to its task: nothing was read, and nothing written
 pub record IsLeft (command : Verb) (rows : List Row) (old new : Surroundings)
-    (outcome : Result (Unit {0}) ToolFault) : Type 0 where
+    (outcome : Result Told ToolFault) : Type 0 where
   pub fault : ToolFault
   pub is : outcome ≡ Err fault
   pub unread : new.input ≡ old.input
@@ -315,6 +366,6 @@ pub record IsLeft (command : Verb) (rows : List Row) (old new : Surroundings)
   pub refused : IsRefused command rows asked fault
 
 -- what a command does
-abbrev pub EndsSo : Verb → List Row → Surroundings → Surroundings → Result (Unit {0}) ToolFault → Type 0
+abbrev pub EndsSo : Verb → List Row → Surroundings → Surroundings → Result Told ToolFault → Type 0
 EndsSo command rows old new outcome =
     ComesToTask command rows old new outcome ⊎ IsLeft command rows old new outcome

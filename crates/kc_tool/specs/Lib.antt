@@ -9,4 +9,5 @@ pub mod NamedSources
 pub mod Process
 pub mod Progress
 pub mod Reports
+pub mod Selections
 pub mod Tallies

@@ -15,6 +15,7 @@ ghost use Rattle.kc_tool.specs.declared.command_line.Ending.TheVariants.{Fault};
 
 use crate::commands::{run_command, verb_named};
 use crate::count_progress::Progress;
+use crate::counts_line::write_counts;
 use crate::fault_lines::write_fault;
 use crate::files::NamedFiles;
 use crate::tool_faults::ToolFault;
@@ -22,6 +23,7 @@ use clap::ArgMatches;
 use clap::error::ErrorKind;
 use kc_command::command::command;
 use kc_io::{Failed, Sink, Source, write_out};
+use kc_select::SelectionCounts;
 use std::alloc::{AllocError, AllocFailed, Global};
 use std::rt::Files;
 use std::sync::Wait;
@@ -39,7 +41,8 @@ pub(crate) const REFUSED: u8 = 2;
 /// or the line of a fault is written.
 ///
 /// Status 0: the output, or the file that the arguments name for it, has what the arguments ask for: a report, the
-/// answer to a query, help or the version. Status 1: the line of a fault went to the errors, and the output is as it
+/// answer to a query, selected reads, help or the version; and a selection's counts went to the errors, where they are
+/// asked for. Status 1: the line of a fault went to the errors, and the output is as it
 /// was, or has a beginning of the answer where writing failed. Status 2: the output is as it was, and why the arguments
 /// are refused went to the errors. The input is read where a command reads no file, and else it is as it was; and
 /// nothing is asked of files but what the command asks for.
@@ -59,7 +62,11 @@ pub fn run<H: Threads + Wait + Sync, S: Files, R: Source, W: Sink, E: Sink, P: P
         (E.seen errors.old) (E.seen errors.new) result }
 {
     match run_arguments(rt, alloc, arguments, files, input, output, progress) {
-        Ok(()) => DONE,
+        Ok(None) => DONE,
+        Ok(Some(counts)) => {
+            let _ = write_counts(errors, &counts);
+            DONE
+        }
         Err(Ending::Fault(fault)) => {
             let _ = write_fault(errors, &fault);
             status_of(&fault)
@@ -114,7 +121,8 @@ fn status_of(fault: &ToolFault) -> u8
     }
 }
 
-// Reads the command line and runs the command that it names, or shows the help or the version that it asks for.
+// Reads the command line and runs the command that it names, or shows the help or the version that it asks for. It
+// answers what the command tells.
 fn run_arguments<H: Threads + Wait + Sync, S: Files, R: Source, W: Sink, P: Progress + Sync>(
     rt: &H,
     alloc: Global,
@@ -123,7 +131,7 @@ fn run_arguments<H: Threads + Wait + Sync, S: Files, R: Source, W: Sink, P: Prog
     input: &mut R,
     output: &mut W,
     progress: &P,
-) -> Result<(), Ending>
+) -> Result<Option<SelectionCounts>, Ending>
     ensures { CarriesOut (map string_bytes arguments.now)
         (record { input = R.seen input.old; output = W.seen output.old; asked = files.old })
         (record { input = R.seen input.new; output = W.seen output.new; asked = files.new })
@@ -151,8 +159,12 @@ fn parsed<'a>(alloc: Global, arguments: &'a [String]) -> Result<ArgMatches<'a>, 
     command(alloc)?.try_get_matches_from(arguments)
 }
 
-// Help and the version go to the output. Any other text refuses the command line.
-fn show<W: Sink>(alloc: Global, error: &clap::Error, output: &mut W) -> Result<(), Ending>
+// Help and the version go to the output, and nothing is told. Any other text refuses the command line.
+fn show<W: Sink>(
+    alloc: Global,
+    error: &clap::Error,
+    output: &mut W,
+) -> Result<Option<SelectionCounts>, Ending>
     ensures { ShowsSo error.now (W.seen output.old) (W.seen output.new) result }
 {
     if error.kind() == ErrorKind::OutOfMemory {
@@ -163,5 +175,5 @@ fn show<W: Sink>(alloc: Global, error: &clap::Error, output: &mut W) -> Result<(
         return Err(Ending::Refused(text));
     }
     write_out(output, text.as_bytes())?;
-    Ok(())
+    Ok(None)
 }

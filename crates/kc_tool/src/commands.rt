@@ -1,21 +1,25 @@
 //! The commands: what a command is to do, the files that it reads, and what it writes.
-ghost use Rattle.std.specs.Prelude.{◌≡◌, ◌⊎◌, [], ◌∷◌, IfErr, IfOk, None, map, string_bytes, unwrap_or};
+ghost use Rattle.std.specs.Prelude.{◌≡◌, ◌≤◌, ◌⊎◌, [], ◌∷◌, drop, length, IfErr, IfOk, None, map, string_bytes, unwrap_or};
 ghost use Rattle.clap.specs.Words.{all_of, found_of, rows_of};
 ghost use Rattle.kc_tool.specs.NamedSources.{names_of, seen_of};
 ghost use Rattle.kc_tool.specs.Commands.{
   Answers,
   AsksForTask,
   Does,
+  DoesByTally,
   DoesTask,
   DoesTaskInto,
   EndsSo,
   HasFilesFor,
   HasWritableReport,
+  IsAboutTally,
   IsRefusedOption,
   KeepsInput,
   LacksOutput,
+  SelectsBy,
   files_of,
   first_refused,
+  given_listed,
   given_of,
   sources_in,
   verb_named,
@@ -24,16 +28,18 @@ ghost use Rattle.kc_report.specs.Table.{MaySay};
 
 use crate::count_progress::Progress;
 use crate::files::{FileSource, NamedFiles, open_failed, open_files, take_sources};
-use crate::given_options::{dump_options, high_of, options};
+use crate::given_options::{dump_options, high_of, options, select_options};
 use crate::named_sources::NamedSource;
 use crate::reports::{Report, report_of, write_report};
-use crate::task_tallies::tally_for;
+use crate::selected_sources::select_files;
+use crate::task_tallies::{table_from, tally_for};
 use crate::tool_faults::ToolFault;
 use clap::ArgMatches;
-use kc_command::command::{COUNT, DUMP, HISTO, MERGE, QUERY, STATS};
-use kc_command::{Options, Print, text_of};
+use kc_command::command::{COUNT, DUMP, HISTO, MERGE, QUERY, SELECT, STATS};
+use kc_command::{Options, Print, has_flag, text_of};
 use kc_io::{Sink, Source};
 use kc_report::{Dump, Origin, query, write_table};
+use kc_select::{Selection, SelectionCounts};
 use kc_tally::Tally;
 use std::alloc::{AllocError, Global};
 use std::rt::Files;
@@ -58,6 +64,8 @@ pub(crate) enum Verb {
     Query,
     /// Writes the sum of two tables.
     Merge,
+    /// Writes the reads that a table selects.
+    Select,
 }
 
 /// The command of this name.
@@ -71,6 +79,7 @@ pub(crate) fn verb_named(name: &str) -> Option<Verb>
         STATS => Some(Verb::Stats),
         QUERY => Some(Verb::Query),
         MERGE => Some(Verb::Merge),
+        SELECT => Some(Verb::Select),
         _ => None,
     }
 }
@@ -88,11 +97,14 @@ pub(crate) enum Task {
     Query(Vec<String>),
     /// To read two tables, and write the table of both together.
     Merge,
+    /// To read a table, which is the first file, and write the reads of the others that it selects, and whether to tell
+    /// what was counted of the reads.
+    Select(Selection, bool),
 }
 
 /// Runs a command with its options: opens its files, takes the tally that it is about, and writes its answer. Files are
 /// opened in order before anything is read, the file for the output is created, or emptied, behind them, and at the end
-/// all are given back. How far a count has come is told.
+/// all are given back. How far a count has come is told. It answers what is to be told of a selection.
 ///
 /// # Errors
 /// `BadOption` with the first option whose value is outside its limits, before any file is asked for. `OpenFailed` with
@@ -114,7 +126,7 @@ pub(crate) fn run_command<
     input: &mut R,
     output: &mut W,
     progress: &P,
-) -> Result<(), ToolFault>
+) -> Result<Option<SelectionCounts>, ToolFault>
     ensures { EndsSo verb (rows_of (found_of matches.now))
         (record { input = R.seen input.old; output = W.seen output.old; asked = files.old })
         (record { input = R.seen input.new; output = W.seen output.new; asked = files.new }) result }
@@ -139,7 +151,7 @@ fn do_task<H: Threads + Wait + Sync, S: Files, R: Source, W: Sink, P: Progress +
     input: &mut R,
     output: &mut W,
     progress: &P,
-) -> Result<(), ToolFault>
+) -> Result<Option<SelectionCounts>, ToolFault>
     requires files { HasFilesFor task.now (seen_of (λ s. s) sources.items) }
     requires writable { HasWritableReport task.now }
     ensures { DoesTask sources.entry.items task.now
@@ -162,7 +174,7 @@ fn do_task_into<H: Threads + Wait + Sync, S: Files, R: Source, P: Progress + Syn
     input: &mut R,
     name: &str,
     progress: &P,
-) -> Result<(), ToolFault>
+) -> Result<Option<SelectionCounts>, ToolFault>
     requires files { HasFilesFor task.now (seen_of (λ s. s) sources.items) }
     requires writable { HasWritableReport task.now }
     ensures { DoesTaskInto name.now sources.entry.items task.now (R.seen input.old) (R.seen input.new) files.old files.new result
@@ -186,8 +198,39 @@ fn do_task_into<H: Threads + Wait + Sync, S: Files, R: Source, P: Progress + Syn
     outcome
 }
 
-// Takes the tally that a task is about, and writes its answer. The files keep their names.
+// Does a task with its files, which keep their names.
 fn answer<H: Threads + Wait + Sync, R: Source, F: Source, W: Sink, P: Progress + Sync>(
+    rt: &H,
+    alloc: Global,
+    task: &Task,
+    files: &mut [NamedSource<'_, F>],
+    input: &mut R,
+    output: &mut W,
+    progress: &P,
+) -> Result<Option<SelectionCounts>, ToolFault>
+    requires files { HasFilesFor task.now (seen_of F.seen files.old) }
+    requires writable { HasWritableReport task.now }
+    ensures done { Does task.now
+        (record { given = given_of task.now (R.seen input.old) (seen_of F.seen files.old); output = W.seen output.old })
+        (record { given = given_of task.now (R.seen input.new) (seen_of F.seen files.new); output = W.seen output.new })
+        result }
+    ensures input { KeepsInput (sources_in task.now (seen_of F.seen files.old)) (R.seen input.old) (R.seen input.new) }
+    ensures names { names_of files.new ≡ names_of files.old }
+{
+    match task {
+        Task::Select(selection, tells) => {
+            select_by_table(alloc, *selection, *tells, files, input, output)
+        }
+        _ => {
+            answer_by_tally(rt, alloc, task, files, input, output, progress)?;
+            Ok(None)
+        }
+    }
+}
+
+// Takes the tally that a task is about, and writes its answer. The files keep their names. Condition: the task is no
+// selection.
+fn answer_by_tally<H: Threads + Wait + Sync, R: Source, F: Source, W: Sink, P: Progress + Sync>(
     rt: &H,
     alloc: Global,
     task: &Task,
@@ -198,7 +241,8 @@ fn answer<H: Threads + Wait + Sync, R: Source, F: Source, W: Sink, P: Progress +
 ) -> Result<(), ToolFault>
     requires files { HasFilesFor task.now (seen_of F.seen files.old) }
     requires writable { HasWritableReport task.now }
-    ensures done { Does task.now
+    requires about { IsAboutTally task.now }
+    ensures done { DoesByTally task.now
         (record { given = given_of task.now (R.seen input.old) (seen_of F.seen files.old); output = W.seen output.old })
         (record { given = given_of task.now (R.seen input.new) (seen_of F.seen files.new); output = W.seen output.new })
         result }
@@ -207,6 +251,31 @@ fn answer<H: Threads + Wait + Sync, R: Source, F: Source, W: Sink, P: Progress +
 {
     let (tally, origin) = tally_for(rt, alloc, task, files, input, progress)?;
     write_answer(alloc, task, &tally, origin, output)
+}
+
+// Reads the table of the first file, and writes the reads of the others that it selects or, where there are none, those
+// of the given input. It answers what was counted of the reads, where that is to be told. Condition: there is a first
+// file. The files keep their names.
+fn select_by_table<R: Source, F: Source, W: Sink>(
+    alloc: Global,
+    selection: Selection,
+    tells: bool,
+    files: &mut [NamedSource<'_, F>],
+    input: &mut R,
+    output: &mut W,
+) -> Result<Option<SelectionCounts>, ToolFault>
+    requires { 1 ≤ length files.old }
+    ensures done { SelectsBy selection tells
+        (record { given = given_listed (R.seen input.old) (seen_of F.seen files.old); output = W.seen output.old })
+        (record { given = given_listed (R.seen input.new) (seen_of F.seen files.new); output = W.seen output.new })
+        result }
+    ensures input { KeepsInput (drop 1 (seen_of F.seen files.old)) (R.seen input.old) (R.seen input.new) }
+    ensures names { names_of files.new ≡ names_of files.old }
+{
+    let (tally, _origin) = table_from(alloc, &mut files[0].source)?;
+    let sources = &mut files[1..];
+    let counts = select_files(alloc, sources, input, &tally, selection, output)?;
+    if tells { Ok(Some(counts)) } else { Ok(None) }
 }
 
 // The task of a command: what it asks for with these options.
@@ -244,11 +313,15 @@ fn task_of(alloc: Global, verb: Verb, matches: &ArgMatches<'_>) -> Result<Task, 
             Ok(Task::Query(owned_texts(alloc, &words)?))
         }
         Verb::Merge => Ok(Task::Merge),
+        Verb::Select => {
+            let selection = select_options(matches)?;
+            Ok(Task::Select(selection, has_flag(matches, "stats")))
+        }
     }
 }
 
-// The names of the files that a command reads: a count reads its list and all that are named, a sum its two tables, and
-// any other command the first that is named.
+// The names of the files that a command reads: a count reads its list and all that are named, a selection its table and
+// all that are named, a sum its two tables, and any other command the first that is named.
 fn file_names<'a>(
     alloc: Global,
     verb: Verb,
@@ -270,6 +343,10 @@ fn file_names<'a>(
             names.push(text_of(matches, "first").unwrap_or(""))?;
             names.push(text_of(matches, "second").unwrap_or(""))?;
             Ok(names)
+        }
+        Verb::Select => {
+            let files = texts_of(alloc, matches, "file")?;
+            behind(alloc, text_of(matches, "table").unwrap_or(""), &files)
         }
         _ => {
             let mut names = texts_of(alloc, matches, "file")?;
@@ -326,6 +403,7 @@ fn write_answer<W: Sink>(
     writer: &mut W,
 ) -> Result<(), ToolFault>
     requires writable { HasWritableReport task.now }
+    requires about { IsAboutTally task.now }
     requires origin { MaySay origin }
     ensures { Answers task.now (tally.now, origin) (W.seen writer.old) (W.seen writer.new) result }
 {
@@ -336,5 +414,6 @@ fn write_answer<W: Sink>(
         Task::Report(report) => write_report(alloc, writer, tally, origin, *report),
         Task::Query(words) => Ok(query(writer, tally, words)?),
         Task::Merge => Ok(write_table(writer, tally, origin.as_ref())?),
+        Task::Select(_, _) => unreachable!(),
     }
 }

@@ -4,9 +4,11 @@ ghost use Rattle.clap.specs.Words.{found_of, rows_of};
 ghost use Rattle.kc_command.specs.Arguments.{
   AsksFor,
   AsksForDump,
+  AsksForSelection,
   first_bad,
   first_bad_of_dump,
   first_bad_of_histo,
+  first_bad_of_select,
   high_of,
 };
 ghost use Rattle.kc_command.specs.declared.option_name.OptionName.{OptionName};
@@ -15,6 +17,7 @@ use crate::tool_faults::ToolFault;
 use clap::ArgMatches;
 use kc_command::Options;
 use kc_report::Dump;
+use kc_select::Selection;
 use std::alloc::Global;
 
 /// What the options of `count` ask for.
@@ -58,4 +61,17 @@ pub fn high_of(matches: &ArgMatches<'_>) -> Result<u64, ToolFault>
     ensures limits { IfOk result (λ high. (1 ≤ high) × (high ≤ 10000000)) }
 {
     Ok(kc_command::high_of(matches)?)
+}
+
+/// What the options of `select` ask for. It takes no memory.
+///
+/// # Errors
+/// `BadOption` with the first of `--min-count`, `--min-share` and `--min-qual-char` whose value is outside its limits.
+pub fn select_options(matches: &ArgMatches<'_>) -> Result<Selection, ToolFault>
+    ensures first_bad { MatchResult result (λ s. first_bad_of_select (rows_of (found_of matches.now)) ≡ None)
+        (λ fault. (name : OptionName) × (first_bad_of_select (rows_of (found_of matches.now)) ≡ Some name)
+        × (fault ≡ ToolFault.BadOption name)) }
+    ensures asked { IfOk result (AsksForSelection (rows_of (found_of matches.now))) }
+{
+    Ok(kc_command::select_options(matches)?)
 }

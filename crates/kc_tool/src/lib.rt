@@ -22,6 +22,7 @@ mod command_line;
 mod commands;
 mod count_progress;
 mod counted_sources;
+mod counts_line;
 mod fault_lines;
 mod file_acts;
 mod file_log;
@@ -31,6 +32,7 @@ mod named_sources;
 mod process;
 pub mod report_laws;
 mod reports;
+mod selected_sources;
 mod task_tallies;
 mod tool_faults;
 

@@ -8,6 +8,7 @@ ghost use Rattle.kc_tool.specs.Tallies.{Counts, IsListUnder, RefusesCount, Refus
 ghost use Rattle.kc_tool.specs.Commands.{
   HasFilesFor,
   HasNoTallyFor,
+  IsAboutTally,
   IsTallyFor,
   KeepsInput,
   TellNoSum,
@@ -53,7 +54,8 @@ pub(crate) fn tally_for<H: Threads + Wait + Sync, R: Source, F: Source, P: Progr
     input: &mut R,
     progress: &P,
 ) -> Result<(Tally, Option<Origin>), ToolFault>
-    requires { HasFilesFor task.now (seen_of F.seen files.old) }
+    requires files { HasFilesFor task.now (seen_of F.seen files.old) }
+    requires about { IsAboutTally task.now }
     ensures tally { let Tallies = IsTallyFor (given_of task.now (R.seen input.old) (seen_of F.seen files.old))
         (given_of task.now (R.seen input.new) (seen_of F.seen files.new)) in
         IfOk result (λ table. Tallies task.now (table.0, table.1)) }
@@ -68,6 +70,7 @@ pub(crate) fn tally_for<H: Threads + Wait + Sync, R: Source, F: Source, P: Progr
         Task::CountListed(options) => count_listed(rt, alloc, options, files, input, progress),
         Task::Merge => return sum_of(alloc, files),
         Task::Report(_) | Task::Query(_) => return table_of(alloc, files, input),
+        Task::Select(_, _) => unreachable!(),
     };
     progress.ends();
     counted
@@ -174,7 +177,7 @@ fn table_of<R: Source, F: Source>(
 }
 
 // What the table text of this source says.
-fn table_from<R: Source>(
+pub(crate) fn table_from<R: Source>(
     alloc: Global,
     source: &mut R,
 ) -> Result<(Tally, Option<Origin>), ToolFault>

@@ -17,7 +17,7 @@ use Rattle.kc_word.specs.declared.runs.Run.{Run}
 use Rattle.kc_word.specs.Runs.{is_in_runs, AreRuns, AreExtended}
 use Rattle.kc_word.specs.PackedPiece.{bytes_of, IsPiece}
 use Rattle.kc_word.specs.Gathering.{usable_code, packed_codes, IsBlock, AreGaps}
-use Rattle.kc_kmer.proofs.WordLemmas.{code-lt}
+use Rattle.kc_kmer.proofs.WordLemmas.{at_base, code-lt}
 use Rattle.kc_word.proofs.RunLemmas.{AreRuns-wider, behind-runs}
 use Rattle.kc_word.proofs.PieceLemmas.{length-bytes_of, get_or-bytes_of, base-code}
 use Rattle.kc_word.proofs.Cleaning.{length-cleaned, get_or-cleaned}
@@ -46,6 +46,26 @@ pub usable_code-low : (rule : CountingRule) (read : Read) (j : ℕ) → passes_f
 unfolding is_usable
 usable_code-low rule read j low =
     sym (cond-false _ (code (to_ascii_uppercase (get_or read.bases j 0))) 4 (and_right (is_base (to_ascii_uppercase (get_or read.bases j 0))) _ low))
+
+-- it is the code of the byte that stands for the base in the piece of the read
+code-cleaned : (usable : Bool) (b found : ℕ) → (usable ≡ true → is_base b ≡ true) → found ≡ cond usable b unusable
+    → cond usable (code b) 4 ≡ cond (is_base (to_ascii_uppercase found)) (code (to_ascii_uppercase found)) 4
+unfolding is_base
+code-cleaned true b found base is =
+    let upper : to_ascii_uppercase b ≡ b = at_base (λ v. to_ascii_uppercase v ≡ v) refl refl refl refl b (base refl) in
+    sym (ap (λ f. cond (is_base (to_ascii_uppercase f)) (code (to_ascii_uppercase f)) 4) is
+    ∙ ap (λ f. cond (is_base f) (code f) 4) upper ∙ cond-true (is_base b) (code b) 4 (base refl))
+code-cleaned false b found base is =
+    sym (ap (λ f. cond (is_base (to_ascii_uppercase f)) (code (to_ascii_uppercase f)) 4) is)
+
+pub usable_code-cleaned : (rule : CountingRule) (read : Read) (j : ℕ) → j < length read.bases
+    → usable_code rule read j ≡ cond (is_base (to_ascii_uppercase (get_or (cleaned rule read) j 0)))
+    (code (to_ascii_uppercase (get_or (cleaned rule read) j 0))) 4
+unfolding is_usable
+usable_code-cleaned rule read j h =
+    code-cleaned (is_usable rule read j) (to_ascii_uppercase (get_or read.bases j 0)) (get_or (cleaned rule read) j 0)
+    (λ e. (and_parts (is_base (to_ascii_uppercase (get_or read.bases j 0))) (passes_floor rule.floor read.quals j) e).0)
+    (get_or-cleaned rule read j h)
 
 pub passes-none : (rule : CountingRule) (read : Read) (j : ℕ) → None ≡ read.quals
     → passes_floor rule.floor read.quals j ≡ true

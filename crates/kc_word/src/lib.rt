@@ -44,4 +44,5 @@ pub use only::Only;
 pub use piece::{Piece, clean};
 pub use piece_views::{PieceView, PieceViews};
 pub use roll::{read_words, words};
+pub use usable_codes::usable_code;
 pub use walk::Walk;

@@ -60,10 +60,10 @@ pub(crate) fn mark_gaps(
     Ok(())
 }
 
-// the code of a base where it is one of ACGTacgt and its quality, where it has one, reaches the floor, and else
-// NO_BASE
+/// The code of base `i` where it is one of `ACGTacgt` and its quality, where it has one, reaches the floor, and else
+/// `NO_BASE`. Condition: the read has this base. It takes no memory.
 #[inline(always)]
-fn usable_code(read: &SeqRead, rule: &Rule, i: usize) -> u8
+pub fn usable_code(read: &SeqRead, rule: &Rule, i: usize) -> u8
     requires { i < length read.now.bases }
     ensures { result ≡ usable_code rule.now read.now i }
 {

@@ -1,22 +1,15 @@
-use Rattle.std.proofs.Common.{rules, refl, codes, true, ◌≡◌}
+use Rattle.std.proofs.Common.{refl}
 use Rattle.std.proofs.lemmas.Result.{IfOk-weaker}
-use Rattle.clap.specs.Words.{App, app_of, new_app}
 use Rattle.kc_command.proofs.CommandLemmas.{joined}
 use Rattle.kc_command.proofs.command.command.Goals as goal
 
-abbrev named : App
-named = new_app (codes "kcount")
-
-abbrev no_command : App
-no_command = record { top = record named.top { has_version = true; subcommand_required = true }; subs = named.subs }
-
 pub returns : goal.returns
 returns c =
-    let none : app_of c.subcommand_required.result ≡ no_command = search rules in
-    let with_count = joined c.in_ok-subcommand.ensures refl c.in_ok-count_command.ensures none in
+    let with_count = joined c.in_ok-subcommand.ensures refl c.in_ok-count_command.ensures c.without_commands.ensures in
     let with_dump = joined c.in_ok-subcommand-2.ensures refl c.in_ok-dump_command.ensures with_count in
     let with_histo = joined c.in_ok-subcommand-3.ensures refl c.in_ok-histo_command.ensures with_dump in
     let with_stats = joined c.in_ok-subcommand-4.ensures refl c.in_ok-stats_command.ensures with_histo in
     let with_query = joined c.in_ok-subcommand-5.ensures refl c.in_ok-query_command.ensures with_stats in
-    IfOk-weaker c.subcommand-6.result _ _
-    (λ command adds. joined adds refl c.in_ok-merge_command.ensures with_query) c.subcommand-6.ensures
+    let with_merge = joined c.in_ok-subcommand-6.ensures refl c.in_ok-merge_command.ensures with_query in
+    IfOk-weaker c.subcommand-7.result _ _
+    (λ command adds. joined adds refl c.in_ok-select_command.ensures with_merge) c.subcommand-7.ensures

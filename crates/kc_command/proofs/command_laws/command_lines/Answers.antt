@@ -1,6 +1,6 @@
 use Rattle.std.proofs.Common.{refl}
 use Rattle.clap.proofs.OnLiterals.{clap_on_literals}
-use Rattle.kc_command.specs.Laws.{CountsBothStrands, CountsFiles, CountsListedWords, MergesTables, ReadsTables, Refuses}
+use Rattle.kc_command.specs.Laws.{CountsBothStrands, CountsFiles, CountsListedWords, MergesTables, ReadsTables, Refuses, SelectsReads}
 use Rattle.kc_command.proofs.command_laws.command_lines.Goals as goal
 
 counts_both_strands : CountsBothStrands
@@ -79,6 +79,26 @@ merges_tables = record {
   other_option = refl;
 }
 
+selects_reads : SelectsReads
+unfolding clap_on_literals
+selects_reads = record {
+  taken = refl;
+  good = refl;
+  least = refl;
+  share = refl;
+  inverted = refl;
+  table = refl;
+  files = refl;
+  alone = refl;
+  usual_least = refl;
+  usual_share = refl;
+  told = refl;
+  no_file = refl;
+  no_table = refl;
+  share_above = refl;
+  first_of_two = refl;
+}
+
 refuses : Refuses
 unfolding clap_on_literals
 refuses = record {
@@ -108,3 +128,6 @@ returns-clause-merges c = merges_tables
 
 pub returns-clause-refuses : goal.returns-clause-refuses
 returns-clause-refuses c = refuses
+
+pub returns-clause-selects : goal.returns-clause-selects
+returns-clause-selects c = selects_reads

@@ -1,4 +1,4 @@
-use Rattle.std.proofs.Common.{◌∙◌, sym, inl, inr, arith}
+use Rattle.std.proofs.Common.{◌∙◌, None, Some, refl, sym, inl, inr, arith}
 use Rattle.kc_tool.proofs.CommandLineLemmas.{small_status, some_status, told}
 use Rattle.kc_tool.proofs.command_line.run.Goals as goal
 
@@ -25,5 +25,29 @@ returns-in-Err-Refused g c =
         text = c.as_bytes.result.now;
         told = told _ _ c.write_out.result _ c.write_out.ensures;
       });
+      within = omega arith;
+    }
+
+pub returns-in-Ok-None : goal.returns-in-Ok-None
+returns-in-Ok-None g c =
+    let done = rw c.in-Ok-None.field-0-is at c.in-Ok-None.ensures in
+    record {
+      done = λ status. record { tells = None; done = done; told = refl };
+      fault = λ status. cc;
+      refused = λ status. cc;
+      within = omega arith;
+    }
+
+pub returns-in-Ok-Some : goal.returns-in-Ok-Some
+returns-in-Ok-Some g c =
+    let done = rw c.in-Ok-Some.field-0-is at c.in-Ok-Some.ensures in
+    record {
+      done = λ status. record {
+        tells = Some c.in-Ok-Some.counts;
+        done = done;
+        told = told _ _ c.write_counts.result _ c.write_counts.ensures;
+      };
+      fault = λ status. cc;
+      refused = λ status. cc;
       within = omega arith;
     }

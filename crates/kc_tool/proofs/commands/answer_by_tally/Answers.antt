@@ -2,7 +2,7 @@ use Rattle.std.proofs.lemmas.Result.{err_from_is_err_and}
 use Rattle.kc_tool.specs.Commands.{given_of}
 use Rattle.kc_tool.specs.NamedSources.{seen_of}
 use Rattle.kc_tool.proofs.CommandsLemmas.{answered, unanswered}
-use Rattle.kc_tool.proofs.commands.answer.Goals as goal
+use Rattle.kc_tool.proofs.commands.answer_by_tally.Goals as goal
 
 pub returns-in_err-tally : goal.returns-in_err-tally
 returns-in_err-tally g c =

@@ -1,0 +1,329 @@
+//! Reads that are selected by their words and a table.
+use kc_fastx::{FastxFault, SeqRead};
+use kc_io::{FromBytes, ToVec, ToWrite};
+use kc_report::{ReportFault, read_table};
+use kc_select::{SelectFault, Selected, Selection, SelectionCounts, is_selected, is_solid, select};
+use kc_tally::Tally;
+use std::alloc::{AllocError, Global};
+use std::io;
+use std::io::Write;
+use std::process::Abort;
+use std::test::Fail;
+
+// The table of words of three bases in which ACG and CGT occur twice, and GTA once.
+const TABLE: &[u8] = b"KCT 1 3 s\nACG 2\nCGT 2\nGTA 1\nEND 3 5\n";
+
+// The same on both strands.
+const BOTH: &[u8] = b"KCT 1 3 c\nACG 4\nGTA 1\nEND 2 5\n";
+
+fn table_of(alloc: Global, text: &[u8]) -> Result<Tally, ReportFault> {
+    let (tally, _) = read_table(alloc, &mut FromBytes::new(text), 100)?;
+    Ok(tally)
+}
+
+// A read of these bases, with these qualities where there are any.
+fn read_of(alloc: Global, bases: &[u8], quals: &[u8]) -> Option<SeqRead> {
+    let Ok(bases) = Vec::from_slice(alloc, bases) else {
+        return None;
+    };
+    if quals.is_empty() {
+        return SeqRead::new(bases, None);
+    }
+    let Ok(quals) = Vec::from_slice(alloc, quals) else {
+        return None;
+    };
+    SeqRead::new(bases, Some(quals))
+}
+
+// A selection of this least count, share and floor, where these are in their limits.
+fn selection_of(least: u64, share: u64, floor: u8) -> Option<Selection> {
+    if share > 100 || floor < 33 || floor > 126 {
+        return None;
+    }
+    Some(Selection::new(least, share).with_floor(floor))
+}
+
+// A table, the bases of a read, the least count and the share, and whether the read is solid.
+const SOLID: &[(&[u8], &[u8], u64, u64, bool)] = &[
+    // ACG 2, CGT 2, GTA 1: two of three words are solid at 2, which is 66 of a hundred, and not 67
+    (TABLE, b"ACGTA", 2, 66, true),
+    (TABLE, b"ACGTA", 2, 67, false),
+    (TABLE, b"ACGTA", 1, 100, true),
+    (TABLE, b"ACGTA", 3, 1, false),
+    (TABLE, b"ACGTA", 3, 0, true),
+    // small letters count, as they do in a count
+    (TABLE, b"acg", 2, 100, true),
+    // a word that isn't in the table has the count 0
+    (TABLE, b"AAA", 1, 1, false),
+    (TABLE, b"AAA", 0, 100, true),
+    // TAC is GTA on the other strand: not in the first table, and once in the second
+    (TABLE, b"TAC", 1, 100, false),
+    (BOTH, b"TAC", 1, 100, true),
+    (BOTH, b"CGT", 4, 100, true),
+    // an N breaks words; a read without words has none that isn't solid
+    (TABLE, b"ACGNTTT", 2, 50, true),
+    (TABLE, b"ACNGT", 9, 100, true),
+    (TABLE, b"AC", 9, 100, true),
+    (TABLE, b"", 9, 100, true),
+];
+
+#[test]
+fn solid_reads(rt: HostRuntime) -> Result<(), Fail> {
+    for (table, bases, least, share, want) in SOLID {
+        let tally = table_of(rt.alloc(), *table)?;
+        let read = read_of(rt.alloc(), *bases, b"").ok_or("no read")?;
+        let selection = selection_of(*least, *share, b'!').ok_or("no selection")?;
+        assert_eq!(rt; is_solid(&tally, &read, selection), *want);
+        assert_eq!(rt; is_selected(&tally, &read, selection), *want);
+        let others = selection.with_inverted(true);
+        assert_eq!(rt; is_selected(&tally, &read, others), !*want);
+    }
+    Ok(())
+}
+
+// The bases and the qualities of a read, the floor and the share, and whether the read is solid where a word is from 2
+// on.
+const FLOORS: &[(&[u8], &[u8], u8, u64, bool)] = &[
+    // ACG 2, CGT 2, GTA 1, and TAC, which isn't in the table: two of four words
+    (b"ACGTAC", b"IIIII!", b'!', 66, false),
+    // the last base is below the floor, and with it TAC is no word: two of three
+    (b"ACGTAC", b"IIIII!", b'"', 66, true),
+    (b"ACGTAC", b"IIIII!", b'"', 67, false),
+    // a quality at the floor passes
+    (b"ACGTAC", b"IIIII\"", b'"', 66, false),
+    // the base in the middle is in every word, so that there is none
+    (b"ACGTA", b"II!II", b'!', 67, false),
+    (b"ACGTA", b"II!II", b'#', 100, true),
+    // without qualities each base passes
+    (b"ACGTA", b"", b'~', 67, false),
+];
+
+#[test]
+fn reads_with_a_floor(rt: HostRuntime) -> Result<(), Fail> {
+    let tally = table_of(rt.alloc(), TABLE)?;
+    for (bases, quals, floor, share, want) in FLOORS {
+        let read = read_of(rt.alloc(), *bases, *quals).ok_or("no read")?;
+        let selection = selection_of(2, *share, *floor).ok_or("no selection")?;
+        assert_eq!(rt; is_solid(&tally, &read, selection), *want);
+        assert_eq!(rt; is_selected(&tally, &read, selection), *want);
+    }
+    Ok(())
+}
+
+#[test]
+fn one_read_of_three_words(rt: HostRuntime) -> Result<(), Fail> {
+    let alloc = rt.alloc();
+    let tally = table_of(alloc, TABLE)?;
+    let selection = Selection::new(2, 100).with_floor(b'#');
+    let mut source = FromBytes::new(b">r\nACGTA\n");
+    let mut sink = ToVec::new(Vec::new(alloc));
+    let selected = select(alloc, &mut source, 1 << 36, &mut sink, &tally, selection)?;
+    assert_eq!(rt; numbers_of(Ok(selected)), Ok([9, 1, 0, 3, 2]));
+    assert_eq!(rt; sink.as_slice(), b"".as_slice());
+    Ok(())
+}
+
+#[test]
+fn a_selection_is_what_it_was_made_of(rt: HostRuntime) -> Result<(), Fail> {
+    let usual = Selection::new(7, 100);
+    assert_eq!(rt; usual.floor(), 33);
+    assert_eq!(rt; usual.is_inverted(), false);
+    let selection = usual.with_floor(126).with_inverted(true);
+    assert_eq!(rt; selection.least(), 7);
+    assert_eq!(rt; selection.share(), 100);
+    assert_eq!(rt; selection.floor(), 126);
+    assert_eq!(rt; selection.is_inverted(), true);
+    Ok(())
+}
+
+#[test]
+fn counts_are_added(rt: HostRuntime) -> Result<(), Fail> {
+    let one = SelectionCounts {
+        reads: 3,
+        kept: 2,
+        words: 7,
+        solid: 4,
+    };
+    let other = SelectionCounts {
+        reads: 1,
+        kept: 0,
+        words: 20,
+        solid: 0,
+    };
+    let both = one.and(SelectionCounts::none()).and(other);
+    let want = SelectionCounts {
+        reads: 4,
+        kept: 2,
+        words: 27,
+        solid: 4,
+    };
+    assert_eq!(rt; both, want);
+    Ok(())
+}
+
+// The bytes, the reads, those that are kept, their words and the solid ones.
+fn numbers_of(answer: Result<Selected, SelectFault>) -> Result<[u64; 5], SelectFault> {
+    let selected = answer?;
+    let counts = selected.counts;
+    Ok([
+        selected.bytes,
+        counts.reads,
+        counts.kept,
+        counts.words,
+        counts.solid,
+    ])
+}
+
+// What a selection writes of a text, behind which the reads may have met a fault.
+fn selected(
+    alloc: Global,
+    tally: &Tally,
+    text: &[u8],
+    limit: u64,
+    selection: Selection,
+) -> (Result<[u64; 5], SelectFault>, Vec<u8>) {
+    let mut sink = ToVec::new(Vec::new(alloc));
+    if limit > 1_000_000 {
+        return (Err(SelectFault::Write), sink.into_inner());
+    }
+    let answer = select(
+        alloc,
+        &mut FromBytes::new(text),
+        limit,
+        &mut sink,
+        tally,
+        selection,
+    );
+    (numbers_of(answer), sink.into_inner())
+}
+
+const FASTA: &[u8] = b"\n>one two\r\nACGTA\n\n>b\nAAA\n>c>c\nac\ngta";
+
+const FASTQ: &[u8] = b"@q x\nACG\nTA\n+q x\nIII@I\n\n@r\nTTT\n+\n!!!\n@\nACGT\n+\n+++~\n";
+
+// A text of at most so many bytes, whether the other reads are selected, and what is written of it.
+const SELECTED: &[(&[u8], u64, bool, Result<[u64; 5], SelectFault>, &[u8])] = &[
+    (b"", 0, false, Ok([0, 0, 0, 0, 0]), b""),
+    (b"\n\r\n", 9, false, Ok([3, 0, 0, 0, 0]), b""),
+    // three words of which two are solid, one that isn't, and three of which two are
+    (
+        FASTA,
+        100,
+        false,
+        Ok([36, 3, 2, 7, 4]),
+        b">one two\nACGTA\n>c>c\nacgta\n",
+    ),
+    (FASTA, 100, true, Ok([36, 3, 1, 7, 4]), b">b\nAAA\n"),
+    // a read shorter than a word is kept, and so is one without bases
+    (
+        b">s\nAC\n>t\n",
+        100,
+        false,
+        Ok([9, 2, 2, 0, 0]),
+        b">s\nAC\n>t\n\n",
+    ),
+    // the N leaves ACG and CGA, of which the table has the first
+    (b">n\nACGNCGA\n", 100, false, Ok([11, 1, 0, 2, 1]), b""),
+    (
+        FASTQ,
+        100,
+        false,
+        Ok([51, 3, 2, 6, 4]),
+        b"@q x\nACGTA\n+\nIII@I\n@\nACGT\n+\n+++~\n",
+    ),
+    (FASTQ, 100, true, Ok([51, 3, 1, 6, 4]), b"@r\nTTT\n+\n!!!\n"),
+    // the reads before a fault are written
+    (
+        b">a\nACG\n>b\nA@C\n>c\nACG\n",
+        100,
+        false,
+        Err(SelectFault::Reads(FastxFault::BadBase(4))),
+        b">a\nACG\n",
+    ),
+    (
+        b"@q\nACG\n+\nIII\nxx\n",
+        100,
+        false,
+        Err(SelectFault::Reads(FastxFault::BadStart(5))),
+        b"@q\nACG\n+\nIII\n",
+    ),
+    (
+        b"@q\nACG\n+\nII",
+        100,
+        false,
+        Err(SelectFault::Reads(FastxFault::Truncated(4))),
+        b"",
+    ),
+    (
+        b">a\nACG\n",
+        6,
+        false,
+        Err(SelectFault::Reads(FastxFault::TooLong)),
+        b"",
+    ),
+];
+
+#[test]
+fn reads_that_are_written(rt: HostRuntime) -> Result<(), Fail> {
+    let tally = table_of(rt.alloc(), TABLE)?;
+    for (text, limit, others, want, written) in SELECTED {
+        let selection = Selection::new(2, 66).with_inverted(*others);
+        let (answer, found) = selected(rt.alloc(), &tally, *text, *limit, selection);
+        assert_eq!(rt; answer, *want);
+        assert_eq!(rt; found.as_slice(), *written);
+    }
+    Ok(())
+}
+
+// A record of FASTA with this many bases.
+fn long_record(alloc: Global, count: usize) -> Result<Vec<u8>, AllocError> {
+    let mut text = Vec::new(alloc);
+    text.extend_from_slice(b">long\n")?;
+    for _ in 0..count {
+        text.push(b'A')?;
+    }
+    text.push(b'\n')?;
+    Ok(text)
+}
+
+#[test]
+fn a_read_longer_than_a_block(rt: HostRuntime) -> Result<(), Fail> {
+    let tally = table_of(rt.alloc(), TABLE)?;
+    let selection = Selection::new(2, 0);
+    let text = long_record(rt.alloc(), 200_000)?;
+    let (answer, found) = selected(rt.alloc(), &tally, text.as_slice(), 1_000_000, selection);
+    assert_eq!(rt; answer, Ok([200_007, 1, 1, 199_998, 0]));
+    assert_eq!(rt; found.as_slice() == text.as_slice(), true);
+    Ok(())
+}
+
+// A writer that takes nothing.
+#[derive(Drop)]
+struct Full;
+
+impl Write for Full {
+    fn write(&mut self, _buf: &[u8]) -> io::Result<usize> {
+        Err(io::Error::from(io::ErrorKind::Other))
+    }
+
+    fn flush(&mut self) -> io::Result<()> {
+        Ok(())
+    }
+}
+
+#[test]
+fn a_writer_that_fails(rt: HostRuntime) -> Result<(), Fail> {
+    let tally = table_of(rt.alloc(), TABLE)?;
+    let selection = Selection::new(2, 66);
+    let mut sink = ToWrite::new(Full);
+    let answer = select(
+        rt.alloc(),
+        &mut FromBytes::new(FASTA),
+        100,
+        &mut sink,
+        &tally,
+        selection,
+    );
+    assert_eq!(rt; answer, Err(SelectFault::Write));
+    Ok(())
+}

@@ -1,0 +1,96 @@
+use Rattle.std.proofs.Common.{◌≡◌, ap, sym, subst, ◌∙◌, Some}
+use Rattle.kc_fastx.specs.Reading.{Stand, HasGiven}
+use Rattle.std.proofs.lemmas.Result.{err_from_is_err_and}
+use Rattle.kc_fastx.proofs.ReadingLemmas.{IsOpen, given_grown, given_kept, given_refused, kept_some, meets_kept}
+use Rattle.kc_fastx.proofs.ReadingLemmas.{told_unless}
+use Rattle.kc_fastx.specs.Titles.{reads_in, HasGivenRecords}
+use Rattle.kc_fastx.proofs.TitlesLemmas.{IsLonger, longer_grown, longer_kept, records_more, records_same, records_all}
+use Rattle.kc_fastx.proofs.record_reader.Reading.next_titled.Goals as goal
+
+pub returns-in-Ok-Given-clause-given : goal.returns-in-Ok-Given-clause-given
+returns-in-Ok-Given-clause-given g c = λ start limit records h.
+    let now = g.S.Source.seen c.reading.source in
+    let reads = reads_in records in
+    let tells = rw c.in-Ok-Given.field-0-is at c.in-Ok-Given.ensures.tells start now limit reads
+    (c.reading.invariant.given start limit reads h.given) in
+    let titled = rw c.in-Ok-Given.field-0-is at c.in-Ok-Given.ensures.titled in
+    records_more h c.reading.invariant.longer c.titled_of_whole.new.self _ _ titled tells
+
+pub returns-in-Ok-End-clause-given : goal.returns-in-Ok-End-clause-given
+returns-in-Ok-End-clause-given g c = λ start limit records h.
+    let now = g.S.Source.seen c.reading.source in
+    let reads = reads_in records in
+    let tells = rw c.in-Ok-End.field-0-is at c.in-Ok-End.ensures.tells start now limit reads
+    (c.reading.invariant.given start limit reads h.given) in
+    let titled = rw c.in-Ok-End.field-0-is at c.in-Ok-End.ensures.titled in
+    let same = records_same h c.reading.invariant.longer
+    (subst (λ v. HasGiven start now limit reads v) titled.0 tells.0) in
+    (subst (λ v. HasGivenRecords start now limit records v) (sym titled.0) same, records_all same titled.1 tells.1)
+
+pub reading-preserved : goal.reading-preserved
+reading-preserved g c =
+    let seen = g.S.Source.seen in
+    let before = c.titled_of_whole.new.self in
+    let more = rw c.in-Ok-Short.field-0-is at c.in-Ok-Short.ensures.moves in
+    let grown = c.in_ok-grow-in-Ok-Short.ensures in
+    record {
+      given = λ start limit reads h.
+          let tells = rw c.in-Ok-Short.field-0-is at c.in-Ok-Short.ensures.tells start (seen c.reading.source) limit
+          reads (c.reading.invariant.given start limit reads h) in
+          let still : IsOpen start (seen c.reading.source) limit reads before = record {
+            given = tells;
+            unended = more.1;
+          } in
+          given_grown still (seen c.grow.new.source) c.grow.new.self grown;
+      longer = longer_grown (subst (λ v. IsLonger (seen c.args.source.now) (seen c.reading.source) c.args.self.now v)
+          (sym more.0) c.reading.invariant.longer) more.1 (seen c.grow.new.source) c.grow.new.self grown;
+      unfailed = grown.unfailed;
+      used = grown.used ∙ ap (λ (s : Stand). s.used) more.0 ∙ c.reading.invariant.used;
+    }
+
+pub returns-in_err-grow-in-Ok-Short-clause-given : goal.returns-in_err-grow-in-Ok-Short-clause-given
+returns-in_err-grow-in-Ok-Short-clause-given g c = λ start limit records h.
+    let reads = reads_in records in
+    let seen = g.S.Source.seen in
+    let before = c.titled_of_whole.new.self in
+    let more = rw c.in-Ok-Short.field-0-is at c.in-Ok-Short.ensures.moves in
+    let tells = rw c.in-Ok-Short.field-0-is at c.in-Ok-Short.ensures.tells start (seen c.reading.source) limit reads
+    (c.reading.invariant.given start limit reads h.given) in
+    let p = err_from_is_err_and c.from_residual.result c.from_residual.ensures.1 in
+    let still : IsOpen start (seen c.reading.source) limit reads before = record { given = tells; unended = more.1 } in
+    rw (p.1, p.2) (given_refused still (seen c.grow.new.source) c.grow.new.self c.in_err-grow-in-Ok-Short.field-0.0
+    c.in_err-grow-in-Ok-Short.ensures.0)
+
+pub returns-in_err-grow-in-Ok-Short-clause-kept : goal.returns-in_err-grow-in-Ok-Short-clause-kept
+returns-in_err-grow-in-Ok-Short-clause-kept g c =
+    let p = err_from_is_err_and c.from_residual.result c.from_residual.ensures.1 in
+    rw (p.1, p.2) (told_unless (λ fault. c.grow.new.self.failed ≡ Some fault) _ c.in_err-grow-in-Ok-Short.ensures.1)
+
+pub returns-in-Err-clause-given : goal.returns-in-Err-clause-given
+returns-in-Err-clause-given g c = λ start limit records h.
+    let reads = reads_in records in
+    let seen = g.S.Source.seen in
+    let met = c.in-Err.ensures.tells start (seen c.reading.source) limit reads
+    (c.reading.invariant.given start limit reads h.given) in
+    rw c.keep.ensures (meets_kept start (seen c.reading.source) limit c.titled_of_whole.new.self c.in-Err.fault _ met)
+
+pub returns-in-Err-clause-kept : goal.returns-in-Err-clause-kept
+returns-in-Err-clause-kept g c = kept_some c.in-Err.fault c.keep.new.self.failed
+    (ap (λ (s : Stand). s.failed) c.keep.ensures)
+
+pub returns-in_err-grow-in-Ok-Short-clause-resumed : goal.returns-in_err-grow-in-Ok-Short-clause-resumed
+returns-in_err-grow-in-Ok-Short-clause-resumed g c =
+    let p = err_from_is_err_and c.from_residual.result c.from_residual.ensures.1 in
+    rw p.1 (λ none start limit records h. absurd (let no = sym c.in_err-grow-in-Ok-Short.ensures.1 ∙ none in cc))
+
+pub returns-in-Err-clause-resumed : goal.returns-in-Err-clause-resumed
+returns-in-Err-clause-resumed g c = λ none start limit records h.
+    let reads = reads_in records in
+    let seen = g.S.Source.seen in
+    let same : c.titled_of_whole.new.self ≡ c.reading.self = c.in-Err.ensures.moves in
+    let given = subst (λ v. HasGiven start (seen c.reading.source) limit reads v) (sym same)
+    (c.reading.invariant.given start limit reads h.given) in
+    let longer = subst (λ v. IsLonger (seen c.args.source.now) (seen c.reading.source) c.args.self.now v) (sym same)
+    c.reading.invariant.longer in
+    let unfailed = sym (ap (λ (s : Stand). s.failed) c.keep.ensures) ∙ none in
+    rw c.keep.ensures (records_same h (longer_kept _ longer) (given_kept _ given unfailed))

@@ -1,0 +1,4 @@
+pub mod Counts
+pub mod Selecting
+pub mod Solid
+pub mod Texts

@@ -1,0 +1,59 @@
+-- What a selection of the reads of a source does.
+use Rattle.std.specs.Prelude.{◌≡◌, ℕ, List, length, Result, Ok, Err}
+use Rattle.kc_io.specs.Sources.{Seen}
+use Rattle.kc_io.specs.Sinks.{Written, HasWritten, HasBegun}
+use Rattle.kc_fastx.specs.declared.read_faults.FastxFault.{FastxFault}
+use Rattle.kc_fastx.specs.Reading.{Stand, MeetsFault}
+use Rattle.kc_fastx.specs.Titles.{Record, HasGivenRecords, GivesRecords, reads_in}
+use Rattle.kc_tally.specs.Tally.{TallySeen}
+use Rattle.kc_select.specs.declared.select_fault.SelectFault.{SelectFault}
+use Rattle.kc_select.specs.declared.select_fault.SelectFault.TheVariants.{Reads, Write}
+use Rattle.kc_select.specs.declared.selection_counts.Selected.{Selected}
+use Rattle.kc_select.specs.Solid.{SelectionRule}
+use Rattle.kc_select.specs.Counts.{counts_of}
+use Rattle.kc_select.specs.Texts.{selected_text}
+
+-- what is told: the table, the selection, and how many bytes the source may give
+pub record Task : Type 0 where
+  pub tally : TallySeen
+  pub rule : SelectionRule
+  pub limit : ℕ
+
+-- what was seen of the source and of the sink
+pub record Streams : Type 0 where
+  pub source : Seen
+  pub sink : Written
+
+-- these records came first, whatever may come behind them
+abbrev pub BeginWith : Task → Seen → List Record → Type 0
+BeginWith task start records =
+    (now : Seen) × (stand : Stand) × HasGivenRecords start now task.limit records stand
+
+-- The reads of the source meet this fault; memory may be refused at any time.
+abbrev pub Meets : Task → Seen → Seen → FastxFault → Type 0
+Meets task start now fault = (stand : Stand) × MeetsFault start now task.limit stand fault
+
+-- what is answered about these bytes, which say these records
+abbrev pub selected_of : Task → List ℕ → List Record → Selected
+selected_of task bytes records =
+    record { bytes = length bytes; counts = counts_of task.tally task.rule (reads_in records) }
+
+-- Ok: the text of the selected records of all bytes was written and flushed, and they were counted. Where the reads
+-- meet a fault, the text of the selected ones of the records that came before was written and flushed. Where the writer
+-- failed, a beginning of the text of the selected ones of the records that had come was taken.
+abbrev pub Selects : Task → Streams → Streams → Result Selected SelectFault → Type 0
+Selects task old new (Ok selected) =
+    (records : List Record) × (gives : GivesRecords old.source new.source task.limit records)
+    × HasWritten old.sink new.sink (selected_text task.tally task.rule records)
+    × (selected ≡ selected_of task gives.0 records)
+Selects task old new (Err (Reads fault)) =
+    (records : List Record) × BeginWith task old.source records × Meets task old.source new.source fault
+    × HasWritten old.sink new.sink (selected_text task.tally task.rule records)
+Selects task old new (Err Write) =
+    (records : List Record) × BeginWith task old.source records
+    × HasBegun old.sink new.sink (selected_text task.tally task.rule records)
+
+-- The text is written, and this fault of the reads is answered; or the writer failed, and took a beginning of the text.
+abbrev pub EndsWith : Written → Written → List ℕ → FastxFault → SelectFault → Type 0
+EndsWith old new text fault (Reads met) = (met ≡ fault) × HasWritten old new text
+EndsWith old new text fault Write = HasBegun old new text

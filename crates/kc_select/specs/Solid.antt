@@ -1,0 +1,51 @@
+-- Which reads of a file are selected by their words and a table of counts.
+-- Source: this project's own; the words of a read and the forms under which they count are those of the counter.
+use Rattle.std.specs.Prelude.{ℕ, ◌*◌, Bool, not, nat_le, List, length, count_by, if◌then◌else◌}
+use Rattle.kc_fastx.specs.Reads.{Read}
+use Rattle.kc_kmer.specs.Rule.{CountingRule, unlisted_rule}
+use Rattle.kc_kmer.specs.Occurrences.{words_in}
+use Rattle.kc_tally.specs.Tally.{TallySeen, count_of}
+
+-- what a selection is told: from which count on a word is solid, how many of a hundred words of a read have to be, the
+-- least quality byte of a usable base, and whether the reads that are not solid are selected instead
+pub record SelectionRule : Type 0 where
+  pub least : ℕ
+  pub share : ℕ
+  pub floor : ℕ
+  pub inverted : Bool
+
+-- by which rule the words of a read count: they have the table's length, and the forms under which the table counts
+-- them, and no base of theirs has a quality below the floor
+abbrev pub rule_for : TallySeen → SelectionRule → CountingRule
+rule_for tally rule = unlisted_rule tally.k tally.both rule.floor
+
+-- the words of a read, one for each position that has one
+abbrev pub words_for : TallySeen → SelectionRule → Read → List ℕ
+words_for tally rule read = words_in (rule_for tally rule) read
+
+-- a word is solid where the table counts it at least so often
+abbrev pub is_solid_word : TallySeen → ℕ → ℕ → Bool
+is_solid_word tally least word = nat_le least (count_of tally.rows word)
+
+-- how many of the words are solid
+abbrev pub solid_count : TallySeen → ℕ → List ℕ → ℕ
+solid_count tally least words = count_by (λ word. is_solid_word tally least word) words
+
+-- how many words of a read are
+abbrev pub solid_in : TallySeen → SelectionRule → Read → ℕ
+solid_in tally rule read = solid_count tally rule.least (words_for tally rule read)
+
+-- of so many words so many are solid, and that is at least the share that the rule asks for
+abbrev pub has_share : SelectionRule → ℕ → ℕ → Bool
+has_share rule words solid = nat_le (rule.share * words) (100 * solid)
+
+-- a read is solid where enough of its words are; a read without words is
+abbrev pub is_solid : TallySeen → SelectionRule → Read → Bool
+is_solid tally rule read = has_share rule (length (words_for tally rule read)) (solid_in tally rule read)
+
+-- a read that is solid is kept, or one that is not, if the rule is inverted
+abbrev pub keeps : SelectionRule → Bool → Bool
+keeps rule solid = if rule.inverted then not solid else solid
+
+abbrev pub is_selected : TallySeen → SelectionRule → Read → Bool
+is_selected tally rule read = keeps rule (is_solid tally rule read)

@@ -1,0 +1,111 @@
+//! The words of a read, one after another, without memory.
+ghost use Rattle.std.specs.Prelude.{◌≡◌, ◌+◌, ◌^◌, ◌<◌, ◌∷◌, nat_le, [], length, IfSome, IfNone};
+ghost use Rattle.kc_kmer.specs.Occurrences.{words_in};
+ghost use Rattle.kc_word.specs.Cutting.{cleaned};
+ghost use Rattle.kc_word.specs.Walking.{words_left};
+
+use kc_fastx::SeqRead;
+use kc_kmer::Rule;
+use kc_kmer::letter::NO_BASE;
+use kc_word::usable_code;
+use std::marker::Model;
+
+// A place in a read whose words are taken: two numbers are rolled along its bases, and a word stands wherever the run
+// of usable bases is as long as a word. It is seen as a place in the piece of the read, in which N stands for the bases
+// that are not usable.
+#[derive(Drop)]
+pub(crate) struct BaseWalk<'a> {
+    read: &'a SeqRead,
+    at: usize,
+    rule: Rule,
+    forward: u64,
+    backward: u64,
+    run: usize,
+}
+
+impl<'a> Model for BaseWalk<'a> {
+    ghost use Rattle.kc_word.specs.Cutting.{cleaned};
+    ghost use Rattle.kc_word.specs.Walking.{Walking, IsWalking};
+
+    ghost Value = { Walking };
+
+    ghost view = { λ w. record { rule = w.rule; bytes = cleaned w.rule w.read.now; taken = w.at } };
+
+    ghost invariant = { λ w. IsWalking (record { rule = w.rule; bytes = cleaned w.rule w.read.now; taken = w.at })
+        w.forward w.backward w.run };
+}
+
+impl<'a> BaseWalk<'a> {
+    // At the front of the read.
+    pub(crate) fn new(read: &'a SeqRead, rule: Rule) -> BaseWalk<'a>
+        ensures place { result ≡ record { rule = rule; bytes = cleaned rule read.now; taken = 0 } }
+        ensures words { words_left result ≡ words_in rule read.now }
+        ensures few { length (words_left result) < 2 ^ 64 }
+    {
+        rule.has_no_list();
+        let k = rule.k().get();
+        let _count = read.bases().len();
+        BaseWalk {
+            read,
+            at: 0,
+            rule,
+            forward: 0,
+            backward: (1u64 << (2 * k)) - 1,
+            run: 0,
+        }
+    }
+
+    // Whether all bases were taken.
+    #[inline(always)]
+    fn is_done(&self) -> bool
+        ensures { result ≡ nat_le (length self.now.bytes) self.now.taken }
+    {
+        self.read.bases().len() <= self.at
+    }
+
+    // Takes the next base, and answers the word that ends in it, if one does. Condition: not all bases were taken.
+    #[inline(always)]
+    fn step(&mut self) -> Option<u64>
+        requires { self.old.taken < length self.old.bytes }
+        ensures taken { self.new ≡ record { rule = self.old.rule; bytes = self.old.bytes; taken = self.old.taken + 1 } }
+        ensures word { IfSome result (λ word. words_left self.old ≡ word ∷ words_left self.new) }
+        ensures none { IfNone result (words_left self.new ≡ words_left self.old) }
+    {
+        let k = self.rule.k().get();
+        let both = self.rule.both();
+        let mask = (1u64 << (2 * k)) - 1;
+        let code = usable_code(self.read, &self.rule, self.at) as u64;
+        let digit = code & 3;
+        let forward = (self.forward * 4 + digit) & mask;
+        let backward = (self.backward >> 2) + ((3 - digit) << (2 * (k - 1)));
+        let run = if code < NO_BASE as u64 {
+            self.run + 1
+        } else {
+            0
+        };
+        self.at += 1;
+        self.forward = forward;
+        self.backward = backward;
+        self.run = run;
+        if run < k as usize {
+            return None;
+        }
+        let word = if both { backward.min(forward) } else { forward };
+        Some(word)
+    }
+
+    // Takes bases up to the end of the next word, or all that are left where no word ends in them.
+    #[inline(always)]
+    pub(crate) fn next_word(&mut self) -> Option<u64>
+        ensures rule { self.new.rule ≡ self.old.rule }
+        ensures word { IfSome result (λ word. words_left self.old ≡ word ∷ words_left self.new) }
+        ensures none { IfNone result ((words_left self.old ≡ []) × (words_left self.new ≡ [])) }
+    {
+        while !self.is_done() {
+            if let Some(word) = self.step() {
+                return Some(word);
+            }
+        }
+        None
+    }
+}

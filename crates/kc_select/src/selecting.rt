@@ -1,0 +1,96 @@
+//! From the reads of a source to the text of those that are selected.
+ghost use Rattle.std.specs.Prelude.{◌≡◌, ◌≤◌, ◌++◌, ◌∷◌, [], IfOk, OnOk, OnErr};
+ghost use Rattle.kc_io.specs.Sinks.{HasBegun, Drains};
+ghost use Rattle.kc_fastx.specs.Parsing.{most_bytes};
+ghost use Rattle.kc_fastx.specs.Titles.{record_of};
+ghost use Rattle.kc_select.specs.Counts.{counts_of};
+ghost use Rattle.kc_select.specs.Texts.{text_of_selected};
+ghost use Rattle.kc_select.specs.Selecting.{Selects, EndsWith};
+
+use crate::record_texts::put_record;
+use crate::select_fault::SelectFault;
+use crate::selection::Selection;
+use crate::selection_counts::{Selected, SelectionCounts};
+use crate::solid::count_words;
+use kc_fastx::{FastxFault, Reading, SeqRead, Source};
+use kc_io::{Block, Failed, Sink, write_out};
+use kc_tally::Tally;
+use std::alloc::Global;
+
+/// Writes the reads of the source that the selection keeps, whole and in order, each with its title: FASTA as FASTA,
+/// and FASTQ as FASTQ, with sequence and quality in one line each. No byte of a read is written before the read was
+/// judged. At most `limit` bytes are taken of the source. It answers how many these are, and what was counted of the
+/// reads. Condition: the limit is at most 2^36.
+///
+/// # Errors
+/// `Reads` with the fault that the reads met. The selected ones of those before it were written and flushed. `Write`
+/// where the writer failed or took no byte. It took a beginning of the text of those that were selected.
+pub fn select<S: Source, W: Sink>(
+    alloc: Global,
+    source: &mut S,
+    limit: u64,
+    writer: &mut W,
+    tally: &Tally,
+    selection: Selection,
+) -> Result<Selected, SelectFault>
+    requires { limit ≤ most_bytes }
+    ensures { Selects (record { tally = tally.now; rule = selection; limit = limit })
+        (record { source = S.seen source.old; sink = W.seen writer.old })
+        (record { source = S.seen source.new; sink = W.seen writer.new }) result }
+{
+    // what is known of a length
+    let _bases = tally.k().get();
+    let mut block = Block::new();
+    let mut counts = SelectionCounts::none();
+    let Ok(mut reading) = Reading::new(alloc, limit) else {
+        return Err(end_with(writer, &block, FastxFault::Memory));
+    };
+    let mut title = Vec::new(alloc);
+    'reads: loop {
+        match reading.next_titled(alloc, source, &mut title) {
+            Ok(Some(read)) => {
+                let judged = put_selected(writer, &mut block, tally, selection, &title, &read)?;
+                counts = counts.and(judged);
+            }
+            Ok(None) => {
+                write_out(writer, block.as_slice())?;
+                let bytes = reading.byte_count();
+                return Ok(Selected { bytes, counts });
+            }
+            Err(fault) => return Err(end_with(writer, &block, fault)),
+        }
+    }
+}
+
+// Puts the text of the record behind the block, where the selection keeps its read, and answers what is counted of it.
+fn put_selected<W: Sink>(
+    writer: &mut W,
+    block: &mut Block,
+    tally: &Tally,
+    selection: Selection,
+    title: &[u8],
+    read: &SeqRead,
+) -> Result<SelectionCounts, Failed>
+    ensures ok { OnOk result (Drains (W.seen writer.old) (W.seen writer.new)
+        (block.old ++ text_of_selected tally.now selection (record_of title.now read.now)) block.new) }
+    ensures counts { IfOk result (λ counts. counts ≡ counts_of tally.now selection (read.now ∷ [])) }
+    ensures err { OnErr result (HasBegun (W.seen writer.old) (W.seen writer.new)
+        (block.old ++ text_of_selected tally.now selection (record_of title.now read.now))) }
+{
+    let counted = count_words(tally, read, selection);
+    let is_kept = counted.is_kept(selection);
+    if is_kept {
+        put_record(writer, block, title, read)?;
+    }
+    Ok(counted.of_one(is_kept))
+}
+
+// Writes what stands in the block, and answers this fault of the reads, or that the writer failed.
+fn end_with<W: Sink>(writer: &mut W, block: &Block, fault: FastxFault) -> SelectFault
+    ensures { EndsWith (W.seen writer.old) (W.seen writer.new) block.now fault result }
+{
+    match write_out(writer, block.as_slice()) {
+        Ok(()) => SelectFault::Reads(fault),
+        Err(Failed) => SelectFault::Write,
+    }
+}
