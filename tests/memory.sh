@@ -60,7 +60,8 @@ refuse_growths 'a count of FASTQ' $'ACG 2\nGTA 1\n' '8 34 46' "$work/reads.fq" "
 refuse_growths 'a count of listed k-mers' $'ACG 2\n' '8 34 46' "$work/reads.fq" "${count[@]}" --only "$work/list.fa"
 refuse_growths 'a merge' $'KCT 2 3 c a 33 3\nAAA 4\nACG 2\nGTA 2\nEND 3 8\n' 46 /dev/null \
     merge "$work/first.kct" "$work/second.kct"
-refuse_growths 'a selection' $'@a\nACGTA\n+\nIIIII\n' '8 46' "$work/reads.fq" select --min-share 60 "$work/first.kct"
+refuse_growths 'a selection' $'@a\nACGTA\n+\nIIIII\n@b\nACGTN\n+\nII"II\n' '8 46' "$work/reads.fq" \
+    select --min-share 60 "$work/first.kct"
 
 # one test of a crate, with its n-th growth refused
 refused_test() {

@@ -151,6 +151,22 @@ def text_of(folder, path):
         return file.read()
 
 
+def made_within(folder, name, refused):
+    """Returns the text that the edit makes of its file where its old text stands once in the function that it names, however often in the file."""
+    told = re.fullmatch(r"refused: .*\nfile: (.*)\nold: (.*)\nnew: (.*)\n", text_of(folder, f"{FOLDER}/{name}.edit"))
+    if not told:
+        return {}
+    path, old, new = told.groups()
+    text = text_of(folder, path)
+    lines = text.split("\n")
+    for it in functions_of(path, text, homes_of(folder)):
+        at = [n for n in range(it.first, it.last + 1) if old in lines[n]]
+        if it.name == refused and len(at) == 1 and lines[at[0]].count(old) == 1:
+            lines[at[0]] = lines[at[0]].replace(old, new)
+            return {path: "\n".join(lines)}
+    return {}
+
+
 def read(rt, folder, name):
     """Returns the edit of that name of the crate in this folder."""
     file = f"{folder}/{FOLDER}/{name}.edit"
@@ -159,6 +175,8 @@ def read(rt, folder, name):
         raise BadEdit("it wants one line 'refused:' with a function's name")
     texts, why = rt.read_edit(file, folder)
     if why:
+        texts = made_within(folder, name, named[0])
+    if not texts:
         raise BadEdit(why)
     edit, homes = Edit(name, named[0]), homes_of(folder)
     for path, text in texts.items():

@@ -15,8 +15,8 @@ ghost use Rattle.kc_command.specs.Command.{
 
 use crate::command_arguments::{
     batch, canonical, column, counted, file, files, first, high, invert, lower_count, mer_len,
-    min_count, min_qual_char, min_share, only, output, print, second, size, stats, stripes, tab, table,
-    threads, upper_count, with_short, words,
+    min_count, min_qual_char, min_share, only, output, print, second, size, stats, stripes, tab,
+    table, threads, upper_count, with_short, words,
 };
 use crate::help;
 use clap::Command;

@@ -22,6 +22,4 @@ mod settings_of_options;
 
 pub use option_name::OptionName;
 pub use settings::{Options, Print};
-pub use settings_of_options::{
-    dump_options, has_flag, high_of, options, select_options, text_of,
-};
+pub use settings_of_options::{dump_options, has_flag, high_of, options, select_options, text_of};

@@ -314,8 +314,7 @@ selected_all {rule} {tally} {old} {new} {before} {after} {counts} {left} {number
     let flushed : after.history.flushed ≡ length after.history.bytes = elim s.flushed [
       | inl begun ↦ absurd (omega (arith, begun, all, some))
       | inr ended ↦ ended
-    ] in
-    (
+    ] in (
       s.earlier,
       left,
       subst (λ v. GaveRecords most_bytes left old v s.earlier) are

@@ -38,8 +38,11 @@ returns-then-tells-clause-done g c =
     c.index-files-0.result c.table_from.new.source c.select_files.new.files
     (λ old new. SelectsBy c.args.selection c.args.tells (record { given = old; output = g.W.Sink.seen c.args.output.now })
     (record { given = new; output = g.W.Sink.seen c.select_files.new.writer }) (Ok (Some counts)))
-    (inl ((table, c.in_ok-tally._origin), c.in_ok-tally.ensures.table,
-    (Ok counts, ap (λ t. told_of t (Ok counts)) (sym c.if-tells.true), c.in_ok-counts.ensures.selects)))
+    (inl (
+      (table, c.in_ok-tally._origin),
+      c.in_ok-tally.ensures.table,
+      (Ok counts, ap (λ t. told_of t (Ok counts)) (sym c.if-tells.true), c.in_ok-counts.ensures.selects),
+    ))
 
 pub returns-clause-done : goal.returns-clause-done
 returns-clause-done g c =
@@ -50,5 +53,8 @@ returns-clause-done g c =
     c.index-files-0.result c.table_from.new.source c.select_files.new.files
     (λ old new. SelectsBy c.args.selection c.args.tells (record { given = old; output = g.W.Sink.seen c.args.output.now })
     (record { given = new; output = g.W.Sink.seen c.select_files.new.writer }) (Ok None))
-    (inl ((table, c.in_ok-tally._origin), c.in_ok-tally.ensures.table,
-    (Ok counts, ap (λ t. told_of t (Ok counts)) (sym c.if-tells.false), c.in_ok-counts.ensures.selects)))
+    (inl (
+      (table, c.in_ok-tally._origin),
+      c.in_ok-tally.ensures.table,
+      (Ok counts, ap (λ t. told_of t (Ok counts)) (sym c.if-tells.false), c.in_ok-counts.ensures.selects),
+    ))
