@@ -12,7 +12,8 @@ use Rattle.kc_report.specs.Table.{table_text}
 use Rattle.kc_report.specs.TableReading.{GivesTable, RefusesTable}
 use Rattle.kc_report.specs.Merging.{Merges}
 use Rattle.kc_command.specs.Arguments.{AsksFor, AsksForDump, first_bad, first_bad_of_dump, first_bad_of_histo, high_of}
-use Rattle.kc_command.specs.Arguments.{first_table_of, only_of, second_table_of, AsksForSelection, IsFlag, first_bad_of_select}
+use Rattle.kc_command.specs.Arguments.{first_table_of, only_of, second_table_of, AsksForSelection, IsFlag}
+use Rattle.kc_command.specs.Arguments.{first_bad_of_select}
 use Rattle.kc_select.specs.Solid.{SelectionRule}
 use Rattle.kc_select.specs.declared.selection_counts.SelectionCounts.{SelectionCounts}
 use Rattle.kc_tool.specs.Selections.{SelectsFrom, Told}

@@ -69,8 +69,8 @@ pub record StopsAt (rule : SelectionRule) (tally : TallySeen) (old new : List Se
   pub first : List Record
   pub came : BeginWith (task_within rule tally limit) here first
 
--- Ok: the selected reads of all sources were written, in order, and all were counted. Where a source has a fault, those before it were
--- written. Where the writer failed, a beginning of the text of those that had come was taken.
+-- Ok: the selected reads of all sources were written, in order, and all were counted. Where a source has a fault, those
+-- before it were written. Where the writer failed, a beginning of the text of those that had come was taken.
 abbrev pub SelectsFrom : SelectionRule → TallySeen → List Seen → List Seen → Written → Written
     → Result SelectionCounts ToolFault → Type 0
 SelectsFrom rule tally old new before after (Ok counts) = (records : List (List Record)) × (left : ℕ)

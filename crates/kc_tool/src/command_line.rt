@@ -42,10 +42,10 @@ pub(crate) const REFUSED: u8 = 2;
 ///
 /// Status 0: the output, or the file that the arguments name for it, has what the arguments ask for: a report, the
 /// answer to a query, selected reads, help or the version; and a selection's counts went to the errors, where they are
-/// asked for. Status 1: the line of a fault went to the errors, and the output is as it
-/// was, or has a beginning of the answer where writing failed. Status 2: the output is as it was, and why the arguments
-/// are refused went to the errors. The input is read where a command reads no file, and else it is as it was; and
-/// nothing is asked of files but what the command asks for.
+/// asked for. Status 1: the line of a fault went to the errors, and the output is as it was, or has a beginning of the
+/// answer where writing failed, or the selected reads before the fault. Status 2: the output is as it was, and why the
+/// arguments are refused went to the errors. The input is read where a command reads no file, and else it is as it was;
+/// and nothing is asked of files but what the command asks for.
 pub fn run<H: Threads + Wait + Sync, S: Files, R: Source, W: Sink, E: Sink, P: Progress + Sync>(
     rt: &H,
     alloc: Global,

@@ -1,5 +1,6 @@
 //! The commands: what a command is to do, the files that it reads, and what it writes.
-ghost use Rattle.std.specs.Prelude.{◌≡◌, ◌≤◌, ◌⊎◌, [], ◌∷◌, drop, length, IfErr, IfOk, None, map, string_bytes, unwrap_or};
+ghost use Rattle.std.specs.Prelude.{◌≡◌, ◌≤◌, ◌⊎◌, [], ◌∷◌, drop, length, map, string_bytes, unwrap_or};
+ghost use Rattle.std.specs.Prelude.{IfErr, IfOk, None};
 ghost use Rattle.clap.specs.Words.{all_of, found_of, rows_of};
 ghost use Rattle.kc_tool.specs.NamedSources.{names_of, seen_of};
 ghost use Rattle.kc_tool.specs.Commands.{

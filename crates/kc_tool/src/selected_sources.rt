@@ -28,8 +28,10 @@ pub(crate) fn select_files<R: Source, F: Source, W: Sink>(
     selection: Selection,
     writer: &mut W,
 ) -> Result<SelectionCounts, ToolFault>
-    ensures selects { let Selects = SelectsFrom selection tally.now (sources_from (R.seen input.old) (seen_of F.seen files.old)) in
-        Selects (sources_from (R.seen input.new) (seen_of F.seen files.new)) (W.seen writer.old) (W.seen writer.new) result }
+    ensures selects { let Selects = SelectsFrom selection tally.now
+        (sources_from (R.seen input.old) (seen_of F.seen files.old)) in
+        Selects (sources_from (R.seen input.new) (seen_of F.seen files.new))
+        (W.seen writer.old) (W.seen writer.new) result }
     ensures input { KeepsInput (seen_of F.seen files.old) (R.seen input.old) (R.seen input.new) }
     ensures names { names_of files.new ≡ names_of files.old }
 {
@@ -49,7 +51,8 @@ fn select_sources<R: Source, W: Sink>(
 ) -> Result<SelectionCounts, ToolFault>
     requires { 1 ≤ length sources.old }
     ensures selects { let Selects = SelectsFrom selection tally.now in
-        Selects (seen_of R.seen sources.old) (seen_of R.seen sources.new) (W.seen writer.old) (W.seen writer.new) result }
+        Selects (seen_of R.seen sources.old) (seen_of R.seen sources.new)
+        (W.seen writer.old) (W.seen writer.new) result }
     ensures names { names_of sources.new ≡ names_of sources.old }
 {
     // what is known of lengths
