@@ -1,5 +1,6 @@
 #!/bin/bash
-# Runs the examples of the documents as they are written, and compares what they print:
+# Runs the examples of the documents as they are written, by the program as `make install` puts it, and compares what they
+# print:
 #   tests/examples.sh
 # An example is a line that begins with "$ " in a block of README.md, docs/USING.md or docs/TUTORIAL.md; what it prints, to either stream,
 # stands below it, up to the next one or the end of the block. All run one after the other in one directory, which has
@@ -11,8 +12,13 @@ top=$here/..
 work=$(mktemp -d)
 trap 'rm -rf "$work"' EXIT
 [ -x "$top/bin/kcount" ] || { echo "no bin/kcount: run make build first"; exit 1; }
-mkdir "$work/bin" "$work/here"
-cp "$top/bin/kcount" "$work/bin/kcount"
+# (what was built is taken as it is: other tests run over the same libraries)
+make --no-print-directory -C "$top" -o build install PREFIX="$work" > "$work/installed"
+for file in bin/kcount share/man/man1/kcount.1 share/bash-completion/completions/kcount share/zsh/site-functions/_kcount \
+    share/fish/vendor_completions.d/kcount.fish; do
+    [ -s "$work/$file" ] || { echo "examples: make install left out $file"; exit 1; }
+done
+mkdir "$work/here"
 cp -r "$top/examples" "$work/here/examples"
 export PATH=$work/bin:$PATH
 cd "$work/here"

@@ -2,7 +2,7 @@
 use kc_fastx::{FastxFault, SeqRead};
 use kc_io::{FromBytes, ToVec, ToWrite};
 use kc_report::{ReportFault, read_table};
-use kc_select::{SelectFault, Selected, Selection, SelectionCounts, is_selected, is_solid, select};
+use kc_select::{SelectFault, Selected, Selection, SelectionCounts, Selector, select};
 use kc_tally::Tally;
 use std::alloc::{AllocError, Global};
 use std::io;
@@ -73,10 +73,11 @@ fn solid_reads(rt: HostRuntime) -> Result<(), Fail> {
         let tally = table_of(rt.alloc(), *table)?;
         let read = read_of(rt.alloc(), *bases, b"").ok_or("no read")?;
         let selection = selection_of(*least, *share, b'!').ok_or("no selection")?;
-        assert_eq!(rt; is_solid(&tally, &read, selection), *want);
-        assert_eq!(rt; is_selected(&tally, &read, selection), *want);
-        let others = selection.with_inverted(true);
-        assert_eq!(rt; is_selected(&tally, &read, others), !*want);
+        let selector = Selector::new(rt.alloc(), &tally, selection)?;
+        assert_eq!(rt; selector.is_solid(&read), *want);
+        assert_eq!(rt; selector.is_selected(&read), *want);
+        let others = Selector::new(rt.alloc(), &tally, selection.with_inverted(true))?;
+        assert_eq!(rt; others.is_selected(&read), !*want);
     }
     Ok(())
 }
@@ -104,8 +105,10 @@ fn reads_with_a_floor(rt: HostRuntime) -> Result<(), Fail> {
     for (bases, quals, floor, share, want) in FLOORS {
         let read = read_of(rt.alloc(), *bases, *quals).ok_or("no read")?;
         let selection = selection_of(2, *share, *floor).ok_or("no selection")?;
-        assert_eq!(rt; is_solid(&tally, &read, selection), *want);
-        assert_eq!(rt; is_selected(&tally, &read, selection), *want);
+        let selector = Selector::new(rt.alloc(), &tally, selection)?;
+        assert_eq!(rt; selector.k(), tally.k());
+        assert_eq!(rt; selector.is_solid(&read), *want);
+        assert_eq!(rt; selector.is_selected(&read), *want);
     }
     Ok(())
 }
@@ -117,7 +120,8 @@ fn one_read_of_three_words(rt: HostRuntime) -> Result<(), Fail> {
     let selection = Selection::new(2, 100).with_floor(b'#');
     let mut source = FromBytes::new(b">r\nACGTA\n");
     let mut sink = ToVec::new(Vec::new(alloc));
-    let selected = select(alloc, &mut source, 1 << 36, &mut sink, &tally, selection)?;
+    let selector = Selector::new(alloc, &tally, selection)?;
+    let selected = select(alloc, &mut source, 1 << 36, &mut sink, &selector)?;
     assert_eq!(rt; numbers_of(Ok(selected)), Ok([9, 1, 0, 3, 2]));
     assert_eq!(rt; sink.as_slice(), b"".as_slice());
     Ok(())
@@ -177,23 +181,15 @@ fn numbers_of(answer: Result<Selected, SelectFault>) -> Result<[u64; 5], SelectF
 // What a selection writes of a text, behind which the reads may have met a fault.
 fn selected(
     alloc: Global,
-    tally: &Tally,
+    selector: &Selector<'_>,
     text: &[u8],
     limit: u64,
-    selection: Selection,
 ) -> (Result<[u64; 5], SelectFault>, Vec<u8>) {
     let mut sink = ToVec::new(Vec::new(alloc));
     if limit > 1_000_000 {
         return (Err(SelectFault::Write), sink.into_inner());
     }
-    let answer = select(
-        alloc,
-        &mut FromBytes::new(text),
-        limit,
-        &mut sink,
-        tally,
-        selection,
-    );
+    let answer = select(alloc, &mut FromBytes::new(text), limit, &mut sink, selector);
     (numbers_of(answer), sink.into_inner())
 }
 
@@ -268,7 +264,8 @@ fn reads_that_are_written(rt: HostRuntime) -> Result<(), Fail> {
     let tally = table_of(rt.alloc(), TABLE)?;
     for (text, limit, others, want, written) in SELECTED {
         let selection = Selection::new(2, 66).with_inverted(*others);
-        let (answer, found) = selected(rt.alloc(), &tally, *text, *limit, selection);
+        let selector = Selector::new(rt.alloc(), &tally, selection)?;
+        let (answer, found) = selected(rt.alloc(), &selector, *text, *limit);
         assert_eq!(rt; answer, *want);
         assert_eq!(rt; found.as_slice(), *written);
     }
@@ -289,9 +286,9 @@ fn long_record(alloc: Global, count: usize) -> Result<Vec<u8>, AllocError> {
 #[test]
 fn a_read_longer_than_a_block(rt: HostRuntime) -> Result<(), Fail> {
     let tally = table_of(rt.alloc(), TABLE)?;
-    let selection = Selection::new(2, 0);
+    let selector = Selector::new(rt.alloc(), &tally, Selection::new(2, 0))?;
     let text = long_record(rt.alloc(), 200_000)?;
-    let (answer, found) = selected(rt.alloc(), &tally, text.as_slice(), 1_000_000, selection);
+    let (answer, found) = selected(rt.alloc(), &selector, text.as_slice(), 1_000_000);
     assert_eq!(rt; answer, Ok([200_007, 1, 1, 199_998, 0]));
     assert_eq!(rt; found.as_slice() == text.as_slice(), true);
     Ok(())
@@ -314,15 +311,14 @@ impl Write for Full {
 #[test]
 fn a_writer_that_fails(rt: HostRuntime) -> Result<(), Fail> {
     let tally = table_of(rt.alloc(), TABLE)?;
-    let selection = Selection::new(2, 66);
+    let selector = Selector::new(rt.alloc(), &tally, Selection::new(2, 66))?;
     let mut sink = ToWrite::new(Full);
     let answer = select(
         rt.alloc(),
         &mut FromBytes::new(FASTA),
         100,
         &mut sink,
-        &tally,
-        selection,
+        &selector,
     );
     assert_eq!(rt; answer, Err(SelectFault::Write));
     Ok(())

@@ -1,3 +1,4 @@
 pub mod TextLemmas
 pub mod CountsLemmas
 pub mod SelectLemmas
+pub mod SolidWordsLemmas

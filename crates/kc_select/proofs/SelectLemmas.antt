@@ -5,7 +5,7 @@ use Rattle.std.proofs.lemmas.List.{length-map}
 use Rattle.kc_io.specs.Sources.{Seen}
 use Rattle.kc_fastx.specs.Parsing.{most_bytes}
 use Rattle.kc_fastx.proofs.ReadingLemmas.{base_count-given, used_within}
-use Rattle.std.proofs.Common.{Result, Ok, Err}
+use Rattle.std.proofs.Common.{Ok, Err}
 use Rattle.kc_io.specs.Sinks.{Written, HasTaken, HasWritten, HasBegun, Drains}
 use Rattle.kc_io.proofs.SinksLemmas.{begin, taken_both}
 use Rattle.kc_fastx.specs.declared.read_faults.FastxFault.{FastxFault}
@@ -21,7 +21,7 @@ use Rattle.kc_select.specs.Texts.{text_of_selected, selected_text}
 use Rattle.kc_select.specs.declared.selection_counts.SelectionCounts.{SelectionCounts}
 use Rattle.kc_select.specs.declared.selection_counts.Selected.{Selected}
 use Rattle.kc_select.specs.Counts.{counts_of, no_counts, both_counts}
-use Rattle.kc_select.specs.Selecting.{Task, Streams, Selects, EndsWith, selected_of}
+use Rattle.kc_select.specs.Selecting.{Task, Streams, Selects, EndsWith}
 use Rattle.kc_select.proofs.CountsLemmas.{counts_push, taken_same, AreFew, counts_few}
 use Rattle.kc_select.proofs.TextLemmas.{drains_more, drains_both, drains_begins}
 

@@ -1,6 +1,6 @@
 -- What is counted of the reads that a selection judges.
 -- Source: this project's own.
-use Rattle.std.specs.Prelude.{ℕ, ◌+◌, List, map, length, count_by, sum_by}
+use Rattle.std.specs.Prelude.{◌+◌, List, length, count_by, sum_by}
 use Rattle.kc_fastx.specs.Reads.{Read}
 use Rattle.kc_tally.specs.Tally.{TallySeen}
 use Rattle.kc_select.specs.declared.selection_counts.SelectionCounts.{SelectionCounts}

@@ -9,7 +9,7 @@ use Rattle.kc_tally.specs.Tally.{TallySeen}
 use Rattle.kc_select.specs.declared.select_fault.SelectFault.{SelectFault}
 use Rattle.kc_select.specs.declared.select_fault.SelectFault.TheVariants.{Reads, Write}
 use Rattle.kc_select.specs.declared.selection_counts.Selected.{Selected}
-use Rattle.kc_select.specs.Solid.{SelectionRule}
+use Rattle.kc_select.specs.Solid.{SelectionRule, SelectorSeen}
 use Rattle.kc_select.specs.Counts.{counts_of}
 use Rattle.kc_select.specs.Texts.{selected_text}
 
@@ -18,6 +18,10 @@ pub record Task : Type 0 where
   pub tally : TallySeen
   pub rule : SelectionRule
   pub limit : ℕ
+
+-- by a selector, of a source that may give so many bytes
+abbrev pub task_of : SelectorSeen → ℕ → Task
+task_of selector limit = record { tally = selector.tally; rule = selector.rule; limit = limit }
 
 -- what was seen of the source and of the sink
 pub record Streams : Type 0 where

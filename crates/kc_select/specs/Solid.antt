@@ -49,3 +49,8 @@ keeps rule solid = if rule.inverted then not solid else solid
 
 abbrev pub is_selected : TallySeen → SelectionRule → Read → Bool
 is_selected tally rule read = keeps rule (is_solid tally rule read)
+
+-- a table, and what is told of a selection by it
+pub record SelectorSeen : Type 0 where
+  pub tally : TallySeen
+  pub rule : SelectionRule

@@ -5,16 +5,14 @@ ghost use Rattle.kc_fastx.specs.Parsing.{most_bytes};
 ghost use Rattle.kc_fastx.specs.Titles.{record_of};
 ghost use Rattle.kc_select.specs.Counts.{counts_of};
 ghost use Rattle.kc_select.specs.Texts.{text_of_selected};
-ghost use Rattle.kc_select.specs.Selecting.{Selects, EndsWith};
+ghost use Rattle.kc_select.specs.Selecting.{Selects, EndsWith, task_of};
 
 use crate::record_texts::put_record;
 use crate::select_fault::SelectFault;
-use crate::selection::Selection;
 use crate::selection_counts::{Selected, SelectionCounts};
-use crate::solid::count_words;
+use crate::selector::Selector;
 use kc_fastx::{FastxFault, Reading, SeqRead, Source};
 use kc_io::{Block, Failed, Sink, write_out};
-use kc_tally::Tally;
 use std::alloc::Global;
 
 /// Writes the reads of the source that the selection keeps, whole and in order, each with its title: FASTA as FASTA,
@@ -30,16 +28,15 @@ pub fn select<S: Source, W: Sink>(
     source: &mut S,
     limit: u64,
     writer: &mut W,
-    tally: &Tally,
-    selection: Selection,
+    selector: &Selector<'_>,
 ) -> Result<Selected, SelectFault>
     requires { limit ≤ most_bytes }
-    ensures { Selects (record { tally = tally.now; rule = selection; limit = limit })
+    ensures { Selects (task_of selector.now limit)
         (record { source = S.seen source.old; sink = W.seen writer.old })
         (record { source = S.seen source.new; sink = W.seen writer.new }) result }
 {
     // what is known of a length
-    let _bases = tally.k().get();
+    let _bases = selector.k().get();
     let mut block = Block::new();
     let mut counts = SelectionCounts::none();
     let Ok(mut reading) = Reading::new(alloc, limit) else {
@@ -49,7 +46,7 @@ pub fn select<S: Source, W: Sink>(
     'reads: loop {
         match reading.next_titled(alloc, source, &mut title) {
             Ok(Some(read)) => {
-                let judged = put_selected(writer, &mut block, tally, selection, &title, &read)?;
+                let judged = put_selected(writer, &mut block, selector, &title, &read)?;
                 counts = counts.and(judged);
             }
             Ok(None) => {
@@ -66,19 +63,18 @@ pub fn select<S: Source, W: Sink>(
 fn put_selected<W: Sink>(
     writer: &mut W,
     block: &mut Block,
-    tally: &Tally,
-    selection: Selection,
+    selector: &Selector<'_>,
     title: &[u8],
     read: &SeqRead,
 ) -> Result<SelectionCounts, Failed>
     ensures ok { OnOk result (Drains (W.seen writer.old) (W.seen writer.new)
-        (block.old ++ text_of_selected tally.now selection (record_of title.now read.now)) block.new) }
-    ensures counts { IfOk result (λ counts. counts ≡ counts_of tally.now selection (read.now ∷ [])) }
+        (block.old ++ text_of_selected selector.now.tally selector.now.rule (record_of title.now read.now)) block.new) }
+    ensures counts { IfOk result (λ counts. counts ≡ counts_of selector.now.tally selector.now.rule (read.now ∷ [])) }
     ensures err { OnErr result (HasBegun (W.seen writer.old) (W.seen writer.new)
-        (block.old ++ text_of_selected tally.now selection (record_of title.now read.now))) }
+        (block.old ++ text_of_selected selector.now.tally selector.now.rule (record_of title.now read.now))) }
 {
-    let counted = count_words(tally, read, selection);
-    let is_kept = counted.is_kept(selection);
+    let counted = selector.count_words(read);
+    let is_kept = counted.is_kept(selector.selection());
     if is_kept {
         put_record(writer, block, title, read)?;
     }

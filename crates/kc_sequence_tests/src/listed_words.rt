@@ -78,6 +78,10 @@ fn words_held(rt: HostRuntime) -> Result<(), Fail> {
         assert_same(&rt, row, &only.k(), &rule.k());
         assert_same(&rt, row, &only.both(), both);
         assert_same(&rt, row, &is_held(&only, *word)?, want);
+        // the list of its words is the same
+        let words = Vec::from_slice(rt.alloc(), only.words())?;
+        let again = Only::of_words(rt.alloc(), only.k(), only.both(), words)?;
+        assert_same(&rt, row, &is_held(&again, *word)?, want);
     }
     Ok(())
 }

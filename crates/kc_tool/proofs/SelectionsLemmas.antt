@@ -15,7 +15,7 @@ use Rattle.kc_fastx.proofs.ReadingLemmas.{base_count-gives}
 use Rattle.kc_tool.proofs.ReadCountLemmas.{read_count-gives}
 use Rattle.kc_tally.specs.Tally.{TallySeen}
 use Rattle.kc_select.specs.Counts.{counts_of, both_counts, no_counts}
-use Rattle.kc_select.specs.Selecting.{BeginWith, Streams, Task}
+use Rattle.kc_select.specs.Selecting.{BeginWith, Streams}
 use Rattle.kc_select.specs.Solid.{SelectionRule, is_selected}
 use Rattle.kc_select.specs.declared.selection_counts.Selected.{Selected}
 use Rattle.kc_select.specs.declared.selection_counts.SelectionCounts.{SelectionCounts}

@@ -13,7 +13,7 @@ use Rattle.kc_select.specs.Solid.{SelectionRule}
 use Rattle.kc_select.specs.Texts.{selected_text}
 use Rattle.kc_tally.specs.Tally.{TallySeen}
 use Rattle.kc_tool.specs.declared.tool_faults.ToolFault.{ToolFault}
-use Rattle.kc_tool.specs.declared.tool_faults.ToolFault.TheVariants.{Fastx, Write}
+use Rattle.kc_tool.specs.declared.tool_faults.ToolFault.TheVariants.{Fastx, Memory, Write}
 
 -- what a command that went well tells on the errors: what was counted of the reads that were selected, or nothing
 abbrev pub Told : Type 0
@@ -70,7 +70,8 @@ pub record StopsAt (rule : SelectionRule) (tally : TallySeen) (old new : List Se
   pub came : BeginWith (task_within rule tally limit) here first
 
 -- Ok: the selected reads of all sources were written, in order, and all were counted. Where a source has a fault, those
--- before it were written. Where the writer failed, a beginning of the text of those that had come was taken.
+-- before it were written. Where the writer failed, a beginning of the text of those that had come was taken. Where
+-- memory was refused before the first read, nothing was read or written.
 abbrev pub SelectsFrom : SelectionRule → TallySeen → List Seen → List Seen → Written → Written
     → Result SelectionCounts ToolFault → Type 0
 SelectsFrom rule tally old new before after (Ok counts) = (records : List (List Record)) × (left : ℕ)
@@ -82,4 +83,5 @@ SelectsFrom rule tally old new before after (Err (Fastx number fault)) = (stop :
     × HasWritten before after (selected_text tally rule (all_records stop.earlier ++ stop.first))
 SelectsFrom rule tally old new before after (Err Write) = (number : ℕ) × (stop : StopsAt rule tally old new number)
     × HasBegun before after (selected_text tally rule (all_records stop.earlier ++ stop.first))
+SelectsFrom rule tally old new before after (Err Memory) = (new ≡ old) × (after ≡ before)
 SelectsFrom rule tally old new before after (Err fault) = ⊥

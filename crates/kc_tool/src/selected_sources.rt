@@ -1,6 +1,7 @@
 //! The reads of several sources that a table selects.
 ghost use Rattle.std.specs.Prelude.{◌≡◌, ◌≤◌, ◌∷◌, [], length};
 ghost use Rattle.kc_fastx.specs.Parsing.{most_bytes};
+ghost use Rattle.kc_select.specs.Selecting.{task_of};
 ghost use Rattle.kc_tool.specs.Commands.{KeepsInput, sources_from};
 ghost use Rattle.kc_tool.specs.NamedSources.{names_of, seen_of};
 ghost use Rattle.kc_tool.specs.Selections.{SelectsFrom, SelectsNext};
@@ -10,7 +11,7 @@ use crate::named_sources::NamedSource;
 use crate::tool_faults::ToolFault;
 use kc_fastx::Source;
 use kc_io::Sink;
-use kc_select::{SelectFault, Selected, Selection, SelectionCounts, select};
+use kc_select::{SelectFault, Selected, Selection, SelectionCounts, Selector, select};
 use kc_tally::Tally;
 use std::alloc::Global;
 
@@ -18,8 +19,9 @@ use std::alloc::Global;
 /// input, and counts all. The files keep their names.
 ///
 /// # Errors
-/// `Fastx` with the fault of the first source that has one, and its number from 1. The selected ones of the reads
-/// before it were written. `Write` where the writer failed or took no byte.
+/// `Memory` where the selection got no memory: nothing was read or written. `Fastx` with the fault of the first source
+/// that has one, and its number from 1. The selected ones of the reads before it were written. `Write` where the writer
+/// failed or took no byte.
 pub(crate) fn select_files<R: Source, F: Source, W: Sink>(
     alloc: Global,
     files: &mut [NamedSource<'_, F>],
@@ -35,43 +37,35 @@ pub(crate) fn select_files<R: Source, F: Source, W: Sink>(
     ensures input { KeepsInput (seen_of F.seen files.old) (R.seen input.old) (R.seen input.new) }
     ensures names { names_of files.new ≡ names_of files.old }
 {
+    let selector = Selector::new(alloc, tally, selection)?;
     if files.is_empty() {
-        return select_input(alloc, input, tally, selection, writer);
+        return select_input(alloc, input, &selector, writer);
     }
-    select_sources(alloc, files, tally, selection, writer)
+    select_sources(alloc, files, &selector, writer)
 }
 
 // The same of sources, of which there is one at the least.
 fn select_sources<R: Source, W: Sink>(
     alloc: Global,
     sources: &mut [NamedSource<'_, R>],
-    tally: &Tally,
-    selection: Selection,
+    selector: &Selector<'_>,
     writer: &mut W,
 ) -> Result<SelectionCounts, ToolFault>
     requires { 1 ≤ length sources.old }
-    ensures selects { let Selects = SelectsFrom selection tally.now in
+    ensures selects { let Selects = SelectsFrom selector.now.rule selector.now.tally in
         Selects (seen_of R.seen sources.old) (seen_of R.seen sources.new)
         (W.seen writer.old) (W.seen writer.new) result }
     ensures names { names_of sources.new ≡ names_of sources.old }
 {
     // what is known of lengths
-    let _bases = tally.k().get();
+    let _bases = selector.k().get();
     let _fits = sources.len();
     let mut left = MOST_BYTES;
     let mut number = 0u64;
     let mut counts = SelectionCounts::none();
     for source in sources.iter_mut() {
         number += 1;
-        let selected = select_next(
-            alloc,
-            &mut source.source,
-            number,
-            left,
-            tally,
-            selection,
-            writer,
-        )?;
+        let selected = select_next(alloc, &mut source.source, number, left, selector, writer)?;
         left -= selected.bytes;
         counts = counts.and(selected.counts);
     }
@@ -82,14 +76,13 @@ fn select_sources<R: Source, W: Sink>(
 fn select_input<R: Source, W: Sink>(
     alloc: Global,
     input: &mut R,
-    tally: &Tally,
-    selection: Selection,
+    selector: &Selector<'_>,
     writer: &mut W,
 ) -> Result<SelectionCounts, ToolFault>
-    ensures { let Selects = SelectsFrom selection tally.now in
+    ensures { let Selects = SelectsFrom selector.now.rule selector.now.tally in
         Selects (R.seen input.old ∷ []) (R.seen input.new ∷ []) (W.seen writer.old) (W.seen writer.new) result }
 {
-    let selected = select_next(alloc, input, 1, MOST_BYTES, tally, selection, writer)?;
+    let selected = select_next(alloc, input, 1, MOST_BYTES, selector, writer)?;
     Ok(selected.counts)
 }
 
@@ -100,16 +93,15 @@ fn select_next<R: Source, W: Sink>(
     source: &mut R,
     number: u64,
     limit: u64,
-    tally: &Tally,
-    selection: Selection,
+    selector: &Selector<'_>,
     writer: &mut W,
 ) -> Result<Selected, ToolFault>
     requires { limit ≤ most_bytes }
-    ensures { SelectsNext (record { tally = tally.now; rule = selection; limit = limit }) number
+    ensures { SelectsNext (task_of selector.now limit) number
         (record { source = R.seen source.old; sink = W.seen writer.old })
         (record { source = R.seen source.new; sink = W.seen writer.new }) result }
 {
-    match select(alloc, source, limit, writer, tally, selection) {
+    match select(alloc, source, limit, writer, selector) {
         Ok(selected) => Ok(selected),
         Err(SelectFault::Reads(fault)) => Err(ToolFault::Fastx {
             source: number,

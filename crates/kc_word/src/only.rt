@@ -53,8 +53,8 @@ impl Only {
         Only::of_words(alloc, rule.k(), rule.both(), words)
     }
 
-    // The list of these words.
-    fn of_words(alloc: Global, k: K, both: bool, words: Vec<u64>) -> Result<Only, AllocError>
+    /// The list of these words. Condition: they rise, and each is below 4^k.
+    pub fn of_words(alloc: Global, k: K, both: bool, words: Vec<u64>) -> Result<Only, AllocError>
         requires { AreListed k words.items }
         ensures { IfOk result (λ only. only ≡ record { k = k; both = both; words = words.items }) }
     {

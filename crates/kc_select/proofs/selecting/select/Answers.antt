@@ -2,7 +2,7 @@ use Rattle.std.proofs.Common.{◌≤◌, refl, arith}
 use Rattle.std.proofs.lemmas.Result.{err_from_is_err_and}
 use Rattle.kc_fastx.specs.Reading.{first_stand}
 use Rattle.kc_fastx.proofs.ReadingLemmas.{begun_in_vain, used_within}
-use Rattle.kc_select.specs.Selecting.{Task, Streams}
+use Rattle.kc_select.specs.Selecting.{Streams, task_of}
 use Rattle.kc_select.proofs.SelectLemmas.{IsSelecting, selecting_none, selecting_more, fails_more, selects_all, fails_last}
 use Rattle.kc_select.proofs.SelectLemmas.{selects_before, counts_fit}
 use Rattle.kc_select.proofs.selecting.select.Goals as goal
@@ -11,7 +11,7 @@ pub returns-in_default : goal.returns-in_default
 returns-in_default g c =
     let seen = g.S.Source.seen in
     let wrote = g.W.Sink.seen in
-    let task : Task = record { tally = c.args.tally.now; rule = c.args.selection; limit = c.args.limit } in
+    let task = task_of c.args.selector.now c.args.limit in
     let start : Streams = record { source = seen c.args.source.now; sink = wrote c.args.writer.now } in
     let end : Streams = record { source = seen c.args.source.now; sink = wrote c.end_with.new.writer } in
     let none = selecting_none task start (first_stand c.args.limit) c.new-block.result c.none-counts.result refl c.new-block.ensures
@@ -23,7 +23,7 @@ pub reads-init : goal.reads-init
 reads-init g c =
     let seen = g.S.Source.seen in
     let wrote = g.W.Sink.seen in
-    let task : Task = record { tally = c.args.tally.now; rule = c.args.selection; limit = c.args.limit } in
+    let task = task_of c.args.selector.now c.args.limit in
     let start : Streams = record { source = seen c.args.source.now; sink = wrote c.args.writer.now } in
     selecting_none task start c.in-Ok.reading c.new-block.result c.none-counts.result c.in-Ok.ensures c.new-block.ensures
     c.none-counts.ensures
@@ -32,7 +32,7 @@ pub returns-in_err-judged-in-Ok-Some : goal.returns-in_err-judged-in-Ok-Some
 returns-in_err-judged-in-Ok-Some g c =
     let seen = g.S.Source.seen in
     let wrote = g.W.Sink.seen in
-    let task : Task = record { tally = c.args.tally.now; rule = c.args.selection; limit = c.args.limit } in
+    let task = task_of c.args.selector.now c.args.limit in
     let start : Streams = record { source = seen c.args.source.now; sink = wrote c.args.writer.now } in
     let now : Streams = record { source = seen c.reads.source; sink = wrote c.reads.writer } in
     let s : IsSelecting task start now c.reads.reading c.reads.block c.reads.counts = c.reads.invariant in
@@ -47,7 +47,7 @@ pub reads-smaller-in_ok-judged-in-Ok-Some : goal.reads-smaller-in_ok-judged-in-O
 reads-smaller-in_ok-judged-in-Ok-Some g c =
     let seen = g.S.Source.seen in
     let wrote = g.W.Sink.seen in
-    let task : Task = record { tally = c.args.tally.now; rule = c.args.selection; limit = c.args.limit } in
+    let task = task_of c.args.selector.now c.args.limit in
     let start : Streams = record { source = seen c.args.source.now; sink = wrote c.args.writer.now } in
     let now : Streams = record { source = seen c.reads.source; sink = wrote c.reads.writer } in
     let s : IsSelecting task start now c.reads.reading c.reads.block c.reads.counts = c.reads.invariant in
@@ -62,7 +62,7 @@ pub reads-preserved-in_ok-judged-in-Ok-Some : goal.reads-preserved-in_ok-judged-
 reads-preserved-in_ok-judged-in-Ok-Some g c =
     let seen = g.S.Source.seen in
     let wrote = g.W.Sink.seen in
-    let task : Task = record { tally = c.args.tally.now; rule = c.args.selection; limit = c.args.limit } in
+    let task = task_of c.args.selector.now c.args.limit in
     let start : Streams = record { source = seen c.args.source.now; sink = wrote c.args.writer.now } in
     let now : Streams = record { source = seen c.reads.source; sink = wrote c.reads.writer } in
     let s : IsSelecting task start now c.reads.reading c.reads.block c.reads.counts = c.reads.invariant in
@@ -78,7 +78,7 @@ pub returns-in_err-write_out-in-Ok-None : goal.returns-in_err-write_out-in-Ok-No
 returns-in_err-write_out-in-Ok-None g c =
     let seen = g.S.Source.seen in
     let wrote = g.W.Sink.seen in
-    let task : Task = record { tally = c.args.tally.now; rule = c.args.selection; limit = c.args.limit } in
+    let task = task_of c.args.selector.now c.args.limit in
     let start : Streams = record { source = seen c.args.source.now; sink = wrote c.args.writer.now } in
     let now : Streams = record { source = seen c.reads.source; sink = wrote c.reads.writer } in
     let s : IsSelecting task start now c.reads.reading c.reads.block c.reads.counts = c.reads.invariant in
@@ -91,7 +91,7 @@ pub returns-in-Ok-None : goal.returns-in-Ok-None
 returns-in-Ok-None g c =
     let seen = g.S.Source.seen in
     let wrote = g.W.Sink.seen in
-    let task : Task = record { tally = c.args.tally.now; rule = c.args.selection; limit = c.args.limit } in
+    let task = task_of c.args.selector.now c.args.limit in
     let start : Streams = record { source = seen c.args.source.now; sink = wrote c.args.writer.now } in
     let now : Streams = record { source = seen c.reads.source; sink = wrote c.reads.writer } in
     let s : IsSelecting task start now c.reads.reading c.reads.block c.reads.counts = c.reads.invariant in
@@ -105,7 +105,7 @@ pub returns-in-Err : goal.returns-in-Err
 returns-in-Err g c =
     let seen = g.S.Source.seen in
     let wrote = g.W.Sink.seen in
-    let task : Task = record { tally = c.args.tally.now; rule = c.args.selection; limit = c.args.limit } in
+    let task = task_of c.args.selector.now c.args.limit in
     let start : Streams = record { source = seen c.args.source.now; sink = wrote c.args.writer.now } in
     let now : Streams = record { source = seen c.reads.source; sink = wrote c.reads.writer } in
     let s : IsSelecting task start now c.reads.reading c.reads.block c.reads.counts = c.reads.invariant in
@@ -118,7 +118,7 @@ pub byte_count-bytes-requires : goal.byte_count-bytes-requires
 byte_count-bytes-requires g c =
     let seen = g.S.Source.seen in
     let wrote = g.W.Sink.seen in
-    let task : Task = record { tally = c.args.tally.now; rule = c.args.selection; limit = c.args.limit } in
+    let task = task_of c.args.selector.now c.args.limit in
     let start : Streams = record { source = seen c.args.source.now; sink = wrote c.args.writer.now } in
     let now : Streams = record { source = seen c.reads.source; sink = wrote c.reads.writer } in
     let s : IsSelecting task start now c.reads.reading c.reads.block c.reads.counts = c.reads.invariant in
@@ -130,7 +130,7 @@ pub reads-smaller : goal.reads-smaller
 reads-smaller g c =
     let seen = g.S.Source.seen in
     let wrote = g.W.Sink.seen in
-    let task : Task = record { tally = c.args.tally.now; rule = c.args.selection; limit = c.args.limit } in
+    let task = task_of c.args.selector.now c.args.limit in
     let start : Streams = record { source = seen c.args.source.now; sink = wrote c.args.writer.now } in
     let now : Streams = record { source = seen c.reads.source; sink = wrote c.reads.writer } in
     let s : IsSelecting task start now c.reads.reading c.reads.block c.reads.counts = c.reads.invariant in
@@ -145,7 +145,7 @@ pub reads-preserved : goal.reads-preserved
 reads-preserved g c =
     let seen = g.S.Source.seen in
     let wrote = g.W.Sink.seen in
-    let task : Task = record { tally = c.args.tally.now; rule = c.args.selection; limit = c.args.limit } in
+    let task = task_of c.args.selector.now c.args.limit in
     let start : Streams = record { source = seen c.args.source.now; sink = wrote c.args.writer.now } in
     let now : Streams = record { source = seen c.reads.source; sink = wrote c.reads.writer } in
     let s : IsSelecting task start now c.reads.reading c.reads.block c.reads.counts = c.reads.invariant in
@@ -161,14 +161,14 @@ pub and-counts-requires : goal.and-counts-requires
 and-counts-requires g c =
     let seen = g.S.Source.seen in
     let wrote = g.W.Sink.seen in
-    let task : Task = record { tally = c.args.tally.now; rule = c.args.selection; limit = c.args.limit } in
+    let task = task_of c.args.selector.now c.args.limit in
     let start : Streams = record { source = seen c.args.source.now; sink = wrote c.args.writer.now } in
     let now : Streams = record { source = seen c.reads.source; sink = wrote c.reads.writer } in
     let s : IsSelecting task start now c.reads.reading c.reads.block c.reads.counts = c.reads.invariant in
     let given = rw c.in-Ok-Some.field-0-is at c.in-Ok-Some.ensures.given (seen c.args.source.now) c.args.limit
     s.records s.given in
     let more = rw c.in-Ok-Some.field-0-is at c.in-Ok-Some.ensures.used in
-    let some : 1 ≤ c.args.tally.now.k = omega (arith, c.get-bases.ensures.some, c.k.ensures) in
+    let some : 1 ≤ c.args.selector.now.tally.k = omega (arith, c.get-bases.ensures.some, c.k.ensures) in
     let few = counts_fit s (seen c.next_titled.new.source) c.next_titled.new.self _ _ c.in_ok-judged-in-Ok-Some.judged
     some c.requires given c.in_ok-judged-in-Ok-Some.ensures.counts more in
     record { reads = few.reads; kept = few.kept; words = few.words; solid = few.solid }

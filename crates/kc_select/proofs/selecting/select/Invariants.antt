@@ -1,11 +1,11 @@
 use Rattle.std.proofs.Common.{◌-◌}
-use Rattle.kc_select.specs.Selecting.{Task, Streams}
+use Rattle.kc_select.specs.Selecting.{Streams, task_of}
 use Rattle.kc_select.proofs.SelectLemmas.{IsSelecting}
 use Rattle.kc_select.proofs.selecting.select.Given as goal
 
 abbrev pub invariant-reads : goal.invariant-reads
 invariant-reads g l =
-    let task : Task = record { tally = l.fn.tally; rule = l.fn.selection; limit = l.fn.limit } in
+    let task = task_of l.fn.selector l.fn.limit in
     let old : Streams = record { source = g.S.Source.seen l.fn.source; sink = g.W.Sink.seen l.fn.writer } in
     let now : Streams = record { source = g.S.Source.seen l.source; sink = g.W.Sink.seen l.writer } in
     IsSelecting task old now l.reading l.block l.counts

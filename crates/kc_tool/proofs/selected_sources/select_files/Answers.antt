@@ -1,8 +1,20 @@
 use Rattle.std.proofs.Common.{◌≡◌, ◌∙◌, [], List, sym, refl}
+use Rattle.std.proofs.lemmas.Result.{err_from_is_err_and}
 use Rattle.kc_io.specs.Sources.{Seen}
 use Rattle.kc_tool.specs.Selections.{SelectsFrom}
 use Rattle.kc_tool.proofs.CommandsLemmas.{from_files, from_input, input_kept, input_used, nothing_named, something_named}
+use Rattle.kc_tool.proofs.TablesLemmas.{same_input}
 use Rattle.kc_tool.proofs.selected_sources.select_files.Goals as goal
+
+pub returns-in_err-selector : goal.returns-in_err-selector
+returns-in_err-selector g c =
+    let p = err_from_is_err_and c.from_residual.result c.from_residual.ensures.1 in
+    let input = g.R.Source.seen c.args.input.now in
+    record {
+      selects = rw (p.1, p.2) (refl, refl);
+      input = same_input g.F.Source.seen input _;
+      names = refl;
+    }
 
 pub returns-then-is_empty : goal.returns-then-is_empty
 returns-then-is_empty g c =
@@ -14,7 +26,7 @@ returns-then-is_empty g c =
     record {
       selects = put (λ (old new : List Seen). SelectsFrom c.args.selection c.args.tally.now old new
           (g.W.Sink.seen c.args.writer.now) (g.W.Sink.seen c.select_input.new.writer) c.select_input.result) none refl
-          c.select_input.ensures;
+          (rw c.in_ok-selector.ensures at c.select_input.ensures);
       input = input_used g.F.Source.seen input input_after files none;
       names = refl;
     }
@@ -28,7 +40,7 @@ returns g c =
     record {
       selects = put (λ (old new : List Seen). SelectsFrom c.args.selection c.args.tally.now old new
           (g.W.Sink.seen c.args.writer.now) (g.W.Sink.seen c.select_sources.new.writer) c.select_sources.result) some
-          c.select_sources.ensures.names c.select_sources.ensures.selects;
+          c.select_sources.ensures.names (rw c.in_ok-selector.ensures at c.select_sources.ensures.selects);
       input = input_kept g.F.Source.seen input input files refl;
       names = c.select_sources.ensures.names;
     }

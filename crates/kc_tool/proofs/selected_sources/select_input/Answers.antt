@@ -1,4 +1,4 @@
-use Rattle.std.proofs.Common.{[], ◌∷◌, ◌≤◌, arith, refl}
+use Rattle.std.proofs.Common.{[], ◌∷◌, arith, refl}
 use Rattle.std.proofs.lemmas.Result.{err_from_is_err_and}
 use Rattle.kc_select.specs.Counts.{no_counts}
 use Rattle.kc_tool.proofs.SelectionsLemmas.{selected_none, selected_one, selected_no_more}
@@ -9,7 +9,7 @@ returns-in_err-selected g c =
     let p = err_from_is_err_and c.from_residual.result c.from_residual.ensures.1 in
     let old = g.R.Source.seen c.args.input.now in
     let new = g.R.Source.seen c.select_next.new.source in
-    let begun = selected_none c.args.selection c.args.tally.now (old ∷ []) (g.W.Sink.seen c.args.writer.now) no_counts refl in
+    let begun = selected_none c.args.selector.now.rule c.args.selector.now.tally (old ∷ []) (g.W.Sink.seen c.args.writer.now) no_counts refl in
     rw (p.1, p.2) (selected_no_more old new (g.W.Sink.seen c.select_next.new.writer) begun (omega arith)
     c.in_err-selected.field-0.0 c.in_err-selected.ensures)
 
@@ -17,5 +17,5 @@ pub returns : goal.returns
 returns g c =
     let old = g.R.Source.seen c.args.input.now in
     let new = g.R.Source.seen c.select_next.new.source in
-    selected_one c.args.selection c.args.tally.now old new (g.W.Sink.seen c.args.writer.now) (g.W.Sink.seen c.select_next.new.writer) c.in_ok-selected.selected
+    selected_one c.args.selector.now.rule c.args.selector.now.tally old new (g.W.Sink.seen c.args.writer.now) (g.W.Sink.seen c.select_next.new.writer) c.in_ok-selected.selected
     c.in_ok-selected.ensures

@@ -9,7 +9,7 @@ use Rattle.kc_tool.proofs.selected_sources.select_sources.Goals as goal
 
 pub loop-source-init : goal.loop-source-init
 loop-source-init g c = record {
-  so_far = selected_none c.args.selection c.args.tally.now (seen_of g.R.Source.seen c.args.sources.now)
+  so_far = selected_none c.args.selector.now.rule c.args.selector.now.tally (seen_of g.R.Source.seen c.args.sources.now)
       (g.W.Sink.seen c.args.writer.now) c.none-counts.result c.none-counts.ensures;
   counted = refl;
   names = refl;
@@ -21,7 +21,7 @@ loop-source-preserved g c =
     let item = get_or loop.sources loop.source-index c.source-item.result in
     let is = ap (λ v. get_or loop.sources loop.source-index v) c.source-item.is in
     let within : loop.source-index < length loop.sources = omega arith in
-    let some : 1 ≤ c.args.tally.now.k = omega (arith, c.get-bases.ensures.some, c.k.ensures) in
+    let some : 1 ≤ c.args.selector.now.tally.k = omega (arith, c.get-bases.ensures.some, c.k.ensures) in
     let read = record item { source = c.select_next.new.source } in
     record {
       so_far = rw c.and-counts.ensures (selected_kept (λ source. g.R.Source.seen source.source) loop.sources item read is within
@@ -36,12 +36,12 @@ pub and-counts-requires : goal.and-counts-requires
 and-counts-requires g c =
     let loop = c.loop-source in
     let item = get_or loop.sources loop.source-index c.source-item.result in
-    let some : 1 ≤ c.args.tally.now.k = omega (arith, c.get-bases.ensures.some, c.k.ensures) in
+    let some : 1 ≤ c.args.selector.now.tally.k = omega (arith, c.get-bases.ensures.some, c.k.ensures) in
     let before : Streams = record { source = g.R.Source.seen item.source; sink = g.W.Sink.seen loop.writer } in
     let after : Streams =
     record { source = g.R.Source.seen c.select_next.new.source; sink = g.W.Sink.seen c.select_next.new.writer } in
     let selected = c.in_ok-selected.selected in
-    let more = within_next c.args.selection c.args.tally.now loop.left (loop.number + 1) before after selected some
+    let more = within_next c.args.selector.now.rule c.args.selector.now.tally loop.left (loop.number + 1) before after selected some
     c.in_ok-selected.ensures in
     let few = sums_fit loop.left selected.bytes loop.counts selected.counts loop.invariant.so_far.fit more in
     record { reads = few.reads; kept = few.kept; words = few.words; solid = few.solid }
@@ -50,11 +50,11 @@ pub overflow_sub-left : goal.overflow_sub-left
 overflow_sub-left g c =
     let loop = c.loop-source in
     let item = get_or loop.sources loop.source-index c.source-item.result in
-    let some : 1 ≤ c.args.tally.now.k = omega (arith, c.get-bases.ensures.some, c.k.ensures) in
+    let some : 1 ≤ c.args.selector.now.tally.k = omega (arith, c.get-bases.ensures.some, c.k.ensures) in
     let before : Streams = record { source = g.R.Source.seen item.source; sink = g.W.Sink.seen loop.writer } in
     let after : Streams =
     record { source = g.R.Source.seen c.select_next.new.source; sink = g.W.Sink.seen c.select_next.new.writer } in
-    let more = within_next c.args.selection c.args.tally.now loop.left (loop.number + 1) before after
+    let more = within_next c.args.selector.now.rule c.args.selector.now.tally loop.left (loop.number + 1) before after
     c.in_ok-selected.selected some c.in_ok-selected.ensures in
     more.bounded
 

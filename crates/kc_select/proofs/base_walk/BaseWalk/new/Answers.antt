@@ -1,5 +1,4 @@
-use Rattle.std.proofs.Common.{◌∙◌, ap, length, None, arith}
-use Rattle.kc_fastx.specs.Reads.{read_of}
+use Rattle.std.proofs.Common.{◌∙◌, ap, length, arith}
 use Rattle.kc_kmer.proofs.WordCounts.{length-words_in}
 use Rattle.kc_word.specs.Cutting.{cleaned}
 use Rattle.kc_word.proofs.Cleaning.{length-cleaned, words_in-cleaned}

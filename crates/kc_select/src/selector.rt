@@ -1,0 +1,126 @@
+//! A selection by a table: whether a read is solid.
+ghost use Rattle.std.specs.Prelude.{◌≡◌, ◌<◌, ◌^◌, IfOk, length};
+ghost use Rattle.kc_word.specs.Only.{AreListed};
+ghost use Rattle.kc_select.specs.Solid.{words_for, is_solid_word, solid_in, is_solid, is_selected};
+ghost use Rattle.kc_select.specs.SolidWords.{AreSolid};
+
+use crate::base_walk::BaseWalk;
+use crate::selection::Selection;
+use crate::word_counts::WordCounts;
+use kc_fastx::SeqRead;
+use kc_kmer::{K, Rule, Word};
+use kc_tally::Tally;
+use kc_word::Only;
+use std::alloc::{AllocError, Global};
+use std::marker::Model;
+
+/// A table and what is told of a selection by it, ready to judge reads: the table's solid words are listed, so that a
+/// word is looked up in two or three places of memory. A solid word has some 18 bytes.
+#[derive(Drop)]
+pub struct Selector<'a> {
+    tally: &'a Tally,
+    selection: Selection,
+    // the solid words of the table; where the least count is 0, words that the table lacks are solid too
+    words: Only,
+}
+
+impl<'a> Model for Selector<'a> {
+    ghost use Rattle.kc_select.specs.Solid.{SelectorSeen};
+    ghost use Rattle.kc_select.specs.SolidWords.{TellsSolid};
+
+    ghost Value = { SelectorSeen };
+
+    ghost view = { λ s. record { tally = s.tally.now; rule = s.selection } };
+
+    ghost invariant = { λ s. TellsSolid s.tally.now s.selection.least s.words };
+}
+
+impl<'a> Selector<'a> {
+    /// The selection by this table.
+    pub fn new(
+        alloc: Global,
+        tally: &'a Tally,
+        selection: Selection,
+    ) -> Result<Selector<'a>, AllocError>
+        ensures { IfOk result (λ selector. selector ≡ record { tally = tally.now; rule = selection }) }
+    {
+        let words = solid_words(alloc, tally, selection.least())?;
+        let words = Only::of_words(alloc, tally.k(), tally.both(), words)?;
+        Ok(Selector {
+            tally,
+            selection,
+            words,
+        })
+    }
+
+    /// The length of the words.
+    pub fn k(&self) -> K
+        ensures { result ≡ self.now.tally.k }
+    {
+        self.tally.k()
+    }
+
+    // What the selection is told.
+    pub(crate) fn selection(&self) -> Selection
+        ensures { result ≡ self.now.rule }
+    {
+        self.selection
+    }
+
+    /// Whether the selection keeps the read: a solid one, or, where the selection is inverted, one that is not. It takes
+    /// no memory.
+    pub fn is_selected(&self, read: &SeqRead) -> bool
+        ensures { result ≡ is_selected self.now.tally self.now.rule read.now }
+    {
+        self.count_words(read).is_kept(self.selection)
+    }
+
+    /// Whether at least the share of the read's words that the selection asks for are solid. A read without words is.
+    /// It takes no memory.
+    pub fn is_solid(&self, read: &SeqRead) -> bool
+        ensures { result ≡ is_solid self.now.tally self.now.rule read.now }
+    {
+        self.count_words(read).has_share(self.selection)
+    }
+
+    // Counts the words of the read, and the solid ones among them.
+    pub(crate) fn count_words(&self, read: &SeqRead) -> WordCounts
+        ensures words { result.words ≡ length (words_for self.now.tally self.now.rule read.now) }
+        ensures solid { result.solid ≡ solid_in self.now.tally self.now.rule read.now }
+    {
+        let rule = Rule::new(self.tally.k(), self.tally.both(), self.selection.floor());
+        let mut walk = BaseWalk::new(read, rule);
+        let mut counted = WordCounts { words: 0, solid: 0 };
+        'words: while let Some(word) = walk.next_word() {
+            counted.words += 1;
+            if self.is_solid_word(Word(word)) {
+                counted.solid += 1;
+            }
+        }
+        counted
+    }
+
+    // Whether the table counts the word often enough. Condition: it is below 4^k.
+    #[inline(always)]
+    fn is_solid_word(&self, word: Word) -> bool
+        requires { word.0 < 4 ^ self.now.tally.k }
+        ensures { result ≡ is_solid_word self.now.tally self.now.rule.least word.0 }
+    {
+        self.selection.least() == 0 || self.words.holds(word)
+    }
+}
+
+// The words that the table counts at least so often, in rising order.
+fn solid_words(alloc: Global, tally: &Tally, least: u64) -> Result<Vec<u64>, AllocError>
+    ensures solid { IfOk result (λ words. AreSolid tally.now least words.items) }
+    ensures listed { IfOk result (λ words. AreListed tally.now.k words.items) }
+{
+    let mut words = Vec::new(alloc);
+    for row in tally.rows() {
+        if row.count >= least {
+            words.push(row.word)?;
+        }
+    }
+    words.shrink_to_fit();
+    Ok(words)
+}
