@@ -238,10 +238,10 @@ impl<C: Counts> Stripe<C> {
         if self.booked.contains(&cut.batch().number()) {
             return Err(BookFault::Twice);
         }
-        if *cut.setup() != self.setup || cut.stripe() != self.number {
+        if !self.is_own(cut.setup(), cut.stripe()) {
             return Err(BookFault::Stranger);
         }
-        if cut.keys().len() as u64 > MOST_WORDS - self.counted.total() {
+        if !self.has_room(cut.keys().len()) {
             return Err(BookFault::Full);
         }
         Ok(())
@@ -323,13 +323,13 @@ impl<C: Counts> Stripe<C> {
         if self.has_first(cuts.batches()) {
             return Err(BookFault::Twice);
         }
-        if !self.is_own(cuts) {
+        if !self.is_own(cuts.setup(), cuts.stripe()) {
             return Err(BookFault::Stranger);
         }
         if !self.are_new(cuts) {
             return Err(BookFault::Twice);
         }
-        if cuts.keys().len() as u64 > MOST_WORDS - self.counted.total() {
+        if !self.has_room(cuts.keys().len()) {
             return Err(BookFault::Full);
         }
         Ok(())
@@ -344,11 +344,19 @@ impl<C: Counts> Stripe<C> {
         self.booked.contains(&batches[0].number())
     }
 
-    // Whether the words are divided as the stripe's are, and are those of this stripe.
-    fn is_own(&self, cuts: &Cuts) -> bool
-        ensures { MatchBool result (IsOwnRound self.now cuts.now) (¬ IsOwnRound self.now cuts.now) }
+    // Whether words that are divided so and fall in the stripe of this number are those of this one.
+    fn is_own(&self, setup: &Setup, number: u32) -> bool
+        ensures { MatchBool result ((setup.now ≡ self.now.setup) × (number ≡ self.now.number))
+            (¬ ((setup.now ≡ self.now.setup) × (number ≡ self.now.number))) }
     {
-        *cuts.setup() == self.setup && cuts.stripe() == self.number
+        *setup == self.setup && number == self.number
+    }
+
+    // Whether the total stays within its limit with so many words more.
+    fn has_room(&self, words: usize) -> bool
+        ensures { MatchBool result (self.now.total + words ≤ 2 ^ 62) (2 ^ 62 < self.now.total + words) }
+    {
+        words as u64 <= MOST_WORDS - self.counted.total()
     }
 
     // Whether no number stands twice in the journal once the batches stand behind it.
