@@ -1,5 +1,6 @@
 //! How the words of a count are divided among stripes.
-ghost use Rattle.std.specs.Prelude.{◌≡◌, ℕ, ◌+◌, ◌*◌, ◌^◌, ◌<◌, ◌≤◌, ◌↔◌, length, Some, None, IsSome, IfSome, IfNone, MatchBool};
+ghost use Rattle.std.specs.Prelude.{◌≡◌, ℕ, ◌+◌, ◌*◌, ◌^◌, ◌<◌, ◌≤◌, ◌↔◌, length, Some, None, IsSome, IfSome, IfNone};
+ghost use Rattle.std.specs.Prelude.{MatchBool};
 ghost use Rattle.kc_hash.specs.Product.{product};
 ghost use Rattle.kc_booking.specs.Setup.{StripeSetup, IsSetup, HasBits, word_count, stripe_count, key_bits};
 ghost use Rattle.kc_booking.specs.Setup.{stripe_of, key_of, StandsAt, DividesWords, form_of, form_text};
