@@ -216,7 +216,7 @@ impl<C: Counts> Stripe<C> {
         word_laws::words_of_reads();
         word_laws::counted_words();
         word_laws::joined_occurrences();
-        // what can fail comes first, and changes no count and no name in the journal
+        // what can fail comes first; where it does, no count and no name in the journal has changed
         let batch = cut.batch();
         self.counted.ready_all(cut.keys())?;
         enter(&mut self.journal, &mut self.booked, batch)?;
@@ -299,7 +299,7 @@ impl<C: Counts> Stripe<C> {
         word_laws::words_of_reads();
         word_laws::counted_words();
         word_laws::joined_occurrences();
-        // what can fail comes first, and changes no count and no name in the journal
+        // what can fail comes first; where it does, no count and no name in the journal has changed
         let alloc = *self.journal.allocator();
         let keys = self.counted.ready_by_parts(alloc, cuts.keys())?;
         enter_all(&mut self.journal, &mut self.booked, cuts.batches())?;
