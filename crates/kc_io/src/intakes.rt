@@ -1,5 +1,6 @@
 //! The intake of a source's bytes block by block, for readers that use them as they come.
-ghost use Rattle.std.specs.Prelude.{◌≡◌, ◌≢◌, ◌+◌, ◌<◌, ◌≤◌, ◌++◌, List, ℕ, [], ◌∷◌, length, drop, take, IfOk, IfErr, OnOk, OnErr};
+ghost use Rattle.std.specs.Prelude.{◌≡◌, ◌≢◌, ◌+◌, ◌<◌, ◌≤◌, ◌++◌, List, ℕ, [], ◌∷◌, length, drop, take};
+ghost use Rattle.std.specs.Prelude.{IfOk, IfErr, OnOk, OnErr};
 ghost use Rattle.kc_io.specs.declared.intakes.TakeFault.TheVariants.{Memory};
 ghost use Rattle.kc_io.specs.Intakes.{TakesAll, TakenSoFar, TakingFails, Fills, AsksFor, Skips};
 
