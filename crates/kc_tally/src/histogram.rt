@@ -94,6 +94,16 @@ impl Histogram {
         self.gain(count + 1);
     }
 
+    /// Adds the sizes of another histogram, bin by bin. Condition: the sums fit.
+    pub fn add(&mut self, other: &Histogram)
+        requires { All (λ size. size < 2 ^ 64) (joined_bins self.old other.now) }
+        ensures { self.new ≡ joined_bins self.old other.now }
+    {
+        for i in 0..LAST_BIN as usize {
+            self.bins[i] += other.bins[i];
+        }
+    }
+
     // Counts in the words of these rows, and gives the sum of their counts, which wraps where it does not fit.
     fn count_all(&mut self, rows: &[Row]) -> u64
         requires long { length self.old ≡ last_bin }
