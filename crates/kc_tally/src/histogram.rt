@@ -68,6 +68,13 @@ impl Histogram {
         Ok((histogram, total))
     }
 
+    /// The sizes of the bins, from bin 1 on.
+    pub fn sizes(&self) -> &[u64]
+        ensures { result.now ≡ self.now }
+    {
+        &self.bins
+    }
+
     /// How many words have a count that falls in the bin. Condition: the bin is 1 to 10,001.
     pub fn bin(&self, bin: u64) -> u64
         requires some { 1 ≤ bin }

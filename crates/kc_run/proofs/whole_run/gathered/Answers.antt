@@ -10,7 +10,7 @@ unreachable-requires g c =
     let count = c.args.count.now in
     let told = c.in-Err-Missing.ensures in
     let is = c.in-Err-Missing.field-0-is in
-    none_missing c.args.stripes.items (length count.batches.now) c.requires.one_each c.requires.counted
+    none_missing c.args.stripes.items (length count.batches.now) c.requires.counted.one_each c.requires.counted.counted
     (told.counted c.in-Err-Missing.field-0-0 c.in-Err-Missing.field-0-1 (ap Err is))
     (subst (IsRefusal count.setup.now (values count.batches.now) c.args.stripes.items) is told.refused).1
 
@@ -18,4 +18,4 @@ pub returns-in-Err-Foreign-clause-refused : goal.returns-in-Err-Foreign-clause-r
 returns-in-Err-Foreign-clause-refused g c =
     let count = c.args.count.now in
     let there = (subst (IsRefusal count.setup.now (values count.batches.now) c.args.stripes.items) c.in-Err-Foreign.field-0-is c.in-Err-Foreign.ensures.refused).1 in
-    omega (arith, slice_get_within c.args.stripes.items c.in-Err-Foreign.stripe there.0 there.1, c.requires.one_each)
+    omega (arith, slice_get_within c.args.stripes.items c.in-Err-Foreign.stripe there.0 there.1, c.requires.counted.one_each)

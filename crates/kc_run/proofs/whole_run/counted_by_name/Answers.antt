@@ -9,7 +9,7 @@ use Rattle.kc_booking.specs.Setup.{stripe_count}
 use Rattle.kc_run.proofs.CrewLemmas.{fresh_seats}
 use Rattle.kc_run.proofs.FaultLemmas.{fault_of_gathering}
 use Rattle.kc_run.proofs.GatheringLemmas.{journals_counted}
-use Rattle.kc_run.proofs.whole_run.run_named.Goals as goal
+use Rattle.kc_run.proofs.whole_run.counted_by_name.Goals as goal
 
 pub work_all-requires-clause-ready : goal.work_all-requires-clause-ready
 work_all-requires-clause-ready g c κs within =
@@ -27,8 +27,8 @@ pub close-requires-clause-own : goal.close-requires-clause-own
 close-requires-clause-own g c =
     (c.in_ok-seats.ensures.whole c.in_ok-tickets.tickets (record { stripes = c.from.result; parts = c.from-2.result }) c.in_ok-ended.ensures.worked).own
 
-pub gathered-requires-clause-counted : goal.gathered-requires-clause-counted
-gathered-requires-clause-counted g c κs within =
+pub returns-clause-counted : goal.returns-clause-counted
+returns-clause-counted g c =
     let count = c.args.count.now in
     let plan : Plan = record { stripes = c.from.result; parts = c.from-2.result } in
     let whole = c.in_ok-seats.ensures.whole c.in_ok-tickets.tickets plan c.in_ok-ended.ensures.worked in
@@ -37,8 +37,11 @@ gathered-requires-clause-counted g c κs within =
     let limit : c.in_ok-tickets.tickets.limit ≡ length count.batches.now = search rules in
     let many : length c.in_ok-seats.seats.items ≡ count.workers = search rules in
     let parts : c.in_ok-seats.share.parts ≡ c.in_ok-seats.share.plan.parts = omega (arith, whole.parts, ap (λ (p : Plan). p.parts) whole.same_plan, many, workers) in
-    journals_counted c.in_ok-stripes-2.stripes.items c.in_ok-seats.share.booked (length count.batches.now) (stripe_count count.setup.now) (c.in_ok-stripes-2.ensures.whole parts)
-    (λ stripe less. whole.booked stripe (omega (arith, less, stripes)) ∙ c.close.ensures.count whole.done ∙ limit)
+    record {
+      one_each = search rules;
+      counted = journals_counted c.in_ok-stripes-2.stripes.items c.in_ok-seats.share.booked (length count.batches.now) (stripe_count count.setup.now) (c.in_ok-stripes-2.ensures.whole parts)
+          (λ stripe less. whole.booked stripe (omega (arith, less, stripes)) ∙ c.close.ensures.count whole.done ∙ limit);
+    }
 
 pub returns-in_err-ended-clause-refused : goal.returns-in_err-ended-clause-refused
 returns-in_err-ended-clause-refused g c =
@@ -50,9 +53,3 @@ returns-in_err-ended-clause-refused g c =
     rw (p.1, p.2)
     (subst (λ n. IsRunFault n (stripe_count count.setup.now) fault) many
     (subst (λ n. IsRunFault (vec_len c.in_ok-ready.ready) n fault) stripes c.in_err-ended.ensures.refused))
-
-pub returns-clause-refused : goal.returns-clause-refused
-returns-clause-refused g c =
-    let count = c.args.count.now in
-    let stripes = stripe_count count.setup.now in
-    IfErr-weaker c.gathered.result (IsGatheringFault stripes) (IsRunFault count.workers stripes) (fault_of_gathering count.workers stripes) c.gathered.ensures.refused
