@@ -1,10 +1,13 @@
 //! A table of counts with the histogram and the sum of its counts.
 ghost use Rattle.std.specs.Prelude.{◌≡◌, ℕ, ◌+◌, ◌<◌, ◌≤◌, ◌^◌, ◌==◌, length, count_by, All, IfOk, OnOk, OnErr};
 ghost use Rattle.std.specs.FinMap.{empty};
+ghost use Rattle.std.specs.List.Sorted.{IsPermutation};
 ghost use Rattle.kc_table.specs.Counts.{IsStored, count_at, readied, added};
 ghost use Rattle.kc_tally.specs.Histogram.{last_bin, bin_at};
 ghost use Rattle.kc_booking.specs.Counted.{IsCounted, KeepsLimits, SomeMayBeFull, all_readied};
+ghost use Rattle.kc_booking.specs.Counted.{SomeMayBeFullInSomeOrder};
 
+use crate::part_order::part_by_part;
 use kc_table::{Counts, TableFault};
 use kc_tally::Histogram;
 use std::alloc::{AllocError, Global};
@@ -95,6 +98,25 @@ impl<C: Counts> CountedTable<C> {
             self.ready(*key)?;
         }
         Ok(())
+    }
+
+    /// Stores the keys in the order of the table's parts, as `ready_all` does, and gives them in this order.
+    pub fn ready_by_parts(&mut self, alloc: Global, keys: &[u64]) -> Result<Vec<u64>, TableFault>
+        requires { All (λ key. key < 2 ^ C.bits self.old.table) keys.now }
+        ensures ordered { IfOk result (λ ordered. IsPermutation keys.now ordered.items) }
+        ensures stored { IfOk result (λ ordered. All (λ key. IsStored (C.counts self.new.table) key) ordered.items) }
+        ensures same_counts { (q : ℕ) → count_at (C.counts self.new.table) q ≡ count_at (C.counts self.old.table) q }
+        ensures full { result ≡ Err TableFault.Full → SomeMayBeFullInSomeOrder (C.may_be_full self.old.table)
+            (C.counts self.old.table) keys.now }
+        ensures limits { KeepsLimits C.bits C.may_be_full self.old.table self.new.table }
+        ensures same_bins { self.new.bins ≡ self.old.bins }
+        ensures same_total { self.new.total ≡ self.old.total }
+    {
+        let Ok(ordered) = part_by_part(alloc, &self.table, keys) else {
+            return Err(TableFault::Memory);
+        };
+        self.ready_all(&ordered)?;
+        Ok(ordered)
     }
 
     /// Adds one to the count of each key, as often as it stands among the keys. It takes no memory.

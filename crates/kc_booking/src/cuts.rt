@@ -1,5 +1,6 @@
 //! The words of several batches divided among the stripes.
 ghost use Rattle.std.specs.Prelude.{◌≡◌, ℕ, ◌<◌, ◌==◌, ◌%◌, ◌^◌, map, count_by, slice_index, IfOk, MatchBool};
+ghost use Rattle.std.specs.Prelude.{OnOk, ◌++◌};
 ghost use Rattle.std.specs.List.{flat_map};
 ghost use Rattle.kc_word.specs.Shared.{values};
 ghost use Rattle.kc_booking.specs.Cut.{batch_codes};
@@ -141,15 +142,28 @@ fn all_codes(
         ≡ map (λ batch. count_by (λ code. code % 2 ^ setup.now.stripe_bits == stripe) (batch_codes setup.now batch))
         (values batches.now)) }
 {
-    let stripe_bits = setup.stripe_bits();
     let mut codes = Vec::new(alloc);
     let mut sizes = room_for_each(alloc, batches)?;
     for batch in batches {
-        let hashed = hashed_words(alloc, setup, batch)?;
-        sizes.push(part_sizes(&hashed, stripe_bits))?;
-        codes.extend_from_slice(&hashed)?;
+        sizes.push(add_codes(alloc, setup, batch, &mut codes)?)?;
     }
     Ok((codes, sizes))
+}
+
+// Puts the codes of a batch's words behind the others, and tells how many of them fall in each stripe.
+fn add_codes(
+    alloc: Global,
+    setup: &Setup,
+    batch: &Batch,
+    codes: &mut Vec<u64>,
+) -> Result<[usize; 64], AllocError>
+    ensures codes { OnOk result (codes.new.items ≡ codes.old.items ++ batch_codes setup.now batch.now) }
+    ensures sizes { IfOk result (λ sizes. (stripe : ℕ) → slice_index sizes stripe
+        ≡ count_by (λ code. code % 2 ^ setup.now.stripe_bits == stripe) (batch_codes setup.now batch.now)) }
+{
+    let hashed = hashed_words(alloc, setup, batch)?;
+    codes.extend_from_slice(&hashed)?;
+    Ok(part_sizes(&hashed, setup.stripe_bits()))
 }
 
 // The numbers that stand at one place of the rows.

@@ -1,5 +1,6 @@
 //! How the words of a count are divided among stripes.
 ghost use Rattle.std.specs.Prelude.{◌≡◌, ℕ, ◌+◌, ◌*◌, ◌^◌, ◌<◌, ◌≤◌, ◌↔◌, length, Some, None, IsSome, IfSome, IfNone};
+ghost use Rattle.std.specs.Prelude.{MatchBool};
 ghost use Rattle.kc_hash.specs.Product.{product};
 ghost use Rattle.kc_booking.specs.Setup.{StripeSetup, IsSetup, HasBits, word_count, stripe_count, key_bits};
 ghost use Rattle.kc_booking.specs.Setup.{stripe_of, key_of, StandsAt, DividesWords, form_of, form_text};
@@ -76,7 +77,7 @@ impl Setup {
         ensures hash { IfSome result (λ setup. setup.hash ≡ self.hash) }
         ensures stripes { IfSome result (λ setup. setup.stripe_bits ≡ self.stripe_bits) }
     {
-        if list.k() != self.rule.k() || list.both() != self.rule.both() {
+        if !is_for_rule(&list, &self.rule) {
             return None;
         }
         let Setup {
@@ -253,6 +254,14 @@ impl Eq for Setup {
     ghost use Rattle.kc_booking.specs.SetupEquality.{is_same_setup-IsEquivalence};
 
     ghost laws = { is_same_setup-IsEquivalence };
+}
+
+// Whether the words of the list are as long as those of the rule, and counted on as many strands.
+fn is_for_rule(list: &Only, rule: &Rule) -> bool
+    ensures { MatchBool result ((list.now.k ≡ rule.now.k) × (list.now.both ≡ rule.now.both))
+        (¬ ((list.now.k ≡ rule.now.k) × (list.now.both ≡ rule.now.both))) }
+{
+    list.k() == rule.k() && list.both() == rule.both()
 }
 
 // Whether two lists have the same words, or none is given.

@@ -18,7 +18,6 @@ use crate::booking_fault::BookFault;
 use crate::counted::CountedTable;
 use crate::cut::Cut;
 use crate::cuts::{Cuts, shared};
-use crate::part_order::part_by_part;
 use crate::setup::Setup;
 use kc_lemmas::room_for_each;
 use kc_table::Counts;
@@ -202,19 +201,33 @@ impl<C: Counts> Stripe<C> {
         ensures limits { KeepsLimits C.bits C.may_be_full self.old.table self.new.table }
     {
         self.check(cut)?;
+        self.book_checked(cut)
+    }
+
+    // Books a batch that `check` lets through.
+    fn book_checked(&mut self, cut: &Cut) -> Result<(), BookFault>
+        requires new { ¬ IsBooked self.old.journal cut.now.batch.number }
+        requires own { IsOwnCut self.old cut.now }
+        requires room { self.old.total + length (keys_of cut.now) ≤ 2 ^ 62 }
+        ensures setup { self.new.setup ≡ self.old.setup }
+        ensures number { self.new.number ≡ self.old.number }
+        ensures journal { OnOk result (self.new.journal ≡ self.old.journal ++ cut.now.batch ∷ []) }
+        ensures total { OnOk result (self.new.total ≡ self.old.total + length (keys_of cut.now)) }
+        ensures unchanged { OnErr result (IsUnchanged C.counts self.old self.new) }
+        ensures refused { ¬ (result ≡ Err BookFault.Twice) × ¬ (result ≡ Err BookFault.Stranger) }
+        ensures full { result ≡ Err BookFault.Full
+            → SomeMayBeFull (C.may_be_full self.old.table) (C.counts self.old.table) (keys_of cut.now) }
+        ensures limits { KeepsLimits C.bits C.may_be_full self.old.table self.new.table }
+    {
         // what is known of the words of batches
         word_laws::words_of_reads();
         word_laws::counted_words();
         word_laws::joined_occurrences();
-        // what can fail comes first, and changes no count and no name in the journal
-        let batch = cut.batch().clone()?;
-        make_room(&mut self.journal)?;
+        // what can fail comes first; where it does, no count and no name in the journal has changed
+        let batch = cut.batch();
         self.counted.ready_all(cut.keys())?;
-        let Ok(_) = self.booked.insert(batch.number()) else {
-            return Err(BookFault::Memory);
-        };
+        enter(&mut self.journal, &mut self.booked, batch)?;
         self.counted.add_all(cut.keys());
-        self.journal.push_reserved(batch);
         Ok(())
     }
 
@@ -232,10 +245,10 @@ impl<C: Counts> Stripe<C> {
         if self.booked.contains(&cut.batch().number()) {
             return Err(BookFault::Twice);
         }
-        if *cut.setup() != self.setup || cut.stripe() != self.number {
+        if !self.is_own(cut.setup(), cut.stripe()) {
             return Err(BookFault::Stranger);
         }
-        if cut.keys().len() as u64 > MOST_WORDS - self.counted.total() {
+        if !self.has_room(cut.keys().len()) {
             return Err(BookFault::Full);
         }
         Ok(())
@@ -271,17 +284,32 @@ impl<C: Counts> Stripe<C> {
             return Ok(());
         }
         self.check_all(cuts)?;
+        self.book_all_checked(cuts)
+    }
+
+    // Books several batches that `check_all` lets through.
+    fn book_all_checked(&mut self, cuts: &Cuts) -> Result<(), BookFault>
+        requires new { NumbersDiffer (self.old.journal ++ cuts.now.batches) }
+        requires own { IsOwnRound self.old cuts.now }
+        requires room { self.old.total + length (all_keys_of cuts.now) ≤ 2 ^ 62 }
+        ensures setup { self.new.setup ≡ self.old.setup }
+        ensures number { self.new.number ≡ self.old.number }
+        ensures journal { OnOk result (self.new.journal ≡ self.old.journal ++ cuts.now.batches) }
+        ensures total { OnOk result (self.new.total ≡ self.old.total + length (all_keys_of cuts.now)) }
+        ensures unchanged { OnErr result (IsUnchanged C.counts self.old self.new) }
+        ensures refused { ¬ (result ≡ Err BookFault.Twice) × ¬ (result ≡ Err BookFault.Stranger) }
+        ensures full { result ≡ Err BookFault.Full → SomeMayBeFullInSomeOrder (C.may_be_full self.old.table)
+            (C.counts self.old.table) (all_keys_of cuts.now) }
+        ensures limits { KeepsLimits C.bits C.may_be_full self.old.table self.new.table }
+    {
         // what is known of the words of batches
         word_laws::words_of_reads();
         word_laws::counted_words();
         word_laws::joined_occurrences();
-        // what can fail comes first, and changes no count and no name in the journal
-        let mut batches = shared(*self.journal.allocator(), cuts.batches())?;
-        self.booked.reserve(batches.len())?;
-        let keys = part_by_part(*self.journal.allocator(), self.counted.table(), cuts.keys())?;
-        self.counted.ready_all(&keys)?;
-        self.journal.append(&mut batches)?;
-        remember(&mut self.booked, cuts.batches());
+        // what can fail comes first; where it does, no count and no name in the journal has changed
+        let alloc = *self.journal.allocator();
+        let keys = self.counted.ready_by_parts(alloc, cuts.keys())?;
+        enter_all(&mut self.journal, &mut self.booked, cuts.batches())?;
         self.counted.add_all(&keys);
         Ok(())
     }
@@ -302,13 +330,13 @@ impl<C: Counts> Stripe<C> {
         if self.has_first(cuts.batches()) {
             return Err(BookFault::Twice);
         }
-        if !self.is_own(cuts) {
+        if !self.is_own(cuts.setup(), cuts.stripe()) {
             return Err(BookFault::Stranger);
         }
         if !self.are_new(cuts) {
             return Err(BookFault::Twice);
         }
-        if cuts.keys().len() as u64 > MOST_WORDS - self.counted.total() {
+        if !self.has_room(cuts.keys().len()) {
             return Err(BookFault::Full);
         }
         Ok(())
@@ -323,11 +351,19 @@ impl<C: Counts> Stripe<C> {
         self.booked.contains(&batches[0].number())
     }
 
-    // Whether the words are divided as the stripe's are, and are those of this stripe.
-    fn is_own(&self, cuts: &Cuts) -> bool
-        ensures { MatchBool result (IsOwnRound self.now cuts.now) (¬ IsOwnRound self.now cuts.now) }
+    // Whether words that are divided so and fall in the stripe of this number are those of this one.
+    fn is_own(&self, setup: &Setup, number: u32) -> bool
+        ensures { MatchBool result ((setup.now ≡ self.now.setup) × (number ≡ self.now.number))
+            (¬ ((setup.now ≡ self.now.setup) × (number ≡ self.now.number))) }
     {
-        *cuts.setup() == self.setup && cuts.stripe() == self.number
+        *setup == self.setup && number == self.number
+    }
+
+    // Whether the total stays within its limit with so many words more.
+    fn has_room(&self, words: usize) -> bool
+        ensures { MatchBool result (self.now.total + words ≤ 2 ^ 62) (2 ^ 62 < self.now.total + words) }
+    {
+        words as u64 <= MOST_WORDS - self.counted.total()
     }
 
     // Whether no number stands twice in the journal once the batches stand behind it.
@@ -345,6 +381,45 @@ impl<C: Counts> Stripe<C> {
         }
         true
     }
+}
+
+// Puts a batch behind those of the journal, and its number to those that are booked; where memory is refused, both stay
+// as they were. Condition: what is booked are the numbers in the journal.
+fn enter(
+    journal: &mut Vec<Arc<Batch>>,
+    booked: &mut HashSet<u64>,
+    batch: &Arc<Batch>,
+) -> Result<(), AllocError>
+    requires { KnowsNumbers (contains nat_eq booked.old) (values journal.old.items) }
+    ensures entered { OnOk result (values journal.new.items ≡ values journal.old.items ++ batch.now.value ∷ []) }
+    ensures unchanged { OnErr result (values journal.new.items ≡ values journal.old.items) }
+    ensures known { KnowsNumbers (contains nat_eq booked.new) (values journal.new.items) }
+{
+    let batch = batch.clone()?;
+    make_room(journal)?;
+    let Ok(_) = booked.insert(batch.number()) else {
+        return Err(AllocError);
+    };
+    journal.push_reserved(batch);
+    Ok(())
+}
+
+// The same for several batches, in their order.
+fn enter_all(
+    journal: &mut Vec<Arc<Batch>>,
+    booked: &mut HashSet<u64>,
+    batches: &[Arc<Batch>],
+) -> Result<(), AllocError>
+    requires { KnowsNumbers (contains nat_eq booked.old) (values journal.old.items) }
+    ensures entered { OnOk result (values journal.new.items ≡ values journal.old.items ++ values batches.now) }
+    ensures unchanged { OnErr result (values journal.new.items ≡ values journal.old.items) }
+    ensures known { KnowsNumbers (contains nat_eq booked.new) (values journal.new.items) }
+{
+    let mut more = shared(*journal.allocator(), batches)?;
+    booked.reserve(more.len())?;
+    journal.append(&mut more)?;
+    remember(booked, batches);
+    Ok(())
 }
 
 // Puts the numbers of the batches to those that are booked. Condition: there is room for them.

@@ -1,5 +1,5 @@
 -- Journals beside the batches that were given.
-use Rattle.std.proofs.Common.{◌≡◌, ◌≢◌, ℕ, zero, suc, ◌+◌, ◌<◌, ◌≤◌, ⊎_elim, Bool, true, false, cond, eqb, ltb, nat_eq, List, [], ◌∷◌, ◌++◌, length, get_or, set, take, replicate, Some, slice_get, sum_by, All, Contains, refl, ap, sym, ◌∙◌, subst, arith}
+use Rattle.std.proofs.Common.{◌≡◌, ◌≢◌, ℕ, zero, suc, ◌+◌, ◌<◌, ◌≤◌, ⊎_elim, Bool, true, false, cond, eqb, ltb, nat_eq, List, [], ◌∷◌, ◌++◌, length, get_or, set, take, replicate, Some, None, Option, IfSome, IfNone, slice_get, sum_by, All, Contains, refl, ap, sym, ◌∙◌, subst, arith}
 use Rattle.std.specs.Prelude.{◌↔◌, IsTrue}
 use Rattle.std.specs.List.{IsDistinct, range_with_len}
 use Rattle.std.specs.declared.sync.Arc.{Arc}
@@ -217,6 +217,23 @@ none_missing batches journal n distinct given many lacking =
     All-map (λ number. number < length batches) (λ (batch : NumberedPieces). batch.number) journal (λ k d within.
     slice_get_within batches (get_or journal k d).number (get_or journal k d) (given k d within)) in
     lacking.missing (none_left_out (length batches) (numbers_of journal) distinct below (length-map journal (λ (batch : NumberedPieces). batch.number) ∙ many) n lacking.given)
+
+-- what is answered for the first number that isn't marked
+module _ (batches journal : List NumberedPieces) (marks : List Bool) (one_each : length marks ≡ length batches) (are : AreMarksOf batches journal marks) where
+  pub least_told : (answer : Option ℕ) → IfSome answer (λ n. (n < length marks) × (get_or marks n true ≡ false))
+      → IfSome answer (λ n. (m : ℕ) → m < n → get_or marks m false ≡ true) → IfSome answer (IsLeastMissing batches journal)
+  least_told (Some n) found before = least_missing batches journal marks n one_each are found before
+  least_told None found before = tt
+
+  pub all_told : (answer : Option ℕ) → IfNone answer ((m : ℕ) → m < length marks → get_or marks m false ≡ true) → IfNone answer (HasAllNumbers batches journal)
+  all_told (Some n) none = tt
+  all_told None none = all_numbers batches journal marks one_each are none
+
+-- as many entries as there are batches lack none
+pub count_told : (batches journal : List NumberedPieces) (answer : Option ℕ) → IsDistinct nat_eq (numbers_of journal) → All (IsGiven batches) journal
+    → IfSome answer (IsLeastMissing batches journal) → IfSome answer (λ _. length journal ≢ length batches)
+count_told batches journal (Some n) distinct given lacking = λ many. none_missing batches journal n distinct given many lacking
+count_told batches journal None distinct given lacking = tt
 
 -- the same for shared batches, and what is seen of them
 pub marks_of : (batches : List (Arc Batch Global)) (seen journal : List NumberedPieces) (items marks : List Bool) → seen ≡ journal → marks ≡ items

@@ -4,7 +4,7 @@ ghost use Rattle.std.specs.Prelude.{IsTrue, IfOk, OnOk, IfErr, IfSome, IfNone, s
 ghost use Rattle.std.specs.Vec.{vec_capacity};
 ghost use Rattle.kc_word.specs.Shared.{values};
 ghost use Rattle.kc_booking.specs.Stripe.{IsBooked};
-ghost use Rattle.kc_gather.specs.Gathering.{IsGiven, IsOwn, IsWhole, IsStripeRefusal};
+ghost use Rattle.kc_gather.specs.Gathering.{HasAllNumbers, IsGiven, IsLeastMissing, IsOwn, IsStripeRefusal, IsWhole};
 
 use crate::gather_fault::GatherFault;
 use kc_booking::{Setup, Stripe};
@@ -29,19 +29,39 @@ pub(crate) fn check_stripe<C: Counts>(
     ensures counted { (at batch : ℕ) → result ≡ Err (GatherFault.Missing at batch)
         → length stripe.now.journal ≢ length (values batches.now) }
 {
-    if stripe.setup() != setup || stripe.number() != index {
+    if !is_own(index, stripe, batches, setup) {
         return Err(GatherFault::Foreign(index));
     }
-    if !are_given(stripe.journal(), batches) {
-        return Err(GatherFault::Foreign(index));
-    }
-    // what is known of the journal
-    stripe.is_lawful();
-    let marks = booked_marks(alloc, stripe.journal(), batches)?;
-    match first_unset(&marks) {
+    match first_missing(alloc, stripe, batches)? {
         Some(number) => Err(GatherFault::Missing(index, number)),
         None => Ok(()),
     }
+}
+
+// Whether the stripe is that of this index in a count of the given batches.
+fn is_own<C: Counts>(index: u32, stripe: &Stripe<C>, batches: &[Arc<Batch>], setup: &Setup) -> bool
+    ensures { IsTrue result ↔ IsOwn setup.now (values batches.now) index stripe.now }
+{
+    stripe.setup() == setup && stripe.number() == index && are_given(stripe.journal(), batches)
+}
+
+// The least number of a given batch that the stripe's journal lacks. Condition: each batch in the journal is the one
+// that is given under its number.
+fn first_missing<C: Counts>(
+    alloc: Global,
+    stripe: &Stripe<C>,
+    batches: &[Arc<Batch>],
+) -> Result<Option<u64>, AllocError>
+    requires { All (IsGiven (values batches.now)) stripe.now.journal }
+    ensures least { IfOk result (λ answer. IfSome answer (IsLeastMissing (values batches.now) stripe.now.journal)) }
+    ensures counted { IfOk result (λ answer. IfSome answer (λ _.
+        length stripe.now.journal ≢ length (values batches.now))) }
+    ensures none { IfOk result (λ answer. IfNone answer (HasAllNumbers (values batches.now) stripe.now.journal)) }
+{
+    // what is known of the journal
+    stripe.is_lawful();
+    let marks = booked_marks(alloc, stripe.journal(), batches)?;
+    Ok(first_unset(&marks))
 }
 
 // Whether the batch is the one that is given under its number.

@@ -1,6 +1,7 @@
 //! The rows that are taken from the stripes of a count, where these hold what was given.
 ghost use Rattle.std.specs.Prelude.{◌≡◌, ◌≢◌, ◌≤◌, map, All, IfOk, OnOk, IfErr};
 ghost use Rattle.kc_word.specs.Shared.{values};
+ghost use Rattle.kc_booking.specs.Stripe.{AreStripeRows};
 ghost use Rattle.kc_gather.specs.declared.gather_fault.GatherFault.TheVariants.{Memory};
 ghost use Rattle.kc_gather.specs.Gathering.{IsWholeThere, IsFirstRefusal, HasRowsOf, HaveRowsOf};
 
@@ -85,7 +86,13 @@ fn rows_of<C: Counts + Drop>(alloc: Global, stripe: Stripe<C>) -> Result<Vec<Vec
     // what is known of the journal
     stripe.is_lawful();
     let k = stripe.setup().rule().k();
-    let rows = stripe.rows(alloc)?;
-    drop(stripe);
+    let rows = unparted_rows(alloc, stripe)?;
     parted(alloc, k, &rows)
+}
+
+// The words of a stripe with their counts. The stripe is freed, so that its memory is there for their parts.
+fn unparted_rows<C: Counts + Drop>(alloc: Global, stripe: Stripe<C>) -> Result<Vec<Row>, AllocError>
+    ensures { IfOk result (λ rows. AreStripeRows stripe.setup stripe.number stripe.journal rows.items) }
+{
+    stripe.rows(alloc)
 }

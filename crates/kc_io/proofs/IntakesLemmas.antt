@@ -1,6 +1,6 @@
 -- The bytes that were taken of a source since a start: what one read more makes of them, and which of them were used.
-use Rattle.std.proofs.Common.{◌≡◌, ℕ, ◌+◌, ◌<◌, ◌≤◌, false, true, List, [], ◌∷◌, ◌++◌, length, take, refl, sym, ap, subst, ◌∙◌, arith, append_assoc, append-nil, length-append, rules, drop}
-use Rattle.std.specs.Prelude.{Ok, Err, if◌then◌else◌}
+use Rattle.std.proofs.Common.{◌≡◌, ℕ, ◌+◌, ◌<◌, ◌≤◌, false, true, List, [], ◌∷◌, ◌++◌, ◌-◌, length, take, refl, sym, ap, subst, ◌∙◌, arith, append_assoc, append-nil, length-append, rules, drop}
+use Rattle.std.specs.Prelude.{◌≢◌, Result, Ok, Err, IfOk, IfErr, if◌then◌else◌}
 use Rattle.std.specs.Io.KnownBytes.{Consumes, Keeps, IsAtEnd}
 use Rattle.std.proofs.lemmas.Bool.Decides.{nat_tests}
 use Rattle.std.proofs.lemmas.List.Elements.{All-nil, All-append}
@@ -9,9 +9,9 @@ use Rattle.kc_io.specs.declared.intakes.TakeFault.{TakeFault}
 use Rattle.kc_io.specs.declared.intakes.TakeFault.TheVariants.{TooLong, Read, Memory}
 use Rattle.kc_io.specs.History.{is_end, after}
 use Rattle.kc_io.specs.Sources.{Seen}
-use Rattle.kc_io.specs.Intakes.{Takes, TakenSoFar, TakesAll, TakingFails, AsksFor, Unread, Filled}
+use Rattle.kc_io.specs.Intakes.{Takes, TakenSoFar, TakesAll, TakingFails, AsksFor, Skips, Unread, Filled, Fills}
 use Rattle.kc_io.proofs.KnownBytesLemmas.{consumes_nothing, consumes_both, consumes_kept}
-use Rattle.std.proofs.lemmas.List.{take-append-drop}
+use Rattle.std.proofs.lemmas.List.{take-append-drop, length-take-le}
 
 -- what one read did
 pub record ReadOnce (now next : Seen) (bytes ended : List ℕ) (failed : ℕ) : Type 0 where
@@ -271,3 +271,50 @@ filled_end {old} {mid} {new} {u} {v} f all =
 
 pub filled_fails : {old mid : Seen} {u v : Unread} (new : Seen) (why : TakeFault) → Filled old mid u v → TakingFails mid new v.room why → TakingFails old new u.room why
 filled_fails {v = v} new why f fails = let room = f.room in taken_then_fails new v.room why f.taken fails (omega (arith, room))
+
+-- ---- what a skipping says, and how it ends
+
+pub skips-all : (limit size : ℕ) (old new : Seen) (answer : Result ℕ TakeFault) → Skips limit size old new answer
+    → IfOk answer (λ count. (bytes : List ℕ) × TakesAll old new limit bytes × (length bytes ≡ count))
+unfolding Skips
+skips-all limit size old new (Ok count) s = s.1
+skips-all limit size old new (Err why) s = search
+
+pub skips-fault : (limit size : ℕ) (old new : Seen) (answer : Result ℕ TakeFault) → Skips limit size old new answer
+    → IfErr answer (TakingFails old new limit)
+unfolding Skips
+skips-fault limit size old new (Ok count) s = search
+skips-fault limit size old new (Err why) s = s.1
+
+pub skips-no_memory : (limit size : ℕ) (old new : Seen) (answer : Result ℕ TakeFault) → Skips limit size old new answer
+    → IfErr answer (λ why. why ≢ Memory)
+unfolding Skips
+skips-no_memory limit size old new (Ok count) s = search
+skips-no_memory limit size old new (Err why) s = s.2
+
+pub skips-by_blocks : (limit size : ℕ) (old new : Seen) (answer : Result ℕ TakeFault) → Skips limit size old new answer → AsksFor size old new
+unfolding Skips
+skips-by_blocks limit size old new (Ok count) s = s.0
+skips-by_blocks limit size old new (Err why) s = s.0
+
+pub skips_to_the_end : (limit size count : ℕ) (old new : Seen) (bytes : List ℕ) → AsksFor size old new → TakesAll old new limit bytes
+    → length bytes ≡ count → Skips limit size old new (Ok count)
+unfolding Skips
+skips_to_the_end limit size count old new bytes asks all long = (asks, (bytes, all, long))
+
+pub skips_in_vain : (limit size : ℕ) (old new : Seen) (why : TakeFault) → AsksFor size old new → TakingFails old new limit why → why ≢ Memory
+    → Skips limit size old new (Err why)
+unfolding Skips
+skips_in_vain limit size old new why asks fails other = (asks, fails, other)
+
+-- ---- what a filling says where a block came: it stands behind the bytes that were there
+
+pub fills-some : (old new : Seen) (before after : Unread) (count : ℕ) (block : List ℕ) → TakenSoFar old new before.room (take count block)
+    → 0 < count → count ≤ length block → after.bytes ≡ before.bytes ++ take count block → after.room ≡ before.room - count
+    → Fills old new before after (Ok true)
+fills-some old new before after count block taken some inside behind room =
+    let long = length-take-le count block inside in
+    let within = taken.within in
+    let both = length-append before.bytes (take count block) in
+    let all = ap length behind in
+    (record { more = take count block; taken = taken; behind = behind; room = omega (arith, long, within, room) }, omega (arith, some, long, both, all))

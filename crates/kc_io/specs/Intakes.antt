@@ -1,5 +1,6 @@
 -- What the taking of a source block by block leaves of it, and of the bytes that are not used yet.
-use Rattle.std.specs.Prelude.{◌≡◌, ℕ, ◌+◌, ◌<◌, ◌≤◌, Bool, true, false, List, [], ◌∷◌, ◌++◌, length, All, Result, Ok, Err}
+use Rattle.std.specs.Prelude.{◌≡◌, ◌≢◌, ℕ, ◌+◌, ◌<◌, ◌≤◌, Bool, true, false, List, [], ◌∷◌, ◌++◌, length, All}
+use Rattle.std.specs.Prelude.{Result, Ok, Err}
 use Rattle.std.specs.Io.KnownBytes.{Consumes, IsAtEnd}
 use Rattle.kc_io.specs.declared.intakes.TakeFault.{TakeFault}
 use Rattle.kc_io.specs.declared.intakes.TakeFault.TheVariants.{TooLong, Read, Memory}
@@ -45,6 +46,13 @@ TakingFails old new limit Memory = (bytes : List ℕ) × Takes old new limit byt
 abbrev pub AsksFor : ℕ → Seen → Seen → Type 0
 AsksFor size old new =
     (rooms : List ℕ) × (new.history.asked ≡ old.history.asked ++ rooms) × All (λ room. room ≡ size) rooms
+
+-- all bytes that a source had left were taken by reads for so many bytes each, and the answer is how many they were; or
+-- why they could not be, which was no lack of memory
+unfoldable pub Skips : ℕ → ℕ → Seen → Seen → Result ℕ TakeFault → Type 0
+Skips limit size old new (Ok count) =
+    AsksFor size old new × ((bytes : List ℕ) × TakesAll old new limit bytes × (length bytes ≡ count))
+Skips limit size old new (Err why) = AsksFor size old new × TakingFails old new limit why × (why ≢ Memory)
 
 pub record Unread : Type 0 where
   -- the bytes that were taken and not used yet

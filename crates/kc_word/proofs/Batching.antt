@@ -187,6 +187,19 @@ HasCut-more cutting pieces piece s =
 pub filled-up : (cutting : OpenCutting) (part : List ℕ) (taken : ℕ) → cutting.size ≤ cutting.filled + taken → (with_part cutting part taken).filled ≡ 0
 filled-up cutting part taken h = ap (λ (c : OpenCutting). c.filled) (cond-false _ _ _ (le-ltb (cutting.filled + taken) cutting.size h))
 
+-- the length of the words and the size stay as they are
+pub with_part-k : (cutting : OpenCutting) (part : List ℕ) (taken : ℕ) → (with_part cutting part taken).k ≡ cutting.k
+with_part-k cutting part taken =
+    ⊎_elim (λ h. ap (λ (c : OpenCutting). c.k) (cond-true _ _ _ (lt-ltb (cutting.filled + taken) cutting.size h)))
+    (λ h. ap (λ (c : OpenCutting). c.k) (cond-false _ _ _ (le-ltb (cutting.filled + taken) cutting.size h)))
+    (cases_lt (cutting.filled + taken) cutting.size)
+
+pub with_part-size : (cutting : OpenCutting) (part : List ℕ) (taken : ℕ) → (with_part cutting part taken).size ≡ cutting.size
+with_part-size cutting part taken =
+    ⊎_elim (λ h. ap (λ (c : OpenCutting). c.size) (cond-true _ _ _ (lt-ltb (cutting.filled + taken) cutting.size h)))
+    (λ h. ap (λ (c : OpenCutting). c.size) (cond-false _ _ _ (le-ltb (cutting.filled + taken) cutting.size h)))
+    (cases_lt (cutting.filled + taken) cutting.size)
+
 -- ---- when all pieces were taken
 
 pub record Finished (cutting : OpenCutting) (pieces : List (List ℕ)) : Type 0 where

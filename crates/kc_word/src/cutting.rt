@@ -114,8 +114,6 @@ impl Cutting {
         requires some { 1 ≤ left }
         requires within { position + left ≤ position_count self.old.k (length piece.now) }
         requires fits { length piece.now < 2 ^ 64 }
-        ensures k { self.new.k ≡ self.old.k }
-        ensures size { self.new.size ≡ self.old.size }
         ensures some { IfOk result (λ taken. 1 ≤ taken) }
         ensures count { IfOk result (λ taken. taken ≡ min left (self.old.size - self.old.filled)) }
         ensures taken { IfOk result (λ taken. self.new
@@ -125,19 +123,59 @@ impl Cutting {
         let taken = (left as u64).min(self.size - self.filled) as usize;
         let bases = self.k.get() as usize;
         let end = position + taken + (bases - 1);
-        let filled = self.filled + taken as u64;
+        self.push_part(alloc, piece, position, end, taken as u64)?;
+        Ok(taken)
+    }
+
+    // Puts the bytes of the piece from `from` to before `to`, which have `count` positions, behind the parts of the
+    // batch that is begun, and this behind the whole ones where it is whole then. After a refusal the cutting is as it
+    // was. Conditions: the bytes are in order, and at most the piece's, and the batch has room for the positions.
+    fn push_part(
+        &mut self,
+        alloc: Global,
+        piece: &Piece,
+        from: usize,
+        to: usize,
+        count: u64,
+    ) -> Result<(), AllocError>
+        requires ordered { from ≤ to }
+        requires within { to ≤ length piece.now }
+        requires room { self.old.filled + count ≤ self.old.size }
+        ensures pushed { OnOk result (self.new ≡ with_part self.old (slice_range piece.now from to) count) }
+        ensures refused { OnErr result (self.new ≡ self.old) }
+    {
+        let filled = self.filled + count;
         if filled < self.size {
-            self.begun.push(piece.part(alloc, position, end)?)?;
+            self.begun.push(piece.part(alloc, from, to)?)?;
             self.filled = filled;
         } else {
-            let begun = packed(alloc, &self.begun)?;
-            let begun = begun.and_part(alloc, piece, position, end)?;
-            let batch = shared(alloc, self.batches.len() as u64, begun)?;
+            let batch = self.whole(alloc, piece, from, to)?;
             self.batches.push(batch)?;
             self.begun.clear();
             self.filled = 0;
         }
-        Ok(taken)
+        Ok(())
+    }
+
+    // The batch that is begun, with the bytes of the piece from `from` to before `to` as its last part. Conditions:
+    // these are in order, and at most the piece's.
+    fn whole(
+        &self,
+        alloc: Global,
+        piece: &Piece,
+        from: usize,
+        to: usize,
+    ) -> Result<Arc<Batch>, AllocError>
+        requires ordered { from ≤ to }
+        requires within { to ≤ length piece.now }
+        ensures { IfOk result (λ batch. batch.value ≡ record {
+          number = length self.now.batches;
+          pieces = self.now.begun ++ slice_range piece.now from to ∷ [];
+        }) }
+    {
+        let begun = packed(alloc, &self.begun)?;
+        let begun = begun.and_part(alloc, piece, from, to)?;
+        shared(alloc, self.batches.len() as u64, begun)
     }
 }
 

@@ -1,4 +1,4 @@
-use Rattle.std.proofs.Common.{◌≡◌, ◌∙◌, ◌++◌, ◌∷◌, [], ℕ, List, ap, ap₂, count_by, map, slice_index, sym, take}
+use Rattle.std.proofs.Common.{◌∙◌, ◌++◌, ◌∷◌, [], ℕ, List, ap, ap₂, count_by, map, slice_index, sym, take}
 use Rattle.std.proofs.lemmas.List.{map_push}
 use Rattle.std.specs.List.{flat_map}
 use Rattle.kc_word.specs.Cutting.{NumberedPieces}
@@ -13,16 +13,16 @@ loop-batch-preserved c =
     let at : IsSharedAt c.args.batches.now c.loop-batch.batch-index c.batch-item.result = record { within = c.loop-batch-test.true; is = c.batch-item.is } in
     let setup = c.args.setup.now in
     let front = take c.loop-batch.batch-index (values c.args.batches.now) in
-    let hashed : c.in_ok-hashed.hashed.items ≡ batch_codes setup c.batch-item.result.value = c.in_ok-hashed.ensures ∙ ap (batch_codes setup) c.deref.ensures in
+    let batch : NumberedPieces = c.batch-item.result.value in
     record {
-      codes = c.in_ok-extend_from_slice.ensures.items
-          ∙ ap₂ (λ (xs ys : List ℕ). xs ++ ys) c.loop-batch.invariant.codes (c.deref-in-loop-batch-2.ensures.value ∙ hashed)
-          ∙ sym (ap (flat_map (batch_codes setup)) (values-more at) ∙ codes-more setup front c.batch-item.result.value);
+      codes = c.in_ok-add_codes.ensures.codes
+          ∙ ap₂ (λ (xs : List ℕ) (b : NumberedPieces). xs ++ batch_codes setup b) c.loop-batch.invariant.codes c.deref.ensures
+          ∙ sym (ap (flat_map (batch_codes setup)) (values-more at) ∙ codes-more setup front batch);
       sizes = λ stripe.
-          let some : NumberedPieces → ℕ = λ batch. count_by (falls_in setup.stripe_bits stripe) (batch_codes setup batch) in
+          let some : NumberedPieces → ℕ = λ b. count_by (falls_in setup.stripe_bits stripe) (batch_codes setup b) in
           ap (map (λ (sizes : List ℕ). slice_index sizes stripe)) c.in_ok-push.ensures.items
-          ∙ map_push (λ (sizes : List ℕ). slice_index sizes stripe) c.loop-batch.sizes.items c.part_sizes.result
+          ∙ map_push (λ (sizes : List ℕ). slice_index sizes stripe) c.loop-batch.sizes.items c.in_ok-add_codes.field-0
           ∙ ap₂ (λ (xs : List ℕ) (x : ℕ). xs ++ x ∷ []) (c.loop-batch.invariant.sizes stripe)
-          (c.part_sizes.ensures stripe ∙ ap₂ (λ (s : ℕ) (codes : List ℕ). count_by (falls_in s stripe) codes) c.stripe_bits-stripe_bits.ensures.value (c.deref-in-loop-batch.ensures.value ∙ hashed))
-          ∙ sym (ap (map some) (values-more at) ∙ map_push some front c.batch-item.result.value);
+          (c.in_ok-add_codes.ensures.sizes stripe ∙ ap some c.deref.ensures)
+          ∙ sym (ap (map some) (values-more at) ∙ map_push some front batch);
     }

@@ -1,13 +1,17 @@
-use Rattle.std.proofs.Common.{◌<◌, length, ap, arith}
-use Rattle.kc_io.proofs.IntakesLemmas.{read_failed, taken_none, taken_failed}
+use Rattle.std.proofs.Common.{◌≡◌, ◌<◌, ◌++◌, take, ap, subst, ◌∙◌, arith}
+use Rattle.std.proofs.lemmas.Grind.{common_steps}
+use Rattle.kc_io.specs.Intakes.{TakenSoFar, Unread}
+use Rattle.kc_io.proofs.IntakesLemmas.{fills-some}
 use Rattle.kc_io.proofs.intakes.Intake.fill.Goals as goal
 
-pub returns-in_default-clause-filled : goal.returns-in_default-clause-filled
-returns-in_default-clause-filled g c =
-    let old = g.S.Source.seen c.args.source.now in
-    let new = g.S.Source.seen c.read.new.self in
-    let whole = ap length c.as_mut_slice.ensures.value in
-    let some = c.self.invariant.1 in
-    let same = c.read.auto.buffer in
-    let roomy : 0 < length c.read.new.buffer = omega (arith, whole, some, same) in
-    taken_failed (taken_none old c.args.self.now.room) (read_failed old new c.in_default.field-0 c.read.new.buffer roomy c.in_default.ensures.bytes c.in_default.ensures.history)
+pub returns-in_ok-put-in-Ok-clause-filled : goal.returns-in_ok-put-in-Ok-clause-filled
+returns-in_ok-put-in-Ok-clause-filled g c =
+    let some : 0 < c.in-Ok.count = omega arith in
+    let room = ap (λ (w : Unread). w.room) c.self.view_is in
+    let taken = subst (λ n. TakenSoFar (g.S.Source.seen c.args.source.now) (g.S.Source.seen c.read_within.new.source) n (take c.in-Ok.count c.read_within.new.block))
+    room (c.in-Ok.ensures.taken some) in
+    let behind : c.put_behind-put.new.bytes.items ≡ c.args.self.now.bytes ++ take c.in-Ok.count c.read_within.new.block =
+    c.in_ok-put-in-Ok.ensures.put ∙ ap (λ v. v ++ take c.in-Ok.count c.deref.result.now) (ap (λ (w : Unread). w.bytes) c.self.view_is)
+    ∙ ap (λ v. c.args.self.now.bytes ++ take c.in-Ok.count v) (c.deref.ensures.value ∙ grind (arith, common_steps)) in
+    fills-some _ _ c.args.self.now _ c.in-Ok.count c.read_within.new.block taken some c.in-Ok.ensures.within
+    behind (omega (arith, room))

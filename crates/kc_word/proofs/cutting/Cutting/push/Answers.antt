@@ -4,7 +4,7 @@ use Rattle.std.proofs.lemmas.Result.{err_from_is_err_and}
 use Rattle.kc_kmer.specs.Occurrences.{position_count}
 use Rattle.kc_word.specs.Cutting.{position_total}
 use Rattle.kc_word.specs.OpenCutting.{OpenCutting, HasCut, HasTakenFront, with_part}
-use Rattle.kc_word.proofs.Batching.{HasCut-next, HasCut-more, filled-up}
+use Rattle.kc_word.proofs.Batching.{HasCut-next, HasCut-more, filled-up, with_part-k, with_part-size}
 use Rattle.kc_word.proofs.cutting.Cutting.push.Goals as goal
 
 pub loop-position-init : goal.loop-position-init
@@ -17,10 +17,10 @@ loop-position-init c = record {
 }
 
 pub returns-in_err-position-clause-k : goal.returns-in_err-position-clause-k
-returns-in_err-position-clause-k c = c.take.ensures.k ∙ c.loop-position.invariant.k
+returns-in_err-position-clause-k c = ap (λ (w : OpenCutting). w.k) c.in_err-position.ensures.refused ∙ c.loop-position.invariant.k
 
 pub returns-in_err-position-clause-size : goal.returns-in_err-position-clause-size
-returns-in_err-position-clause-size c = c.take.ensures.size ∙ c.loop-position.invariant.size
+returns-in_err-position-clause-size c = ap (λ (w : OpenCutting). w.size) c.in_err-position.ensures.refused ∙ c.loop-position.invariant.size
 
 pub returns-in_err-position-clause-refused : goal.returns-in_err-position-clause-refused
 returns-in_err-position-clause-refused c =
@@ -57,8 +57,8 @@ loop-position-preserved c =
     let started : (c.loop-position.position ≡ 0) ⊎ (c.loop-position.self.filled ≡ 0) =
     ⊎_elim (λ e. inl e) (λ o. ⊎_elim (λ e. inr e) (λ e. absurd (omega (arith, e, test))) o) before.alone in
     record {
-      k = c.take.ensures.k ∙ before.k;
-      size = c.take.ensures.size ∙ before.size;
+      k = ap (λ (w : OpenCutting). w.k) c.in_ok-position.ensures.taken ∙ with_part-k c.loop-position.self _ c.in_ok-position.field-0 ∙ before.k;
+      size = ap (λ (w : OpenCutting). w.size) c.in_ok-position.ensures.taken ∙ with_part-size c.loop-position.self _ c.in_ok-position.field-0 ∙ before.size;
       within = within;
       alone = inr (⊎_elim
           (λ h. inr (omega (arith, h, test, count)))
