@@ -77,9 +77,9 @@ bins-none setup batches =
     omega (arith, here, nothing))
 
 -- those of all stripes are those of the tally
-pub bins-all : (setup : StripeSetup) (batches : List NumberedPieces) (n : ℕ) (bins : List ℕ) → n ≡ stripe_count setup → bins ≡ bins_below setup batches n
-    → AreBinsOf setup.rule (reads_in batches) bins
-bins-all setup batches n bins all are =
+pub bins-all : (setup : StripeSetup) (batches : List NumberedPieces) (n : ℕ) (bins : List ℕ) → setup.rule.k ≤ 31 → n ≡ stripe_count setup
+    → bins ≡ bins_below setup batches n → AreBinsOf setup.rule (reads_in batches) bins
+bins-all setup batches n bins short all are =
     let whole = has_tally setup.rule (reads_in batches) in
     let words = range_with_len 0 (word_count setup) in
     record {
@@ -91,6 +91,7 @@ bins-all setup batches n bins all are =
           ∙ sum_by-same (λ word. cond (nat_lt (stripe_of setup word) n) (size word) 0) size words
           (λ i d within. cond-true (nat_lt (stripe_of setup (get_or words i d)) n) (size (get_or words i d)) 0 (falls (get_or words i d)))
           ∙ whole.weigh h none);
+      few = let most : 4 ^ setup.rule.k ≤ 4 ^ 31 = pow-le-pow_right (lit< tt) short in omega (arith, whole.few, most);
     }
   where
     falls : (word : ℕ) → nat_lt (stripe_of setup word) n ≡ true

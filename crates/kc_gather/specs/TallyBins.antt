@@ -1,6 +1,6 @@
 -- The bins of several stripes together, and of a tally.
 -- Source: this project's own.
-use Rattle.std.specs.Prelude.{◌≡◌, ℕ, ◌<◌, List, length, map, filter, nat_lt, slice_index_or}
+use Rattle.std.specs.Prelude.{◌≡◌, ℕ, ◌^◌, ◌<◌, List, length, map, filter, nat_lt, slice_index_or}
 use Rattle.std.specs.List.{range_with_len}
 use Rattle.kc_fastx.specs.Reads.{Read}
 use Rattle.kc_kmer.specs.Rule.{CountingRule}
@@ -11,11 +11,12 @@ use Rattle.kc_booking.specs.Setup.{StripeSetup, word_count, stripe_of}
 use Rattle.kc_booking.specs.Stripe.{word_occurrences}
 use Rattle.kc_gather.specs.declared.placed.Placed.{Placed}
 
--- the bins are those of the tally of the reads
+-- the bins are those of the tally of the reads, which has fewer than 2 ^ 64 rows
 pub record AreBinsOf (rule : CountingRule) (reads : List Read) (bins : List ℕ) : Type 0 where
   pub tally : TallySeen
   pub is_tally : IsTallyOf rule reads tally
   pub bins_are : bins ≡ bins_of (counts_of tally.rows)
+  pub few : length tally.rows < 2 ^ 64
 
 -- the words that fall in the stripes below number n
 abbrev pub words_below : StripeSetup → ℕ → List ℕ

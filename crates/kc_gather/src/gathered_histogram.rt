@@ -34,6 +34,8 @@ pub fn gather_histogram<C: Counts + Drop>(
     ensures counted { (index batch : ℕ) → result ≡ Err (GatherFault.Missing index batch)
         → StandsThere stripes.items index (λ stripe. length stripe.journal ≢ length batches.now) }
 {
+    // what is known of the length of words
+    let _bases = setup.rule().k().get();
     let placed = at_places(alloc, stripes, setup)?;
     let histogram = joined_histogram(alloc, placed, batches, setup)?;
     Ok(histogram)

@@ -1,4 +1,5 @@
-use Rattle.std.proofs.Common.{◌≡◌, ◌∙◌}
+use Rattle.std.proofs.Common.{◌≡◌, ◌≤◌, ◌∙◌, ap, arith}
+use Rattle.kc_kmer.specs.Rule.{CountingRule}
 use Rattle.std.proofs.lemmas.List.{length-map}
 use Rattle.std.proofs.lemmas.Result.{err_from_is_err_and}
 use Rattle.kc_word.specs.Shared.{values}
@@ -12,7 +13,8 @@ returns-clause-whole g c = whole-at_places c.args.stripes.items c.in_ok-placed.p
 
 pub returns-clause-bins : goal.returns-clause-bins
 returns-clause-bins g c =
-    bins-all c.args.setup.now (values c.args.batches.now) _ c.in_ok-histogram.histogram (at_places-count c.in_ok-placed.ensures ∙ c.requires.one_each) c.in_ok-histogram.ensures.bins
+    let short : c.args.setup.now.rule.k ≤ 31 = omega (arith, c.get-bases.ensures, c.k.ensures, ap (λ (rule : CountingRule). rule.k) c.rule.ensures) in
+    bins-all c.args.setup.now (values c.args.batches.now) _ c.in_ok-histogram.histogram short (at_places-count c.in_ok-placed.ensures ∙ c.requires.one_each) c.in_ok-histogram.ensures.bins
 
 pub returns-in_err-histogram-clause-refused : goal.returns-in_err-histogram-clause-refused
 returns-in_err-histogram-clause-refused g c =
