@@ -4,6 +4,7 @@ ghost use Rattle.std.specs.Prelude.{count_by, max, ◌*◌, IfOk, OnOk, OnErr, M
 ghost use Rattle.std.specs.HashSet.{contains, spare};
 ghost use Rattle.std.specs.Vec.{vec_len, vec_capacity};
 ghost use Rattle.std.specs.FinMap.{empty};
+ghost use Rattle.kc_hash.specs.Product.{product};
 ghost use Rattle.kc_word.specs.Cutting.{NumberedPieces};
 ghost use Rattle.kc_word.specs.Shared.{values};
 ghost use Rattle.kc_tally.specs.Histogram.{last_bin, bin_of, bin_at};
@@ -19,6 +20,7 @@ use crate::counted::CountedTable;
 use crate::cut::Cut;
 use crate::cuts::{Cuts, shared};
 use crate::setup::Setup;
+use kc_hash::MatrixTables;
 use kc_lemmas::room_for_each;
 use kc_table::Counts;
 use kc_tally::Row;
@@ -168,11 +170,7 @@ impl<C: Counts> Stripe<C> {
         let tables = self.setup.hash().back_tables();
         let mut rows = room_for_each(alloc, &counted)?;
         for (key, count) in &counted {
-            let code = self.setup.code_at(self.number, *key);
-            rows.push(Row {
-                word: tables.apply(code),
-                count: *count,
-            })?;
+            rows.push(row_of_key(&self.setup, &tables, self.number, *key, *count))?;
         }
         Ok(rows)
     }
@@ -373,6 +371,20 @@ impl<C: Counts> Stripe<C> {
             }
         }
         true
+    }
+}
+
+// The row of a key of this stripe and its count. Conditions: the tables are those of a map of as many bits as words have.
+fn row_of_key(setup: &Setup, tables: &MatrixTables, stripe: u32, key: u64, count: u64) -> Row
+    requires stripe { stripe < stripe_count setup.now }
+    requires key { key < 2 ^ key_bits setup.now }
+    requires bits { length tables.now ≡ length setup.now.hash }
+    ensures { result ≡ record { word = product tables.now (key * stripe_count setup.now + stripe); count = count } }
+{
+    let code = setup.code_at(stripe, key);
+    Row {
+        word: tables.apply(code),
+        count,
     }
 }
 

@@ -10,8 +10,7 @@ use Rattle.kc_booking.proofs.stripe.Stripe.rows.Goals as goal
 pub loop-key-preserved : goal.loop-key-preserved
 loop-key-preserved g c =
     c.in_ok-push.ensures.items
-    ∙ ap (λ (row : Row). c.loop-key.rows.items ++ row ∷ [])
-    (λ i. record { word = (c.apply.ensures.product ∙ ap (product c.back_tables-tables.result) c.code_at-code.ensures.value) i; count = (get_or c.deref-key-items.result.now c.loop-key.key-index (0, 0)).1 })
+    ∙ ap (λ (row : Row). c.loop-key.rows.items ++ row ∷ []) c.row_of_key.ensures
     ∙ rows-more (row_of c.self.inside.setup c.back_tables-tables.result c.self.inside.number) c.deref-key-items.result.now c.loop-key.rows.items c.loop-key.key-index (0, 0)
     c.loop-key-test.true c.loop-key.invariant
 
