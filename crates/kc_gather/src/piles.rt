@@ -1,5 +1,5 @@
 //! Items that are dealt out in piles, one for each thread, and what the threads answer, joined.
-ghost use Rattle.std.specs.Prelude.{◌≡◌, ◌≤◌, ◌^◌, ◌-◌, [], length, map, min, IfOk, IfErr, Ok};
+ghost use Rattle.std.specs.Prelude.{◌≡◌, ◌≤◌, ◌^◌, ◌-◌, [], ◌∷◌, ◌++◌, length, map, min, IfOk, IfErr, Ok};
 ghost use Rattle.std.specs.List.{flat_map};
 ghost use Rattle.std.specs.Vec.{vec_capacity};
 ghost use Rattle.kc_gather.specs.Piles.{IsFirstFault};
@@ -37,6 +37,14 @@ pub(crate) fn dealt<T: Weighed + Drop>(
         weight = weight.saturating_add(item.weight());
         pile.push(item)?;
     }
+    let piles = with_last(piles, pile)?;
+    Ok(piles)
+}
+
+// The piles, and this one behind them.
+fn with_last<T: Drop>(mut piles: Vec<Vec<T>>, pile: Vec<T>) -> Result<Vec<Vec<T>>, AllocError>
+    ensures { IfOk result (λ all. all.items ≡ piles.items ++ pile ∷ []) }
+{
     piles.push(pile)?;
     Ok(piles)
 }

@@ -1,9 +1,9 @@
 //! The rows that are taken from the stripes of a count, where these hold what was given.
-ghost use Rattle.std.specs.Prelude.{◌≡◌, ◌≢◌, ◌≤◌, map, All, IfOk, OnOk, IfErr};
+ghost use Rattle.std.specs.Prelude.{◌≡◌, ◌≢◌, ℕ, ◌≤◌, length, map, All, IfOk, OnOk, IfErr};
 ghost use Rattle.kc_word.specs.Shared.{values};
 ghost use Rattle.kc_booking.specs.Stripe.{AreStripeRows};
 ghost use Rattle.kc_gather.specs.declared.gather_fault.GatherFault.TheVariants.{Memory};
-ghost use Rattle.kc_gather.specs.Gathering.{IsWholeThere, IsFirstRefusal, HasRowsOf, HaveRowsOf};
+ghost use Rattle.kc_gather.specs.Gathering.{IsWholeThere, IsStripeRefusal, IsFirstRefusal, HasRowsOf, HaveRowsOf};
 
 use crate::gather_fault::GatherFault;
 use crate::journal::check_stripe;
@@ -35,14 +35,30 @@ pub(crate) fn taken_of_each<C: Counts + Drop>(
 {
     let mut taken = room_for_each(alloc, &stripes)?;
     for placed in stripes {
-        let Placed { index, stripe } = placed;
-        check_stripe(alloc, index, &stripe, batches, setup)?;
-        let parts = rows_of(alloc, stripe)?;
+        let parts = taken_of(alloc, placed, batches, setup)?;
         let Ok(()) = taken.push(parts) else {
             return Err(GatherFault::Memory);
         };
     }
     Ok(taken)
+}
+
+// The rows of a stripe in parts, where it is that of its index, and its journal holds exactly the given batches.
+fn taken_of<C: Counts + Drop>(
+    alloc: Global,
+    placed: Placed<C>,
+    batches: &[Arc<Batch>],
+    setup: &Setup,
+) -> Result<Vec<Vec<Row>>, GatherFault>
+    ensures whole { OnOk result (IsWholeThere setup.now (values batches.now) placed) }
+    ensures rows { IfOk result (HasRowsOf placed.stripe) }
+    ensures refused { IfErr result (IsStripeRefusal setup.now (values batches.now) placed.index placed.stripe) }
+    ensures counted { (at batch : ℕ) → result ≡ Err (GatherFault.Missing at batch)
+        → length placed.stripe.journal ≢ length (values batches.now) }
+{
+    let Placed { index, stripe } = placed;
+    check_stripe(alloc, index, &stripe, batches, setup)?;
+    Ok(rows_of(alloc, stripe)?)
 }
 
 /// The same with at most so many threads, each of which looks at the stripes that it takes. A single one is started

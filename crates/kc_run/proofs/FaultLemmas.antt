@@ -1,10 +1,17 @@
 -- The faults with which workers and runs end.
-use Rattle.std.proofs.Common.{◌≡◌, ℕ, ◌<◌, ◌≤◌, sym, subst, inl, arith}
+use Rattle.std.proofs.Common.{◌≡◌, ℕ, ◌<◌, ◌≤◌, List, length, sym, subst, inl, arith}
+use Rattle.std.proofs.lemmas.Option.{slice_get_within}
+use Rattle.kc_word.specs.Cutting.{NumberedPieces}
+use Rattle.kc_booking.specs.Setup.{StripeSetup}
+use Rattle.kc_booking.specs.Stripe.{StripeState}
 use Rattle.kc_booking.specs.declared.booking_fault.BookFault.{BookFault}
 use Rattle.kc_booking.specs.declared.booking_fault.BookFault.TheVariants as book
+use Rattle.kc_gather.specs.declared.gather_fault.GatherFault.{GatherFault}
+use Rattle.kc_gather.specs.declared.gather_fault.GatherFault.TheVariants as gather
+use Rattle.kc_gather.specs.Gathering.{IsRefusal}
 use Rattle.kc_run.specs.declared.run_fault.RunFault.{RunFault}
 use Rattle.kc_run.specs.declared.run_fault.RunFault.TheVariants as run
-use Rattle.kc_run.specs.Runs.{booking_fault, IsOfBooking, IsWorkerFault, IsGatheringFault, IsRunFault}
+use Rattle.kc_run.specs.Runs.{booking_fault, IsOfBooking, IsOfGathering, IsWorkerFault, IsGatheringFault, IsRunFault}
 
 names_it : (stripes stripe : ℕ) (why : BookFault) → stripe < stripes → IsWorkerFault stripes (booking_fault stripe why)
 names_it stripes stripe book.Twice less = less
@@ -33,3 +40,13 @@ fault_of_gathering workers stripes run.Memory it = inl it
 fault_of_gathering workers stripes (run.Foreign stripe) it = inl it
 fault_of_gathering workers stripes (run.Full stripe) it = absurd it
 fault_of_gathering workers stripes (run.NoThread worker) it = absurd it
+
+-- a stripe that was refused is one of them
+pub fault_of_refusal : {C : Type 0} (setup : StripeSetup) (batches : List NumberedPieces) (stripes : List (StripeState C)) (n : ℕ) (why : GatherFault) (fault : RunFault)
+    → length stripes ≡ n → IsRefusal setup batches stripes why → IsOfGathering why fault → IsGatheringFault n fault
+fault_of_refusal setup batches stripes n (gather.Foreign i) fault many refused is =
+    let (before, (stripe, there, foreign)) = refused in
+    let less : i < n = omega (arith, slice_get_within stripes i stripe there, many) in
+    subst (IsGatheringFault n) (sym is) less
+fault_of_refusal setup batches stripes n (gather.Missing i batch) fault many refused is = absurd is
+fault_of_refusal setup batches stripes n gather.Memory fault many refused is = subst (IsGatheringFault n) (sym is) tt

@@ -10,6 +10,8 @@ use Rattle.kc_booking.specs.Setup.{StripeSetup, stripe_count}
 use Rattle.kc_booking.specs.Cuts.{rounds_of}
 use Rattle.kc_booking.specs.declared.booking_fault.BookFault.{BookFault}
 use Rattle.kc_booking.specs.declared.booking_fault.BookFault.TheVariants as book
+use Rattle.kc_gather.specs.declared.gather_fault.GatherFault.{GatherFault}
+use Rattle.kc_gather.specs.declared.gather_fault.GatherFault.TheVariants as gather
 use Rattle.kc_tickets.specs.Tickets.{Roll, Drawer, IsSeatOf, IsDone, answers_of}
 use Rattle.kc_run.specs.declared.round.Round.{Round}
 use Rattle.kc_run.specs.declared.run_fault.RunFault.{RunFault}
@@ -80,6 +82,12 @@ booking_fault stripe book.Memory = run.Memory
 -- a booking into the stripe of this number was refused, and the fault says why
 abbrev pub IsOfBooking : ℕ → RunFault → Type 0
 IsOfBooking stripe fault = (why : BookFault) × (fault ≡ booking_fault stripe why)
+
+-- the fault with which a run ends whose gathering was refused for this; none of its stripes lacks a batch
+abbrev pub IsOfGathering : GatherFault → RunFault → Type 0
+IsOfGathering (gather.Foreign stripe) fault = fault ≡ run.Foreign stripe
+IsOfGathering (gather.Missing stripe batch) fault = ⊥
+IsOfGathering gather.Memory fault = fault ≡ run.Memory
 
 -- a fault with which a worker may end, where there are so many stripes: memory was refused, or the fault names one of
 -- the stripes

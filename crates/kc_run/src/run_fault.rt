@@ -1,8 +1,9 @@
 //! The faults of a run: why it gives no tally.
-ghost use Rattle.std.specs.Prelude.{◌≡◌};
+ghost use Rattle.std.specs.Prelude.{◌≡◌, ◌≢◌, ℕ};
 ghost use Rattle.kc_run.specs.declared.run_fault.RunFault.TheVariants.{Memory};
-ghost use Rattle.kc_run.specs.Runs.{booking_fault};
+ghost use Rattle.kc_run.specs.Runs.{booking_fault, IsOfGathering};
 
+use kc_gather::GatherFault;
 use kc_stripe::BookFault;
 use std::alloc::AllocError;
 use thiserror::Error;
@@ -34,6 +35,18 @@ impl RunFault {
             BookFault::Twice | BookFault::Stranger => RunFault::Foreign(stripe),
             BookFault::Full => RunFault::Full(stripe),
             BookFault::Memory => RunFault::Memory,
+        }
+    }
+
+    /// What a run ends with whose gathering was refused. No stripe lacks a batch.
+    pub(crate) fn of_gathering(fault: GatherFault) -> RunFault
+        requires { (index batch : ℕ) → fault ≢ GatherFault.Missing index batch }
+        ensures { IsOfGathering fault result }
+    {
+        match fault {
+            GatherFault::Foreign(stripe) => RunFault::Foreign(stripe),
+            GatherFault::Missing(_, _) => unreachable!(),
+            GatherFault::Memory => RunFault::Memory,
         }
     }
 }

@@ -1,21 +1,22 @@
 //! Whole runs: batches counted by several workers over one table in locked stripes.
-ghost use Rattle.std.specs.Prelude.{◌≡◌, ◌<◌, ◌≤◌, ◌^◌, All, IfOk, IfErr, length};
+ghost use Rattle.std.specs.Prelude.{◌≡◌, ℕ, ◌<◌, ◌≤◌, ◌^◌, All, IfOk, IfErr, length, vec_len};
 ghost use Rattle.std.specs.FinMap.{empty};
 ghost use Rattle.kc_word.specs.Shared.{values};
 ghost use Rattle.kc_tally.specs.Tally.{IsTallyOf};
 ghost use Rattle.kc_share.specs.Sheet.{plan_of};
+ghost use Rattle.kc_share.specs.Share.{entry_total_in};
 ghost use Rattle.kc_booking.specs.Setup.{stripe_count, key_bits};
 ghost use Rattle.kc_booking.specs.Stripe.{reads_in};
 ghost use Rattle.kc_gather.specs.Gathering.{position_sum};
-ghost use Rattle.kc_run.specs.Runs.{IsGatheringFault, IsRunFault};
+ghost use Rattle.kc_run.specs.Runs.{IsReady, IsGatheringFault, IsRunFault};
 
 use crate::crew::{joined, work_all, workers_of};
 use crate::gate::Gate;
 use crate::round::round_len;
 use crate::run_fault::RunFault;
-use crate::worker::Job;
-use kc_gather::{GatherFault, gather_in_parallel};
-use kc_share::{Books, Plan, Sheet};
+use crate::worker::{Job, Worker};
+use kc_gather::gather_in_parallel;
+use kc_share::{Books, Plan, Share, Sheet};
 use kc_stripe::{Setup, Stripe, Stripes};
 use kc_table::Counts;
 use kc_tally::Tally;
@@ -91,22 +92,54 @@ fn run_named<
         (IsTallyOf count.now.setup.now.rule (reads_in (values count.now.batches.now))) }
     ensures refused { IfErr result (IsRunFault count.now.workers (stripe_count count.now.setup.now)) }
 {
+    let (tickets, seats) = Tickets::new(alloc, count.batches.len() as u64, count.workers)?;
+    let (stripes, share) = Stripes::<C, N>::new(alloc, count.setup, tables, sheet)?;
+    let ready = workers_of(alloc, &stripes, seats, share)?;
+    let share = worked(rt, alloc, count, &stripes, tickets, ready)?;
+    let (stripes, _) = stripes.into_stripes(alloc, share)?;
+    gathered(rt, alloc, count, stripes)
+}
+
+// Lets the workers book all batches: the shares of all, joined, with which as many batches were booked into each stripe
+// as there are.
+fn worked<
+    H: Threads + Wait + Sync,
+    C: Counts + Drop + Send,
+    G: Gate + Sync,
+    N: Books + Send + Sync,
+>(
+    rt: &H,
+    alloc: Global,
+    count: &Count<G>,
+    stripes: &Stripes<C, N>,
+    tickets: Tickets,
+    ready: Vec<Worker<N>>,
+) -> Result<Share<N>, RunFault>
+    requires workers { (1 ≤ count.now.workers) × (count.now.workers ≤ 64) }
+    requires all { vec_len ready ≡ count.now.workers }
+    requires setup { stripes.now.setup ≡ count.now.setup.now }
+    requires limit { tickets.limit ≡ length count.now.batches.now }
+    requires seats { tickets.seats ≡ count.now.workers }
+    requires ready { All (λ worker. IsReady tickets (plan_of (stripe_count count.now.setup.now) count.now.workers)
+        worker.seat worker.share) ready.items }
+    ensures whole { IfOk result (λ share. share.parts ≡ share.plan.parts) }
+    ensures booked { IfOk result (λ share. (stripe : ℕ) → stripe < stripe_count count.now.setup.now
+        → entry_total_in stripe share.booked ≡ length count.now.batches.now) }
+    ensures refused { IfErr result (IsRunFault count.now.workers (stripe_count count.now.setup.now)) }
+{
     let Count {
         batches,
         setup,
         workers,
         gate,
     } = *count;
-    let (tickets, seats) = Tickets::new(alloc, batches.len() as u64, workers)?;
-    let (stripes, share) = Stripes::<C, N>::new(alloc, setup, tables, sheet)?;
-    let ready = workers_of(alloc, &stripes, seats, share)?;
     let plan = Plan {
         stripes: u64::from(setup.stripes()),
         parts: u64::from(workers),
     };
     let job = Job {
         batches,
-        stripes: &stripes,
+        stripes,
         plan,
         tickets: &tickets,
         gate,
@@ -114,10 +147,9 @@ fn run_named<
         stripes_apart: (setup.stripes() / workers).max(1),
     };
     let ended = work_all(rt, alloc, &job, ready)?;
-    let (seats, share) = joined(alloc, &stripes, ended)?;
+    let (seats, share) = joined(alloc, stripes, ended)?;
     tickets.close(seats);
-    let (stripes, _) = stripes.into_stripes(alloc, share)?;
-    gathered(rt, alloc, count, stripes)
+    Ok(share)
 }
 
 // The tally that is gathered from the stripes. None lacks a batch, since each journal has as many entries as there are
@@ -140,8 +172,6 @@ fn gathered<H: Threads + Sync, C: Counts + Drop + Send, G: Gate>(
     let (batches, setup) = (count.batches, count.setup);
     match gather_in_parallel(rt, alloc, count.workers, stripes, batches, setup) {
         Ok(tally) => Ok(tally),
-        Err(GatherFault::Foreign(stripe)) => Err(RunFault::Foreign(stripe)),
-        Err(GatherFault::Missing(_, _)) => unreachable!(),
-        Err(GatherFault::Memory) => Err(RunFault::Memory),
+        Err(fault) => Err(RunFault::of_gathering(fault)),
     }
 }

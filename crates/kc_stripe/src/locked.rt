@@ -1,8 +1,10 @@
 //! A stripe together with its keeper, as they lie behind the stripe's lock.
 ghost use Rattle.std.specs.Prelude.{◌≡◌, ◌+◌, ◌<◌, ◌≤◌, ◌^◌, ◌↔◌, ◌⊎◌, ◌++◌, ◌∷◌, [], length, All, IfOk, OnOk, OnErr};
 ghost use Rattle.kc_share.specs.Entries.{word_total};
-ghost use Rattle.kc_share.specs.Share.{kept_stripe, with_booking};
-ghost use Rattle.kc_booking.specs.Setup.{word_count};
+ghost use Rattle.std.specs.FinMap.{empty};
+ghost use Rattle.kc_share.specs.Share.{with_booking};
+ghost use Rattle.kc_share.specs.Sheet.{opening_of};
+ghost use Rattle.kc_booking.specs.Setup.{word_count, stripe_count, key_bits};
 ghost use Rattle.kc_booking.specs.Cut.{keys_of};
 ghost use Rattle.kc_booking.specs.Cuts.{cuts_in, all_keys_of, IsOwnRound, FirstIsBooked, FirstIsNew};
 ghost use Rattle.kc_booking.specs.Counted.{SomeMayBeFull, SomeMayBeFullInSomeOrder};
@@ -12,10 +14,10 @@ ghost use Rattle.kc_stripe.specs.Seen.{form_stripe, AreNamed, IsStripeOf};
 
 use crate::seen::Seen;
 use kc_booking::{BookFault, Cut, Cuts, Setup, Stripe};
-use kc_share::{Books, Keeper, OpenSheet, Share, share_laws};
+use kc_share::{Books, Keeper, OpenSheet, Opening, Share, share_laws};
 use kc_table::Counts;
 use kc_word::Word;
-use std::alloc::Global;
+use std::alloc::{AllocError, Global};
 use std::marker::Model;
 
 /// A stripe, and its keeper on the sheet of the shares, whose journal is the stripe's.
@@ -36,16 +38,30 @@ impl<C: Counts, N: Books> Model for Locked<C, N> {
     ghost invariant = { λ l. IsOnSheet l.stripe l.keeper };
 }
 
-impl<C: Counts, N: Books> Locked<C, N> {
-    // Joins a stripe in which nothing was booked with its keeper.
-    pub(crate) fn new(stripe: Stripe<C>, keeper: Keeper<N>) -> Locked<C, N>
-        requires stripe { (stripe.journal ≡ []) × (stripe.total ≡ 0) }
-        requires keeper { keeper ≡ kept_stripe stripe.number [] }
-        ensures { result ≡ stripe }
+impl<C: Counts + Drop, N: Books> Locked<C, N> {
+    /// Makes the next stripe, in which nothing was booked, and its keeper.
+    ///
+    /// There is a stripe left; nothing is stored in the table, and its keys have the setup's `key_bits`.
+    pub(crate) fn make_next(
+        alloc: Global,
+        setup: &Setup,
+        table: C,
+        sheet: &OpenSheet<N>,
+        opening: &mut Opening<N>,
+    ) -> Result<Locked<C, N>, AllocError>
+        requires left { opening.old.next < opening.old.plan.stripes }
+        requires number { opening.old.next < stripe_count setup.now }
+        requires empty { C.counts table ≡ empty }
+        requires key_bits { C.bits table ≡ key_bits setup.now }
+        ensures { opening.new ≡ opening_of opening.old.plan (opening.old.next + 1) }
     {
-        Locked { stripe, keeper }
+        let keeper = sheet.next_keeper(opening);
+        let stripe = Stripe::new(alloc, setup, keeper.stripe(), table)?;
+        Ok(Locked { stripe, keeper })
     }
+}
 
+impl<C: Counts, N: Books> Locked<C, N> {
     /// Books a batch into the stripe, and into a share. A refused booking leaves both as they were.
     pub(crate) fn book(
         &mut self,

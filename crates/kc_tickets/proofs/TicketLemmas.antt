@@ -1,7 +1,7 @@
 -- Whether a seat is done, and what the seats' numbers are when all are.
 use Rattle.std.proofs.Common.{◌≡◌, ℕ, zero, suc, ◌+◌, ◌-◌, ◌<◌, ◌≤◌, List, [], ◌∷◌, ◌++◌, length, get_or, Bool, true}
 use Rattle.std.proofs.Common.{false, cond, eqb, ltb, refl, sym, ap, ◌∙◌, subst, arith, append-nil, lt_of_not-le}
-use Rattle.std.specs.Prelude.{All, filter, sum_by}
+use Rattle.std.specs.Prelude.{All, filter, sum_by, Option, None, Some, ◌↔◌, IsNone, OnSome, MatchOption}
 use Rattle.std.specs.List.{flat_map}
 use Rattle.std.specs.List.Sorted.{IsPermutation}
 use Rattle.std.proofs.lemmas.Bool.{lt-ltb, le-ltb}
@@ -10,13 +10,13 @@ use Rattle.std.proofs.lemmas.List.{get_or_default, length_push}
 use Rattle.std.proofs.lemmas.List.Concat.{flat_map-append, length-flat_map}
 use Rattle.std.proofs.lemmas.List.Elements.{All-push, All-head, All-tail, Contains-append_left, filter-append}
 use Rattle.std.proofs.lemmas.List.Quantifiers.{Any-push}
-use Rattle.std.proofs.lemmas.List.Sorted.{IsPermutation-refl, IsPermutation-trans, Contains-permutation}
+use Rattle.std.proofs.lemmas.List.Sorted.{IsPermutation-refl, Contains-permutation}
 use Rattle.std.proofs.lemmas.List.Sorted.{length_permutation, sum_by-IsPermutation}
 use Rattle.std.proofs.lemmas.List.Sums.{sum_by-append, length-filter, count_by-le-length}
 use Rattle.atomic_table.specs.Seated.{TableId}
 use Rattle.atomic_table.specs.Table.{Me}
 use Rattle.kc_tickets.specs.declared.tickets.View.{View}
-use Rattle.kc_tickets.specs.WholeDraws.{drawer_of, view_of}
+use Rattle.kc_tickets.specs.WholeDraws.{drawer_of, view_of, IsAnswer}
 use Rattle.kc_tickets.specs.Tickets.{Drawer, IsDone, Draws, answers_of, numbers_below, AreNumbersBelow}
 use Rattle.kc_lemmas.proofs.Permutations.{IsPermutation-from_weights, IsPermutation-filter}
 use Rattle.kc_tickets.proofs.NumbersBelow.{length-numbers_below, numbers_below-zero, numbers_below-suc, below-from_Contains}
@@ -87,6 +87,54 @@ module _ {S : Type 0} {table table' : TableId} {me me' : Me S View} {number limi
         steps.limit_is,
         steps.few,
       )
+
+  -- what the draw is answered tells whether the seat is done, and what it drew
+  module _ (answer : Option ℕ) (is : IsAnswer limit number answer) where
+    pub answer-done : ¬ IsDone (drawer_of table me.0) → IsNone answer ↔ IsDone (drawer_of table' me'.0)
+    answer-done more = by answer is
+      where
+        by : (a : Option ℕ) → IsAnswer limit number a → IsNone a ↔ IsDone (drawer_of table' me'.0)
+        by None past = (λ _. ends past, λ _. refl)
+        by (Some n) below = (λ never. absurd (cc never), λ done. absurd (stays_open more below.1 done))
+
+    pub answer-drawn : MatchOption answer ((n : ℕ) × (limit ≤ n) × Draws (drawer_of table me.0) (drawer_of table' me'.0) n)
+        (λ n. (n < limit) × Draws (drawer_of table me.0) (drawer_of table' me'.0) n)
+    answer-drawn = by answer is
+      where
+        by : (a : Option ℕ) → IsAnswer limit number a → MatchOption a ((n : ℕ) × (limit ≤ n) × Draws (drawer_of table me.0) (drawer_of table' me'.0) n)
+            (λ n. (n < limit) × Draws (drawer_of table me.0) (drawer_of table' me'.0) n)
+        by None past = (number, past, steps.drawn)
+        by (Some n) below = (
+          subst (λ (m : ℕ). m < limit) (sym below.0) below.1,
+          subst (λ (m : ℕ). Draws (drawer_of table me.0) (drawer_of table' me'.0) m) (sym below.0) steps.drawn,
+        )
+
+    -- what it was answered before, and the answer
+    pub answer-more : MatchOption answer (answers_of (drawer_of table' me'.0) ≡ answers_of (drawer_of table me.0))
+        (λ n. answers_of (drawer_of table' me'.0) ≡ answers_of (drawer_of table me.0) ++ n ∷ [])
+    answer-more = by answer is
+      where
+        front : List ℕ
+        front = answers_of (drawer_of table me.0)
+
+        split : answers_of (drawer_of table' me'.0) ≡ front ++ cond (ltb number me.0.limit) (number ∷ []) []
+        split = ap answers_of steps.drawn ∙ filter-append (λ n. ltb n me.0.limit) me.0.drawn (number ∷ [])
+
+        by : (a : Option ℕ) → IsAnswer limit number a
+            → MatchOption a (answers_of (drawer_of table' me'.0) ≡ front) (λ n. answers_of (drawer_of table' me'.0) ≡ front ++ n ∷ [])
+        by None past =
+            split ∙ ap (λ b. front ++ cond b (number ∷ []) []) (le-ltb number me.0.limit (omega (arith, past, steps.limit_is)))
+            ∙ append-nil front
+        by (Some n) below =
+            split ∙ ap (λ b. front ++ cond b (number ∷ []) []) (lt-ltb number me.0.limit (omega (arith, below.1, steps.limit_is)))
+            ∙ ap (λ (m : ℕ). front ++ m ∷ []) (sym below.0)
+
+    pub answer-few : OnSome answer (length (answers_of (drawer_of table' me'.0)) ≤ limit)
+    answer-few = by answer is
+      where
+        by : (a : Option ℕ) → IsAnswer limit number a → OnSome a (length (answers_of (drawer_of table' me'.0)) ≤ limit)
+        by None past = tt
+        by (Some n) below = omega (arith, few_answers below.1, steps.limit_is)
 
 -- ---- the seats together
 
@@ -190,7 +238,7 @@ answer_count limit seats whole =
     ∙ sym (length_permutation (flat_map answers_of seats) (numbers_below limit) whole) ∙ length-numbers_below limit
 
 -- the seat that took all others in has drawn what they all drew
-pub all_taken : (next : ℕ) (drawn : List ℕ) (seats : List Drawer) (whole : List ℕ) → length seats ≡ 0
-    → IsPermutation drawn (all_drawn seats ++ whole) → AreNumbersBelow next whole → AreNumbersBelow next drawn
-all_taken next drawn [] whole no_more same all = IsPermutation-trans drawn whole (numbers_below next) same all
-all_taken next drawn (x ∷ xs) whole no_more same all = absurd (omega arith)
+pub nothing_left : (drawn : List ℕ) (seats : List Drawer) (whole : List ℕ) → length seats ≡ 0
+    → IsPermutation drawn (all_drawn seats ++ whole) → IsPermutation drawn whole
+nothing_left drawn [] whole no_more same = same
+nothing_left drawn (x ∷ xs) whole no_more same = absurd (omega arith)

@@ -5,8 +5,9 @@
 ghost use Rattle.std.specs.Prelude.{◌≡◌, ◌<◌, ◌≤◌, ◌^◌, ◌↔◌, [], ◌∷◌, ◌++◌, ◌+◌, All, IfOk, IsNone, IsTrue};
 ghost use Rattle.std.specs.Prelude.{MatchOption, OnSome, length, sum_by, vec_len, ℕ};
 ghost use Rattle.std.specs.List.{flat_map};
+ghost use Rattle.std.specs.List.Sorted.{IsPermutation};
 ghost use Rattle.kc_tickets.specs.Tickets.{IsSeatOf, IsDone, Draws, answers_of, AreNumbersBelow};
-ghost use Rattle.kc_tickets.specs.WholeDraws.{lighter_view, drawer_of};
+ghost use Rattle.kc_tickets.specs.WholeDraws.{lighter_view, drawer_of, view_of, IsAnswer};
 
 use atomic_table::{Join, Play, Split, Table, TableRule};
 use std::alloc::{AllocError, Global};
@@ -146,18 +147,43 @@ impl Tickets {
         ensures own { IfOk result (λ made. All (IsSeatOf made.0) made.1.items) }
         ensures fresh { IfOk result (λ made. All (λ seat. seat.drawn ≡ []) made.1.items) }
     {
-        let mut row = Vec::with_capacity(alloc, seats as usize)?;
+        let (tickets, first) = Tickets::with_first(alloc, limit, seats)?;
+        let row = tickets.seats_of(alloc, first, seats)?;
+        Ok((tickets, row))
+    }
+
+    // Tickets, and the first seat, which stands for all seats that are not made yet.
+    fn with_first(alloc: Global, limit: u64, seats: u32) -> Result<(Tickets, Token), AllocError>
+        requires limit { limit ≤ 2 ^ 40 }
+        requires seats { (1 ≤ seats) × (seats ≤ 64) }
+        ensures limit { IfOk result (λ made. made.0.limit ≡ limit) }
+        ensures seats { IfOk result (λ made. made.0.seats ≡ seats) }
+        ensures own { IfOk result (λ made. made.1.table_id ≡ made.0.table) }
+        ensures view { IfOk result (λ made. made.1.me ≡ (view_of limit seats [], [])) }
+    {
         let plan = Plan {
             limit,
             seats: u64::from(seats),
         };
-        let (table, mut first) = Table::of_words(alloc, &[0, plan.limit, plan.seats], &plan)?;
-        let tickets = Tickets { table };
+        let (table, first) = Table::of_words(alloc, &[0, plan.limit, plan.seats], &plan)?;
+        Ok((Tickets { table }, first))
+    }
+
+    // The seats that the first one stands for, `seats` many.
+    fn seats_of(&self, alloc: Global, mut first: Token, seats: u32) -> Result<Vec<Seat>, AllocError>
+        requires some { 1 ≤ seats }
+        requires own { first.table_id ≡ self.now.table }
+        requires view { first.me ≡ (view_of self.now.limit seats [], []) }
+        ensures len { IfOk result (λ row. vec_len row ≡ seats) }
+        ensures own { IfOk result (λ row. All (IsSeatOf self.now) row.items) }
+        ensures fresh { IfOk result (λ row. All (λ seat. seat.drawn ≡ []) row.items) }
+    {
+        let mut row = Vec::with_capacity(alloc, seats as usize)?;
         for _ in 1..seats {
-            row.push(tickets.split_off(&mut first))?;
+            row.push(self.split_off(&mut first))?;
         }
         row.push(Seat::of(first))?;
-        Ok((tickets, row))
+        Ok(row)
     }
 
     // Splits one seat off the first one, which stands for all seats that are not made yet.
@@ -193,11 +219,9 @@ impl Tickets {
         let shared = &self.table.shared;
         let number = shared.fetch_add::<Draw>(&mut seat.token, NEXT, 1);
         let limit = shared.load::<Decide>(&mut seat.token, LIMIT);
-        if number < limit {
-            return Some(number);
-        }
-        seat.done = true;
-        None
+        let answer = answer_of(number, limit);
+        seat.done = answer.is_none();
+        answer
     }
 
     /// Ends the draws, with all the seats that `new` gave, and takes no memory.
@@ -205,25 +229,48 @@ impl Tickets {
     /// What the seats drew, taken together, are the numbers below some number, each once. Where every seat is done,
     /// what the draws were answered are the numbers below the limit, each once, so there were as many answers as the
     /// limit.
-    pub fn close(self, mut seats: Vec<Seat>)
+    pub fn close(self, seats: Vec<Seat>)
         requires own { All (IsSeatOf self) seats.items }
         requires all { vec_len seats ≡ self.seats }
         ensures drawn { (next : ℕ) × AreNumbersBelow next (flat_map (λ seat. seat.drawn) seats.items) }
         ensures answered { All IsDone seats.items → AreNumbersBelow self.limit (flat_map answers_of seats.items) }
         ensures count { All IsDone seats.items → sum_by (λ seat. length (answers_of seat)) seats.items ≡ self.limit }
     {
+        let whole = self.whole_of(seats);
         let Tickets { table } = self;
+        table.close_with(whole).free();
+    }
+
+    // What stands for all the seats that `new` gave: they are joined, and what they drew with them.
+    fn whole_of(&self, mut seats: Vec<Seat>) -> Token
+        requires some { 1 ≤ vec_len seats }
+        requires own { All (IsSeatOf self.now) seats.items }
+        requires all { vec_len seats ≡ self.now.seats }
+        ensures own { result.table_id ≡ self.now.table }
+        ensures weight { result.me.0.weight ≡ self.now.seats }
+        ensures drawn { IsPermutation (flat_map (λ seat. seat.drawn) seats.items) result.me.0.drawn }
+    {
         let Some(first) = seats.pop() else {
             unreachable!()
         };
         let mut whole = first.into_token();
         while let Some(seat) = seats.pop() {
-            table
+            self.table
                 .shared
                 .join_seat::<Return>(&mut whole, seat.into_token());
         }
-        table.close_with(whole).free();
+        whole
     }
+}
+
+// What the draw of a number is answered.
+fn answer_of(number: u64, limit: u64) -> Option<u64>
+    ensures { IsAnswer limit number result }
+{
+    if number < limit {
+        return Some(number);
+    }
+    None
 }
 
 impl Seat {

@@ -15,3 +15,7 @@ returns-in-Err-clause-fault g c =
       yielded-split c.args.answers.items c.loop-answer.yielded c.in-Some.answer front turn ∙ ap (λ answer. c.loop-answer.yielded ++ answer ∷ rest) c.in-Err.is
           ∙ ap (λ front. front ++ Err c.in-Err.fault ∷ rest) (sym c.loop-answer.invariant),
     )
+
+-- no list is answered with a fault
+pub returns-in-Err-clause-lists : goal.returns-in-Err-clause-lists
+returns-in-Err-clause-lists g c = tt

@@ -13,14 +13,14 @@ loop-placed-preserved g c =
     let pushed : c.push.new.self.items ≡ c.loop-placed.taken.items ++ c.in_ok-parts.parts ∷ [] = search rules in
     subst (AreTaken c.args.setup.now (values c.args.batches.now) (c.loop-placed.yielded ++ c.in-Some.placed ∷ [])) (sym pushed)
     (AreTaken-push c.args.setup.now (values c.args.batches.now) c.loop-placed.yielded c.in-Some.placed c.loop-placed.taken.items c.in_ok-parts.parts c.loop-placed.invariant
-    c.in_ok-check_stripe.ensures.whole c.in_ok-parts.ensures)
+    c.in_ok-parts.ensures.whole c.in_ok-parts.ensures.rows)
 
-pub returns-in_err-check_stripe-clause-refused : goal.returns-in_err-check_stripe-clause-refused
-returns-in_err-check_stripe-clause-refused g c =
+pub returns-in_err-parts-clause-refused : goal.returns-in_err-parts-clause-refused
+returns-in_err-parts-clause-refused g c =
     let road = YieldsList-from_vec {s = c.into_iter-placed-iterator.result} c.args.stripes.items (search rules) (search rules) in
     let turn = YieldsList-turn road c.loop-placed.yielded c.loop-placed.placed-iterator c.loop-placed.yielded_by c.next.result c.next.new.self c.in-Some.placed c.in-Some.is c.next.ensures.steps in
     let front = YieldsList-so_far road c.loop-placed.yielded c.loop-placed.placed-iterator c.loop-placed.yielded_by in
-    let p = err_from_is_err_and c.from_residual-in_err-check_stripe.result c.from_residual-in_err-check_stripe.ensures.1 in
+    let p = err_from_is_err_and c.from_residual-in_err-parts.result c.from_residual-in_err-parts.ensures.1 in
     rw (p.1, p.2)
     (λ _. record {
       before = c.loop-placed.yielded;
@@ -28,8 +28,8 @@ returns-in_err-check_stripe-clause-refused g c =
       behind = drop (length c.loop-placed.yielded + 1) c.args.stripes.items;
       stripes_are = yielded-split c.args.stripes.items c.loop-placed.yielded c.in-Some.placed front turn;
       whole = c.loop-placed.invariant.0;
-      refusal = c.in_err-check_stripe.ensures.refused;
-      counted = λ index n is. c.in_err-check_stripe.ensures.counted index n (ap Err is);
+      refusal = c.in_err-parts.ensures.refused;
+      counted = λ index n is. c.in_err-parts.ensures.counted index n (ap Err is);
     })
 
 pub returns-clause-whole : goal.returns-clause-whole

@@ -1,4 +1,4 @@
-use Rattle.std.proofs.Common.{◌≡◌, ◌∙◌, length, ap, sym, subst, vec_len, rules, arith}
+use Rattle.std.proofs.Common.{◌∙◌, length, ap, subst}
 use Rattle.std.specs.Prelude.{All}
 use Rattle.std.proofs.lemmas.Result.{err_from_is_err_and, IfErr-weaker}
 use Rattle.kc_share.specs.declared.entry.Plan.{Plan}
@@ -11,45 +11,24 @@ use Rattle.kc_run.proofs.FaultLemmas.{fault_of_gathering}
 use Rattle.kc_run.proofs.GatheringLemmas.{journals_counted}
 use Rattle.kc_run.proofs.whole_run.run_named.Goals as goal
 
-pub work_all-requires-clause-ready : goal.work_all-requires-clause-ready
-work_all-requires-clause-ready g c κs within =
+pub worked-requires-clause-ready : goal.worked-requires-clause-ready
+worked-requires-clause-ready g c κs within =
     let roll = c.in_ok-tickets.tickets in
     let made = c.in_ok-tickets.ensures in
-    let plan : Plan = record { stripes = c.from.result; parts = c.from-2.result } in
-    let stripes : c.from.result ≡ c.args.sheet.plan.stripes = search rules in
-    let parts : c.from-2.result ≡ c.args.sheet.plan.parts = search rules in
-    let same : c.in_ok-stripes.share.plan ≡ plan =
-    ap (λ (s : ShareSeen). s.plan) c.in_ok-stripes.ensures.share ∙ sym (λ i. record { stripes = stripes i; parts = parts i }) in
-    subst (λ (p : Plan). All (λ (worker : Worker g.row.N.Denot). IsReady roll p worker.seat worker.share) c.in_ok-ready.ready.items) same
+    subst (λ (p : Plan). All (λ (worker : Worker g.row.N.Denot). IsReady roll p worker.seat worker.share) c.in_ok-ready.ready.items)
+    (ap (λ (s : ShareSeen). s.plan) c.in_ok-stripes.ensures.share ∙ c.requires.plan)
     (c.in_ok-ready.ensures.ready roll (fresh_seats roll c.in_ok-tickets.seats.items made.own made.fresh))
-
-pub close-requires-clause-own : goal.close-requires-clause-own
-close-requires-clause-own g c =
-    (c.in_ok-seats.ensures.whole c.in_ok-tickets.tickets (record { stripes = c.from.result; parts = c.from-2.result }) c.in_ok-ended.ensures.worked).own
 
 pub gathered-requires-clause-counted : goal.gathered-requires-clause-counted
 gathered-requires-clause-counted g c κs within =
     let count = c.args.count.now in
-    let plan : Plan = record { stripes = c.from.result; parts = c.from-2.result } in
-    let whole = c.in_ok-seats.ensures.whole c.in_ok-tickets.tickets plan c.in_ok-ended.ensures.worked in
-    let stripes : c.from.result ≡ stripe_count count.setup.now = search rules in
-    let workers : c.from-2.result ≡ count.workers = search rules in
-    let limit : c.in_ok-tickets.tickets.limit ≡ length count.batches.now = search rules in
-    let many : length c.in_ok-seats.seats.items ≡ count.workers = search rules in
-    let parts : c.in_ok-seats.share.parts ≡ c.in_ok-seats.share.plan.parts = omega (arith, whole.parts, ap (λ (p : Plan). p.parts) whole.same_plan, many, workers) in
-    journals_counted c.in_ok-stripes-2.stripes.items c.in_ok-seats.share.booked (length count.batches.now) (stripe_count count.setup.now) (c.in_ok-stripes-2.ensures.whole parts)
-    (λ stripe less. whole.booked stripe (omega (arith, less, stripes)) ∙ c.close.ensures.count whole.done ∙ limit)
+    journals_counted c.in_ok-stripes-2.stripes.items c.in_ok-share.share.booked (length count.batches.now) (stripe_count count.setup.now)
+    (c.in_ok-stripes-2.ensures.whole c.in_ok-share.ensures.whole) c.in_ok-share.ensures.booked
 
-pub returns-in_err-ended-clause-refused : goal.returns-in_err-ended-clause-refused
-returns-in_err-ended-clause-refused g c =
-    let count = c.args.count.now in
-    let fault = c.in_err-ended.field-0.0 in
-    let stripes : c.from.result ≡ stripe_count count.setup.now = search rules in
-    let many : vec_len c.in_ok-ready.ready ≡ count.workers = c.in_ok-ready.ensures.len ∙ c.in_ok-tickets.ensures.seats.1 in
-    let p = err_from_is_err_and c.from_residual-in_err-ended.result c.from_residual-in_err-ended.ensures.1 in
-    rw (p.1, p.2)
-    (subst (λ n. IsRunFault n (stripe_count count.setup.now) fault) many
-    (subst (λ n. IsRunFault (vec_len c.in_ok-ready.ready) n fault) stripes c.in_err-ended.ensures.refused))
+pub returns-in_err-share-clause-refused : goal.returns-in_err-share-clause-refused
+returns-in_err-share-clause-refused g c =
+    let p = err_from_is_err_and c.from_residual-in_err-share.result c.from_residual-in_err-share.ensures.1 in
+    rw (p.1, p.2) c.in_err-share.ensures.refused
 
 pub returns-clause-refused : goal.returns-clause-refused
 returns-clause-refused g c =

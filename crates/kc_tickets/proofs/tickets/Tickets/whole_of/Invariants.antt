@@ -2,15 +2,15 @@ use Rattle.std.proofs.Common.{◌≡◌, ◌+◌, ◌<◌, ◌++◌, length, vec
 use Rattle.std.specs.Prelude.{All}
 use Rattle.std.specs.List.{flat_map}
 use Rattle.std.specs.List.Sorted.{IsPermutation}
-use Rattle.kc_tickets.specs.Tickets.{Drawer}
-use Rattle.kc_tickets.proofs.tickets.Tickets.close.Given as goal
+use Rattle.kc_tickets.specs.Tickets.{Drawer, IsSeatOf}
+use Rattle.kc_tickets.proofs.tickets.Tickets.whole_of.Given as goal
 
 abbrev pub invariant-loop-seat : goal.invariant-loop-seat
 invariant-loop-seat l = record {
-  table : l.whole.table_id ≡ l.table.shared.table_id;
-  own : All (λ (seat : Drawer). seat.table ≡ l.table.shared.table_id) l.seats.items;
+  table : l.whole.table_id ≡ l.self.table;
+  own : All (IsSeatOf l.self) l.seats.items;
   heavy : 0 < l.whole.me.0.weight;
-  weight : l.whole.me.0.weight + length l.seats.items ≡ l.table.shared.key.seats;
+  weight : l.whole.me.0.weight + length l.seats.items ≡ l.self.seats;
   drawn : IsPermutation (flat_map (λ (seat : Drawer). seat.drawn) l.fn.seats.items) (flat_map (λ (seat : Drawer). seat.drawn) l.seats.items ++ l.whole.me.0.drawn);
 }
 

@@ -1,14 +1,7 @@
 use Rattle.std.proofs.Common.{◌≡◌, [], ap, ◌∙◌, arith}
 use Rattle.std.proofs.lemmas.List.Elements.{All-push, All-same}
-use Rattle.kc_tickets.specs.Tickets.{Drawer}
-use Rattle.kc_tickets.specs.declared.tickets.Plan.{Plan}
-use Rattle.kc_tickets.proofs.DrawLemmas.{HasWholeDraws-opening}
-use Rattle.kc_tickets.proofs.tickets.Tickets.new.Goals as goal
-
-pub of_words-requires : goal.of_words-requires
-of_words-requires c =
-    let plan : Plan = record { limit = c.args.limit; seats = c.from.result } in
-    HasWholeDraws-opening plan c.requires.limit (omega arith) (omega arith)
+use Rattle.kc_tickets.specs.Tickets.{Drawer, IsSeatOf}
+use Rattle.kc_tickets.proofs.tickets.Tickets.seats_of.Goals as goal
 
 pub loop-preserved : goal.loop-preserved
 loop-preserved c =
@@ -22,8 +15,8 @@ loop-preserved c =
       counted = omega (arith, c.in_ok-push.ensures.len, i.counted);
       none_drawn = ap (λ me. me.0.drawn) left.1 ∙ i.none_drawn;
       no_slots = ap (λ me. me.1) left.1;
-      own = All-same (λ (seat : Drawer). (seat.table ≡ c.in_ok-table.table.shared.table_id) × (seat.limit ≡ c.in_ok-table.table.shared.key.limit)) c.push.new.self.items _ items
-          (All-push (λ (seat : Drawer). (seat.table ≡ c.in_ok-table.table.shared.table_id) × (seat.limit ≡ c.in_ok-table.table.shared.key.limit)) c.loop.row.items c.split_off.result i.own c.split_off.ensures.own);
+      own = All-same (IsSeatOf c.args.self.now) c.push.new.self.items _ items
+          (All-push (IsSeatOf c.args.self.now) c.loop.row.items c.split_off.result i.own c.split_off.ensures.own);
       fresh = All-same (λ (seat : Drawer). seat.drawn ≡ []) c.push.new.self.items _ items
           (All-push (λ (seat : Drawer). seat.drawn ≡ []) c.loop.row.items c.split_off.result i.fresh c.split_off.ensures.fresh);
     }

@@ -1,9 +1,9 @@
 use Rattle.std.proofs.Common.{◌≡◌, length}
-use Rattle.kc_stripe.proofs.stripes.Stripes.new.Given as goal
+use Rattle.kc_share.specs.Sheet.{opening_of}
+use Rattle.kc_stripe.proofs.stripes.locked_stripes.Given as goal
 
 abbrev pub invariant-loop-table : goal.invariant-loop-table
 invariant-loop-table g l = record {
-  plan : l.opening.plan ≡ l.fn.sheet.plan;
-  next : l.opening.next ≡ length l.locks.items;
+  opening : l.opening ≡ opening_of l.initial.opening.plan (length l.yielded);
   counted : length l.locks.items ≡ length l.yielded;
 }
