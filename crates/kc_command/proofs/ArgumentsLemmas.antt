@@ -1,11 +1,12 @@
 -- What the options of a command ask for.
 use Rattle.std.proofs.Common.{◌≡◌, ℕ, ◌^◌, ◌≤◌, Bool, true, false, List, codes, Option, Some, None, refl, ap, ◌∙◌}
 use Rattle.std.proofs.Common.{sym, subst, arith, lit≤}
-use Rattle.std.specs.Prelude.{◌==◌, ◌||◌, ◌∷◌, [], if◌then◌else◌, is_none, unwrap_or}
+use Rattle.std.specs.Prelude.{◌==◌, ◌||◌, ◌∷◌, ◌++◌, [], if◌then◌else◌, is_none, unwrap_or}
 use Rattle.std.specs.Option.{option_and_then}
 use Rattle.std.proofs.lemmas.Bool.Decides.{nat_tests}
 use Rattle.clap.specs.Words.{Row, Text, first_of}
-use Rattle.kc_command.specs.Arguments.{Judged, as_stripes, batch_of, first_bad, first_bad_of_dump, first_of_bad, floor_of}
+use Rattle.kc_command.specs.Arguments.{Judged, as_stripes, batch_of, first_bad, first_bad_of_counting, first_bad_of_dump}
+use Rattle.kc_command.specs.Arguments.{first_bad_of_histo, first_of_bad, floor_of}
 use Rattle.kc_command.specs.Arguments.{high_of, is_stripe_count, judged, lower_of, mer_len_of, or_default, print_of, size_of}
 use Rattle.kc_command.specs.Arguments.{stripes_of, threads_of, upper_of}
 use Rattle.kc_command.specs.Numbers.{number_between}
@@ -52,72 +53,77 @@ asked_stripes rows n e = given (first_of (codes "stripes") rows) e where
   given None e = subst AreStripes (some_same e) (record { power = (4, refl); at_most = lit≤ tt })
   given (Some text) e = number (number_between 1 64 text) e
 
+-- what is refused first of some values is refused first of those and more
+refused_before : (front rest : List Judged) (name : OptionName) → first_of_bad front ≡ Some name
+    → first_of_bad (front ++ rest) ≡ Some name
+refused_before [] rest name e = cc
+refused_before (one ∷ front) rest name e = pick one.is_bad e (refused_before front rest name) where
+  pick : (bad : Bool) → (if bad then Some one.name else first_of_bad front) ≡ Some name
+      → (first_of_bad front ≡ Some name → first_of_bad (front ++ rest) ≡ Some name)
+      → (if bad then Some one.name else first_of_bad (front ++ rest)) ≡ Some name
+  pick true e later = e
+  pick false e later = later e
+
+-- where none of them is refused, what is refused first of the others is refused first of all
+passed_before : (front rest : List Judged) → first_of_bad front ≡ None
+    → first_of_bad (front ++ rest) ≡ first_of_bad rest
+passed_before [] rest e = refl
+passed_before (one ∷ front) rest e = pick one.is_bad e (passed_before front rest) where
+  pick : (bad : Bool) → (if bad then Some one.name else first_of_bad front) ≡ None
+      → (first_of_bad front ≡ None → first_of_bad (front ++ rest) ≡ first_of_bad rest)
+      → (if bad then Some one.name else first_of_bad (front ++ rest)) ≡ first_of_bad rest
+  pick true e later = cc
+  pick false e later = later e
+
 -- a value that is allowed is not the first that is refused
 passed : {X : Type 0} (name : OptionName) (value : Option X) (x : X) (rest : List Judged) → value ≡ Some x
     → first_of_bad (judged name value ∷ rest) ≡ first_of_bad rest
 passed name value x rest e = ap (λ v. if is_none v then Some name else first_of_bad rest) e
 
--- what is refused first of two is refused first of those and more
-longer : (a b : Judged) (rest : List Judged) (name : OptionName) → first_of_bad (a ∷ b ∷ []) ≡ Some name
-    → first_of_bad (a ∷ b ∷ rest) ≡ Some name
-longer a b rest name e = pick a.is_bad b.is_bad e where
-  pick : (x y : Bool) → (if x then Some a.name else if y then Some b.name else None) ≡ Some name
-      → (if x then Some a.name else if y then Some b.name else first_of_bad rest) ≡ Some name
-  pick true y e = e
-  pick false true e = e
-  pick false false e = cc
-
-abbrev from_lower : List Row → List Judged
-from_lower rows = judged option.LowerCount (lower_of rows)
-    ∷ judged option.UpperCount (upper_of rows)
-    ∷ judged option.High (high_of rows)
+abbrev of_counting : List Row → List Judged
+of_counting rows = judged option.MerLen (mer_len_of rows)
+    ∷ judged option.Size (size_of rows)
+    ∷ judged option.Threads (threads_of rows)
+    ∷ judged option.MinQualChar (floor_of rows)
+    ∷ judged option.Stripes (stripes_of rows)
+    ∷ judged option.Batch (batch_of rows)
     ∷ []
 
-abbrev from_print : List Row → List Judged
-from_print rows = judged option.Print (print_of rows) ∷ from_lower rows
+abbrev of_dump : List Row → List Judged
+of_dump rows = judged option.LowerCount (lower_of rows) ∷ judged option.UpperCount (upper_of rows) ∷ []
 
-abbrev from_batch : List Row → List Judged
-from_batch rows = judged option.Batch (batch_of rows) ∷ from_print rows
+abbrev of_high : List Row → List Judged
+of_high rows = judged option.High (high_of rows) ∷ []
 
-abbrev from_stripes : List Row → List Judged
-from_stripes rows = judged option.Stripes (stripes_of rows) ∷ from_batch rows
+-- what is refused of the counting is refused of a count
+pub refused_in_counting : (rows : List Row) (name : OptionName) → first_bad_of_counting rows ≡ Some name
+    → first_bad rows ≡ Some name
+refused_in_counting rows name e =
+    refused_before (of_counting rows) (judged option.Print (print_of rows) ∷ of_dump rows ++ of_high rows) name e
 
-abbrev from_floor : List Row → List Judged
-from_floor rows = judged option.MinQualChar (floor_of rows) ∷ from_stripes rows
+-- what is refused of a count behind its counting
+pub behind_counting : (rows : List Row) → first_bad_of_counting rows ≡ None
+    → first_bad rows ≡ first_of_bad (judged option.Print (print_of rows) ∷ of_dump rows ++ of_high rows)
+behind_counting rows e =
+    passed_before (of_counting rows) (judged option.Print (print_of rows) ∷ of_dump rows ++ of_high rows) e
 
-abbrev from_threads : List Row → List Judged
-from_threads rows = judged option.Threads (threads_of rows) ∷ from_floor rows
-
-abbrev from_size : List Row → List Judged
-from_size rows = judged option.Size (size_of rows) ∷ from_threads rows
-
--- the options of a count before those of a dump are allowed
-pub record AreAllowedBeforeDump (rows : List Row) : Type 0 where
-  pub k : ℕ
-  pub size : ℕ
-  pub workers : ℕ
-  pub floor : ℕ
-  pub stripes : ℕ
-  pub batch : ℕ
-  pub print : Print
-  pub mer_len_is : mer_len_of rows ≡ Some k
-  pub size_is : size_of rows ≡ Some size
-  pub threads_are : threads_of rows ≡ Some workers
-  pub floor_is : floor_of rows ≡ Some floor
-  pub stripes_are : stripes_of rows ≡ Some stripes
-  pub batch_is : batch_of rows ≡ Some batch
+-- the report that is printed is allowed
+pub record IsPrinted (rows : List Row) (print : Print) : Type 0 where
+  pub counting : first_bad_of_counting rows ≡ None
   pub print_is : print_of rows ≡ Some print
 
--- where they are, what is refused of a dump is refused of a count
-pub refused_in_dump : (rows : List Row) (name : OptionName) → AreAllowedBeforeDump rows
+behind_print : {rows : List Row} {print : Print} → IsPrinted rows print
+    → first_bad rows ≡ first_of_bad (of_dump rows ++ of_high rows)
+behind_print {rows} {print} is =
+    behind_counting rows is.counting
+    ∙ passed option.Print (print_of rows) print (of_dump rows ++ of_high rows) is.print_is
+
+-- then what is refused of a dump is refused of a count
+pub refused_in_dump : (rows : List Row) (print : Print) (name : OptionName) → IsPrinted rows print
     → first_bad_of_dump rows ≡ Some name → first_bad rows ≡ Some name
-refused_in_dump rows name of refused =
-    passed option.MerLen (mer_len_of rows) of.k (from_size rows) of.mer_len_is
-    ∙ passed option.Size (size_of rows) of.size (from_threads rows) of.size_is
-    ∙ passed option.Threads (threads_of rows) of.workers (from_floor rows) of.threads_are
-    ∙ passed option.MinQualChar (floor_of rows) of.floor (from_stripes rows) of.floor_is
-    ∙ passed option.Stripes (stripes_of rows) of.stripes (from_batch rows) of.stripes_are
-    ∙ passed option.Batch (batch_of rows) of.batch (from_print rows) of.batch_is
-    ∙ passed option.Print (print_of rows) of.print (from_lower rows) of.print_is
-    ∙ longer (judged option.LowerCount (lower_of rows)) (judged option.UpperCount (upper_of rows))
-    (judged option.High (high_of rows) ∷ []) name refused
+refused_in_dump rows print name is e = behind_print is ∙ refused_before (of_dump rows) (of_high rows) name e
+
+-- and where nothing of it is, what is refused of a histogram
+pub behind_dump : (rows : List Row) (print : Print) → IsPrinted rows print → first_bad_of_dump rows ≡ None
+    → first_bad rows ≡ first_bad_of_histo rows
+behind_dump rows print is e = behind_print is ∙ passed_before (of_dump rows) (of_high rows) e

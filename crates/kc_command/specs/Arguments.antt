@@ -136,6 +136,16 @@ first_bad rows = first_of_bad (judged option.MerLen (mer_len_of rows)
     ∷ judged option.High (high_of rows)
     ∷ [])
 
+-- of `count`, but for those that tell of its report
+abbrev pub first_bad_of_counting : List Row → Option OptionName
+first_bad_of_counting rows = first_of_bad (judged option.MerLen (mer_len_of rows)
+    ∷ judged option.Size (size_of rows)
+    ∷ judged option.Threads (threads_of rows)
+    ∷ judged option.MinQualChar (floor_of rows)
+    ∷ judged option.Stripes (stripes_of rows)
+    ∷ judged option.Batch (batch_of rows)
+    ∷ [])
+
 -- of `dump`
 abbrev pub first_bad_of_dump : List Row → Option OptionName
 first_bad_of_dump rows =
@@ -186,3 +196,13 @@ pub record AsksFor (rows : List Row) (settings : Settings) : Type 0 where
   pub print : print_of rows ≡ Some settings.print
   pub dump : AsksForDump rows settings.dump
   pub high : high_of rows ≡ Some settings.high
+
+-- those of them that don't tell of its report do
+pub record AsksForCounting (rows : List Row) (settings : Settings) : Type 0 where
+  pub mer_len : mer_len_of rows ≡ Some settings.k
+  pub size : size_of rows ≡ Some settings.size
+  pub threads : threads_of rows ≡ Some settings.workers
+  pub canonical : IsFlag rows (codes "canonical") settings.both
+  pub min_qual_char : floor_of rows ≡ Some settings.floor
+  pub stripes : option_map (lowered settings.k) (stripes_of rows) ≡ Some settings.stripes
+  pub batch : batch_of rows ≡ Some settings.batch

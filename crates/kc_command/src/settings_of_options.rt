@@ -3,12 +3,14 @@ ghost use Rattle.std.specs.Prelude.{MatchResult, IfSome, IfOk, Some, None, false
 ghost use Rattle.clap.specs.Words.{first_of, found_of, rows_of};
 ghost use Rattle.kc_command.specs.Arguments.{
   AsksFor,
+  AsksForCounting,
   AsksForDump,
   AsksForSelection,
   IsFlag,
   IsValueOf,
   batch_of,
   first_bad,
+  first_bad_of_counting,
   first_bad_of_dump,
   first_bad_of_histo,
   first_bad_of_select,
@@ -58,27 +60,11 @@ pub fn options(_alloc: Global, matches: &ArgMatches<'_>) -> Result<Options, Opti
         (λ name. first_bad (rows_of (found_of matches.now)) ≡ Some name) }
     ensures asked { IfOk result (AsksFor (rows_of (found_of matches.now))) }
 {
-    let k = mer_len(matches)?;
-    let size = size(matches)?;
-    let workers = threads(matches)?;
-    let floor = min_qual_char(matches)?;
-    let stripes = stripes(matches)?;
-    let batch = batch(matches)?;
+    let options = counting(matches)?;
     let print = print(matches)?;
     let dump = dump_options(matches)?;
     let high = high_of(matches)?;
-    Ok(
-        Options::new(k)
-            .with_size(size)
-            .with_workers(workers)
-            .with_both(has_flag(matches, "canonical"))
-            .with_floor(floor)
-            .with_stripes(stripes)
-            .with_batch(batch)
-            .with_print(print)
-            .with_dump(dump)
-            .with_high(high),
-    )
+    Ok(options.with_print(print).with_dump(dump).with_high(high))
 }
 
 /// What the options of `dump` ask for. They are options of `count` too. It takes no memory.
@@ -133,6 +119,29 @@ pub fn high_of(matches: &ArgMatches<'_>) -> Result<u64, OptionName>
 {
     let high = number_of(matches, "high", USUAL_HIGH, 1, GREATEST_HIGH);
     high.ok_or(OptionName::High)
+}
+
+// What those options of `count` ask for that don't tell of its report, which is as it is usual.
+fn counting(matches: &ArgMatches<'_>) -> Result<Options, OptionName>
+    ensures first_bad { MatchResult result (λ o. first_bad_of_counting (rows_of (found_of matches.now)) ≡ None)
+        (λ name. first_bad_of_counting (rows_of (found_of matches.now)) ≡ Some name) }
+    ensures asked { IfOk result (AsksForCounting (rows_of (found_of matches.now))) }
+{
+    let k = mer_len(matches)?;
+    let size = size(matches)?;
+    let workers = threads(matches)?;
+    let floor = min_qual_char(matches)?;
+    let stripes = stripes(matches)?;
+    let batch = batch(matches)?;
+    Ok(
+        Options::new(k)
+            .with_size(size)
+            .with_workers(workers)
+            .with_both(has_flag(matches, "canonical"))
+            .with_floor(floor)
+            .with_stripes(stripes)
+            .with_batch(batch),
+    )
 }
 
 // The length of the words.

@@ -1,9 +1,9 @@
 -- The quality lines and the FASTQ records that were taken so far, and what one more makes of them.
-use Rattle.std.proofs.Common.{◌≡◌, ℕ, ◌+◌, ◌<◌, ◌≤◌, true, false, List, [], ◌∷◌, ◌++◌, length, take, refl, sym, ap, subst, ◌∙◌, arith, Some, inl, inr, ⊎_elim, ◌⊎◌}
+use Rattle.std.proofs.Common.{◌≡◌, ℕ, ◌+◌, ◌-◌, ◌<◌, ◌≤◌, true, false, List, [], ◌∷◌, ◌++◌, length, take, refl, sym, ap, subst, ◌∙◌, arith, Some, inl, inr, ⊎_elim, ◌⊎◌}
 use Rattle.std.specs.List.{concat, list_all}
 use Rattle.std.proofs.lemmas.Bool.{cases_lt}
 use Rattle.std.proofs.lemmas.List.{append_assoc, length-append, take-append-le, take_at}
-use Rattle.std.proofs.lemmas.List.Folds.{list_all-append}
+use Rattle.std.proofs.lemmas.List.Folds.{concat-append, list_all-append}
 use Rattle.kc_fastx.specs.declared.read_faults.FastxFault.{FastxFault}
 use Rattle.kc_fastx.specs.declared.read_faults.FastxFault.TheVariants.{BadStart, BadBase, BadQuality, LongQuality, Truncated, TooLong, Read as ReadFailed, Memory}
 use Rattle.kc_fastx.specs.Lines.{Line, Cursor, begins_with, line_count, skip_blanks, ends_or_begins_with}
@@ -88,6 +88,55 @@ quality_short need start now quals rest before short e = record {
   accepted = before.accepted;
   short = short;
 }
+
+-- no quality is too short where some is needed
+pub quality_begun : (need : ℕ) (ls rest : List Line) → 0 < need → ls ≡ rest → HasShortQuality need ls [] rest
+quality_begun need ls rest some e = record { taken = []; split = e; joined = refl; accepted = refl; short = some }
+
+-- behind the quality so far, quality that is too short for what is lacking is too short for all
+short_behind : (need : ℕ) (start now : Cursor) (quals : List ℕ) → QualitySoFar need start now quals
+    → (more : List ℕ) (rest : List Line) → HasShortQuality (need - length quals) now.left more rest
+    → HasShortQuality need start.left (quals ++ more) rest
+short_behind need start now quals before more rest behind = record {
+  taken = before.taken ++ behind.taken;
+  split = before.split ∙ ap (λ ls. before.taken ++ ls) behind.split ∙ sym (append_assoc before.taken behind.taken rest);
+  joined =
+      ap (λ v. v ++ more) before.joined
+      ∙ ap (λ v. concat before.taken ++ v) behind.joined
+      ∙ sym (concat-append before.taken behind.taken);
+  accepted = list_all-append is_quality_byte quals more
+      ∙ both_true (list_all is_quality_byte quals) (list_all is_quality_byte more) before.accepted behind.accepted;
+  short = omega (arith, before.fits, behind.short, length-append quals more);
+}
+
+-- and what fails as the quality that is lacking fails as the quality
+pub quality_behind : (need : ℕ) (start now : Cursor) (quals : List ℕ) → QualitySoFar need start now quals
+    → (fault : FastxFault) → QualityFails (line_count now) (need - length quals) now.left fault
+    → QualityFails (line_count start) need start.left fault
+quality_behind need start now quals before (BadQuality number) h = (
+  quals ++ h.0,
+  h.1,
+  h.2,
+  short_behind need start now quals before h.0 (h.1 ∷ h.2) h.3,
+  h.4,
+  h.5 ∙ before.counted,
+)
+quality_behind need start now quals before (LongQuality number) h = (
+  quals ++ h.0,
+  h.1,
+  h.2,
+  short_behind need start now quals before h.0 (h.1 ∷ h.2) h.3,
+  h.4,
+  omega (arith, before.fits, h.5, length-append quals h.0),
+  h.6 ∙ before.counted,
+)
+quality_behind need start now quals before (Truncated number) h =
+    (quals ++ h.0, short_behind need start now quals before h.0 [] h.1, h.2 ∙ before.counted)
+quality_behind need start now quals before (BadStart number) h = absurd h
+quality_behind need start now quals before (BadBase number) h = absurd h
+quality_behind need start now quals before TooLong h = absurd h
+quality_behind need start now quals before ReadFailed h = absurd h
+quality_behind need start now quals before Memory h = absurd h
 
 -- what a reader's part tells of its fault, another tells of it too
 pub unless_memory : (P Q : FastxFault → Type 0) → ((fault : FastxFault) → P fault → Q fault) → (fault : FastxFault) → UnlessMemory P fault → UnlessMemory Q fault

@@ -1,5 +1,8 @@
 //! Sanger FASTQ records: a title, sequence lines, a line that begins with `+`, and quality lines.
-ghost use Rattle.std.specs.Prelude.{◌≡◌, ◌≤◌, [], length, vec_capacity, IfOk, IfErr, OnOk, IfSome, IfNone};
+ghost use Rattle.std.specs.Prelude.{◌≡◌, ◌<◌, ◌≤◌, ◌+◌, true, [], ◌∷◌, length, vec_capacity};
+ghost use Rattle.std.specs.Prelude.{IfOk, IfErr, OnOk, IfSome, IfNone};
+ghost use Rattle.std.specs.List.{list_all};
+ghost use Rattle.kc_fastx.specs.Reads.{is_quality_byte};
 ghost use Rattle.kc_fastx.specs.Lines.{line_count, skip_blanks, Passes};
 ghost use Rattle.kc_fastx.specs.Records.{FirstFault};
 ghost use Rattle.kc_fastx.specs.Fastq.{IsFastqRecord, IsFastqBody, FastqFails, FastqBodyFails};
@@ -84,16 +87,30 @@ fn take_quality(
     ensures err { IfErr result (UnlessMemory (QualityFails (line_count lines.old) need lines.old.left)) }
 {
     'lines: while quals.len() < need {
-        let Some(line) = lines.next_line() else {
-            return Err(FastxFault::Truncated(lines.taken()));
-        };
-        if !are_quality_bytes(line) {
-            return Err(FastxFault::BadQuality(lines.taken()));
-        }
-        if line.len() > need - quals.len() {
-            return Err(FastxFault::LongQuality(lines.taken()));
-        }
+        let line = quality_line(lines, need - quals.len())?;
         quals.extend_from_slice(line)?;
     }
     Ok(quals)
+}
+
+// Takes the next line, which is quality of no more than `most` bytes. Condition: that is some.
+fn quality_line<'a>(lines: &mut LineCursor<'a>, most: usize) -> Result<&'a [u8], FastxFault>
+    requires { 0 < most }
+    ensures left { IfOk result (λ line. lines.old.left ≡ line.now ∷ lines.new.left) }
+    ensures taken { OnOk result (lines.new.taken ≡ lines.old.taken + 1) }
+    ensures accepted { IfOk result (λ line. list_all is_quality_byte line.now ≡ true) }
+    ensures fits { IfOk result (λ line. length line.now ≤ most) }
+    ensures passes { OnOk result (Passes lines.old lines.new) }
+    ensures err { IfErr result (UnlessMemory (QualityFails (line_count lines.old) most lines.old.left)) }
+{
+    let Some(line) = lines.next_line() else {
+        return Err(FastxFault::Truncated(lines.taken()));
+    };
+    if !are_quality_bytes(line) {
+        return Err(FastxFault::BadQuality(lines.taken()));
+    }
+    if line.len() > most {
+        return Err(FastxFault::LongQuality(lines.taken()));
+    }
+    Ok(line)
 }

@@ -6,7 +6,8 @@ use Rattle.kc_io.specs.Sources.{Seen}
 use Rattle.kc_fastx.specs.Parsing.{most_bytes}
 use Rattle.kc_fastx.proofs.ReadingLemmas.{base_count-given, used_within}
 use Rattle.std.proofs.Common.{Ok, Err}
-use Rattle.kc_io.specs.Sinks.{Written, HasTaken, HasWritten, HasBegun, Drains}
+use Rattle.std.specs.Prelude.{Result, IfOk, IfErr}
+use Rattle.kc_io.specs.Sinks.{Written, HasTaken, HasWritten, HasBegun, Drains, Writes}
 use Rattle.kc_io.proofs.SinksLemmas.{begin, taken_both}
 use Rattle.kc_fastx.specs.declared.read_faults.FastxFault.{FastxFault}
 use Rattle.kc_fastx.specs.Reads.{Read}
@@ -149,6 +150,18 @@ module _ {task : Task} {old now : Streams} {stand : Stand} {block : List ℕ} {c
   -- the writer failed then
   pub fails_last : (new : Streams) → HasBegun now.sink new.sink block → Selects task old new (Err Write)
   fails_last new h = (s.records, (now.source, stand, s.given), drains_begins s.drained h)
+
+  -- either of both is answered
+  pub selects_ended : (new : Streams) (next : Stand) (bytes : ℕ) (answer : Result Selected SelectFault)
+      → HasGivenRecords old.source new.source task.limit s.records next
+      → GivesRecords old.source new.source task.limit s.records
+      → bytes ≡ next.used + length next.unread.bytes → Writes now.sink new.sink answer block
+      → IfOk answer (λ selected. selected ≡ record { bytes = bytes; counts = counts })
+      → IfErr answer (λ fault. fault ≡ Write) → Selects task old new answer
+  selects_ended new next bytes (Ok selected) given gives all w told fault =
+      subst (λ v. Selects task old new (Ok v)) (sym told) (selects_all new next bytes given gives w all)
+  selects_ended new next bytes (Err met) given gives all h told fault =
+      subst (λ v. Selects task old new (Err v)) (sym fault) (fails_last new h)
 
   -- the reads met a fault, and what stood in the block was to be written
   pub selects_before : (new : Streams) (next : Stand) (fault : FastxFault) (answer : SelectFault)

@@ -1,11 +1,12 @@
 //! From the reads of a source to the text of those that are selected.
-ghost use Rattle.std.specs.Prelude.{◌≡◌, ◌≤◌, ◌++◌, ◌∷◌, [], IfOk, OnOk, OnErr};
-ghost use Rattle.kc_io.specs.Sinks.{HasBegun, Drains};
+ghost use Rattle.std.specs.Prelude.{◌≡◌, ◌≤◌, ◌++◌, ◌∷◌, [], IfOk, IfErr, OnOk, OnErr};
+ghost use Rattle.kc_io.specs.Sinks.{HasBegun, Drains, Writes};
 ghost use Rattle.kc_fastx.specs.Parsing.{most_bytes};
 ghost use Rattle.kc_fastx.specs.Titles.{record_of};
 ghost use Rattle.kc_select.specs.Counts.{counts_of};
 ghost use Rattle.kc_select.specs.Texts.{text_of_selected};
 ghost use Rattle.kc_select.specs.Selecting.{Selects, EndsWith, task_of};
+ghost use Rattle.kc_select.specs.declared.select_fault.SelectFault.TheVariants.{Write};
 
 use crate::record_texts::put_record;
 use crate::select_fault::SelectFault;
@@ -50,9 +51,8 @@ pub fn select<S: Source, W: Sink>(
                 counts = counts.and(judged);
             }
             Ok(None) => {
-                write_out(writer, block.as_slice())?;
                 let bytes = reading.byte_count();
-                return Ok(Selected { bytes, counts });
+                return finish(writer, &block, bytes, counts);
             }
             Err(fault) => return Err(end_with(writer, &block, fault)),
         }
@@ -79,6 +79,21 @@ fn put_selected<W: Sink>(
         put_record(writer, block, title, read)?;
     }
     Ok(counted.of_one(is_kept))
+}
+
+// Writes what stands in the block, and answers that so many bytes came and what was counted, or that the writer failed.
+fn finish<W: Sink>(
+    writer: &mut W,
+    block: &Block,
+    bytes: u64,
+    counts: SelectionCounts,
+) -> Result<Selected, SelectFault>
+    ensures written { Writes (W.seen writer.old) (W.seen writer.new) result block.now }
+    ensures told { IfOk result (λ selected. selected ≡ record { bytes = bytes; counts = counts }) }
+    ensures fault { IfErr result (λ fault. fault ≡ Write) }
+{
+    write_out(writer, block.as_slice())?;
+    Ok(Selected { bytes, counts })
 }
 
 // Writes what stands in the block, and answers this fault of the reads, or that the writer failed.

@@ -3,7 +3,7 @@ use Rattle.std.proofs.lemmas.Result.{err_from_is_err_and}
 use Rattle.kc_fastx.specs.Reading.{first_stand}
 use Rattle.kc_fastx.proofs.ReadingLemmas.{begun_in_vain, used_within}
 use Rattle.kc_select.specs.Selecting.{Streams, task_of}
-use Rattle.kc_select.proofs.SelectLemmas.{IsSelecting, selecting_none, selecting_more, fails_more, selects_all, fails_last}
+use Rattle.kc_select.proofs.SelectLemmas.{IsSelecting, selecting_none, selecting_more, fails_more, selects_ended}
 use Rattle.kc_select.proofs.SelectLemmas.{selects_before, counts_fit}
 use Rattle.kc_select.proofs.selecting.select.Goals as goal
 
@@ -74,19 +74,6 @@ reads-preserved-in_ok-judged-in-Ok-Some g c =
     c.and-counts.result given (rw c.deref.ensures.value at c.in_ok-judged-in-Ok-Some.ensures.ok)
     c.in_ok-judged-in-Ok-Some.ensures.counts c.and-counts.ensures more
 
-pub returns-in_err-write_out-in-Ok-None : goal.returns-in_err-write_out-in-Ok-None
-returns-in_err-write_out-in-Ok-None g c =
-    let seen = g.S.Source.seen in
-    let wrote = g.W.Sink.seen in
-    let task = task_of c.args.selector.now c.args.limit in
-    let start : Streams = record { source = seen c.args.source.now; sink = wrote c.args.writer.now } in
-    let now : Streams = record { source = seen c.reads.source; sink = wrote c.reads.writer } in
-    let s : IsSelecting task start now c.reads.reading c.reads.block c.reads.counts = c.reads.invariant in
-    let new : Streams = record { source = seen c.next_titled.new.source; sink = wrote c.write_out.new.writer } in
-    let p = err_from_is_err_and c.from_residual-in_err-write_out-in-Ok-None.result
-    c.from_residual-in_err-write_out-in-Ok-None.ensures.1 in
-    rw (p.1, p.2) (fails_last s new (rw c.as_slice.ensures at c.in_err-write_out-in-Ok-None.ensures))
-
 pub returns-in-Ok-None : goal.returns-in-Ok-None
 returns-in-Ok-None g c =
     let seen = g.S.Source.seen in
@@ -95,11 +82,11 @@ returns-in-Ok-None g c =
     let start : Streams = record { source = seen c.args.source.now; sink = wrote c.args.writer.now } in
     let now : Streams = record { source = seen c.reads.source; sink = wrote c.reads.writer } in
     let s : IsSelecting task start now c.reads.reading c.reads.block c.reads.counts = c.reads.invariant in
-    let new : Streams = record { source = seen c.next_titled.new.source; sink = wrote c.write_out.new.writer } in
+    let new : Streams = record { source = seen c.next_titled.new.source; sink = wrote c.finish.new.writer } in
     let end = rw c.in-Ok-None.field-0-is at c.in-Ok-None.ensures.given (seen c.args.source.now) c.args.limit
     s.records s.given in
-    selects_all s new c.next_titled.new.self c.byte_count-bytes.result end.0 end.1
-    (rw c.as_slice.ensures at c.in_ok-write_out-in-Ok-None.ensures) c.byte_count-bytes.ensures
+    selects_ended s new c.next_titled.new.self c.byte_count-bytes.result c.finish.result end.0 end.1
+    c.byte_count-bytes.ensures c.finish.ensures.written c.finish.ensures.told c.finish.ensures.fault
 
 pub returns-in-Err : goal.returns-in-Err
 returns-in-Err g c =
