@@ -8,12 +8,10 @@ use Rattle.kc_report.specs.declared.origin.Origin.{Origin}
 use Rattle.kc_io.specs.Sources.{Seen}
 use Rattle.kc_report.specs.Merging.{Merges}
 use Rattle.kc_report.specs.TableReading.{GivesTable}
-use Rattle.kc_report.specs.declared.report_faults.ReportFault.{ReportFault}
 use Rattle.kc_io.specs.Sinks.{Written}
 use Rattle.kc_select.specs.Solid.{SelectionRule}
 use Rattle.kc_tool.specs.Commands.{KeepsInput, SelectsBy}
 use Rattle.kc_tool.specs.Commands.{MergesNot, TellNoSum, TellSum, TellsNoTable, given_listed, most_table_bytes, sources_from}
-use Rattle.kc_tool.specs.Faults.{report_fault}
 use Rattle.kc_tool.specs.NamedSources.{names_of, seen_of}
 use Rattle.kc_command.specs.Settings.{Settings}
 use Rattle.kc_fastx.specs.Parsing.{most_bytes}
@@ -155,3 +153,12 @@ module _ {S : Type 0} (seen : S → Seen) where
       let After = given (Some (seen later)) (sources_from input_after (seen_of seen rest)) in
       let before = subst (λ (v : List (NamedSource S)). Holds (given (Some (seen f.source)) (sources_from input (seen_of seen v))) After) mid h in
       subst (λ (v : List (NamedSource S)). Holds (given (Some (seen f.source)) (sources_from input (seen_of seen fs))) (given (Some (seen later)) (sources_from input_after (seen_of seen v)))) (sym whole) before
+
+-- One file or none: what holds of the only source holds of the sources.
+module _ {S : Type 0} (seen : S → Seen) (input input_after : Seen) where
+  pub only_file : (files : List (NamedSource S)) → length files ≤ 1 → (files ≡ [] → ⊥) → (d : NamedSource S) (later : S)
+      (Holds : List Seen → List Seen → Type 0) → Holds (seen (slice_index_or files 0 d).source ∷ []) (seen later ∷ [])
+      → Holds (sources_from input (seen_of seen files)) (sources_from input_after (seen_of seen (moved files 0 d later)))
+  only_file [] one some d later Holds h = absurd (some refl)
+  only_file (f ∷ []) one some d later Holds h = h
+  only_file (f ∷ g ∷ files) one some d later Holds h = absurd (omega (arith, one))

@@ -28,7 +28,7 @@ ghost use Rattle.kc_tool.specs.Commands.{
   told_of,
   verb_named,
 };
-ghost use Rattle.kc_tool.specs.Files.{files_named};
+ghost use Rattle.kc_tool.specs.Files.{files_named, output_of};
 ghost use Rattle.kc_report.specs.Table.{MaySay};
 
 use crate::count_progress::Progress;
@@ -138,10 +138,17 @@ pub(crate) fn run_command<
 {
     let task = task_of(alloc, verb, matches)?;
     let names = file_names(alloc, verb, matches)?;
-    let name = text_of(matches, "output");
+    let name = output_name(matches);
     do_command(
         rt, alloc, &task, &names, name, files, input, output, progress,
     )
+}
+
+// The name of the file that is written, where `--output` names one.
+fn output_name<'a>(matches: &ArgMatches<'a>) -> Option<&'a str>
+    ensures { option_map (λ name. name.now) result ≡ output_of (rows_of (found_of matches.now)) }
+{
+    text_of(matches, "output")
 }
 
 // Opens the files of these names, and does a task with them. It writes to the given output or, where one is named, to

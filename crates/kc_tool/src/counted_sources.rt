@@ -331,10 +331,9 @@ fn fault_of<R: Source>(
     ensures { (start : Seen) (limit : ℕ) → MeetsFault start (R.seen source.old) limit reading fault
         → RefusesSource start (R.seen source.new) number limit result }
 {
-    let fault = reading.settle(source, fault);
     ToolFault::Fastx {
         source: number,
-        fault,
+        fault: reading.settle(source, fault),
     }
 }
 

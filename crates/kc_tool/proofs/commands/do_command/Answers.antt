@@ -1,8 +1,6 @@
-use Rattle.std.proofs.Common.{◌∙◌, map, sym, ap, inl, inr, refl, rules, Bor, List, ℕ, Err, length}
-use Rattle.std.specs.Prelude.{option_map}
-use Rattle.std.proofs.lemmas.List.{length-map}
+use Rattle.std.proofs.Common.{◌∙◌, ap, inl, inr, refl, Err}
 use Rattle.std.proofs.lemmas.Result.{err_from_is_err_and}
-use Rattle.kc_tool.proofs.CommandsLemmas.{as_many, as_named}
+use Rattle.kc_tool.proofs.CommandsLemmas.{as_named}
 use Rattle.kc_tool.proofs.commands.do_command.Goals as goal
 
 pub returns-in_err-sources : goal.returns-in_err-sources

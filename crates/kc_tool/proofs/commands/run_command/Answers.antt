@@ -1,4 +1,4 @@
-use Rattle.std.proofs.Common.{◌∙◌, map, sym, ap, Bor, List, ℕ, Err, length}
+use Rattle.std.proofs.Common.{◌∙◌, map, sym, ap, Bor, List, ℕ, Err}
 use Rattle.std.proofs.lemmas.List.{length-map}
 use Rattle.std.proofs.lemmas.Result.{err_from_is_err_and}
 use Rattle.clap.specs.Words.{found_of, rows_of}
@@ -20,7 +20,7 @@ pub returns : goal.returns
 returns g c =
     let named = ap (map (λ (name : Bor (List ℕ)). name.now)) c.deref.ensures.value ∙ c.in_ok-names.ensures in
     command_ends c.args.verb (rows_of (found_of c.args.matches.now)) c.in_ok-task.task c.in_ok-task.ensures.asked
-    c.in_ok-task.ensures.lawful named (sym c.text_of-name.ensures) c.do_command.ensures
+    c.in_ok-task.ensures.lawful named (sym c.output_name-name.ensures) c.do_command.ensures
 
 pub do_command-requires-clause-files : goal.do_command-requires-clause-files
 do_command-requires-clause-files g c κs within =

@@ -1,4 +1,4 @@
-use Rattle.std.proofs.Common.{◌∙◌, Err, Ok, Option, refl, subst}
+use Rattle.std.proofs.Common.{◌∙◌, Err, Option, refl, subst}
 use Rattle.std.specs.Prelude.{option_map}
 use Rattle.kc_report.specs.Merging.{Merges}
 use Rattle.kc_report.specs.declared.origin.Origin.{Origin}
