@@ -13,7 +13,7 @@ use Rattle.kc_word.specs.Cutting.{cleaned}
 use Rattle.kc_word.specs.OpenCutting.{OpenCutting, HasTaken}
 use Rattle.kc_kmer.specs.Rule.{CountingRule}
 use Rattle.kc_word.proofs.Cleaning.{length-cleaned}
-use Rattle.kc_tool.specs.Tallies.{CutsPieces, CutsSources, FailsAt, RefusesSource, RefusesSources, pieces_of}
+use Rattle.kc_tool.specs.Tallies.{CutsPieces, CutsSources, FailsAt, RefusesSource, RefusesSources, TakesPiece, pieces_of}
 use Rattle.kc_tool.specs.declared.tool_faults.ToolFault.{ToolFault}
 use Rattle.kc_tool.specs.declared.tool_faults.ToolFault.TheVariants.{Fastx, BadHeader, BadRow, BadEnd, TableTooLong}
 use Rattle.kc_tool.specs.declared.tool_faults.ToolFault.TheVariants.{TableRead, Memory, BadOption, BadWord, Write, Run}
@@ -186,12 +186,6 @@ no_piece start limit rule before = record {
   size = refl;
   behind = λ pieces taken. subst (HasTaken before) (sym (append-nil pieces)) taken;
 }
-
--- The cutting took one piece more.
-pub record TakesPiece (old new : OpenCutting) (piece : List ℕ) : Type 0 where
-  pub length_of_words : new.k ≡ old.k
-  pub size : new.size ≡ old.size
-  pub more : (pieces : List (List ℕ)) → HasTaken old pieces → HasTaken new (pieces ++ piece ∷ [])
 
 pub one_more_piece : {start old now : Seen} {limit : ℕ} {rule : CountingRule} {before cutting after : OpenCutting}
     {stand next : Stand} {count : ℕ} (read : Read) → (r : PiecesSoFar start old limit rule before cutting stand count)

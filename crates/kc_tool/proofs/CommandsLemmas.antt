@@ -1,5 +1,5 @@
 -- The commands and their tasks.
-use Rattle.std.proofs.Common.{◌≡◌, ◌≤◌, ◌∙◌, ◌++◌, List, [], ◌∷◌, Option, Some, None, length, map, take, refl, sym, ap, ap₂, subst, inl, inr, Result, Ok, Err, ℕ, true, false, arith}
+use Rattle.std.proofs.Common.{◌≡◌, ◌≤◌, ◌∙◌, ◌++◌, Bor, List, [], ◌∷◌, Option, Some, None, length, map, take, refl, sym, ap, ap₂, subst, inl, inr, Result, Ok, Err, ℕ, true, false, arith}
 use Rattle.std.proofs.Common.{append_assoc, append-nil}
 use Rattle.std.specs.Prelude.{◌==◌, ◌⊎◌, unwrap_or, All}
 use Rattle.std.proofs.lemmas.List.{length-map, nil_from_length}
@@ -22,7 +22,7 @@ use Rattle.kc_tool.specs.Files.{files_named, given_back, openings, output_of, re
 use Rattle.kc_tool.specs.Commands.{DoesByTally, IsAboutTally, Stage}
 use Rattle.kc_tool.specs.Selections.{Told}
 use Rattle.kc_tool.specs.Commands.{Answers, Does, HasFilesFor, HasNoTallyFor, IsTallyFor, TellNoSum, TellNoTable, behind_list, given_of, most_table_bytes, sources_from, sources_in}
-use Rattle.kc_tool.specs.Commands.{AsksForTask, DoesTask, DoesTaskInto, EndsSo, IsRefused, IsRefusedOption, KeepsInput, LacksOutput}
+use Rattle.kc_tool.specs.Commands.{AsksForTask, DoesCommand, DoesTask, DoesTaskInto, DoesTaskTo, EndsSo, IsRefused, IsRefusedOption, KeepsInput, LacksOutput}
 use Rattle.kc_tool.specs.Commands.{Surroundings, files_of, first_refused, stage_after}
 use Rattle.kc_tool.specs.declared.named_sources.NamedSource.{NamedSource}
 use Rattle.kc_tool.specs.declared.tool_faults.ToolFault.{ToolFault}
@@ -43,73 +43,79 @@ none_found e = ap (λ found. unwrap_or found []) e
 
 module _ (rows : List Row) where
   -- Not more than one file is read.
-  one_of : (names : List Text) (sources : List (NamedSource Seen)) → names_of sources ≡ take 1 names → length (seen_of (λ seen. seen) sources) ≤ 1
-  one_of names [] are = omega arith
-  one_of names (source ∷ []) are = omega arith
-  one_of [] (source ∷ other ∷ sources) are = let none : ⊥ = cc in absurd none
-  one_of (name ∷ names) (source ∷ other ∷ sources) are = let none : ⊥ = cc in absurd none
+  one_of : (names all : List Text) → names ≡ take 1 all → length names ≤ 1
+  one_of names [] are = omega (arith, ap length are)
+  one_of names (name ∷ all) are = omega (arith, ap length are)
 
   -- A list is read where one is named.
-  has_list : (name : Text) (files : List Text) (sources : List (NamedSource Seen)) → names_of sources ≡ name ∷ files
-      → 1 ≤ length (seen_of (λ seen. seen) sources)
-  has_list name files [] are = let none : ⊥ = cc in absurd none
-  has_list name files (source ∷ sources) are = omega arith
-
-  -- Two tables are read for their sum.
-  has_tables : (first second : Text) (sources : List (NamedSource Seen)) → names_of sources ≡ first ∷ second ∷ []
-      → length (seen_of (λ seen. seen) sources) ≡ 2
-  has_tables first second sources are =
-      let two : length (names_of sources) ≡ 2 = ap length are in
-      let named = length-map sources (λ (source : NamedSource Seen). source.name.now) in
-      let seen = length-map sources (λ (source : NamedSource Seen). source.source) in
-      omega (arith, two, named, seen)
+  has_list : (name : Text) (files names : List Text) → names ≡ name ∷ files → 1 ≤ length names
+  has_list name files names are = omega (arith, ap length are)
 
   -- A command has the files that its task wants.
-  pub has_files : (command : Verb) (task : Task) (sources : List (NamedSource Seen)) → AsksForTask command rows task
-      → names_of sources ≡ files_of command rows → HasFilesFor task (seen_of (λ seen. seen) sources)
-  has_files verb.Count (Count settings) sources asks are = tt
-  has_files verb.Count (CountListed settings) sources asks are =
-      has_list asks.1.0 (files_named rows) sources (are ∙ ap (λ only. behind_list only (files_named rows)) asks.1.1)
-  has_files verb.Count (Report report) sources asks are = absurd asks
-  has_files verb.Count (Query words) sources asks are = absurd asks
-  has_files verb.Count Merge sources asks are = absurd asks
-  has_files verb.Count (Select rule tells) sources asks are = absurd asks
-  has_files verb.Dump (Count settings) sources asks are = absurd asks
-  has_files verb.Dump (CountListed settings) sources asks are = absurd asks
-  has_files verb.Dump (Report report) sources asks are = one_of (files_named rows) sources are
-  has_files verb.Dump (Query words) sources asks are = absurd asks
-  has_files verb.Dump Merge sources asks are = absurd asks
-  has_files verb.Dump (Select rule tells) sources asks are = absurd asks
-  has_files verb.Histo (Count settings) sources asks are = absurd asks
-  has_files verb.Histo (CountListed settings) sources asks are = absurd asks
-  has_files verb.Histo (Report report) sources asks are = one_of (files_named rows) sources are
-  has_files verb.Histo (Query words) sources asks are = absurd asks
-  has_files verb.Histo Merge sources asks are = absurd asks
-  has_files verb.Histo (Select rule tells) sources asks are = absurd asks
-  has_files verb.Stats (Count settings) sources asks are = absurd asks
-  has_files verb.Stats (CountListed settings) sources asks are = absurd asks
-  has_files verb.Stats (Report report) sources asks are = one_of (files_named rows) sources are
-  has_files verb.Stats (Query words) sources asks are = absurd asks
-  has_files verb.Stats Merge sources asks are = absurd asks
-  has_files verb.Stats (Select rule tells) sources asks are = absurd asks
-  has_files verb.Query (Count settings) sources asks are = absurd asks
-  has_files verb.Query (CountListed settings) sources asks are = absurd asks
-  has_files verb.Query (Report report) sources asks are = absurd asks
-  has_files verb.Query (Query words) sources asks are = one_of (files_named rows) sources are
-  has_files verb.Query Merge sources asks are = absurd asks
-  has_files verb.Query (Select rule tells) sources asks are = absurd asks
-  has_files verb.Merge (Count settings) sources asks are = absurd asks
-  has_files verb.Merge (CountListed settings) sources asks are = absurd asks
-  has_files verb.Merge (Report report) sources asks are = absurd asks
-  has_files verb.Merge (Query words) sources asks are = absurd asks
-  has_files verb.Merge Merge sources asks are = has_tables _ _ sources are
-  has_files verb.Merge (Select rule tells) sources asks are = absurd asks
-  has_files verb.Select (Count settings) sources asks are = absurd asks
-  has_files verb.Select (CountListed settings) sources asks are = absurd asks
-  has_files verb.Select (Report report) sources asks are = absurd asks
-  has_files verb.Select (Query words) sources asks are = absurd asks
-  has_files verb.Select Merge sources asks are = absurd asks
-  has_files verb.Select (Select rule tells) sources asks are = has_list _ (files_named rows) sources are
+  pub has_files : (command : Verb) (task : Task) (names : List Text) → AsksForTask command rows task
+      → names ≡ files_of command rows → HasFilesFor task names
+  has_files verb.Count (Count settings) names asks are = tt
+  has_files verb.Count (CountListed settings) names asks are =
+      has_list asks.1.0 (files_named rows) names (are ∙ ap (λ only. behind_list only (files_named rows)) asks.1.1)
+  has_files verb.Count (Report report) names asks are = absurd asks
+  has_files verb.Count (Query words) names asks are = absurd asks
+  has_files verb.Count Merge names asks are = absurd asks
+  has_files verb.Count (Select rule tells) names asks are = absurd asks
+  has_files verb.Dump (Count settings) names asks are = absurd asks
+  has_files verb.Dump (CountListed settings) names asks are = absurd asks
+  has_files verb.Dump (Report report) names asks are = one_of names (files_named rows) are
+  has_files verb.Dump (Query words) names asks are = absurd asks
+  has_files verb.Dump Merge names asks are = absurd asks
+  has_files verb.Dump (Select rule tells) names asks are = absurd asks
+  has_files verb.Histo (Count settings) names asks are = absurd asks
+  has_files verb.Histo (CountListed settings) names asks are = absurd asks
+  has_files verb.Histo (Report report) names asks are = one_of names (files_named rows) are
+  has_files verb.Histo (Query words) names asks are = absurd asks
+  has_files verb.Histo Merge names asks are = absurd asks
+  has_files verb.Histo (Select rule tells) names asks are = absurd asks
+  has_files verb.Stats (Count settings) names asks are = absurd asks
+  has_files verb.Stats (CountListed settings) names asks are = absurd asks
+  has_files verb.Stats (Report report) names asks are = one_of names (files_named rows) are
+  has_files verb.Stats (Query words) names asks are = absurd asks
+  has_files verb.Stats Merge names asks are = absurd asks
+  has_files verb.Stats (Select rule tells) names asks are = absurd asks
+  has_files verb.Query (Count settings) names asks are = absurd asks
+  has_files verb.Query (CountListed settings) names asks are = absurd asks
+  has_files verb.Query (Report report) names asks are = absurd asks
+  has_files verb.Query (Query words) names asks are = one_of names (files_named rows) are
+  has_files verb.Query Merge names asks are = absurd asks
+  has_files verb.Query (Select rule tells) names asks are = absurd asks
+  has_files verb.Merge (Count settings) names asks are = absurd asks
+  has_files verb.Merge (CountListed settings) names asks are = absurd asks
+  has_files verb.Merge (Report report) names asks are = absurd asks
+  has_files verb.Merge (Query words) names asks are = absurd asks
+  has_files verb.Merge Merge names asks are = ap length are
+  has_files verb.Merge (Select rule tells) names asks are = absurd asks
+  has_files verb.Select (Count settings) names asks are = absurd asks
+  has_files verb.Select (CountListed settings) names asks are = absurd asks
+  has_files verb.Select (Report report) names asks are = absurd asks
+  has_files verb.Select (Query words) names asks are = absurd asks
+  has_files verb.Select Merge names asks are = absurd asks
+  has_files verb.Select (Select rule tells) names asks are = has_list _ (files_named rows) names are
+
+-- As many others are such files too.
+pub as_many : {X Y : Type 0} (task : Task) (files : List X) (others : List Y) → length files ≡ length others
+    → HasFilesFor task files → HasFilesFor task others
+as_many (Count settings) files others same h = tt
+as_many (CountListed settings) files others same h = rw same at h
+as_many (Report report) files others same h = rw same at h
+as_many (Query words) files others same h = rw same at h
+as_many Merge files others same h = rw same at h
+as_many (Select rule tells) files others same h = rw same at h
+
+-- So are the files of these names.
+pub as_named : (task : Task) (names : List (Bor Text)) (sources : List (NamedSource Seen))
+    → names_of sources ≡ map (λ name. name.now) names → HasFilesFor task names → HasFilesFor task (seen_of (λ seen. seen) sources)
+as_named task names sources are h =
+    let asked = length-map names (λ (name : Bor Text). name.now) in
+    let named = length-map sources (λ (source : NamedSource Seen). source.name.now) in
+    let seen = length-map sources (λ (source : NamedSource Seen). source.source) in
+    as_many task names (seen_of (λ seen. seen) sources) (omega (arith, ap length are, asked, named, seen)) h
 
 -- No table is refused since a writer failed.
 no_write : (why : ReportFault) (source later : Seen) → RefusesTable source later most_table_bytes why → Write ≡ report_fault why → ⊥
@@ -391,6 +397,26 @@ module _ (command : Verb) (rows : List Row) where
         → EndsSo command rows old (record { input = input; output = old.output; asked = log }) outcome
     into_ends named lawful (inl does) = to_file named does
     into_ends named lawful (inr lacks) = output_left named lawful lacks
+
+    -- The output, or the file that is named for it, has the answer.
+    done_to : {new : Surroundings} (output : Option Text) → output_of rows ≡ output → first_refused command rows ≡ None
+        → DoesTaskTo output sources task (record { input = old.input; output = old.output; asked = mid }) new outcome
+        → EndsSo command rows old new outcome
+    done_to None named lawful does = to_output named does
+    done_to {new} (Some name) named lawful does =
+        subst (λ v. EndsSo command rows old (record { input = new.input; output = v; asked = new.asked }) outcome) (sym does.0)
+        (into_ends named lawful does.1)
+
+  -- The task of a command was done, or not all its files could be opened.
+  pub command_ends : {old new : Surroundings} (task : Task) {names : List Text} {output : Option Text} {outcome : Result Told ToolFault}
+      → AsksForTask command rows task → first_refused command rows ≡ None → names ≡ files_of command rows → output_of rows ≡ output
+      → DoesCommand names output task old new outcome → EndsSo command rows old new outcome
+  command_ends {old} {new} task {names} {output} {outcome} asks lawful named same (inl does) =
+      done_to task asks (subst (λ v. OpensAll v old.asked does.0 does.1) named does.2) output same lawful does.3
+  command_ends {old} {new} task {names} {output} {outcome} asks lawful named same (inr fails) =
+      let left = file_left fails.0 fails.1 lawful (subst (λ v. FailsToOpen v old.asked new.asked fails.0) named fails.2) in
+      subst (λ v. EndsSo command rows old (record { input = v; output = new.output; asked = new.asked }) outcome) (sym fails.3)
+      (subst (λ v. EndsSo command rows old (record { input = old.input; output = v; asked = new.asked }) outcome) (sym fails.4) left)
 
 -- Whether a list is empty, by its length.
 pub nothing_named : {X : Type 0} (names : List X) (n : ℕ) → (n == 0) ≡ true → n ≡ length names → names ≡ []

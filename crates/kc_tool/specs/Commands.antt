@@ -21,11 +21,14 @@ use Rattle.kc_command.specs.declared.option_name.OptionName.{OptionName}
 use Rattle.kc_command.specs.declared.settings.Print.TheVariants as print
 use Rattle.kc_tool.specs.Faults.{report_fault}
 use Rattle.kc_tool.specs.FileEvents.{FileEvent, created, not_created, wrote}
-use Rattle.kc_tool.specs.Files.{AreOf, AreOpened, FileRead, FileWritten, IsCreated, LacksFile, TellsName}
+use Rattle.kc_tool.specs.Files.{AreOf, AreOpened, FailsToOpen, FileRead, FileWritten, IsCreated, LacksFile, OpensAll}
+use Rattle.kc_tool.specs.Files.{TellsName}
 use Rattle.kc_tool.specs.Files.{files_named, given_back, log_with_output, log_without_output, output_of, returned}
 use Rattle.kc_tool.specs.Files.{words_asked}
 use Rattle.kc_tool.specs.declared.named_sources.NamedSource.{NamedSource}
 use Rattle.kc_tool.specs.Reports.{IsWritable, report_of, report_text}
+use Rattle.kc_tally.specs.Tally.{TallySeen}
+use Rattle.kc_report.specs.declared.origin.Origin.{Origin}
 use Rattle.kc_tool.specs.Tallies.{Counts, Given, RefusesCount, TableSeen, given}
 use Rattle.kc_tool.specs.declared.tool_faults.ToolFault.{ToolFault}
 use Rattle.kc_tool.specs.declared.tool_faults.ToolFault.TheVariants.{Memory, BadOption, BadWord, OpenFailed, Write}
@@ -74,6 +77,11 @@ TellSum (first ∷ second ∷ []) (first_after ∷ second_after ∷ []) sum =
     × Merges table.0 other.0 table.1 other.1 (Ok sum)
 TellSum old new sum = ⊥
 
+-- why two tables have no sum
+abbrev pub MergesNot : TallySeen → TallySeen → Option Origin → Option Origin → ToolFault → Type 0
+MergesNot tally other origin another fault =
+    (why : ReportFault) × Merges tally other origin another (Err why) × (fault ≡ report_fault why)
+
 -- why two sources gave no sum: the first gave no table, and the second is as it was; or the second gave none; or their
 -- tables can't be added
 abbrev pub TellNoSum : List Seen → List Seen → ToolFault → Type 0
@@ -82,7 +90,7 @@ TellNoSum (first ∷ second ∷ []) (first_after ∷ second_after ∷ []) fault 
     ⊎ ((table : TableSeen) × GivesTable first first_after most_table_bytes table
     × TellsNoTable second second_after fault)
     ⊎ ((table : TableSeen) × (other : TableSeen) × TellTables first second first_after second_after table other
-    × ((why : ReportFault) × Merges table.0 other.0 table.1 other.1 (Err why) × (fault ≡ report_fault why)))
+    × MergesNot table.0 other.0 table.1 other.1 fault)
 TellNoSum old new fault = ⊥
 
 -- the sources of a command: the files that were opened, or the given input where there are none
@@ -120,7 +128,7 @@ HasWritableReport task = ⊤
 
 -- a task has files: a list where it is to have one, a table for a selection, at most one source where it is about a
 -- table, and two tables for their sum
-abbrev pub HasFilesFor : Task → List Seen → Type 0
+abbrev pub HasFilesFor : {X : Type 0} → Task → List X → Type 0
 HasFilesFor (Count settings) files = ⊤
 HasFilesFor (CountListed settings) files = 1 ≤ length files
 HasFilesFor (Report report) files = length files ≤ 1
@@ -317,6 +325,24 @@ pub record LacksOutput (name : Text) (sources : List (NamedSource Seen)) (input 
   pub told : TellsName name fault
   pub unread : input_after ≡ input
   pub log : asked_after ≡ asked ++ not_created name ∷ given_back sources
+
+-- a task is done with sources that were opened, and writes to the given output; or, where a file is named for the
+-- output, to that one, if it can be created, and the given output is as it was
+abbrev pub DoesTaskTo : Option Text → List (NamedSource Seen) → Task → Surroundings → Surroundings
+    → Result Told ToolFault → Type 0
+DoesTaskTo None sources task old new outcome = DoesTask sources task old new outcome
+DoesTaskTo (Some name) sources task old new outcome = (new.output ≡ old.output)
+    × (DoesTaskInto name sources task old.input new.input old.asked new.asked outcome
+    ⊎ LacksOutput name sources old.input new.input old.asked new.asked outcome)
+
+-- files of these names are opened, and a task is done with them and the output of this name, where one is given; or not
+-- all could be opened, and nothing was read or written
+abbrev pub DoesCommand : List Text → Option Text → Task → Surroundings → Surroundings → Result Told ToolFault → Type 0
+DoesCommand names output task old new outcome =
+    ((opened : List FileEvent) × (sources : List (NamedSource Seen)) × OpensAll names old.asked opened sources
+    × DoesTaskTo output sources task (record { input = old.input; output = old.output; asked = opened }) new outcome)
+    ⊎ ((fault : ToolFault) × (outcome ≡ Err fault) × FailsToOpen names old.asked new.asked fault
+    × (new.input ≡ old.input) × (new.output ≡ old.output))
 
 -- a task is done with these files, which were opened for it, or with the given input where there are none. It writes to
 -- the given output; or, where a file is named for the output, to that file, which was created behind the opening, and

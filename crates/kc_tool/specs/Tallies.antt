@@ -62,6 +62,12 @@ IsUncounted (Run fault) = ⊤
 IsUncounted Memory = ⊤
 IsUncounted _ = ⊥
 
+-- a cutting took one piece more
+pub record TakesPiece (old new : OpenCutting) (piece : List ℕ) : Type 0 where
+  pub length_of_words : new.k ≡ old.k
+  pub size : new.size ≡ old.size
+  pub more : (pieces : List (List ℕ)) → HasTaken old pieces → HasTaken new (pieces ++ piece ∷ [])
+
 -- the source gave `bytes` bytes with `count` reads, whose pieces were cut behind those that were cut before
 pub record CutsPieces (old new : Seen) (limit : ℕ) (rule : CountingRule) (bytes count : ℕ) (before after : OpenCutting)
     : Type 0 where

@@ -1,5 +1,6 @@
 //! The commands: what a command is to do, the files that it reads, and what it writes.
-ghost use Rattle.std.specs.Prelude.{◌≡◌, ◌≤◌, ◌⊎◌, [], ◌∷◌, drop, length, map, string_bytes, unwrap_or};
+ghost use Rattle.std.specs.Prelude.{◌≡◌, ◌≤◌, ◌⊎◌, [], ◌∷◌, drop, length, map, option_map, string_bytes, take};
+ghost use Rattle.std.specs.Prelude.{unwrap_or};
 ghost use Rattle.std.specs.Prelude.{IfErr, IfOk, None};
 ghost use Rattle.clap.specs.Words.{all_of, found_of, rows_of};
 ghost use Rattle.kc_tool.specs.NamedSources.{names_of, seen_of};
@@ -8,6 +9,7 @@ ghost use Rattle.kc_tool.specs.Commands.{
   AsksForTask,
   Does,
   DoesByTally,
+  DoesCommand,
   DoesTask,
   DoesTaskInto,
   EndsSo,
@@ -23,8 +25,10 @@ ghost use Rattle.kc_tool.specs.Commands.{
   given_listed,
   given_of,
   sources_in,
+  told_of,
   verb_named,
 };
+ghost use Rattle.kc_tool.specs.Files.{files_named, output_of};
 ghost use Rattle.kc_report.specs.Table.{MaySay};
 
 use crate::count_progress::Progress;
@@ -134,10 +138,43 @@ pub(crate) fn run_command<
 {
     let task = task_of(alloc, verb, matches)?;
     let names = file_names(alloc, verb, matches)?;
-    let sources = open_files(alloc, files, &names)?;
-    match text_of(matches, "output") {
-        None => do_task(rt, alloc, &task, files, sources, input, output, progress),
-        Some(name) => do_task_into(rt, alloc, &task, files, sources, input, name, progress),
+    let name = output_name(matches);
+    do_command(
+        rt, alloc, &task, &names, name, files, input, output, progress,
+    )
+}
+
+// The name of the file that is written, where `--output` names one.
+fn output_name<'a>(matches: &ArgMatches<'a>) -> Option<&'a str>
+    ensures { option_map (λ name. name.now) result ≡ output_of (rows_of (found_of matches.now)) }
+{
+    text_of(matches, "output")
+}
+
+// Opens the files of these names, and does a task with them. It writes to the given output or, where one is named, to
+// the file of this name. Conditions: the task has such files as it is to have, and a histogram is for counts up to 1 to
+// 10,000,000.
+fn do_command<H: Threads + Wait + Sync, S: Files, R: Source, W: Sink, P: Progress + Sync>(
+    rt: &H,
+    alloc: Global,
+    task: &Task,
+    names: &[&str],
+    name: Option<&str>,
+    files: &mut NamedFiles<'_, S>,
+    input: &mut R,
+    output: &mut W,
+    progress: &P,
+) -> Result<Option<SelectionCounts>, ToolFault>
+    requires files { HasFilesFor task.now names.now }
+    requires writable { HasWritableReport task.now }
+    ensures { DoesCommand (map (λ name. name.now) names.now) (option_map (λ name. name.now) name.entry) task.now
+        (record { input = R.seen input.old; output = W.seen output.old; asked = files.old })
+        (record { input = R.seen input.new; output = W.seen output.new; asked = files.new }) result }
+{
+    let sources = open_files(alloc, files, names)?;
+    match name {
+        None => do_task(rt, alloc, task, files, sources, input, output, progress),
+        Some(name) => do_task_into(rt, alloc, task, files, sources, input, name, progress),
     }
 }
 
@@ -275,8 +312,22 @@ fn select_by_table<R: Source, F: Source, W: Sink>(
 {
     let (tally, _origin) = table_from(alloc, &mut files[0].source)?;
     let sources = &mut files[1..];
-    let counts = select_files(alloc, sources, input, &tally, selection, output)?;
-    if tells { Ok(Some(counts)) } else { Ok(None) }
+    let selected = select_files(alloc, sources, input, &tally, selection, output);
+    told_of(selected, tells)
+}
+
+// What is told of a selection: what was counted of the reads, where that is to be told.
+fn told_of(
+    selected: Result<SelectionCounts, ToolFault>,
+    tells: bool,
+) -> Result<Option<SelectionCounts>, ToolFault>
+    ensures { result ≡ told_of tells selected }
+{
+    match selected {
+        Ok(counts) if tells => Ok(Some(counts)),
+        Ok(_) => Ok(None),
+        Err(fault) => Err(fault),
+    }
 }
 
 // The task of a command: what it asks for with these options.
@@ -332,29 +383,53 @@ fn file_names<'a>(
         ≡ files_of verb (rows_of (found_of matches.now))) }
 {
     match verb {
-        Verb::Count => {
-            let files = texts_of(alloc, matches, "file")?;
-            match text_of(matches, "only") {
-                None => Ok(files),
-                Some(list) => behind(alloc, list, &files),
-            }
-        }
-        Verb::Merge => {
-            let mut names = Vec::with_capacity(alloc, 2)?;
-            names.push(text_of(matches, "first").unwrap_or(""))?;
-            names.push(text_of(matches, "second").unwrap_or(""))?;
-            Ok(names)
-        }
-        Verb::Select => {
-            let files = texts_of(alloc, matches, "file")?;
-            behind(alloc, text_of(matches, "table").unwrap_or(""), &files)
-        }
-        _ => {
-            let mut names = texts_of(alloc, matches, "file")?;
-            names.truncate(1);
-            Ok(names)
-        }
+        Verb::Count => counted_files(alloc, matches),
+        Verb::Merge => merged_tables(alloc, matches),
+        Verb::Select => selected_files(alloc, matches),
+        _ => first_file(alloc, matches),
     }
+}
+
+// The names of the list of a count, where there is one, and of its files.
+fn counted_files<'a>(alloc: Global, matches: &ArgMatches<'a>) -> Result<Vec<&'a str>, AllocError>
+    ensures { IfOk result (λ names. map (λ name. name.now) names.items
+        ≡ files_of Verb.Count (rows_of (found_of matches.now))) }
+{
+    let files = texts_of(alloc, matches, "file")?;
+    match text_of(matches, "only") {
+        None => Ok(files),
+        Some(list) => behind(alloc, list, &files),
+    }
+}
+
+// The names of the two tables of a sum.
+fn merged_tables<'a>(alloc: Global, matches: &ArgMatches<'a>) -> Result<Vec<&'a str>, AllocError>
+    ensures { IfOk result (λ names. map (λ name. name.now) names.items
+        ≡ files_of Verb.Merge (rows_of (found_of matches.now))) }
+{
+    let mut names = Vec::with_capacity(alloc, 2)?;
+    names.push(text_of(matches, "first").unwrap_or(""))?;
+    names.push(text_of(matches, "second").unwrap_or(""))?;
+    Ok(names)
+}
+
+// The names of the table of a selection and of its files.
+fn selected_files<'a>(alloc: Global, matches: &ArgMatches<'a>) -> Result<Vec<&'a str>, AllocError>
+    ensures { IfOk result (λ names. map (λ name. name.now) names.items
+        ≡ files_of Verb.Select (rows_of (found_of matches.now))) }
+{
+    let files = texts_of(alloc, matches, "file")?;
+    behind(alloc, text_of(matches, "table").unwrap_or(""), &files)
+}
+
+// The name of the first file, where there is one.
+fn first_file<'a>(alloc: Global, matches: &ArgMatches<'a>) -> Result<Vec<&'a str>, AllocError>
+    ensures { IfOk result (λ names. map (λ name. name.now) names.items
+        ≡ take 1 (files_named (rows_of (found_of matches.now)))) }
+{
+    let mut names = texts_of(alloc, matches, "file")?;
+    names.truncate(1);
+    Ok(names)
 }
 
 // The name, and the others behind it.

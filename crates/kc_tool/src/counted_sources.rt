@@ -1,12 +1,16 @@
 //! The tally of the reads of all sources: they are read, cleaned and cut into batches, and the words of the batches are
 //! counted by as many threads as are asked for, all of them or those of a list.
-ghost use Rattle.std.specs.Prelude.{◌≡◌, ◌≤◌, ℕ, List, [], ◌∷◌, IfOk, IfErr, IfSome, max, option_map};
+ghost use Rattle.std.specs.Prelude.{◌≡◌, ◌≤◌, ◌+◌, ℕ, List, [], ◌∷◌, IfOk, IfErr, IfSome, None, OnOk, length, max};
+ghost use Rattle.std.specs.Prelude.{option_map};
+ghost use Rattle.kc_io.specs.Sources.{Seen};
 ghost use Rattle.kc_fastx.specs.Parsing.{most_bytes};
+ghost use Rattle.kc_fastx.specs.Reading.{MeetsFault};
 ghost use Rattle.kc_booking.specs.Setup.{stripe_count};
 ghost use Rattle.kc_tool.specs.NamedSources.{names_of, seen_of};
 ghost use Rattle.kc_fastx.specs.Reads.{Read};
 ghost use Rattle.kc_tally.specs.Tally.{IsTallyOf};
 ghost use Rattle.kc_report.specs.Table.{IsOrigin, MaySay};
+ghost use Rattle.kc_word.specs.Cutting.{cleaned};
 ghost use Rattle.kc_word.specs.Only.{WordList};
 ghost use Rattle.kc_tool.specs.Tallies.{
   CutsPieces,
@@ -17,6 +21,7 @@ ghost use Rattle.kc_tool.specs.Tallies.{
   IsUncounted,
   RefusesSource,
   RefusesSources,
+  TakesPiece,
   TalliesSources,
   kept_to,
   origin_of,
@@ -28,7 +33,7 @@ use crate::count_progress::{Progress, ToldGate};
 use crate::named_sources::NamedSource;
 use crate::tool_faults::ToolFault;
 use kc_command::Options;
-use kc_fastx::{FastxFault, Reading, Source, read_all};
+use kc_fastx::{FastxFault, Reading, SeqRead, Source, read_all};
 use kc_gather::gather_laws;
 use kc_hash::Hash;
 use kc_report::Origin;
@@ -282,24 +287,53 @@ fn cut_source<R: Source, P: Progress>(
         match reading.next_read(alloc, source) {
             Ok(Some(read)) => {
                 told = tell_bytes(progress, told, reading.byte_count());
-                let piece = clean(alloc, &read, rule)?;
-                cutting.push(alloc, &piece)?;
+                cut_read(alloc, read, rule, cutting)?;
                 count += 1;
             }
-            Ok(None) => {
-                let bytes = tell_bytes(progress, told, reading.byte_count());
-                return Ok(Taken {
-                    bytes,
-                    reads: count,
-                });
-            }
-            Err(fault) => {
-                return Err(ToolFault::Fastx {
-                    source: number,
-                    fault: reading.settle(source, fault),
-                });
-            }
+            Ok(None) => return Ok(taken_of(&reading, count, progress, told)),
+            Err(fault) => return Err(fault_of(reading, source, number, fault)),
         }
+    }
+}
+
+// Cuts the piece of a read behind those that were cut.
+fn cut_read(
+    alloc: Global,
+    read: SeqRead,
+    rule: &Rule,
+    cutting: &mut Cutting,
+) -> Result<(), AllocError>
+    ensures { OnOk result (TakesPiece cutting.old cutting.new (cleaned rule.now read)) }
+{
+    let piece = clean(alloc, &read, rule)?;
+    cutting.push(alloc, &piece)
+}
+
+// What a source gave that was read to its end, with so many reads. Its last bytes are told of. Condition: the reading
+// has not failed.
+fn taken_of<P: Progress>(reading: &Reading, reads: u64, progress: &P, told: u64) -> Taken
+    requires { reading.now.failed ≡ None }
+    ensures bytes { result.bytes ≡ reading.now.used + length reading.now.unread.bytes }
+    ensures reads { result.reads ≡ reads }
+{
+    let bytes = tell_bytes(progress, told, reading.byte_count());
+    Taken { bytes, reads }
+}
+
+// The fault of the source of this number, where its reading met this fault. A fault of the lines is told where the rest
+// was read too.
+fn fault_of<R: Source>(
+    reading: Reading,
+    source: &mut R,
+    number: u64,
+    fault: FastxFault,
+) -> ToolFault
+    ensures { (start : Seen) (limit : ℕ) → MeetsFault start (R.seen source.old) limit reading fault
+        → RefusesSource start (R.seen source.new) number limit result }
+{
+    ToolFault::Fastx {
+        source: number,
+        fault: reading.settle(source, fault),
     }
 }
 

@@ -1,6 +1,7 @@
 //! The tally that a task is about: that of reads that are counted, of a table that is read, or of two tables together.
-ghost use Rattle.std.specs.Prelude.{◌≡◌, ◌≤◌, IfErr, IfOk, IfSome, drop, length};
+ghost use Rattle.std.specs.Prelude.{◌≡◌, ◌≤◌, IfErr, IfOk, IfSome, Ok, drop, length};
 ghost use Rattle.kc_report.specs.Table.{MaySay};
+ghost use Rattle.kc_report.specs.Merging.{Merges};
 ghost use Rattle.kc_report.specs.TableReading.{GivesTable};
 ghost use Rattle.kc_command.specs.Settings.{rule_of};
 ghost use Rattle.kc_tool.specs.NamedSources.{names_of, seen_of};
@@ -11,6 +12,7 @@ ghost use Rattle.kc_tool.specs.Commands.{
   IsAboutTally,
   IsTallyFor,
   KeepsInput,
+  MergesNot,
   TellNoSum,
   TellNoTable,
   TellOneTable,
@@ -143,11 +145,28 @@ fn sum_of<F: Source>(
 {
     let (first, first_origin) = table_from(alloc, &mut files[0].source)?;
     let (second, second_origin) = table_from(alloc, &mut files[1].source)?;
+    merged(alloc, &first, first_origin, &second, second_origin)
+}
+
+// The sum of two tallies, and what it was counted from. Condition: the origins are such as a header can say.
+fn merged(
+    alloc: Global,
+    first: &Tally,
+    first_origin: Option<Origin>,
+    second: &Tally,
+    second_origin: Option<Origin>,
+) -> Result<(Tally, Option<Origin>), ToolFault>
+    requires first { MaySay first_origin }
+    requires second { MaySay second_origin }
+    ensures sum { IfOk result (λ sum. Merges first.now second.now first_origin second_origin (Ok (sum.0, sum.1))) }
+    ensures origin { IfOk result (λ sum. MaySay sum.1) }
+    ensures fault { IfErr result (MergesNot first.now second.now first_origin second_origin) }
+{
     Ok(merge(
         alloc,
-        &first,
+        first,
         first_origin.as_ref(),
-        &second,
+        second,
         second_origin.as_ref(),
     )?)
 }

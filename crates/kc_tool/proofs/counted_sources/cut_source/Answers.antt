@@ -1,40 +1,14 @@
 use Rattle.std.proofs.Common.{refl, arith, inl}
 use Rattle.kc_fastx.proofs.ReadingLemmas.{used_within}
 use Rattle.kc_io.proofs.IntakesLemmas.{taken_in_vain, taken_none}
-use Rattle.kc_word.specs.Cutting.{cleaned}
 use Rattle.kc_tool.proofs.ReadCountLemmas.{read_count-gives}
-use Rattle.kc_tool.proofs.CleaningLemmas.{TakesPiece, no_piece, one_more_piece}
+use Rattle.kc_tool.proofs.CleaningLemmas.{no_piece, one_more_piece}
 use Rattle.kc_tool.proofs.counted_sources.cut_source.Goals as goal
 
 pub reads-init : goal.reads-init
 reads-init g c =
     let start = g.R.Source.seen c.args.source.now in
     rw c.in-Ok.ensures (no_piece start c.args.limit c.args.rule.now c.args.cutting.now)
-
-pub reads-smaller-in_ok-push-in-Ok-Some : goal.reads-smaller-in_ok-push-in-Ok-Some
-reads-smaller-in_ok-push-in-Ok-Some g c =
-    let start = g.R.Source.seen c.args.source.now in
-    let now = g.R.Source.seen c.next_read.new.source in
-    let so_far = c.reads.invariant in
-    let next = rw c.in-Ok-Some.field-0-is at
-    c.in-Ok-Some.ensures.given start c.args.limit so_far.reads so_far.given in
-    let more = rw c.in-Ok-Some.field-0-is at c.in-Ok-Some.ensures.used in
-    omega (arith, more, used_within start now c.args.limit _ c.next_read.new.self next)
-
-pub reads-preserved-in_ok-push-in-Ok-Some : goal.reads-preserved-in_ok-push-in-Ok-Some
-reads-preserved-in_ok-push-in-Ok-Some g c =
-    let start = g.R.Source.seen c.args.source.now in
-    let so_far = c.reads.invariant in
-    let next = rw c.in-Ok-Some.field-0-is at
-    c.in-Ok-Some.ensures.given start c.args.limit so_far.reads so_far.given in
-    let piece = rw c.in-Ok-Some.field-0-is at c.in_ok-piece-in-Ok-Some.ensures.cleaned in
-    let pushed : TakesPiece c.reads.cutting c.push.new.self (cleaned c.args.rule.now c.in-Ok-Some.read) = record {
-      length_of_words = c.push.ensures.k;
-      size = c.push.ensures.size;
-      more = λ pieces taken. rw piece at c.in_ok-push-in-Ok-Some.ensures.more pieces taken;
-    } in
-    let more = rw c.in-Ok-Some.field-0-is at c.in-Ok-Some.ensures.used in
-    one_more_piece c.in-Ok-Some.read so_far next more pushed
 
 pub reads-smaller : goal.reads-smaller
 reads-smaller g c =
@@ -52,14 +26,8 @@ reads-preserved g c =
     let so_far = c.reads.invariant in
     let next = rw c.in-Ok-Some.field-0-is at
     c.in-Ok-Some.ensures.given start c.args.limit so_far.reads so_far.given in
-    let piece = rw c.in-Ok-Some.field-0-is at c.in_ok-piece-in-Ok-Some.ensures.cleaned in
-    let pushed : TakesPiece c.reads.cutting c.push.new.self (cleaned c.args.rule.now c.in-Ok-Some.read) = record {
-      length_of_words = c.push.ensures.k;
-      size = c.push.ensures.size;
-      more = λ pieces taken. rw piece at c.in_ok-push-in-Ok-Some.ensures.more pieces taken;
-    } in
     let more = rw c.in-Ok-Some.field-0-is at c.in-Ok-Some.ensures.used in
-    one_more_piece c.in-Ok-Some.read so_far next more pushed
+    one_more_piece c.in-Ok-Some.read so_far next more (rw c.in-Ok-Some.field-0-is at c.in_ok-cut_read-in-Ok-Some.ensures)
 
 pub byte_count-requires : goal.byte_count-requires
 byte_count-requires g c =
@@ -69,8 +37,8 @@ byte_count-requires g c =
     c.in-Ok-Some.ensures.given start c.args.limit so_far.reads so_far.given in
     next.unfailed
 
-pub byte_count-requires-in-Ok-None : goal.byte_count-requires-in-Ok-None
-byte_count-requires-in-Ok-None g c =
+pub taken_of-requires : goal.taken_of-requires
+taken_of-requires g c =
     let start = g.R.Source.seen c.args.source.now in
     let so_far = c.reads.invariant in
     let end = rw c.in-Ok-None.field-0-is at
@@ -89,9 +57,9 @@ returns-in-Ok-None-clause-pieces g c =
     c.in-Ok-None.ensures.given start c.args.limit so_far.reads so_far.given in
     record {
       reads = so_far.reads;
-      given = rw (c.tell_bytes-bytes.ensures, c.byte_count-in-Ok-None.ensures) end.1;
-      counted = so_far.counted;
-      few = rw (c.tell_bytes-bytes.ensures, c.byte_count-in-Ok-None.ensures, so_far.counted)
+      given = rw c.taken_of.ensures.bytes end.1;
+      counted = rw c.taken_of.ensures.reads so_far.counted;
+      few = rw (c.taken_of.ensures.bytes, c.taken_of.ensures.reads, so_far.counted)
           (read_count-gives start _ c.args.limit so_far.reads _ end.1);
       length_of_words = so_far.length_of_words;
       size = so_far.size;
@@ -102,5 +70,4 @@ pub returns-in-Err-next_read-clause-fault : goal.returns-in-Err-next_read-clause
 returns-in-Err-next_read-clause-fault g c =
     let start = g.R.Source.seen c.args.source.now in
     let so_far = c.reads.invariant in
-    let met = c.in-Err-next_read.ensures.given start c.args.limit so_far.reads so_far.given in
-    (refl, c.settle.ensures start c.args.limit met)
+    c.fault_of.ensures start c.args.limit (c.in-Err-next_read.ensures.given start c.args.limit so_far.reads so_far.given)

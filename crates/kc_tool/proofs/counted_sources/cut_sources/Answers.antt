@@ -58,3 +58,6 @@ returns-clause-cut g c =
     let all : length (seen_of seen sources) ≤ c.loop-source.number =
     rw (length-map sources (λ source. seen source.source), c.loop-source.invariant.counted) (omega arith) in
     rw (← c.rule-rule.ensures) (all_cut c.loop-source.invariant.so_far all)
+
+pub returns-clause-names : goal.returns-clause-names
+returns-clause-names g c = c.loop-source.invariant.names

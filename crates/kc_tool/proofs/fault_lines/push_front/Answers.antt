@@ -6,3 +6,33 @@ returns-in-BadOption-clause-pushed c = rw (c.in-BadOption.is, c.push-in-BadOptio
 
 pub returns-in-Write-clause-pushed : goal.returns-in-Write-clause-pushed
 returns-in-Write-clause-pushed c = rw c.in-Write.is c.push-in-Write.ensures.pushed
+
+pub returns-in-BadHeader-clause-pushed : goal.returns-in-BadHeader-clause-pushed
+returns-in-BadHeader-clause-pushed c = rw c.in-BadHeader.is c.push.ensures.pushed
+
+pub returns-in-BadRow-clause-pushed : goal.returns-in-BadRow-clause-pushed
+returns-in-BadRow-clause-pushed c = rw c.in-BadRow.is c.push_numbered.ensures.pushed
+
+pub returns-in-BadEnd-clause-pushed : goal.returns-in-BadEnd-clause-pushed
+returns-in-BadEnd-clause-pushed c = rw c.in-BadEnd.is c.push-in-BadEnd.ensures.pushed
+
+pub returns-in-TableTooLong-clause-pushed : goal.returns-in-TableTooLong-clause-pushed
+returns-in-TableTooLong-clause-pushed c = rw c.in-TableTooLong.is c.push-in-TableTooLong.ensures.pushed
+
+pub returns-in-TableRead-clause-pushed : goal.returns-in-TableRead-clause-pushed
+returns-in-TableRead-clause-pushed c = rw c.in-TableRead.is c.push-in-TableRead.ensures.pushed
+
+pub returns-in-Memory-clause-pushed : goal.returns-in-Memory-clause-pushed
+returns-in-Memory-clause-pushed c = rw c.in-Memory.is c.push-in-Memory.ensures.pushed
+
+pub returns-in-BadWord-clause-pushed : goal.returns-in-BadWord-clause-pushed
+returns-in-BadWord-clause-pushed c = rw c.in-BadWord.is c.push_numbered-in-BadWord.ensures.pushed
+
+pub returns-in-Unlike-clause-pushed : goal.returns-in-Unlike-clause-pushed
+returns-in-Unlike-clause-pushed c = rw c.in-Unlike.is c.push-in-Unlike.ensures.pushed
+
+pub returns-in-TooLarge-clause-pushed : goal.returns-in-TooLarge-clause-pushed
+returns-in-TooLarge-clause-pushed c = rw c.in-TooLarge.is c.push-in-TooLarge.ensures.pushed
+
+pub returns-in-OpenFailed-clause-pushed : goal.returns-in-OpenFailed-clause-pushed
+returns-in-OpenFailed-clause-pushed c = rw c.in-OpenFailed.is c.push-in-OpenFailed.ensures.pushed

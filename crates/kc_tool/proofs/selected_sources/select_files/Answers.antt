@@ -12,7 +12,7 @@ returns-in_err-selector g c =
     let input = g.R.Source.seen c.args.input.now in
     record {
       selects = rw (p.1, p.2) (refl, refl);
-      input = same_input g.F.Source.seen input _;
+      input = same_input input _;
       names = refl;
     }
 

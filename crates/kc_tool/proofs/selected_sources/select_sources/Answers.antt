@@ -88,3 +88,6 @@ returns-clause-selects g c =
     let some : 1 ≤ length (seen_of seen sources) =
     rw (length-map sources (λ source. seen source.source)) (omega arith) in
     selected_all c.loop-source.invariant.so_far all some
+
+pub returns-clause-names : goal.returns-clause-names
+returns-clause-names g c = c.loop-source.invariant.names

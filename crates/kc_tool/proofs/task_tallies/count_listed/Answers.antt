@@ -1,7 +1,7 @@
 use Rattle.std.proofs.Common.{Some, refl, IfOk, IfErr}
-use Rattle.std.proofs.lemmas.Result.{IfErr-weaker, IfOk-weaker}
+use Rattle.std.proofs.lemmas.Result.{IfErr-weaker, IfOk-weaker, err_from_is_err_and}
 use Rattle.kc_tool.specs.Tallies.{Counts, RefusesCount}
-use Rattle.kc_tool.proofs.TablesLemmas.{listed_done}
+use Rattle.kc_tool.proofs.TablesLemmas.{first_named, listed_done, listed_kept, listed_named, listed_refused, same_input}
 use Rattle.kc_tool.proofs.SourcesLemmas.{sources_counted, sources_refused}
 use Rattle.kc_tool.proofs.task_tallies.count_listed.Goals as goal
 
@@ -24,3 +24,27 @@ returns-clause-fault g c =
     listed_done seen (g.R.Source.seen c.args.input.now) (g.R.Source.seen c.count_of.new.input) c.args.files.now c.requires c.index-files-0.result
     c.read_list.new.source c.count_of.new.files (λ old new. IfErr c.count_of.result (RefusesCount old new c.args.options.now))
     (IfErr-weaker c.count_of.result _ _ refused c.count_of.ensures.fault)
+
+pub returns-clause-origin : goal.returns-clause-origin
+returns-clause-origin g c = c.count_of.ensures.origin
+
+pub returns-clause-input : goal.returns-clause-input
+returns-clause-input g c =
+    listed_kept g.F.Source.seen _ _ c.args.files.now c.requires c.index-files-0.result c.read_list.new.source c.count_of.ensures.input
+
+pub returns-clause-names : goal.returns-clause-names
+returns-clause-names g c =
+    listed_named g.F.Source.seen c.args.files.now c.requires c.index-files-0.result c.read_list.new.source c.count_of.new.files
+    c.count_of.ensures.names
+
+pub returns-in_err-list-clause-fault : goal.returns-in_err-list-clause-fault
+returns-in_err-list-clause-fault g c =
+    let p = err_from_is_err_and c.from_residual.result c.from_residual.ensures.1 in
+    rw (p.1, p.2) (listed_refused g.F.Source.seen (g.R.Source.seen c.args.input.now) c.args.files.now c.requires c.index-files-0.result
+    c.read_list.new.source c.args.options.now c.in_err-list.field-0.0 c.in_err-list.ensures.fault)
+
+pub returns-in_err-list-clause-input : goal.returns-in_err-list-clause-input
+returns-in_err-list-clause-input g c = same_input (g.R.Source.seen c.args.input.now) _
+
+pub returns-in_err-list-clause-names : goal.returns-in_err-list-clause-names
+returns-in_err-list-clause-names g c = first_named g.F.Source.seen c.args.files.now c.index-files-0.result c.read_list.new.source
