@@ -107,12 +107,7 @@ fn round_of(alloc: Global, stripes: u32, places: &[usize]) -> Result<Cuts, Fail>
 }
 
 // The words of these places' batches of the texts in stripe 0 of so many.
-fn round_in(
-    alloc: Global,
-    stripes: u32,
-    texts: &[&[u8]],
-    places: &[usize],
-) -> Result<Cuts, Fail> {
+fn round_in(alloc: Global, stripes: u32, texts: &[&[u8]], places: &[usize]) -> Result<Cuts, Fail> {
     let setup = made_setup(3, stripes)?;
     let batches = batches_in(alloc, &setup, texts, 2)?;
     first_cuts(alloc, &setup, &picked(alloc, &batches, places)?)
