@@ -1,4 +1,5 @@
 //! Reads that are selected by their words and a table.
+use crate::count_assertions::{assert_items, assert_same};
 use kc_fastx::{FastxFault, SeqRead};
 use kc_io::{FromBytes, ToVec, ToWrite};
 use kc_report::{ReportFault, read_table};
@@ -43,6 +44,43 @@ fn selection_of(least: u64, share: u64, floor: u8) -> Option<Selection> {
     Some(Selection::new(least, share).with_floor(floor))
 }
 
+// The same read. A test without it fails.
+fn made_read(alloc: Global, bases: &[u8], quals: &[u8]) -> Result<SeqRead, Fail> {
+    match read_of(alloc, bases, quals) {
+        Some(read) => Ok(read),
+        None => Err(Fail::from("no read")),
+    }
+}
+
+// The same selection. A test without it fails.
+fn made_selection(least: u64, share: u64, floor: u8) -> Result<Selection, Fail> {
+    match selection_of(least, share, floor) {
+        Some(selection) => Ok(selection),
+        None => Err(Fail::from("no selection")),
+    }
+}
+
+// Asserts whether the read is solid, and that it is selected where it is.
+fn assert_solid<H: Abort>(rt: &H, selector: &Selector<'_>, read: &SeqRead, want: bool) {
+    assert_same(rt, "solid", &selector.is_solid(read), &want);
+    assert_same(rt, "selected", &selector.is_selected(read), &want);
+}
+
+// Asserts whether the read is solid by the table, and that the selection of the others has it where it isn't.
+fn assert_solid_or_other<H: Abort + AllocGlobal>(
+    rt: &H,
+    tally: &Tally,
+    selection: Selection,
+    read: &SeqRead,
+    want: bool,
+) -> Result<(), AllocError> {
+    let selector = Selector::new(rt.alloc(), tally, selection)?;
+    assert_solid(rt, &selector, read, want);
+    let others = Selector::new(rt.alloc(), tally, selection.with_inverted(true))?;
+    assert_same(rt, "others", &others.is_selected(read), &!want);
+    Ok(())
+}
+
 // A table, the bases of a read, the least count and the share, and whether the read is solid.
 const SOLID: &[(&[u8], &[u8], u64, u64, bool)] = &[
     // ACG 2, CGT 2, GTA 1: two of three words are solid at 2, which is 66 of a hundred, and not 67
@@ -70,16 +108,23 @@ const SOLID: &[(&[u8], &[u8], u64, u64, bool)] = &[
 #[test]
 fn solid_reads(rt: HostRuntime) -> Result<(), Fail> {
     for (table, bases, least, share, want) in SOLID {
-        let tally = table_of(rt.alloc(), *table)?;
-        let read = read_of(rt.alloc(), *bases, b"").ok_or("no read")?;
-        let selection = selection_of(*least, *share, b'!').ok_or("no selection")?;
-        let selector = Selector::new(rt.alloc(), &tally, selection)?;
-        assert_eq!(rt; selector.is_solid(&read), *want);
-        assert_eq!(rt; selector.is_selected(&read), *want);
-        let others = Selector::new(rt.alloc(), &tally, selection.with_inverted(true))?;
-        assert_eq!(rt; others.is_selected(&read), !*want);
+        let selection = made_selection(*least, *share, b'!')?;
+        assert_read(&rt, *table, selection, *bases, *want)?;
     }
     Ok(())
+}
+
+// Asserts whether a read of these bases is solid by the table that this text is.
+fn assert_read<H: Abort + AllocGlobal>(
+    rt: &H,
+    table: &[u8],
+    selection: Selection,
+    bases: &[u8],
+    want: bool,
+) -> Result<(), Fail> {
+    let tally = table_of(rt.alloc(), table)?;
+    let read = made_read(rt.alloc(), bases, b"")?;
+    Ok(assert_solid_or_other(rt, &tally, selection, &read, want)?)
 }
 
 // The bases and the qualities of a read, the floor and the share, and whether the read is solid where a word is from 2
@@ -103,13 +148,24 @@ const FLOORS: &[(&[u8], &[u8], u8, u64, bool)] = &[
 fn reads_with_a_floor(rt: HostRuntime) -> Result<(), Fail> {
     let tally = table_of(rt.alloc(), TABLE)?;
     for (bases, quals, floor, share, want) in FLOORS {
-        let read = read_of(rt.alloc(), *bases, *quals).ok_or("no read")?;
-        let selection = selection_of(2, *share, *floor).ok_or("no selection")?;
-        let selector = Selector::new(rt.alloc(), &tally, selection)?;
-        assert_eq!(rt; selector.k(), tally.k());
-        assert_eq!(rt; selector.is_solid(&read), *want);
-        assert_eq!(rt; selector.is_selected(&read), *want);
+        let read = made_read(rt.alloc(), *bases, *quals)?;
+        let selection = made_selection(2, *share, *floor)?;
+        assert_solid_by(&rt, &tally, selection, &read, *want)?;
     }
+    Ok(())
+}
+
+// Asserts whether the read is solid by the table, whose length of words the selector has.
+fn assert_solid_by<H: Abort + AllocGlobal>(
+    rt: &H,
+    tally: &Tally,
+    selection: Selection,
+    read: &SeqRead,
+    want: bool,
+) -> Result<(), AllocError> {
+    let selector = Selector::new(rt.alloc(), tally, selection)?;
+    assert_same(rt, "k", &selector.k(), &tally.k());
+    assert_solid(rt, &selector, read, want);
     Ok(())
 }
 
@@ -118,25 +174,30 @@ fn one_read_of_three_words(rt: HostRuntime) -> Result<(), Fail> {
     let alloc = rt.alloc();
     let tally = table_of(alloc, TABLE)?;
     let selection = Selection::new(2, 100).with_floor(b'#');
-    let mut source = FromBytes::new(b">r\nACGTA\n");
-    let mut sink = ToVec::new(Vec::new(alloc));
     let selector = Selector::new(alloc, &tally, selection)?;
-    let selected = select(alloc, &mut source, 1 << 36, &mut sink, &selector)?;
-    assert_eq!(rt; numbers_of(Ok(selected)), Ok([9, 1, 0, 3, 2]));
-    assert_eq!(rt; sink.as_slice(), b"".as_slice());
+    assert_none_selected(&rt, &selector);
     Ok(())
+}
+
+// Asserts that the selector keeps nothing of a read of ACGTA, of whose three words two are solid.
+fn assert_none_selected<H: Abort + AllocGlobal>(rt: &H, selector: &Selector<'_>) {
+    let mut source = FromBytes::new(b">r\nACGTA\n");
+    let mut sink = ToVec::new(Vec::new(rt.alloc()));
+    let answer = select(rt.alloc(), &mut source, 1 << 36, &mut sink, selector);
+    assert_same(rt, "numbers", &numbers_of(answer), &Ok([9, 1, 0, 3, 2]));
+    assert_items(rt, "written", sink.as_slice(), b"");
 }
 
 #[test]
 fn a_selection_is_what_it_was_made_of(rt: HostRuntime) -> Result<(), Fail> {
     let usual = Selection::new(7, 100);
-    assert_eq!(rt; usual.floor(), 33);
-    assert_eq!(rt; usual.is_inverted(), false);
+    assert_same(&rt, "floor", &usual.floor(), &33);
+    assert_same(&rt, "inverted", &usual.is_inverted(), &false);
     let selection = usual.with_floor(126).with_inverted(true);
-    assert_eq!(rt; selection.least(), 7);
-    assert_eq!(rt; selection.share(), 100);
-    assert_eq!(rt; selection.floor(), 126);
-    assert_eq!(rt; selection.is_inverted(), true);
+    assert_same(&rt, "least", &selection.least(), &7);
+    assert_same(&rt, "share", &selection.share(), &100);
+    assert_same(&rt, "floor", &selection.floor(), &126);
+    assert_same(&rt, "inverted", &selection.is_inverted(), &true);
     Ok(())
 }
 
@@ -161,7 +222,7 @@ fn counts_are_added(rt: HostRuntime) -> Result<(), Fail> {
         words: 27,
         solid: 4,
     };
-    assert_eq!(rt; both, want);
+    assert_same(&rt, "both", &both, &want);
     Ok(())
 }
 
@@ -262,14 +323,31 @@ const SELECTED: &[(&[u8], u64, bool, Result<[u64; 5], SelectFault>, &[u8])] = &[
 #[test]
 fn reads_that_are_written(rt: HostRuntime) -> Result<(), Fail> {
     let tally = table_of(rt.alloc(), TABLE)?;
-    for (text, limit, others, want, written) in SELECTED {
-        let selection = Selection::new(2, 66).with_inverted(*others);
-        let selector = Selector::new(rt.alloc(), &tally, selection)?;
-        let (answer, found) = selected(rt.alloc(), &selector, *text, *limit);
-        assert_eq!(rt; answer, *want);
-        assert_eq!(rt; found.as_slice(), *written);
+    let solid = Selector::new(rt.alloc(), &tally, Selection::new(2, 66))?;
+    let others = Selector::new(
+        rt.alloc(),
+        &tally,
+        Selection::new(2, 66).with_inverted(true),
+    )?;
+    for (text, limit, inverted, want, written) in SELECTED {
+        let selector = if *inverted { &others } else { &solid };
+        assert_selected(&rt, selector, *text, *limit, want, *written);
     }
     Ok(())
+}
+
+// Asserts what is answered and what is written of a text.
+fn assert_selected<H: Abort + AllocGlobal>(
+    rt: &H,
+    selector: &Selector<'_>,
+    text: &[u8],
+    limit: u64,
+    want: &Result<[u64; 5], SelectFault>,
+    written: &[u8],
+) {
+    let (answer, found) = selected(rt.alloc(), selector, text, limit);
+    assert_same(rt, text.len(), &answer, want);
+    assert_items(rt, text.len(), found.as_slice(), written);
 }
 
 // A record of FASTA with this many bases.
@@ -288,9 +366,15 @@ fn a_read_longer_than_a_block(rt: HostRuntime) -> Result<(), Fail> {
     let tally = table_of(rt.alloc(), TABLE)?;
     let selector = Selector::new(rt.alloc(), &tally, Selection::new(2, 0))?;
     let text = long_record(rt.alloc(), 200_000)?;
-    let (answer, found) = selected(rt.alloc(), &selector, text.as_slice(), 1_000_000);
-    assert_eq!(rt; answer, Ok([200_007, 1, 1, 199_998, 0]));
-    assert_eq!(rt; found.as_slice() == text.as_slice(), true);
+    let want = Ok([200_007, 1, 1, 199_998, 0]);
+    assert_selected(
+        &rt,
+        &selector,
+        text.as_slice(),
+        1_000_000,
+        &want,
+        text.as_slice(),
+    );
     Ok(())
 }
 
@@ -312,14 +396,14 @@ impl Write for Full {
 fn a_writer_that_fails(rt: HostRuntime) -> Result<(), Fail> {
     let tally = table_of(rt.alloc(), TABLE)?;
     let selector = Selector::new(rt.alloc(), &tally, Selection::new(2, 66))?;
-    let mut sink = ToWrite::new(Full);
-    let answer = select(
-        rt.alloc(),
-        &mut FromBytes::new(FASTA),
-        100,
-        &mut sink,
-        &selector,
-    );
-    assert_eq!(rt; answer, Err(SelectFault::Write));
+    assert_write_refused(&rt, &selector);
     Ok(())
+}
+
+// Asserts that what is kept can't be written to a writer that takes nothing.
+fn assert_write_refused<H: Abort + AllocGlobal>(rt: &H, selector: &Selector<'_>) {
+    let mut sink = ToWrite::new(Full);
+    let mut source = FromBytes::new(FASTA);
+    let answer = select(rt.alloc(), &mut source, 100, &mut sink, selector);
+    assert_same(rt, "refused", &answer.err(), &Some(SelectFault::Write));
 }

@@ -2,8 +2,21 @@
 use crate::assertions::assert_same;
 use crate::sample_reads::{k_of, read_of, reads_of, rule_of};
 use kc_word::{Only, Rule, pack};
+use std::alloc::{AllocError, Global};
 use std::process::Abort;
 use std::test::Fail;
+
+// The list of the words of these reads.
+fn list_of(alloc: Global, texts: &[&[u8]], rule: &Rule) -> Result<Only, Fail> {
+    let reads = reads_of(alloc, texts)?;
+    Ok(Only::of(alloc, &reads, rule)?)
+}
+
+// The list of the words of a list, which is the same.
+fn list_of_words(alloc: Global, only: &Only) -> Result<Only, AllocError> {
+    let words = Vec::from_slice(alloc, only.words())?;
+    Only::of_words(alloc, only.k(), only.both(), words)
+}
 
 // Whether a list holds the word that these letters are.
 fn is_held(only: &Only, letters: &[u8]) -> Result<bool, Fail> {
@@ -73,16 +86,25 @@ const HELD: &[(&[&[u8]], bool, &[u8], bool)] = &[
 fn words_held(rt: HostRuntime) -> Result<(), Fail> {
     for (row, (texts, both, word, want)) in HELD.iter().enumerate() {
         let rule = rule_of(word.len().min(31) as u32, *both)?;
-        let reads = reads_of(rt.alloc(), *texts)?;
-        let only = Only::of(rt.alloc(), &reads, &rule)?;
+        let only = list_of(rt.alloc(), *texts, &rule)?;
         assert_same(&rt, row, &only.k(), &rule.k());
         assert_same(&rt, row, &only.both(), both);
-        assert_same(&rt, row, &is_held(&only, *word)?, want);
-        // the list of its words is the same
-        let words = Vec::from_slice(rt.alloc(), only.words())?;
-        let again = Only::of_words(rt.alloc(), only.k(), only.both(), words)?;
-        assert_same(&rt, row, &is_held(&again, *word)?, want);
+        assert_held(&rt, row, &only, *word, *want)?;
     }
+    Ok(())
+}
+
+// Asserts whether a list, and the list of its words, hold a word.
+fn assert_held<H: AllocGlobal + Abort>(
+    rt: &H,
+    row: usize,
+    only: &Only,
+    word: &[u8],
+    want: bool,
+) -> Result<(), Fail> {
+    assert_same(rt, row, &is_held(only, word)?, &want);
+    let again = list_of_words(rt.alloc(), only)?;
+    assert_same(rt, row, &is_held(&again, word)?, &want);
     Ok(())
 }
 
@@ -114,11 +136,9 @@ const EQUAL: &[(&[&[u8]], u32, bool, bool)] = &[
 
 #[test]
 fn lists_are_equal_by_value(rt: HostRuntime) -> Result<(), Fail> {
-    let reads = reads_of(rt.alloc(), &[b"CGTA"])?;
-    let only = Only::of(rt.alloc(), &reads, &rule_of(3, false)?)?;
+    let only = list_of(rt.alloc(), &[b"CGTA"], &rule_of(3, false)?)?;
     for (row, (texts, k, both, want)) in EQUAL.iter().enumerate() {
-        let reads = reads_of(rt.alloc(), *texts)?;
-        let other = Only::of(rt.alloc(), &reads, &rule_of(*k, *both)?)?;
+        let other = list_of(rt.alloc(), *texts, &rule_of(*k, *both)?)?;
         assert_same(&rt, row, &(only == other), want);
     }
     Ok(())

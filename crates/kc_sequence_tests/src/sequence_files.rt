@@ -438,13 +438,38 @@ fn last_bases(alloc: Global, bytes: &[u8]) -> Result<Vec<u8>, FastxFault> {
 // Records that are longer than a block, in one line and in many.
 #[test]
 fn long_records(rt: HostRuntime) -> Result<(), Fail> {
-    for width in [60usize, LONG] {
-        let fasta = long_fasta(rt.alloc(), width)?;
-        assert_numbers(&rt, width, &base_counts(rt.alloc(), &fasta)?, &[200_000]);
-        let fastq = long_fastq(rt.alloc(), width)?;
-        assert_numbers(&rt, width, &base_counts(rt.alloc(), &fastq)?, &[200_000, 2]);
-        assert_bytes(&rt, width, &last_bases(rt.alloc(), &fastq)?, b"AC");
+    for width in WIDTHS {
+        let fasta = long_fasta(rt.alloc(), *width)?;
+        assert_base_counts(&rt, &fasta, &[200_000])?;
+        let fastq = long_fastq(rt.alloc(), *width)?;
+        assert_base_counts(&rt, &fastq, &[200_000, 2])?;
+        assert_last_bases(&rt, &fastq, b"AC")?;
     }
+    Ok(())
+}
+
+// Widths of the lines of a long read.
+const WIDTHS: &[usize] = &[60, LONG];
+
+// Asserts that the reads of these bytes have so many bases.
+fn assert_base_counts<H: AllocGlobal + Abort>(
+    rt: &H,
+    bytes: &[u8],
+    want: &[u64],
+) -> Result<(), FastxFault> {
+    let counts = base_counts(rt.alloc(), bytes)?;
+    assert_numbers(rt, bytes.len(), counts.as_slice(), want);
+    Ok(())
+}
+
+// Asserts that the last of the reads of these bytes has these bases.
+fn assert_last_bases<H: AllocGlobal + Abort>(
+    rt: &H,
+    bytes: &[u8],
+    want: &[u8],
+) -> Result<(), FastxFault> {
+    let bases = last_bases(rt.alloc(), bytes)?;
+    assert_bytes(rt, bytes.len(), bases.as_slice(), want);
     Ok(())
 }
 

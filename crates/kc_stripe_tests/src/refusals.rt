@@ -4,12 +4,12 @@ ghost use Rattle.std.specs.Prelude.{◌≡◌, ◌<◌};
 ghost use Rattle.kc_booking.specs.Setup.{stripe_count, word_count};
 
 use crate::bookings::{Held, NOTHING, assert_held, map_stripe, quotient_stripe};
-use crate::rounds::picked;
+use crate::rounds::{first_cuts, picked};
 use crate::sample_batches::{batches_in, cuts_of, cuts_of_three, made_setup};
 use crate::sharings::stripes_of;
 use crate::stripe_assertions::assert_same;
 use kc_share::{Books, Share, Sheet};
-use kc_stripe::{BookFault, Cut, Setup, Stripe, Stripes, cut_up_all};
+use kc_stripe::{BookFault, Cut, Cuts, Setup, Stripe, Stripes};
 use kc_table::{Counts, PlainCounts};
 use kc_word::Word;
 use std::alloc::Global;
@@ -100,29 +100,43 @@ fn quotient_table_is_left(rt: &impl Abort, alloc: Global, cuts: &[Cut]) -> Resul
     is_booked_at_last(rt, alloc, &mut stripe, cuts)
 }
 
-// Books both batches at once, again where memory is refused: the stripe is then as it was before.
-fn is_round_booked_at_last<C: Counts + Drop>(
-    rt: &impl Abort,
-    alloc: Global,
-    mut stripe: Stripe<C>,
-) -> Result<(), Fail> {
+// Both batches as one round.
+fn round_of_both(alloc: Global) -> Result<Cuts, Fail> {
     let setup = made_setup(3, 1)?;
     let batches = batches_in(alloc, &setup, TEXTS, 40)?;
-    let rounds = cut_up_all(alloc, &setup, &picked(alloc, &batches, &[1, 0])?)?;
-    let cuts = rounds.first().ok_or("no stripe")?;
+    first_cuts(alloc, &setup, &picked(alloc, &batches, &[1, 0])?)
+}
+
+// Books both batches at once, again where memory is refused: the stripe is then as it was before.
+fn is_round_booked_at_last<C: Counts>(
+    rt: &impl Abort,
+    alloc: Global,
+    stripe: &mut Stripe<C>,
+) -> Result<(), Fail> {
+    let cuts = round_of_both(alloc)?;
+    is_round_booked_again(rt, stripe, &cuts)?;
+    assert_once_each(rt, alloc, stripe)
+}
+
+// Books the round, again where memory is refused: the stripe is then empty.
+fn is_round_booked_again<C: Counts>(
+    rt: &impl Abort,
+    stripe: &mut Stripe<C>,
+    cuts: &Cuts,
+) -> Result<(), Fail> {
     if let Err(fault) = stripe.book_all(cuts) {
-        assert_eq!(rt; fault, BookFault::Memory);
-        assert_held(rt, &stripe, &NOTHING);
+        assert_same(rt, "a fault", &fault, &BookFault::Memory);
+        assert_held(rt, stripe, &NOTHING);
         stripe.book_all(cuts)?;
     }
-    assert_once_each(rt, alloc, &stripe)
+    Ok(())
 }
 
 #[test]
 fn a_refused_growth_leaves_the_stripe_of_a_round(rt: HostRuntime) -> Result<(), Fail> {
     let alloc = rt.alloc();
-    is_round_booked_at_last(&rt, alloc, map_stripe(alloc)?)?;
-    is_round_booked_at_last(&rt, alloc, quotient_stripe(alloc)?)
+    is_round_booked_at_last(&rt, alloc, &mut map_stripe(alloc)?)?;
+    is_round_booked_at_last(&rt, alloc, &mut quotient_stripe(alloc)?)
 }
 
 // What a share tells of stripe 0: words and entries; and its parts.

@@ -5,6 +5,7 @@ ghost use Rattle.kc_booking.specs.Setup.{stripe_count};
 use crate::bookings::{Held, NOTHING, assert_held, limited_stripe, map_stripe, quotient_stripe};
 use crate::sample_batches::{batches_in, made_setup};
 use crate::sharings::stripes_of;
+use crate::stripe_assertions::{assert_items, assert_same};
 use kc_share::{Books, Sheet};
 use kc_stripe::{BookFault, Cuts, Setup, Stripe, cut_up_all};
 use kc_table::{Counts, TableFault};
@@ -30,19 +31,35 @@ pub(crate) fn picked(
 }
 
 // The keys of ACGT and of ACG in each of four stripes, and how many each has.
-const ROUND: [(&[u64], [usize; 2]); 4] = [
-    (&[], [0, 0]),
-    (&[], [0, 0]),
-    (&[1, 1], [1, 1]),
-    (&[6], [1, 0]),
+const ROUND: &[(&[u64], &[usize])] = &[
+    (&[], &[0, 0]),
+    (&[], &[0, 0]),
+    (&[1, 1], &[1, 1]),
+    (&[6], &[1, 0]),
 ];
 
-fn assert_cuts(rt: &impl Abort, setup: &Setup, cuts: &Cuts, stripe: usize) {
-    let (keys, sizes) = ROUND[stripe % 4];
-    assert_eq!(rt; cuts.keys(), keys);
-    assert_eq!(rt; cuts.sizes(), sizes.as_slice());
-    assert_eq!(rt; (cuts.stripe() as usize, cuts.batches().len()), (stripe, 2));
-    assert!(rt; *cuts.setup() == *setup && cuts.numbers_differ());
+fn assert_cuts(
+    rt: &impl Abort,
+    setup: &Setup,
+    cuts: &Cuts,
+    stripe: usize,
+    keys: &[u64],
+    sizes: &[usize],
+) {
+    assert_items(rt, "keys", cuts.keys(), keys);
+    assert_items(rt, "sizes", cuts.sizes(), sizes);
+    assert_same(rt, "a stripe", &(cuts.stripe() as usize), &stripe);
+    assert_same(rt, "batches", &cuts.batches().len(), &2);
+    assert!(rt; *cuts.setup() == *setup);
+    assert!(rt; cuts.numbers_differ());
+}
+
+// There are as many stripes as rows, and each has the cuts of its row.
+fn assert_round(rt: &impl Abort, setup: &Setup, rounds: &[Cuts]) {
+    assert_same(rt, "stripes", &rounds.len(), &ROUND.len());
+    for (stripe, (cuts, (keys, sizes))) in rounds.iter().zip(ROUND).enumerate() {
+        assert_cuts(rt, setup, cuts, stripe, *keys, *sizes);
+    }
 }
 
 #[test]
@@ -50,21 +67,14 @@ fn cuts_of_two_batches(rt: HostRuntime) -> Result<(), Fail> {
     let alloc = rt.alloc();
     let setup = made_setup(3, 4)?;
     let batches = batches_in(alloc, &setup, &[b"ACGT", b"ACG"], 2)?;
-    let rounds = cut_up_all(alloc, &setup, &batches)?;
-    assert_eq!(rt; rounds.len(), 4);
-    for (stripe, cuts) in rounds.iter().enumerate() {
-        assert_cuts(&rt, &setup, cuts, stripe);
-    }
+    assert_round(&rt, &setup, &cut_up_all(alloc, &setup, &batches)?);
     Ok(())
 }
 
 #[test]
 fn a_number_that_stands_twice(rt: HostRuntime) -> Result<(), Fail> {
-    let alloc = rt.alloc();
-    let setup = made_setup(3, 1)?;
-    let batches = batches_in(alloc, &setup, TWO_BATCHES, 2)?;
-    let rounds = cut_up_all(alloc, &setup, &picked(alloc, &batches, &[1, 0, 1])?)?;
-    assert!(rt; !rounds.first().ok_or("no stripe")?.numbers_differ());
+    let cuts = round_of(rt.alloc(), 1, &[1, 0, 1])?;
+    assert!(rt; !cuts.numbers_differ());
     Ok(())
 }
 
@@ -93,9 +103,23 @@ const STEPS: &[(u32, &[usize], Result<(), BookFault>, Held<'static>)] = &[
 
 // The words of the batches of these places in stripe 0 of so many.
 fn round_of(alloc: Global, stripes: u32, places: &[usize]) -> Result<Cuts, Fail> {
+    round_in(alloc, stripes, TWO_BATCHES, places)
+}
+
+// The words of these places' batches of the texts in stripe 0 of so many.
+fn round_in(alloc: Global, stripes: u32, texts: &[&[u8]], places: &[usize]) -> Result<Cuts, Fail> {
     let setup = made_setup(3, stripes)?;
-    let batches = batches_in(alloc, &setup, TWO_BATCHES, 2)?;
-    let mut rounds = cut_up_all(alloc, &setup, &picked(alloc, &batches, places)?)?;
+    let batches = batches_in(alloc, &setup, texts, 2)?;
+    first_cuts(alloc, &setup, &picked(alloc, &batches, places)?)
+}
+
+// The words of the batches in stripe 0.
+pub(crate) fn first_cuts(
+    alloc: Global,
+    setup: &Setup,
+    batches: &[Arc<Batch>],
+) -> Result<Cuts, Fail> {
+    let mut rounds = cut_up_all(alloc, setup, batches)?;
     if rounds.is_empty() {
         return Err(Fail::from("no stripe"));
     }
@@ -103,24 +127,35 @@ fn round_of(alloc: Global, stripes: u32, places: &[usize]) -> Result<Cuts, Fail>
 }
 
 // The stripe takes the steps one after another.
-fn takes_the_steps<C: Counts + Drop>(
+fn takes_the_steps<C: Counts>(
     rt: &impl Abort,
     alloc: Global,
-    mut stripe: Stripe<C>,
+    stripe: &mut Stripe<C>,
 ) -> Result<(), Fail> {
     for (stripes, places, answer, held) in STEPS {
-        let cuts = round_of(alloc, *stripes, places)?;
-        assert_eq!(rt; stripe.book_all(&cuts), *answer);
-        assert_held(rt, &stripe, held);
+        let cuts = round_of(alloc, *stripes, *places)?;
+        assert_round_booked(rt, stripe, &cuts, answer, held);
     }
     Ok(())
+}
+
+// The stripe answers so to the round, and then holds this.
+fn assert_round_booked<C: Counts>(
+    rt: &impl Abort,
+    stripe: &mut Stripe<C>,
+    cuts: &Cuts,
+    answer: &Result<(), BookFault>,
+    held: &Held<'_>,
+) {
+    assert_same(rt, "a booking", &stripe.book_all(cuts), answer);
+    assert_held(rt, stripe, held);
 }
 
 #[test]
 fn rounds_are_booked_or_refused(rt: HostRuntime) -> Result<(), Fail> {
     let alloc = rt.alloc();
-    takes_the_steps(&rt, alloc, map_stripe(alloc)?)?;
-    takes_the_steps(&rt, alloc, quotient_stripe(alloc)?)
+    takes_the_steps(&rt, alloc, &mut map_stripe(alloc)?)?;
+    takes_the_steps(&rt, alloc, &mut quotient_stripe(alloc)?)
 }
 
 // ACG and CGT in batch 0, TTT in batch 1.
@@ -141,18 +176,11 @@ fn refuses_the_second(
     refusal: TableFault,
     fault: BookFault,
 ) -> Result<(), Fail> {
-    let setup = made_setup(3, 1)?;
-    let batches = batches_in(alloc, &setup, THREE_WORDS, 2)?;
+    let both = round_in(alloc, 1, THREE_WORDS, &[0, 1])?;
+    let first = round_in(alloc, 1, THREE_WORDS, &[0])?;
     let mut stripe = limited_stripe(alloc, refusal)?;
-    let both = cut_up_all(alloc, &setup, &batches)?;
-    assert_eq!(rt;
-        stripe.book_all(both.first().ok_or("no stripe")?),
-        Err(fault)
-    );
-    assert_held(rt, &stripe, &NOTHING);
-    let first = cut_up_all(alloc, &setup, &picked(alloc, &batches, &[0])?)?;
-    stripe.book_all(first.first().ok_or("no stripe")?)?;
-    assert_held(rt, &stripe, &FIRST);
+    assert_round_booked(rt, &mut stripe, &both, &Err(fault), &NOTHING);
+    assert_round_booked(rt, &mut stripe, &first, &Ok(()), &FIRST);
     Ok(())
 }
 
@@ -192,6 +220,7 @@ fn a_share_has_the_batches_of_a_round_once(rt: HostRuntime) -> Result<(), Fail> 
     }
     let sheet = Sheet::new(alloc, 1, 1)?;
     let (again, told) = share_twice::<Brand, _>(&rt, alloc, &setup, sheet, &cuts)?;
-    assert_eq!(rt; (again, told), (Err(BookFault::Twice), [3, 2]));
+    assert_same(&rt, "a booking", &again, &Err(BookFault::Twice));
+    assert_same(&rt, "a share", &told, &[3, 2]);
     Ok(())
 }
