@@ -32,7 +32,7 @@ import kit
 
 FOLDER = "edits"
 # How many edits a check has at the most. What a check loads is a small part of it then, and several run side by side.
-MOST = 24
+MOST = 48
 
 
 @dataclass(frozen=True)

@@ -174,18 +174,13 @@ fn one_read_of_three_words(rt: HostRuntime) -> Result<(), Fail> {
     let alloc = rt.alloc();
     let tally = table_of(alloc, TABLE)?;
     let selection = Selection::new(2, 100).with_floor(b'#');
-    let selector = Selector::new(alloc, &tally, selection)?;
-    assert_none_selected(&rt, &selector);
-    Ok(())
-}
-
-// Asserts that the selector keeps nothing of a read of ACGTA, of whose three words two are solid.
-fn assert_none_selected<H: Abort + AllocGlobal>(rt: &H, selector: &Selector<'_>) {
     let mut source = FromBytes::new(b">r\nACGTA\n");
-    let mut sink = ToVec::new(Vec::new(rt.alloc()));
-    let answer = select(rt.alloc(), &mut source, 1 << 36, &mut sink, selector);
-    assert_same(rt, "numbers", &numbers_of(answer), &Ok([9, 1, 0, 3, 2]));
-    assert_items(rt, "written", sink.as_slice(), b"");
+    let mut sink = ToVec::new(Vec::new(alloc));
+    let selector = Selector::new(alloc, &tally, selection)?;
+    let selected = select(alloc, &mut source, 1 << 36, &mut sink, &selector)?;
+    assert_eq!(rt; numbers_of(Ok(selected)), Ok([9, 1, 0, 3, 2]));
+    assert_eq!(rt; sink.as_slice(), b"".as_slice());
+    Ok(())
 }
 
 #[test]
