@@ -68,6 +68,13 @@ impl<C: Counts> CountedTable<C> {
         self.histogram.bin(bin)
     }
 
+    /// How many keys have which count.
+    pub fn histogram(&self) -> &Histogram
+        ensures { result.now ≡ self.now.bins }
+    {
+        &self.histogram
+    }
+
     /// The sum of the counts.
     pub fn total(&self) -> u64
         ensures value { result ≡ self.now.total }

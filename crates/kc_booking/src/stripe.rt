@@ -23,7 +23,7 @@ use crate::setup::Setup;
 use kc_hash::MatrixTables;
 use kc_lemmas::room_for_each;
 use kc_table::Counts;
-use kc_tally::Row;
+use kc_tally::{Histogram, Row};
 use kc_word::{Batch, Word, word_laws};
 use std::alloc::{AllocError, Global};
 use std::collections::HashSet;
@@ -143,6 +143,13 @@ impl<C: Counts> Stripe<C> {
             (stripe_words self.now.setup self.now.number) }
     {
         self.counted.bin(bin)
+    }
+
+    /// How many words of the stripe occur how often in the journal's batches.
+    pub fn histogram(&self) -> &Histogram
+        ensures { result.now ≡ self.now.bins }
+    {
+        self.counted.histogram()
     }
 
     /// How often a word of the stripe occurs in the journal's batches, and 0 for a word of another stripe.

@@ -139,11 +139,22 @@ AreRowsFrom-more setup batches n rows part from of = record {
         let (_, own) = of.words j e inside in
         let stripes = ap (stripe_of setup) same in omega (arith, higher, own, stripes)))))
 
+-- a word occurs as often in the journal of a stripe that holds exactly the given batches as in these
+pub whole-occurrences : {C : Type 0} (setup : StripeSetup) (batches : List NumberedPieces) (i : ℕ) (stripe : StripeState C) → IsDistinct nat_eq (numbers_of stripe.journal)
+    → IsWhole setup batches i stripe → (word : ℕ) → word_occurrences setup stripe.journal word ≡ word_occurrences setup batches word
+unfolding occurrences
+whole-occurrences setup batches i stripe distinct whole word =
+    as_sum stripe.journal
+    ∙ weighs_whole batches stripe.journal distinct whole.own.given whole.all (λ batch. occurrences setup.rule (as_reads batch.pieces) (text setup.rule.k word))
+    ∙ sym (as_sum batches)
+  where
+    as_sum : (entries : List NumberedPieces) → word_occurrences setup entries word ≡ sum_by (λ batch. occurrences setup.rule (as_reads batch.pieces) (text setup.rule.k word)) entries
+    as_sum entries = sum_by-flat_map (λ read. occurrences_in setup.rule read (text setup.rule.k word)) (λ (batch : NumberedPieces). as_reads batch.pieces) entries
+
 -- a stripe whose journal holds exactly the given batches has their rows
 pub rows-whole : {C : Type 0} (setup : StripeSetup) (batches : List NumberedPieces) (i : ℕ) (stripe : StripeState C) (rows : List Row)
     → IsDistinct nat_eq (numbers_of stripe.journal) → IsWhole setup batches i stripe → AreStripeRows stripe.setup stripe.number stripe.journal rows
     → AreStripeRows setup i batches rows
-unfolding occurrences
 rows-whole setup batches i stripe rows distinct whole are =
     let here = subst (λ s. AreStripeRows s stripe.number stripe.journal rows) whole.own.same_setup are in
     let own = subst (λ n. AreStripeRows setup n stripe.journal rows) whole.own.same_number here in
@@ -151,17 +162,8 @@ rows-whole setup batches i stripe rows distinct whole are =
       once = own.once;
       words = own.words;
       present = own.present;
-      counts_are = λ word below falls. own.counts_are word below falls ∙ same_occurrences word;
+      counts_are = λ word below falls. own.counts_are word below falls ∙ whole-occurrences setup batches i stripe distinct whole word;
     }
-  where
-    as_sum : (entries : List NumberedPieces) (word : ℕ) → word_occurrences setup entries word ≡ sum_by (λ batch. occurrences setup.rule (as_reads batch.pieces) (text setup.rule.k word)) entries
-    as_sum entries word = sum_by-flat_map (λ read. occurrences_in setup.rule read (text setup.rule.k word)) (λ (batch : NumberedPieces). as_reads batch.pieces) entries
-
-    same_occurrences : (word : ℕ) → word_occurrences setup stripe.journal word ≡ word_occurrences setup batches word
-    same_occurrences word =
-        as_sum stripe.journal word
-        ∙ weighs_whole batches stripe.journal distinct whole.own.given whole.all (λ batch. occurrences setup.rule (as_reads batch.pieces) (text setup.rule.k word))
-        ∙ sym (as_sum batches word)
 
 -- ---- the rows of each stripe
 

@@ -2,3 +2,4 @@ pub mod Gathering
 pub mod Parts
 pub mod Laws
 pub mod Piles
+pub mod TallyBins

@@ -10,6 +10,7 @@
 mod columns;
 mod gather_fault;
 pub mod gather_laws;
+mod gathered_histogram;
 mod gatherer;
 mod journal;
 mod parts;
@@ -18,6 +19,7 @@ mod placed;
 mod taken_rows;
 
 pub use gather_fault::GatherFault;
+pub use gathered_histogram::gather_histogram;
 pub use gatherer::{gather, gather_in_parallel};
 /// The tables with which a count begins.
 pub use kc_booking::{plain_tables, quotient_tables};

@@ -1,15 +1,17 @@
 -- How many words have a count, from the bins of a tally and row by row.
-use Rattle.std.proofs.Common.{◌≡◌, ℕ, ◌+◌, ◌-◌, ◌<◌, ◌≤◌, ⊎_elim, cond, eqb, List, [], ◌∷◌, ◌++◌, length, get_or, set}
+use Rattle.std.proofs.Common.{◌≡◌, ℕ, zero, suc, ◌+◌, ◌-◌, ◌^◌, ◌<◌, ◌≤◌, ⊎_elim, cond, eqb, List, [], ◌∷◌, ◌++◌, length, get_or, set, take, drop}
 use Rattle.std.proofs.Common.{refl, sym, ap, ◌∙◌, arith, length-set, replicate, eq-eqb, ne_eqb, append-nil, append_assoc}
-use Rattle.std.specs.Prelude.{◌==◌, nat_lt, All}
+use Rattle.std.specs.Prelude.{◌==◌, nat_lt, All, sum}
 use Rattle.std.proofs.lemmas.Bool.{cases_eq}
 use Rattle.std.proofs.lemmas.Bool.Decides.{nat_tests}
-use Rattle.std.proofs.lemmas.List.{ext_get_or, get_or-set_same, get_or-set_other, get_or-replicate, length-replicate, length-append}
+use Rattle.std.proofs.Math.ListN.{drop_of_length-le}
+use Rattle.std.proofs.lemmas.List.{ext_get_or, get_or-take, length-take-le, get_or-set_same, get_or-set_other, get_or-replicate, length-replicate, length-append}
 use Rattle.std.proofs.lemmas.List.FromFn.{length-map-range_with_len, get_or-map-range_with_len, map-range_with_len_more}
-use Rattle.std.proofs.lemmas.List.Sums.{count_by-le-length, sum_by-append}
+use Rattle.std.proofs.lemmas.List.Sums.{count_by-le-length, sum_by-append, sum_by-drop_more}
 use Rattle.kc_lemmas.proofs.Sums.{count_by-same, count_by-all, sum_by-plus, sum_by-same}
 use Rattle.kc_tally.specs.declared.row.Row.{Row}
-use Rattle.kc_tally.specs.Histogram.{last_bin, bin_of, bin_count}
+use Rattle.kc_tally.specs.Histogram.{last_bin, bin_of, bin_count, bins_of, counts_of}
+use Rattle.kc_tally.proofs.Bins.{length-bins_of, get_or-bins_of, bin_at-bins_of, bin_count-is}
 use Rattle.kc_report.specs.Histo.{words_with_count, words_above, words_by_count}
 
 same_test : (count c : ℕ) → c < last_bin → (bin_of count == c) ≡ (count == c)
@@ -156,3 +158,54 @@ words_above-split rows i =
 pub words_at : (words : List ℕ) (rows : List Row) (i : ℕ) → words ≡ words_by_count (length words) rows → i < length words
     → get_or words i 0 ≡ words_with_count rows (i + 1)
 words_at words rows i e below = ap (λ v. get_or v i 0) e ∙ get_or-words_by_count (length words) rows i below
+
+-- ---- from the bins of a tally
+
+bin-at : (rows : List Row) (bins : List ℕ) (i : ℕ) → i < last_bin → bins ≡ bins_of (counts_of rows) → get_or bins i 0 ≡ bin_count rows (i + 1)
+bin-at rows bins i within are =
+    ap (λ v. get_or v i 0) are ∙ get_or-bins_of (counts_of rows) i within ∙ sym (bin_at-bins_of (counts_of rows) (i + 1) (omega arith) (omega (arith, within)))
+    ∙ bin_count-is rows (i + 1) (omega arith) (omega (arith, within))
+
+last_test : (count i : ℕ) → i + 0 + 1 ≡ last_bin → (bin_of count == (i + 1)) ≡ nat_lt i count
+last_test count i last = grind (arith, nat_tests, last)
+
+-- the first bins have one count each
+pub bins-front : (high : ℕ) (rows : List Row) (bins : List ℕ) → high < last_bin → bins ≡ bins_of (counts_of rows) → take high bins ≡ words_by_count high rows
+bins-front high rows bins small are =
+    from_each high rows (take high bins) (length-take-le high bins (omega (arith, long, small)))
+    (λ i below.
+    get_or-take high bins i 0 below ∙ bin-at rows bins i (omega (arith, below, small)) are ∙ bin_count-below rows (i + 1) (omega (arith, below, small)))
+  where
+    long : length bins ≡ last_bin
+    long = ap length are ∙ length-bins_of (counts_of rows)
+
+next-none : (bins : List ℕ) (i : ℕ) → length bins ≤ i + 1 → drop (i + 1) bins ≡ []
+next-none bins i all = drop_of_length-le bins all
+
+-- and behind them are the words with greater counts
+bins-rest-from : (rows : List Row) (bins : List ℕ) (n i : ℕ) → i + n + 1 ≡ last_bin → bins ≡ bins_of (counts_of rows) → sum (drop i bins) ≡ words_above rows i
+bins-rest-from rows bins zero i last are =
+    let long : length bins ≡ last_bin = ap length are ∙ length-bins_of (counts_of rows) in
+    let step = sum_by-drop_more (λ (x : ℕ). x) bins i 0 (omega (arith, long, last)) in
+    let none = ap sum (next-none bins i (omega (arith, long, last))) in
+    let at = bin-at rows bins i (omega (arith, last)) are in
+    let same : bin_count rows (i + 1) ≡ words_above rows i =
+    count_by-same (λ row. bin_of row.count == (i + 1)) (λ row. nat_lt i row.count) rows (λ k d below. last_test _ i last) in
+    omega (arith, step, none, at, same)
+bins-rest-from rows bins (suc n) i last are =
+    let long : length bins ≡ last_bin = ap length are ∙ length-bins_of (counts_of rows) in
+    let step = sum_by-drop_more (λ (x : ℕ). x) bins i 0 (omega (arith, long, last)) in
+    let rest = bins-rest-from rows bins n (i + 1) (omega (arith, last)) are in
+    let at = bin-at rows bins i (omega (arith, last)) are in
+    let here = bin_count-below rows (i + 1) (omega (arith, last)) in
+    let split = words_above-split rows i in
+    omega (arith, step, rest, at, here, split)
+
+pub bins-rest : (high : ℕ) (rows : List Row) (bins : List ℕ) → high < last_bin → bins ≡ bins_of (counts_of rows) → sum (drop high bins) ≡ words_above rows high
+bins-rest high rows bins small are = bins-rest-from rows bins (last_bin - 1 - high) high (omega (arith, small)) are
+
+pub rest-fits : (high : ℕ) (rows : List Row) (bins : List ℕ) → high < last_bin → bins ≡ bins_of (counts_of rows) → length rows < 2 ^ 64 → sum (drop high bins) < 2 ^ 64
+rest-fits high rows bins small are few =
+    let rest = bins-rest high rows bins small are in
+    let most = count_by-le-length (λ row. nat_lt high row.count) rows in
+    omega (arith, rest, most, few)

@@ -1,50 +1,66 @@
 -- A histogram, line by line.
-use Rattle.std.proofs.Common.{◌≡◌, ℕ, suc, ◌+◌, ◌-◌, ◌<◌, List, ◌++◌, sym, ◌∙◌, ap, append_assoc, arith}
-use Rattle.std.specs.Prelude.{flat_map}
+use Rattle.std.proofs.Common.{◌≡◌, ℕ, zero, suc, ◌+◌, ◌<◌, List, [], ◌∷◌, ◌++◌, length, get_or, take, drop, map, refl, sym, ◌∙◌, ap, append_assoc, arith}
+use Rattle.std.specs.Prelude.{flat_map, sum}
 use Rattle.std.specs.List.{range_with_len}
+use Rattle.std.proofs.lemmas.List.{drop_more}
+use Rattle.std.proofs.Math.ListN.{drop_of_length-le}
 use Rattle.kc_io.specs.Sinks.{Written, Drains}
 use Rattle.kc_io.proofs.SinksLemmas.{Pending, SinkCall, drained}
 use Rattle.kc_tally.specs.declared.row.Row.{Row}
-use Rattle.kc_report.specs.Histo.{words_with_count, words_above, count_line, histo_text}
+use Rattle.kc_tally.specs.Histogram.{last_bin, bins_of, counts_of}
+use Rattle.kc_report.proofs.CountLemmas.{bins-front, bins-rest}
+use Rattle.kc_report.specs.Histo.{words_with_count, words_above, words_by_count, count_line, lines_from, histo_text}
 
--- the lines of the counts above i up to high, and then the last line
-pub text_above : ℕ → List Row → ℕ → List ℕ
-text_above high rows i =
-    flat_map (λ count. count_line count (words_with_count rows count)) (range_with_len (i + 1) (high - i))
-    ++ count_line (high + 1) (words_above rows high)
+-- the text of a histogram, by how many words have each count
+lines-map : (f : ℕ → ℕ) (from n above : ℕ)
+    → flat_map (λ count. count_line count (f count)) (range_with_len from n) ++ count_line (from + n) above ≡ lines_from from (map f (range_with_len from n)) above
+unfolding lines_from
+lines-map f from zero above = ap (λ count. count_line count above) (omega arith)
+lines-map f from (suc n) above =
+    append_assoc (count_line from (f from)) (flat_map (λ count. count_line count (f count)) (range_with_len (from + 1) n)) (count_line (from + suc n) above)
+    ∙ ap (λ last. count_line from (f from) ++ (flat_map (λ count. count_line count (f count)) (range_with_len (from + 1) n) ++ count_line last above)) (later n)
+    ∙ ap (λ rest. count_line from (f from) ++ rest) (lines-map f (from + 1) n above)
+  where
+    later : (m : ℕ) → from + suc m ≡ from + 1 + m
+    later m = omega arith
 
-pub text_above-all : (high : ℕ) (rows : List Row) → text_above high rows 0 ≡ histo_text high rows
-unfolding text_above histo_text
-text_above-all high rows =
-    let line = λ (count : ℕ). count_line count (words_with_count rows count) in
-    let last = count_line (high + 1) (words_above rows high) in
-    ap (λ n. flat_map line (range_with_len 1 n) ++ last) (omega arith)
+pub text-lines : (high : ℕ) (rows : List Row) → histo_text high rows ≡ lines_from 1 (words_by_count high rows) (words_above rows high)
+unfolding histo_text words_by_count
+text-lines high rows =
+    ap (λ last. flat_map (λ count. count_line count (words_with_count rows count)) (range_with_len 1 high) ++ count_line last (words_above rows high)) (omega arith)
+    ∙ lines-map (words_with_count rows) 1 high (words_above rows high)
 
-pub text_above-none : (high : ℕ) (rows : List Row) → text_above high rows high ≡ count_line (high + 1) (words_above rows high)
-unfolding text_above
-text_above-none high rows =
-    let line = λ (count : ℕ). count_line count (words_with_count rows count) in
-    let last = count_line (high + 1) (words_above rows high) in
-    let none : high - high ≡ 0 = omega arith in
-    ap (λ n. flat_map line (range_with_len (high + 1) n) ++ last) none
+-- from how many words have each count up to one, and how many have a greater one
+pub text-counted : (high : ℕ) (rows : List Row) (words : List ℕ) (above : ℕ) → words ≡ words_by_count high rows → above ≡ words_above rows high
+    → lines_from 1 words above ≡ histo_text high rows
+text-counted high rows words above each rest = ap (λ v. lines_from 1 v above) each ∙ ap (lines_from 1 (words_by_count high rows)) rest ∙ sym (text-lines high rows)
 
-text_above-next : (high : ℕ) (rows : List Row) (i : ℕ) → i < high
-    → text_above high rows i ≡ count_line (i + 1) (words_with_count rows (i + 1)) ++ text_above high rows (i + 1)
-unfolding text_above
-text_above-next high rows i below =
-    let line = λ (count : ℕ). count_line count (words_with_count rows count) in
-    let last = count_line (high + 1) (words_above rows high) in
-    let more : high - i ≡ suc (high - (i + 1)) = omega arith in
-    ap (λ n. flat_map line (range_with_len (i + 1) n) ++ last) more
-    ∙ append_assoc (line (i + 1)) (flat_map line (range_with_len (i + 1 + 1) (high - (i + 1)))) last
+-- from the bins of a tally
+pub text-bins : (high : ℕ) (rows : List Row) (bins words : List ℕ) (above : ℕ) → high < last_bin → bins ≡ bins_of (counts_of rows) → words ≡ take high bins → above ≡ sum (drop high bins)
+    → lines_from 1 words above ≡ histo_text high rows
+text-bins high rows bins words above small are front rest =
+    text-counted high rows words above (front ∙ bins-front high rows bins small are) (rest ∙ bins-rest high rows bins small are)
+
+-- the next line, and the others
+lines-next : (words : List ℕ) (above i d : ℕ) → i < length words
+    → lines_from (i + 1) (drop i words) above ≡ count_line (i + 1) (get_or words i d) ++ lines_from (i + 1 + 1) (drop (i + 1) words) above
+unfolding lines_from
+lines-next words above i d within = ap (λ rest. lines_from (i + 1) rest above) (drop_more words i d within)
+
+-- the last line
+pub lines-last : (words : List ℕ) (above i : ℕ) → i ≡ length words → lines_from (i + 1) (drop i words) above ≡ count_line (length words + 1) above
+unfolding lines_from
+lines-last words above i all =
+    ap (λ rest. lines_from (i + 1) rest above) (drop_of_length-le words (omega (arith, all))) ∙ ap (λ n. count_line (n + 1) above) all
 
 -- the line of the next count was put behind the block
-pub next_line : {s a b : Written} {text after : List ℕ} (block : List ℕ) (high : ℕ) (rows : List Row) (i : ℕ) → i < high
-    → Pending s a text (block ++ text_above high rows i) → Drains a b (block ++ count_line (i + 1) (words_with_count rows (i + 1))) after
-    → Pending s b text (after ++ text_above high rows (i + 1))
-next_line {s} {a} {b} {text} {after} block high rows i below p moved =
-    let line = count_line (i + 1) (words_with_count rows (i + 1)) in
-    let cut : block ++ text_above high rows i ≡ (block ++ line) ++ text_above high rows (i + 1) =
-    ap (λ v. block ++ v) (text_above-next high rows i below) ∙ sym (append_assoc block line (text_above high rows (i + 1))) in
-    let call : SinkCall = record { start = s; now = a; next = b; text = text; rest = block ++ text_above high rows i; pending = p } in
-    drained call (block ++ line) after (text_above high rows (i + 1)) cut moved
+pub next_line : {s a b : Written} {text after : List ℕ} (block words : List ℕ) (above i d : ℕ) → i < length words
+    → Pending s a text (block ++ lines_from (i + 1) (drop i words) above) → Drains a b (block ++ count_line (i + 1) (get_or words i d)) after
+    → Pending s b text (after ++ lines_from (i + 1 + 1) (drop (i + 1) words) above)
+next_line {s} {a} {b} {text} {after} block words above i d within p moved =
+    let line = count_line (i + 1) (get_or words i d) in
+    let rest = lines_from (i + 1 + 1) (drop (i + 1) words) above in
+    let cut : block ++ lines_from (i + 1) (drop i words) above ≡ (block ++ line) ++ rest =
+    ap (λ v. block ++ v) (lines-next words above i d within) ∙ sym (append_assoc block line rest) in
+    let call : SinkCall = record { start = s; now = a; next = b; text = text; rest = block ++ lines_from (i + 1) (drop i words) above; pending = p } in
+    drained call (block ++ line) after rest cut moved

@@ -26,6 +26,11 @@ histo_text high rows =
     flat_map (λ count. count_line count (words_with_count rows count)) (range_with_len 1 high)
     ++ count_line (high + 1) (words_above rows high)
 
+-- the lines of the counts from one on, of which so many words have each, and then one for all greater counts
+unfoldable pub lines_from : ℕ → List ℕ → ℕ → List ℕ
+lines_from count [] above = count_line count above
+lines_from count (words ∷ more) above = count_line count words ++ lines_from (count + 1) more above
+
 -- for each count from 1 to high how many words have it
 unfoldable pub words_by_count : ℕ → List Row → List ℕ
 words_by_count high rows = map (words_with_count rows) (range_with_len 1 high)

@@ -1,14 +1,17 @@
 //! The histogram of a tally: how many words have which count.
-ghost use Rattle.std.specs.Prelude.{◌≡◌, ◌≤◌, ◌<◌, ◌+◌, ◌++◌, [], length, IfOk, OnOk, OnErr};
+ghost use Rattle.std.specs.Prelude.{◌≡◌, ℕ, ◌≤◌, ◌<◌, ◌+◌, ◌^◌, ◌++◌, List, [], length, sum, IfOk, IfErr, OnOk, OnErr};
 ghost use Rattle.std.specs.Vec.{vec_capacity};
 ghost use Rattle.kc_io.specs.Sinks.{Writes, HasBegun, Drains};
-ghost use Rattle.kc_tally.specs.Histogram.{last_bin};
-ghost use Rattle.kc_report.specs.Histo.{histo_text, words_by_count, count_line, WritesUnlessMemory};
+ghost use Rattle.kc_tally.specs.declared.row.Row.{Row};
+ghost use Rattle.kc_tally.specs.Histogram.{last_bin, bins_of, counts_of};
+ghost use Rattle.kc_report.specs.declared.report_faults.ReportFault.TheVariants.{Write};
+ghost use Rattle.kc_report.specs.Histo.{histo_text, lines_from, words_by_count, words_above, count_line};
+ghost use Rattle.kc_report.specs.Histo.{WritesUnlessMemory};
 
 use crate::report_faults::ReportFault;
 use kc_io::{BLOCK_SIZE, Block, Failed, NUMBER_SIZE, Sink, write_out};
 use kc_lemmas::zeros;
-use kc_tally::Tally;
+use kc_tally::{Histogram, Tally};
 use std::alloc::{AllocError, Global};
 
 /// The greatest count that a histogram can have a line of its own for.
@@ -30,37 +33,51 @@ pub fn write_histo<W: Sink>(
     requires most { high ≤ GREATEST_HIGH }
     ensures { WritesUnlessMemory (W.seen writer.old) (W.seen writer.new) result (histo_text high tally.now.rows) }
 {
-    let words = words_by_count(alloc, tally, high)?;
-    Ok(histo_by_blocks(writer, tally, &words)?)
+    // what is known of the number of rows
+    let _rows = tally.row_count();
+    if high < LAST_BIN {
+        return write_histo_of_bins(writer, tally.histogram(), high);
+    }
+    let words = words_of_rows(alloc, tally, high)?;
+    let above = words_above(tally, &words);
+    Ok(histo_by_blocks(writer, &words, above)?)
 }
 
-// The number of the tally's last bin. The bins before it have one count each.
+/// Writes the histogram of a tally whose bins these are, without its rows. It takes no memory. Conditions: the bins are
+/// those of fewer than 2^64 rows, and `high` is 1 to 10,000.
+///
+/// # Errors
+/// `Write` where the writer failed or took no byte. It took a beginning of the text.
+pub fn write_histo_of_bins<W: Sink>(
+    writer: &mut W,
+    bins: &Histogram,
+    high: u64,
+) -> Result<(), ReportFault>
+    requires some { 1 ≤ high }
+    requires most { high < last_bin }
+    requires few { (rows : List Row) × (bins.now ≡ bins_of (counts_of rows)) × (length rows < 2 ^ 64) }
+    ensures written { (rows : List Row) → bins.now ≡ bins_of (counts_of rows)
+        → Writes (W.seen writer.old) (W.seen writer.new) result (histo_text high rows) }
+    ensures fault { IfErr result (λ fault. fault ≡ Write) }
+{
+    let (words, greater) = bins.sizes().split_at(high as usize);
+    let above = sum_of(greater);
+    Ok(histo_by_blocks(writer, words, above)?)
+}
+
+// The number of a tally's last bin. The bins before it have one count each.
 const LAST_BIN: u64 = 10_001;
 
-// For each count from 1 to high how many words have it, in room for these numbers alone.
-fn words_by_count(alloc: Global, tally: &Tally, high: u64) -> Result<Vec<u64>, AllocError>
-    requires { high ≤ GREATEST_HIGH }
-    ensures words { IfOk result (λ words. words.items ≡ words_by_count high tally.now.rows) }
-    ensures bounded { IfOk result (λ words. vec_capacity words ≤ high) }
+// The sum of these numbers. Condition: it fits.
+fn sum_of(numbers: &[u64]) -> u64
+    requires { sum numbers.now < 2 ^ 64 }
+    ensures { result ≡ sum numbers.now }
 {
-    if high < LAST_BIN {
-        words_of_bins(alloc, tally, high)
-    } else {
-        words_of_rows(alloc, tally, high)
+    let mut total = 0;
+    for number in numbers {
+        total += *number;
     }
-}
-
-// How many words have each count from 1 to high, from the tally's bins, which know the counts up to 10,000.
-fn words_of_bins(alloc: Global, tally: &Tally, high: u64) -> Result<Vec<u64>, AllocError>
-    requires { high < last_bin }
-    ensures words { IfOk result (λ words. words.items ≡ words_by_count high tally.now.rows) }
-    ensures bounded { IfOk result (λ words. vec_capacity words ≤ high) }
-{
-    let mut words = Vec::with_capacity(alloc, high as usize)?;
-    for i in 0..high {
-        words.push_reserved(tally.bin(i + 1));
-    }
-    Ok(words)
+    total
 }
 
 // How many words have each count from 1 to high, where the bins don't know them all: row by row.
@@ -86,16 +103,27 @@ fn count_rows(words: &mut [u64], tally: &Tally)
     }
 }
 
-// Writes the histogram, a block at a time.
-fn histo_by_blocks<W: Sink>(writer: &mut W, tally: &Tally, words: &[u64]) -> Result<(), Failed>
+// How many words have a greater count than there are places for.
+fn words_above(tally: &Tally, words: &[u64]) -> u64
     requires { words.now ≡ words_by_count (length words.now) tally.now.rows }
-    ensures { Writes (W.seen writer.old) (W.seen writer.new) result (histo_text (length words.now) tally.now.rows) }
+    ensures { result ≡ words_above tally.now.rows (length words.now) }
 {
-    let mut block = Block::new();
     let mut above = tally.row_count();
     for i in 0..words.len() {
-        put_line(writer, &mut block, i as u64 + 1, words[i])?;
         above -= words[i];
+    }
+    above
+}
+
+// Writes the lines of the counts from 1 on, of which so many words have each, and that of all greater counts, a block at
+// a time.
+fn histo_by_blocks<W: Sink>(writer: &mut W, words: &[u64], above: u64) -> Result<(), Failed>
+    requires { length words.now < 2 ^ 63 }
+    ensures { Writes (W.seen writer.old) (W.seen writer.new) result (lines_from 1 words.now above) }
+{
+    let mut block = Block::new();
+    for i in 0..words.len() {
+        put_line(writer, &mut block, i as u64 + 1, words[i])?;
     }
     put_line(writer, &mut block, words.len() as u64 + 1, above)?;
     write_out(writer, block.as_slice())

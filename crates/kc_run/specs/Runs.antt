@@ -7,6 +7,7 @@ use Rattle.kc_share.specs.declared.entry.Plan.{Plan}
 use Rattle.kc_share.specs.declared.entry.Booking.{Booking}
 use Rattle.kc_share.specs.Share.{ShareSeen, share_of, entry_total_in}
 use Rattle.kc_booking.specs.Setup.{StripeSetup, stripe_count}
+use Rattle.kc_booking.specs.Stripe.{StripeState}
 use Rattle.kc_booking.specs.Cuts.{rounds_of}
 use Rattle.kc_booking.specs.declared.booking_fault.BookFault.{BookFault}
 use Rattle.kc_booking.specs.declared.booking_fault.BookFault.TheVariants as book
@@ -96,6 +97,12 @@ IsWorkerFault stripes run.Memory = Unit
 IsWorkerFault stripes (run.Foreign stripe) = stripe < stripes
 IsWorkerFault stripes (run.Full stripe) = stripe < stripes
 IsWorkerFault stripes (run.NoThread worker) = ⊥
+
+-- the stripes of a count of so many batches, one for each number: where its number is that of a stripe, its journal has
+-- as many entries as there are batches
+pub record HaveCounted {C : Type 0} (setup : StripeSetup) (batches : ℕ) (stripes : List (StripeState C)) : Type 0 where
+  pub one_each : length stripes ≡ stripe_count setup
+  pub counted : All (λ stripe. stripe.number < stripe_count setup → length stripe.journal ≡ batches) stripes
 
 -- a fault with which the gathering may end: memory was refused, or one of the stripes is foreign
 abbrev pub IsGatheringFault : ℕ → RunFault → Type 0

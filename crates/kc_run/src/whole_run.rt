@@ -8,18 +8,19 @@ ghost use Rattle.kc_share.specs.Share.{entry_total_in};
 ghost use Rattle.kc_booking.specs.Setup.{stripe_count, key_bits};
 ghost use Rattle.kc_booking.specs.Stripe.{reads_in};
 ghost use Rattle.kc_gather.specs.Gathering.{position_sum};
-ghost use Rattle.kc_run.specs.Runs.{IsReady, IsGatheringFault, IsRunFault};
+ghost use Rattle.kc_gather.specs.TallyBins.{AreBinsOf};
+ghost use Rattle.kc_run.specs.Runs.{HaveCounted, IsReady, IsGatheringFault, IsRunFault};
 
 use crate::crew::{joined, work_all, workers_of};
 use crate::gate::Gate;
 use crate::round::round_len;
 use crate::run_fault::RunFault;
 use crate::worker::{Job, Worker};
-use kc_gather::gather_in_parallel;
+use kc_gather::{gather_histogram, gather_in_parallel};
 use kc_share::{Books, Plan, Share, Sheet};
 use kc_stripe::{Setup, Stripe, Stripes};
 use kc_table::Counts;
-use kc_tally::Tally;
+use kc_tally::{Histogram, Tally};
 use kc_tickets::Tickets;
 use kc_word::Batch;
 use std::alloc::Global;
@@ -54,14 +55,45 @@ pub fn run<H: Threads + Wait + Sync, C: Counts + Drop + Send, G: Gate + Sync>(
     ensures tally { IfOk result (IsTallyOf setup.now.rule (reads_in (values batches.now))) }
     ensures refused { IfErr result (IsRunFault workers (stripe_count setup.now)) }
 {
-    let sheet = Sheet::new(alloc, setup.stripes(), u64::from(workers))?;
     let count = Count {
         batches,
         setup,
         workers,
         gate,
     };
-    run_named::<H, C, G, Brand>(rt, alloc, &count, tables, sheet)
+    let stripes = counted(rt, alloc, &count, tables)?;
+    gathered(rt, alloc, &count, stripes)
+}
+
+/// Counts batches as `run` does, and answers the histogram of their tally alone: no row is taken from a stripe. It is
+/// refused where `run` is.
+///
+/// Conditions: those of `run`.
+pub fn run_histogram<H: Threads + Wait + Sync, C: Counts + Drop + Send, G: Gate + Sync>(
+    rt: &H,
+    alloc: Global,
+    batches: &[Arc<Batch>],
+    setup: &Setup,
+    tables: Vec<C>,
+    workers: u32,
+    gate: &G,
+) -> Result<Histogram, RunFault>
+    requires workers { (1 ≤ workers) × (workers ≤ 64) }
+    requires few { length batches.now ≤ 2 ^ 40 }
+    requires small { position_sum setup.now.rule.k (values batches.now) ≤ 2 ^ 62 }
+    requires one_each { length tables.items ≡ stripe_count setup.now }
+    requires tables { All (λ table. (C.counts table ≡ empty) × (C.bits table ≡ key_bits setup.now)) tables.items }
+    ensures bins { IfOk result (AreBinsOf setup.now.rule (reads_in (values batches.now))) }
+    ensures refused { IfErr result (IsRunFault workers (stripe_count setup.now)) }
+{
+    let count = Count {
+        batches,
+        setup,
+        workers,
+        gate,
+    };
+    let stripes = counted(rt, alloc, &count, tables)?;
+    histogram_gathered(alloc, &count, stripes)
 }
 
 // What is counted, and how.
@@ -73,13 +105,40 @@ struct Count<'a, G: Gate> {
     gate: &'a G,
 }
 
-// Counts and gathers the batches. Every sheet of shares has a type of its own, N, so that no share of another gets in.
-fn run_named<
+// The stripes in which all batches were booked.
+fn counted<H: Threads + Wait + Sync, C: Counts + Drop + Send, G: Gate + Sync>(
+    rt: &H,
+    alloc: Global,
+    count: &Count<G>,
+    tables: Vec<C>,
+) -> Result<Vec<Stripe<C>>, RunFault>
+    requires workers { (1 ≤ count.now.workers) × (count.now.workers ≤ 64) }
+    requires few { length count.now.batches.now ≤ 2 ^ 40 }
+    requires small { position_sum count.now.setup.now.rule.k (values count.now.batches.now) ≤ 2 ^ 62 }
+    requires one_each { length tables.items ≡ stripe_count count.now.setup.now }
+    requires tables { All (λ table. (C.counts table ≡ empty) × (C.bits table ≡ key_bits count.now.setup.now))
+        tables.items }
+    ensures counted { IfOk result
+        (λ stripes. HaveCounted count.now.setup.now (length count.now.batches.now) stripes.items) }
+    ensures refused { IfErr result (IsRunFault count.now.workers (stripe_count count.now.setup.now)) }
+{
+    let sheet = Sheet::new(alloc, count.setup.stripes(), u64::from(count.workers))?;
+    counted_by_name::<H, C, G, Brand>(rt, alloc, count, tables, sheet)
+}
+
+// The same with a sheet of shares. Every sheet has a type of its own, N, so that no share of another gets in.
+fn counted_by_name<
     H: Threads + Wait + Sync,
     C: Counts + Drop + Send,
     G: Gate + Sync,
     N: Books + Send + Sync,
->(rt: &H, alloc: Global, count: &Count<G>, tables: Vec<C>, sheet: Sheet) -> Result<Tally, RunFault>
+>(
+    rt: &H,
+    alloc: Global,
+    count: &Count<G>,
+    tables: Vec<C>,
+    sheet: Sheet,
+) -> Result<Vec<Stripe<C>>, RunFault>
     requires name { sheet.table ≡ N.table }
     requires plan { sheet.plan ≡ plan_of (stripe_count count.now.setup.now) count.now.workers }
     requires workers { (1 ≤ count.now.workers) × (count.now.workers ≤ 64) }
@@ -88,8 +147,8 @@ fn run_named<
     requires one_each { length tables.items ≡ stripe_count count.now.setup.now }
     requires tables { All (λ table. (C.counts table ≡ empty) × (C.bits table ≡ key_bits count.now.setup.now))
         tables.items }
-    ensures tally { IfOk result
-        (IsTallyOf count.now.setup.now.rule (reads_in (values count.now.batches.now))) }
+    ensures counted { IfOk result
+        (λ stripes. HaveCounted count.now.setup.now (length count.now.batches.now) stripes.items) }
     ensures refused { IfErr result (IsRunFault count.now.workers (stripe_count count.now.setup.now)) }
 {
     let (tickets, seats) = Tickets::new(alloc, count.batches.len() as u64, count.workers)?;
@@ -97,7 +156,7 @@ fn run_named<
     let ready = workers_of(alloc, &stripes, seats, share)?;
     let share = worked(rt, alloc, count, &stripes, tickets, ready)?;
     let (stripes, _) = stripes.into_stripes(alloc, share)?;
-    gathered(rt, alloc, count, stripes)
+    Ok(stripes)
 }
 
 // Lets the workers book all batches: the shares of all, joined, with which as many batches were booked into each stripe
@@ -162,9 +221,7 @@ fn gathered<H: Threads + Sync, C: Counts + Drop + Send, G: Gate>(
 ) -> Result<Tally, RunFault>
     requires workers { 1 ≤ count.now.workers }
     requires small { position_sum count.now.setup.now.rule.k (values count.now.batches.now) ≤ 2 ^ 62 }
-    requires one_each { length stripes.items ≡ stripe_count count.now.setup.now }
-    requires counted { All (λ stripe. stripe.number < stripe_count count.now.setup.now
-        → length stripe.journal ≡ length count.now.batches.now) stripes.items }
+    requires counted { HaveCounted count.now.setup.now (length count.now.batches.now) stripes.items }
     ensures tally { IfOk result
         (IsTallyOf count.now.setup.now.rule (reads_in (values count.now.batches.now))) }
     ensures refused { IfErr result (IsGatheringFault (stripe_count count.now.setup.now)) }
@@ -172,6 +229,22 @@ fn gathered<H: Threads + Sync, C: Counts + Drop + Send, G: Gate>(
     let (batches, setup) = (count.batches, count.setup);
     match gather_in_parallel(rt, alloc, count.workers, stripes, batches, setup) {
         Ok(tally) => Ok(tally),
+        Err(fault) => Err(RunFault::of_gathering(fault)),
+    }
+}
+
+// The histogram that is gathered from the stripes, of which none lacks a batch.
+fn histogram_gathered<C: Counts + Drop, G: Gate>(
+    alloc: Global,
+    count: &Count<G>,
+    stripes: Vec<Stripe<C>>,
+) -> Result<Histogram, RunFault>
+    requires { HaveCounted count.now.setup.now (length count.now.batches.now) stripes.items }
+    ensures bins { IfOk result (AreBinsOf count.now.setup.now.rule (reads_in (values count.now.batches.now))) }
+    ensures refused { IfErr result (IsGatheringFault (stripe_count count.now.setup.now)) }
+{
+    match gather_histogram(alloc, stripes, count.batches, count.setup) {
+        Ok(histogram) => Ok(histogram),
         Err(fault) => Err(RunFault::of_gathering(fault)),
     }
 }

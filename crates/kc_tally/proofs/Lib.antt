@@ -5,3 +5,4 @@ pub mod Searches
 pub mod SumLemmas
 pub mod Tallies
 pub mod TalliedRows
+pub mod WholeTallies

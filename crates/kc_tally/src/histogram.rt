@@ -68,6 +68,13 @@ impl Histogram {
         Ok((histogram, total))
     }
 
+    /// The sizes of the bins, from bin 1 on.
+    pub fn sizes(&self) -> &[u64]
+        ensures { result.now ≡ self.now }
+    {
+        &self.bins
+    }
+
     /// How many words have a count that falls in the bin. Condition: the bin is 1 to 10,001.
     pub fn bin(&self, bin: u64) -> u64
         requires some { 1 ≤ bin }
@@ -92,6 +99,16 @@ impl Histogram {
             self.lose(count);
         }
         self.gain(count + 1);
+    }
+
+    /// Adds the sizes of another histogram, bin by bin. Condition: the sums fit.
+    pub fn add(&mut self, other: &Histogram)
+        requires { All (λ size. size < 2 ^ 64) (joined_bins self.old other.now) }
+        ensures { self.new ≡ joined_bins self.old other.now }
+    {
+        for i in 0..LAST_BIN as usize {
+            self.bins[i] += other.bins[i];
+        }
     }
 
     // Counts in the words of these rows, and gives the sum of their counts, which wraps where it does not fit.

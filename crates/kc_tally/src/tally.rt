@@ -3,7 +3,7 @@ ghost use Rattle.std.specs.Prelude.{◌≡◌, ◌+◌, ◌≤◌, ◌^◌, All,
 ghost use Rattle.std.specs.List.{flat_map};
 ghost use Rattle.std.specs.Vec.{vec_capacity};
 ghost use Rattle.kc_tally.specs.Tally.{AreRows, count_of, total_of};
-ghost use Rattle.kc_tally.specs.Histogram.{last_bin, bin_count};
+ghost use Rattle.kc_tally.specs.Histogram.{last_bin, bin_count, bins_of, counts_of};
 ghost use Rattle.kc_tally.specs.Sum.{IsSumOf};
 
 use crate::histogram::Histogram;
@@ -131,6 +131,13 @@ impl Tally {
         } else {
             0
         }
+    }
+
+    /// How many words have which count.
+    pub fn histogram(&self) -> &Histogram
+        ensures { result.now ≡ bins_of (counts_of self.now.rows) }
+    {
+        &self.histogram
     }
 
     /// How many words have a count that falls in the bin: a count from 1 to 10,000 has a bin of its own, and all

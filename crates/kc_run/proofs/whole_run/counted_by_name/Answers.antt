@@ -9,7 +9,7 @@ use Rattle.kc_booking.specs.Setup.{stripe_count}
 use Rattle.kc_run.proofs.CrewLemmas.{fresh_seats}
 use Rattle.kc_run.proofs.FaultLemmas.{fault_of_gathering}
 use Rattle.kc_run.proofs.GatheringLemmas.{journals_counted}
-use Rattle.kc_run.proofs.whole_run.run_named.Goals as goal
+use Rattle.kc_run.proofs.whole_run.counted_by_name.Goals as goal
 
 pub worked-requires-clause-ready : goal.worked-requires-clause-ready
 worked-requires-clause-ready g c κs within =
@@ -19,19 +19,16 @@ worked-requires-clause-ready g c κs within =
     (ap (λ (s : ShareSeen). s.plan) c.in_ok-stripes.ensures.share ∙ c.requires.plan)
     (c.in_ok-ready.ensures.ready roll (fresh_seats roll c.in_ok-tickets.seats.items made.own made.fresh))
 
-pub gathered-requires-clause-counted : goal.gathered-requires-clause-counted
-gathered-requires-clause-counted g c κs within =
+pub returns-clause-counted : goal.returns-clause-counted
+returns-clause-counted g c =
     let count = c.args.count.now in
-    journals_counted c.in_ok-stripes-2.stripes.items c.in_ok-share.share.booked (length count.batches.now) (stripe_count count.setup.now)
-    (c.in_ok-stripes-2.ensures.whole c.in_ok-share.ensures.whole) c.in_ok-share.ensures.booked
+    record {
+      one_each = search rules;
+      counted = journals_counted c.in_ok-stripes-2.stripes.items c.in_ok-share.share.booked (length count.batches.now) (stripe_count count.setup.now)
+          (c.in_ok-stripes-2.ensures.whole c.in_ok-share.ensures.whole) c.in_ok-share.ensures.booked;
+    }
 
 pub returns-in_err-share-clause-refused : goal.returns-in_err-share-clause-refused
 returns-in_err-share-clause-refused g c =
     let p = err_from_is_err_and c.from_residual-in_err-share.result c.from_residual-in_err-share.ensures.1 in
     rw (p.1, p.2) c.in_err-share.ensures.refused
-
-pub returns-clause-refused : goal.returns-clause-refused
-returns-clause-refused g c =
-    let count = c.args.count.now in
-    let stripes = stripe_count count.setup.now in
-    IfErr-weaker c.gathered.result (IsGatheringFault stripes) (IsRunFault count.workers stripes) (fault_of_gathering count.workers stripes) c.gathered.ensures.refused
