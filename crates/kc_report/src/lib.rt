@@ -33,7 +33,7 @@ mod table_reader;
 mod table_rows;
 
 pub use dump::{Dump, GREATEST_COUNT, write_dump};
-pub use histogram_text::{GREATEST_HIGH, write_histo};
+pub use histogram_text::{GREATEST_HIGH, write_histo, write_histo_of_bins};
 pub use kc_io::{BLOCK_SIZE, Block, NUMBER_SIZE};
 pub use merging::merge;
 pub use origin::Origin;

@@ -482,3 +482,10 @@ not_into {sources} {input} {asked} {mid} {asked_after} {name} fault lacks back t
   unread = refl;
   log = back ∙ ap (λ v. v ++ given_back sources) lacks ∙ append_assoc asked (not_created name ∷ []) (given_back sources);
 }
+
+-- What holds of tasks of two kinds holds of one that is of either.
+pub of_either : {A B : Type 0} {first : A → Task} {second : B → Task} {task : Task} (Holds : Task → Type 0)
+    → ((x : A) → Holds (first x)) → ((x : B) → Holds (second x))
+    → ((x : A) × (task ≡ first x)) ⊎ ((x : B) × (task ≡ second x)) → Holds task
+of_either Holds one other (inl is) = subst Holds (sym is.1) (one is.0)
+of_either Holds one other (inr is) = subst Holds (sym is.1) (other is.0)

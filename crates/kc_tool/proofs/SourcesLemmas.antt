@@ -15,6 +15,10 @@ use Rattle.kc_gather.specs.Laws.{TallyOfCutting}
 use Rattle.kc_report.specs.declared.origin.Origin.{Origin}
 use Rattle.kc_command.specs.Settings.{Settings, rule_of}
 use Rattle.kc_tool.specs.Tallies.{Counts, CutsSources, GivesList, IsCuttingOf, ListFailsIn, IsUncounted, RefusesCount, RefusesSource, RefusesSources, TableSeen, TalliesSources}
+use Rattle.kc_tool.specs.CountedTallies.{IsEnoughFor, Knows, KnowsOne}
+use Rattle.kc_tool.specs.Reports.{report_of}
+use Rattle.kc_tool.specs.declared.counted_tally.CountedTally.{CountedTally}
+use Rattle.kc_tool.specs.declared.counted_tally.CountedTally.TheVariants.{Rows}
 use Rattle.kc_tool.specs.Tallies.{Given, given, kept_to, origin_of, pieces_of, words_of}
 use Rattle.kc_tool.specs.declared.tool_faults.ToolFault.{ToolFault}
 use Rattle.kc_tool.specs.declared.tool_faults.ToolFault.TheVariants.{Fastx, BadHeader, BadRow, BadEnd, TableTooLong, TableRead, Memory, BadOption, BadWord, Write, Run, OpenFailed, Unlike, TooLarge}
@@ -52,14 +56,6 @@ tally_kept law (Some words) rule size reads tally some room h =
 
 module _ {old new : List Seen} (settings : Settings) {cutting : OpenCutting} {count : ℕ}
     (cut : CutsSources old new (rule_of settings) settings.batch cutting count) where
-  -- The tally of the cutting is that of the sources, with its origin.
-  pub tallied : (list : Option (List ℕ)) (tally : TallySeen) (origin : Origin)
-      → ((reads : List Read) → IsCuttingOf (rule_of settings) settings.batch reads cutting
-      → IsTallyOf (kept_to list (rule_of settings)) reads tally)
-      → origin ≡ origin_of settings list count → TalliesSources old new settings list (tally, Some origin)
-  tallied list tally origin h told =
-      (cut.reads, cut.are, h cut.reads cut.cut, ap Some (told ∙ ap (λ n. origin_of settings list n) cut.counted))
-
   -- Why it was not counted.
   pub uncounted : (fault : ToolFault) → IsUncounted fault → RefusesSources old new fault
   uncounted (Run fault) h = (cut.reads, cut.are)
@@ -77,12 +73,32 @@ module _ {old new : List Seen} (settings : Settings) {cutting : OpenCutting} {co
   uncounted Unlike h = absurd h
   uncounted TooLarge h = absurd h
 
+  -- What is known of that tally is known of one that is so.
+  pub tally_known : (list : Option (List ℕ)) (counted : CountedTally) (origin : Origin)
+      → ((reads : List Read) → IsCuttingOf (rule_of settings) settings.batch reads cutting
+      → KnowsOne counted (IsTallyOf (kept_to list (rule_of settings)) reads))
+      → origin ≡ origin_of settings list count
+      → KnowsOne counted (λ tally. TalliesSources old new settings list (tally, Some origin))
+  tally_known list counted origin h told =
+      let known = h cut.reads cut.cut in
+      record {
+        tally = known.tally;
+        knows = known.knows;
+        holds = (cut.reads, cut.are, known.holds, ap Some (told ∙ ap (λ n. origin_of settings list n) cut.counted));
+      }
+
 -- The size of a batch says nothing of the tally.
-pub tallied_as : {old new : List Seen} (settings other : Settings) → other ≡ record settings { batch = other.batch }
-    → (list : Option (List ℕ)) (table : TableSeen) → TalliesSources old new other list table
-    → TalliesSources old new settings list table
-tallied_as {old} {new} settings other same list table h =
-    subst (λ s. TalliesSources old new s list table) same h
+pub known_as : {old new : List Seen} (settings other : Settings) → other ≡ record settings { batch = other.batch }
+    → (list : Option (List ℕ)) (counted : CountedTally) (origin : Option Origin)
+    → KnowsOne counted (λ tally. TalliesSources old new other list (tally, origin))
+    → KnowsOne counted (λ tally. TalliesSources old new settings list (tally, origin))
+known_as {old} {new} settings other same list counted origin h =
+    subst (λ s. KnowsOne counted (λ tally. TalliesSources old new s list (tally, origin))) same h
+
+-- Nor of the report.
+pub enough_as : (settings other : Settings) → other ≡ record settings { batch = other.batch } → (counted : CountedTally)
+    → IsEnoughFor counted (report_of other) → IsEnoughFor counted (report_of settings)
+enough_as settings other same counted h = subst (λ s. IsEnoughFor counted (report_of s)) same h
 
 -- The list, where one is given, was read, and then the sources were.
 module _ (list : Option (List ℕ)) (before after : Option Seen) (old new : List Seen) (settings : Settings)
@@ -133,3 +149,12 @@ pub list_left : (source : Option Seen) (sources : List Seen) (settings : Setting
 list_left None sources settings fault h = absurd h
 list_left (Some source) sources settings fault h =
     (given (Some h.0) sources, list_refused source h.0 sources settings fault h.1)
+
+-- The whole of a tally is known.
+pub whole_known : {P : TallySeen → Type 0} (counted : CountedTally) (tally : TallySeen) → counted ≡ Rows tally → P tally
+    → KnowsOne counted P
+whole_known counted tally is h = record {
+  tally = tally;
+  knows = subst (λ known. Knows known tally) (sym is) refl;
+  holds = h;
+}

@@ -1,5 +1,6 @@
 pub mod CommandLine
 pub mod Commands
+pub mod CountedTallies
 pub mod FaultLines
 pub mod Faults
 pub mod FileEvents

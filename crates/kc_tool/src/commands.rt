@@ -3,6 +3,7 @@ ghost use Rattle.std.specs.Prelude.{◌≡◌, ◌≤◌, ◌⊎◌, [], ◌∷�
 ghost use Rattle.std.specs.Prelude.{unwrap_or};
 ghost use Rattle.std.specs.Prelude.{IfErr, IfOk, None};
 ghost use Rattle.clap.specs.Words.{all_of, found_of, rows_of};
+ghost use Rattle.kc_tool.specs.CountedTallies.{Knows, KnowsOne};
 ghost use Rattle.kc_tool.specs.NamedSources.{names_of, seen_of};
 ghost use Rattle.kc_tool.specs.Commands.{
   Answers,
@@ -16,6 +17,7 @@ ghost use Rattle.kc_tool.specs.Commands.{
   HasFilesFor,
   HasWritableReport,
   IsAboutTally,
+  IsEnoughForTask,
   IsRefusedOption,
   KeepsInput,
   LacksOutput,
@@ -30,12 +32,14 @@ ghost use Rattle.kc_tool.specs.Commands.{
 };
 ghost use Rattle.kc_tool.specs.Files.{files_named, output_of};
 ghost use Rattle.kc_report.specs.Table.{MaySay};
+ghost use Rattle.kc_tally.specs.Tally.{TallySeen};
 
 use crate::count_progress::Progress;
+use crate::counted_tally::CountedTally;
 use crate::files::{FileSource, NamedFiles, open_failed, open_files, take_sources};
 use crate::given_options::{dump_options, high_of, options, select_options};
 use crate::named_sources::NamedSource;
-use crate::reports::{Report, report_of, write_report};
+use crate::reports::{Report, report_of, write_counted, write_report};
 use crate::selected_sources::select_files;
 use crate::task_tallies::{table_from, tally_for};
 use crate::tool_faults::ToolFault;
@@ -45,7 +49,6 @@ use kc_command::{Options, Print, has_flag, text_of};
 use kc_io::{Sink, Source};
 use kc_report::{Dump, Origin, query, write_table};
 use kc_select::{Selection, SelectionCounts};
-use kc_tally::Tally;
 use std::alloc::{AllocError, Global};
 use std::rt::Files;
 use std::sync::Wait;
@@ -287,8 +290,8 @@ fn answer_by_tally<H: Threads + Wait + Sync, R: Source, F: Source, W: Sink, P: P
     ensures input { KeepsInput (sources_in task.now (seen_of F.seen files.old)) (R.seen input.old) (R.seen input.new) }
     ensures names { names_of files.new ≡ names_of files.old }
 {
-    let (tally, origin) = tally_for(rt, alloc, task, files, input, progress)?;
-    write_answer(alloc, task, &tally, origin, output)
+    let (counted, origin) = tally_for(rt, alloc, task, files, input, progress)?;
+    write_answer(alloc, task, &counted, origin, output)
 }
 
 // Reads the table of the first file, and writes the reads of the others that it selects or, where there are none, those
@@ -469,27 +472,30 @@ fn owned_texts(alloc: Global, texts: &[&str]) -> Result<Vec<String>, AllocError>
     Ok(strings)
 }
 
-// Writes what a task is to write about its tally. Conditions: a histogram is for counts up to 1 to 10,000,000, and the
-// origin is one that a header can say.
+// Writes what a task is to write about its tally, of which enough is known. Conditions: a histogram is for counts up to 1
+// to 10,000,000, and the origin is one that a header can say.
 fn write_answer<W: Sink>(
     alloc: Global,
     task: &Task,
-    tally: &Tally,
+    counted: &CountedTally,
     origin: Option<Origin>,
     writer: &mut W,
 ) -> Result<(), ToolFault>
     requires writable { HasWritableReport task.now }
     requires about { IsAboutTally task.now }
     requires origin { MaySay origin }
-    ensures { Answers task.now (tally.now, origin) (W.seen writer.old) (W.seen writer.new) result }
+    requires known { (tally : TallySeen) × Knows counted.now tally }
+    requires enough { IsEnoughForTask counted.now task.now }
+    ensures { (tally : TallySeen) → Knows counted.now tally
+        → Answers task.now (tally, origin) (W.seen writer.old) (W.seen writer.new) result }
 {
     match task {
         Task::Count(options) | Task::CountListed(options) => {
-            write_report(alloc, writer, tally, origin, report_of(options))
+            write_counted(alloc, writer, counted, origin, report_of(options))
         }
-        Task::Report(report) => write_report(alloc, writer, tally, origin, *report),
-        Task::Query(words) => Ok(query(writer, tally, words)?),
-        Task::Merge => Ok(write_table(writer, tally, origin.as_ref())?),
+        Task::Report(report) => write_report(alloc, writer, counted.rows(), origin, *report),
+        Task::Query(words) => Ok(query(writer, counted.rows(), words)?),
+        Task::Merge => Ok(write_table(writer, counted.rows(), origin.as_ref())?),
         Task::Select(_, _) => unreachable!(),
     }
 }

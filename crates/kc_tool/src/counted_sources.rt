@@ -1,16 +1,22 @@
 //! The tally of the reads of all sources: they are read, cleaned and cut into batches, and the words of the batches are
-//! counted by as many threads as are asked for, all of them or those of a list.
-ghost use Rattle.std.specs.Prelude.{◌≡◌, ◌≤◌, ◌+◌, ℕ, List, [], ◌∷◌, IfOk, IfErr, IfSome, None, OnOk, length, max};
+//! counted by as many threads as are asked for, all of them or those of a list. Of the tally no more is gathered than the
+//! report is about.
+ghost use Rattle.std.specs.Prelude.{◌≡◌, ◌≤◌, ◌+◌, ◌^◌, ℕ, List, [], ◌∷◌, IfOk, IfErr, IfSome, None, OnOk, length, max};
 ghost use Rattle.std.specs.Prelude.{option_map};
 ghost use Rattle.kc_io.specs.Sources.{Seen};
 ghost use Rattle.kc_fastx.specs.Parsing.{most_bytes};
 ghost use Rattle.kc_fastx.specs.Reading.{MeetsFault};
 ghost use Rattle.kc_booking.specs.Setup.{stripe_count};
+ghost use Rattle.kc_booking.specs.Stripe.{reads_in};
+ghost use Rattle.kc_gather.specs.Gathering.{position_sum};
+ghost use Rattle.kc_tool.specs.CountedTallies.{IsEnoughFor, KnowsOne};
 ghost use Rattle.kc_tool.specs.NamedSources.{names_of, seen_of};
+ghost use Rattle.kc_tool.specs.Reports.{report_of};
 ghost use Rattle.kc_fastx.specs.Reads.{Read};
 ghost use Rattle.kc_tally.specs.Tally.{IsTallyOf};
 ghost use Rattle.kc_report.specs.Table.{IsOrigin, MaySay};
 ghost use Rattle.kc_word.specs.Cutting.{cleaned};
+ghost use Rattle.kc_word.specs.Shared.{values};
 ghost use Rattle.kc_word.specs.Only.{WordList};
 ghost use Rattle.kc_tool.specs.Tallies.{
   CutsPieces,
@@ -30,17 +36,17 @@ ghost use Rattle.kc_tool.specs.Tallies.{
 ghost use Rattle.kc_command.specs.Settings.{rule_of};
 
 use crate::count_progress::{Progress, ToldGate};
+use crate::counted_tally::CountedTally;
 use crate::named_sources::NamedSource;
 use crate::tool_faults::ToolFault;
-use kc_command::Options;
+use kc_command::{Options, Print};
 use kc_fastx::{FastxFault, Reading, SeqRead, Source, read_all};
 use kc_gather::gather_laws;
 use kc_hash::Hash;
 use kc_report::Origin;
-use kc_run::{quotient_tables, run};
+use kc_run::{quotient_tables, run, run_histogram};
 use kc_stripe::Setup;
-use kc_tally::Tally;
-use kc_word::{Cutting, Only, Rule, clean};
+use kc_word::{Batch, Cutting, Only, Rule, clean};
 use std::alloc::{AllocError, Global};
 use std::sync::{Arc, Wait};
 use std::thread::Threads;
@@ -53,6 +59,9 @@ const POSITIONS_A_WORD: u64 = 4;
 
 /// As many positions as make a round of a worker.
 const LISTED_POSITIONS: u64 = 4_000_000;
+
+/// A histogram in which no greater count has a line of its own is known from the bins of the stripes.
+const GREATEST_BIN: u64 = 10_000;
 
 /// The seed of the hash that divides the words among the stripes. No report depends on it.
 const SEED: u64 = 1;
@@ -80,8 +89,8 @@ pub(crate) fn read_list<R: Source, P: Progress>(
     }
 }
 
-/// The tally of the reads of all sources, in order, counted as the options say, and what it was counted from. Where a
-/// list is given, its words alone are counted. How many bytes each read gave is told, how many batches there are, and
+/// What the report that is set is about of the tally of the reads of all sources, in order, counted as the options say,
+/// and what it was counted from. Where a list is given, its words alone are counted. How many bytes each read gave is told, how many batches there are, and
 /// each that was booked. The sources keep their names. Condition: the list is one under the rule of the options.
 ///
 /// # Errors
@@ -95,10 +104,11 @@ pub(crate) fn count_sources<H: Threads + Wait + Sync, R: Source, P: Progress + S
     sources: &mut [NamedSource<'_, R>],
     options: &Options,
     progress: &P,
-) -> Result<(Tally, Option<Origin>), ToolFault>
+) -> Result<(CountedTally, Option<Origin>), ToolFault>
     requires list { IfSome list (IsListUnder (rule_of options.now)) }
     ensures tally { let Tallies = TalliesSources (seen_of R.seen sources.old) (seen_of R.seen sources.new) options.now in
-        IfOk result (λ table. Tallies (words_of list) (table.0, table.1)) }
+        IfOk result (λ table. KnowsOne table.0 (λ tally. Tallies (words_of list) (tally, table.1))) }
+    ensures enough { IfOk result (λ table. IsEnoughFor table.0 (report_of options.now)) }
     ensures origin { IfOk result (λ table. MaySay table.1) }
     ensures fault { IfErr result (RefusesSources (seen_of R.seen sources.old) (seen_of R.seen sources.new)) }
     ensures names { names_of sources.new ≡ names_of sources.old }
@@ -106,11 +116,11 @@ pub(crate) fn count_sources<H: Threads + Wait + Sync, R: Source, P: Progress + S
     let is_listed = list.is_some();
     let settings = batches_for(options, &list);
     let (cutting, count) = cut_sources(alloc, sources, &settings, progress)?;
-    let tally = count_cutting(rt, alloc, cutting, list, &settings, progress)?;
-    Ok((tally, Some(origin_of(&settings, count, is_listed))))
+    let counted = count_cutting(rt, alloc, cutting, list, &settings, progress)?;
+    Ok((counted, Some(origin_of(&settings, count, is_listed))))
 }
 
-/// The tally of the reads of one source, the input. The rest is as with a list of sources.
+/// The same of the reads of one source, the input. The rest is as with a list of sources.
 ///
 /// # Errors
 /// As with a list of this source alone.
@@ -121,18 +131,19 @@ pub(crate) fn count_input<H: Threads + Wait + Sync, R: Source, P: Progress + Syn
     input: &mut R,
     options: &Options,
     progress: &P,
-) -> Result<(Tally, Option<Origin>), ToolFault>
+) -> Result<(CountedTally, Option<Origin>), ToolFault>
     requires list { IfSome list (IsListUnder (rule_of options.now)) }
     ensures tally { let Tallies = TalliesSources (R.seen input.old ∷ []) (R.seen input.new ∷ []) options.now in
-        IfOk result (λ table. Tallies (words_of list) (table.0, table.1)) }
+        IfOk result (λ table. KnowsOne table.0 (λ tally. Tallies (words_of list) (tally, table.1))) }
+    ensures enough { IfOk result (λ table. IsEnoughFor table.0 (report_of options.now)) }
     ensures origin { IfOk result (λ table. MaySay table.1) }
     ensures fault { IfErr result (RefusesSources (R.seen input.old ∷ []) (R.seen input.new ∷ [])) }
 {
     let is_listed = list.is_some();
     let settings = batches_for(options, &list);
     let (cutting, count) = cut_input(alloc, input, &settings, progress)?;
-    let tally = count_cutting(rt, alloc, cutting, list, &settings, progress)?;
-    Ok((tally, Some(origin_of(&settings, count, is_listed))))
+    let counted = count_cutting(rt, alloc, cutting, list, &settings, progress)?;
+    Ok((counted, Some(origin_of(&settings, count, is_listed))))
 }
 
 // The same options, with larger batches where a list is long: each booking of a batch compares the lists, which is to
@@ -164,8 +175,8 @@ fn origin_of(options: &Options, reads: u64, listed: bool) -> Origin
     }
 }
 
-// The tally of the reads whose pieces were cut, of the words of the list alone where one is given. Conditions: the
-// cutting is that of some reads, and the list is one under the rule of the options.
+// What the report that is set is about of the tally of the reads whose pieces were cut, of the words of the list alone
+// where one is given. Conditions: the cutting is that of some reads, and the list is one under the rule of the options.
 fn count_cutting<H: Threads + Wait + Sync, P: Progress + Sync>(
     rt: &H,
     alloc: Global,
@@ -173,12 +184,13 @@ fn count_cutting<H: Threads + Wait + Sync, P: Progress + Sync>(
     list: Option<Only>,
     options: &Options,
     progress: &P,
-) -> Result<Tally, ToolFault>
+) -> Result<CountedTally, ToolFault>
     requires cut { (reads : List Read) × IsCuttingOf (rule_of options.now) options.now.batch reads cutting }
     requires list { IfSome list (IsListUnder (rule_of options.now)) }
-    ensures tally { IfOk result (λ tally. (reads : List Read)
+    ensures tally { IfOk result (λ counted. (reads : List Read)
         → IsCuttingOf (rule_of options.now) options.now.batch reads cutting
-        → IsTallyOf (kept_to (words_of list) (rule_of options.now)) reads tally) }
+        → KnowsOne counted (IsTallyOf (kept_to (words_of list) (rule_of options.now)) reads)) }
+    ensures enough { IfOk result (λ counted. IsEnoughFor counted (report_of options.now)) }
     ensures fault { IfErr result IsUncounted }
 {
     let rule = options.rule();
@@ -189,17 +201,38 @@ fn count_cutting<H: Threads + Wait + Sync, P: Progress + Sync>(
     let batches = cutting.finish(alloc)?;
     progress.counting_begins(batches.len() as u64);
     let setup = setup_of(alloc, list, options)?;
-    let tables = quotient_tables(alloc, &setup, options.size())?;
-    let tally = run(
-        rt,
-        alloc,
-        &batches,
-        &setup,
-        tables,
-        options.workers(),
-        &ToldGate { progress },
-    )?;
-    Ok(tally)
+    count_batches(rt, alloc, &batches, &setup, options, progress)
+}
+
+// Counts the batches by as many threads as are asked for, and gathers of their tally what the report that is set is
+// about. Conditions: the batches have no more than 2^62 positions together, and are not more than 2^40.
+fn count_batches<H: Threads + Wait + Sync, P: Progress + Sync>(
+    rt: &H,
+    alloc: Global,
+    batches: &[Arc<Batch>],
+    setup: &Setup,
+    options: &Options,
+    progress: &P,
+) -> Result<CountedTally, ToolFault>
+    requires few { length batches.now ≤ 2 ^ 40 }
+    requires small { position_sum setup.now.rule.k (values batches.now) ≤ 2 ^ 62 }
+    ensures tally { IfOk result (λ counted. KnowsOne counted (IsTallyOf setup.now.rule (reads_in (values batches.now)))) }
+    ensures enough { IfOk result (λ counted. IsEnoughFor counted (report_of options.now)) }
+    ensures fault { IfErr result IsUncounted }
+{
+    let tables = quotient_tables(alloc, setup, options.size())?;
+    let workers = options.workers();
+    let gate = ToldGate { progress };
+    match options.print() {
+        Print::Histo if options.high() <= GREATEST_BIN => {
+            let bins = run_histogram(rt, alloc, batches, setup, tables, workers, &gate)?;
+            Ok(CountedTally::Bins(bins))
+        }
+        _ => {
+            let tally = run(rt, alloc, batches, setup, tables, workers, &gate)?;
+            Ok(CountedTally::Rows(tally))
+        }
+    }
 }
 
 // The cutting of the reads of all sources, in order, and how many reads there are. Each source is read whole before the next one, and each read is

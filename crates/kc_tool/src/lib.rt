@@ -22,6 +22,7 @@ mod command_line;
 mod commands;
 mod count_progress;
 mod counted_sources;
+mod counted_tally;
 mod counts_line;
 mod fault_lines;
 mod file_acts;

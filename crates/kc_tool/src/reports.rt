@@ -1,5 +1,7 @@
 //! Reports on a tally: which one is written, and from sources of reads to the report on their tally.
 ghost use Rattle.std.specs.Prelude.{◌≡◌, ◌≢◌, OnOk, IfErr, IfOk, IsErrOf, map, option_map};
+ghost use Rattle.kc_tally.specs.Tally.{TallySeen};
+ghost use Rattle.kc_tool.specs.CountedTallies.{IsEnoughFor, Knows};
 ghost use Rattle.kc_tool.specs.NamedSources.{seen_of};
 ghost use Rattle.kc_tool.specs.Reports.{BeginsReport, IsWritable, LeavesUnwritten, WritesReport, WritesText};
 ghost use Rattle.kc_tool.specs.Reports.{report_of, report_text};
@@ -9,11 +11,14 @@ ghost use Rattle.kc_command.specs.Settings.{rule_of};
 
 use crate::count_progress::NoProgress;
 use crate::counted_sources::{count_sources, read_list};
+use crate::counted_tally::CountedTally;
 use crate::named_sources::NamedSource;
 use crate::tool_faults::ToolFault;
 use kc_command::{Options, Print};
 use kc_io::{Sink, Source};
-use kc_report::{Dump, Origin, write_dump, write_histo, write_stats, write_table};
+use kc_report::{
+    Dump, Origin, write_dump, write_histo, write_histo_of_bins, write_stats, write_table,
+};
 use kc_tally::Tally;
 use kc_word::Only;
 use std::alloc::{AllocError, Global};
@@ -60,8 +65,8 @@ pub fn count_reads<H: Threads + Wait + Sync, Q: Source + Drop, R: Source + Drop,
 {
     let mut sources = unnamed(alloc, sources)?;
     let list = list_of(alloc, only, options)?;
-    let (tally, origin) = count_sources(rt, alloc, list, &mut sources, options, &NoProgress)?;
-    write_report(alloc, writer, &tally, origin, report_of(options))
+    let (counted, origin) = count_sources(rt, alloc, list, &mut sources, options, &NoProgress)?;
+    write_counted(alloc, writer, &counted, origin, report_of(options))
 }
 
 // The list of the words that occur in the reads of this source, where there is one.
@@ -103,6 +108,30 @@ pub(crate) fn report_of(options: &Options) -> Report
         print: options.print(),
         dump: options.dump(),
         high: options.high(),
+    }
+}
+
+/// Writes a report on a tally of which enough is known. The rest is as with a whole tally.
+///
+/// # Errors
+/// As with a whole tally.
+pub(crate) fn write_counted<W: Sink>(
+    alloc: Global,
+    writer: &mut W,
+    counted: &CountedTally,
+    origin: Option<Origin>,
+    report: Report,
+) -> Result<(), ToolFault>
+    requires writable { IsWritable report }
+    requires origin { MaySay origin }
+    requires known { (tally : TallySeen) × Knows counted.now tally }
+    requires enough { IsEnoughFor counted.now report }
+    ensures { (tally : TallySeen) → Knows counted.now tally
+        → WritesText (report_text report (tally, origin)) (W.seen writer.old) (W.seen writer.new) result }
+{
+    match counted {
+        CountedTally::Rows(tally) => write_report(alloc, writer, tally, origin, report),
+        CountedTally::Bins(bins) => Ok(write_histo_of_bins(writer, bins, report.high)?),
     }
 }
 

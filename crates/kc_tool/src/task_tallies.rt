@@ -4,12 +4,15 @@ ghost use Rattle.kc_report.specs.Table.{MaySay};
 ghost use Rattle.kc_report.specs.Merging.{Merges};
 ghost use Rattle.kc_report.specs.TableReading.{GivesTable};
 ghost use Rattle.kc_command.specs.Settings.{rule_of};
+ghost use Rattle.kc_tool.specs.CountedTallies.{IsEnoughFor, KnowsOne};
 ghost use Rattle.kc_tool.specs.NamedSources.{names_of, seen_of};
+ghost use Rattle.kc_tool.specs.Reports.{report_of};
 ghost use Rattle.kc_tool.specs.Tallies.{Counts, IsListUnder, RefusesCount, RefusesSources, TalliesSources, words_of};
 ghost use Rattle.kc_tool.specs.Commands.{
   HasFilesFor,
   HasNoTallyFor,
   IsAboutTally,
+  IsEnoughForTask,
   IsTallyFor,
   KeepsInput,
   MergesNot,
@@ -28,6 +31,7 @@ ghost use Rattle.kc_tool.specs.Commands.{
 use crate::commands::Task;
 use crate::count_progress::Progress;
 use crate::counted_sources::{count_input, count_sources, read_list};
+use crate::counted_tally::CountedTally;
 use crate::named_sources::NamedSource;
 use crate::tool_faults::ToolFault;
 use kc_command::Options;
@@ -42,7 +46,7 @@ use std::thread::Threads;
 /// The most bytes that a table may have.
 const MOST_TABLE_BYTES: u64 = 1 << 42;
 
-/// The tally that a task is about, and its origin where that is told: of the reads of the files or, where there are none,
+/// What a task is about of its tally, and its origin where that is told: of the reads of the files or, where there are none,
 /// of the given input, whose counting is told; of a table; or of two tables together. The files keep their names.
 /// Condition: the task has such files as it is to have.
 ///
@@ -55,12 +59,13 @@ pub(crate) fn tally_for<H: Threads + Wait + Sync, R: Source, F: Source, P: Progr
     files: &mut [NamedSource<'_, F>],
     input: &mut R,
     progress: &P,
-) -> Result<(Tally, Option<Origin>), ToolFault>
+) -> Result<(CountedTally, Option<Origin>), ToolFault>
     requires files { HasFilesFor task.now (seen_of F.seen files.old) }
     requires about { IsAboutTally task.now }
     ensures tally { let Tallies = IsTallyFor (given_of task.now (R.seen input.old) (seen_of F.seen files.old))
         (given_of task.now (R.seen input.new) (seen_of F.seen files.new)) in
-        IfOk result (λ table. Tallies task.now (table.0, table.1)) }
+        IfOk result (λ table. KnowsOne table.0 (λ tally. Tallies task.now (tally, table.1))) }
+    ensures enough { IfOk result (λ table. IsEnoughForTask table.0 task.now) }
     ensures origin { IfOk result (λ table. MaySay table.1) }
     ensures fault { let HasNone = HasNoTallyFor (given_of task.now (R.seen input.old) (seen_of F.seen files.old))
         (given_of task.now (R.seen input.new) (seen_of F.seen files.new)) in IfErr result (HasNone task.now) }
@@ -70,16 +75,25 @@ pub(crate) fn tally_for<H: Threads + Wait + Sync, R: Source, F: Source, P: Progr
     let counted = match task {
         Task::Count(options) => count_of(rt, alloc, None, options, files, input, progress),
         Task::CountListed(options) => count_listed(rt, alloc, options, files, input, progress),
-        Task::Merge => return sum_of(alloc, files),
-        Task::Report(_) | Task::Query(_) => return table_of(alloc, files, input),
+        Task::Merge => return Ok(known(sum_of(alloc, files)?)),
+        Task::Report(_) | Task::Query(_) => return Ok(known(table_of(alloc, files, input)?)),
         Task::Select(_, _) => unreachable!(),
     };
     progress.ends();
     counted
 }
 
-// The tally of the reads of the files behind the first, or where there are none, of those of the given input, of those
-// words that occur in the reads of the first file. Condition: there is a first file.
+// A tally of which the whole is known, and what it was counted from.
+fn known(table: (Tally, Option<Origin>)) -> (CountedTally, Option<Origin>)
+    ensures tally { result.0 ≡ CountedTally.Rows table.0 }
+    ensures origin { result.1 ≡ table.1 }
+{
+    let (tally, origin) = table;
+    (CountedTally::Rows(tally), origin)
+}
+
+// What the report that is set is about of the tally of the reads of the files behind the first, or where there are none,
+// of those of the given input, of those words that occur in the reads of the first file. Condition: there is a first file.
 fn count_listed<H: Threads + Wait + Sync, R: Source, F: Source, P: Progress + Sync>(
     rt: &H,
     alloc: Global,
@@ -87,11 +101,12 @@ fn count_listed<H: Threads + Wait + Sync, R: Source, F: Source, P: Progress + Sy
     files: &mut [NamedSource<'_, F>],
     input: &mut R,
     progress: &P,
-) -> Result<(Tally, Option<Origin>), ToolFault>
+) -> Result<(CountedTally, Option<Origin>), ToolFault>
     requires { 1 ≤ length files.old }
     ensures tally { let Counted = Counts (given_listed (R.seen input.old) (seen_of F.seen files.old)) in
         let Tallies = Counted (given_listed (R.seen input.new) (seen_of F.seen files.new)) in
-        IfOk result (λ table. Tallies options.now (table.0, table.1)) }
+        IfOk result (λ table. KnowsOne table.0 (λ tally. Tallies options.now (tally, table.1))) }
+    ensures enough { IfOk result (λ table. IsEnoughFor table.0 (report_of options.now)) }
     ensures origin { IfOk result (λ table. MaySay table.1) }
     ensures fault { let Refuses = RefusesCount (given_listed (R.seen input.old) (seen_of F.seen files.old)) in
         IfErr result (Refuses (given_listed (R.seen input.new) (seen_of F.seen files.new)) options.now) }
@@ -103,8 +118,8 @@ fn count_listed<H: Threads + Wait + Sync, R: Source, F: Source, P: Progress + Sy
     count_of(rt, alloc, Some(list), options, sources, input, progress)
 }
 
-// The tally of the reads of the files, or where there are none, of those of the given input, of the words of the list
-// alone where one is given. Condition: the list is one under the rule of the options.
+// What the report that is set is about of the tally of the reads of the files, or where there are none, of those of the
+// given input, of the words of the list alone where one is given. Condition: the list is one under the rule of the options.
 fn count_of<H: Threads + Wait + Sync, R: Source, F: Source, P: Progress + Sync>(
     rt: &H,
     alloc: Global,
@@ -113,11 +128,12 @@ fn count_of<H: Threads + Wait + Sync, R: Source, F: Source, P: Progress + Sync>(
     files: &mut [NamedSource<'_, F>],
     input: &mut R,
     progress: &P,
-) -> Result<(Tally, Option<Origin>), ToolFault>
+) -> Result<(CountedTally, Option<Origin>), ToolFault>
     requires { IfSome list (IsListUnder (rule_of options.now)) }
     ensures tally { let Tallies = TalliesSources (sources_from (R.seen input.old) (seen_of F.seen files.old))
         (sources_from (R.seen input.new) (seen_of F.seen files.new)) options.now (words_of list) in
-        IfOk result (λ table. Tallies (table.0, table.1)) }
+        IfOk result (λ table. KnowsOne table.0 (λ tally. Tallies (tally, table.1))) }
+    ensures enough { IfOk result (λ table. IsEnoughFor table.0 (report_of options.now)) }
     ensures origin { IfOk result (λ table. MaySay table.1) }
     ensures fault { let Refuses = RefusesSources (sources_from (R.seen input.old) (seen_of F.seen files.old)) in
         IfErr result (Refuses (sources_from (R.seen input.new) (seen_of F.seen files.new))) }

@@ -1,4 +1,4 @@
-use Rattle.std.proofs.Common.{◌∙◌, length, ap, subst}
+use Rattle.std.proofs.Common.{◌∙◌, length, ap, subst, rules}
 use Rattle.std.specs.Prelude.{All}
 use Rattle.std.proofs.lemmas.Result.{err_from_is_err_and, IfErr-weaker}
 use Rattle.kc_share.specs.declared.entry.Plan.{Plan}

@@ -4,13 +4,13 @@ use Rattle.kc_tool.specs.NamedSources.{seen_of}
 use Rattle.kc_tool.proofs.CommandsLemmas.{answered, unanswered}
 use Rattle.kc_tool.proofs.commands.answer_by_tally.Goals as goal
 
-pub returns-in_err-tally : goal.returns-in_err-tally
-returns-in_err-tally g c =
+pub returns-in_err-counted : goal.returns-in_err-counted
+returns-in_err-counted g c =
     let p = err_from_is_err_and c.from_residual.result c.from_residual.ensures.1 in
     let old = given_of c.args.task.now (g.R.Source.seen c.args.input.now) (seen_of g.F.Source.seen c.args.files.now) in
     let new = given_of c.args.task.now (g.R.Source.seen c.tally_for.new.input) (seen_of g.F.Source.seen c.tally_for.new.files) in
     record {
-      done = rw (p.1, p.2) (unanswered old new c.args.task.now (g.W.Sink.seen c.args.output.now) c.in_err-tally.field-0.0 c.in_err-tally.ensures.fault);
+      done = rw (p.1, p.2) (unanswered old new c.args.task.now (g.W.Sink.seen c.args.output.now) c.in_err-counted.field-0.0 c.in_err-counted.ensures.fault);
       input = c.tally_for.ensures.input;
       names = c.tally_for.ensures.names;
     }
@@ -19,9 +19,10 @@ pub returns : goal.returns
 returns g c =
     let old = given_of c.args.task.now (g.R.Source.seen c.args.input.now) (seen_of g.F.Source.seen c.args.files.now) in
     let new = given_of c.args.task.now (g.R.Source.seen c.tally_for.new.input) (seen_of g.F.Source.seen c.tally_for.new.files) in
+    let known = c.in_ok-counted.ensures.tally in
     record {
       done = answered old new c.args.task.now (g.W.Sink.seen c.args.output.now) (g.W.Sink.seen c.write_answer.new.writer) _
-          c.write_answer.result c.in_ok-tally.ensures.tally c.write_answer.ensures;
+          c.write_answer.result known.holds (c.write_answer.ensures known.tally known.knows);
       input = c.tally_for.ensures.input;
       names = c.tally_for.ensures.names;
     }

@@ -1,5 +1,6 @@
 use Rattle.std.proofs.Common.{Some, refl, IfOk, IfErr}
 use Rattle.std.proofs.lemmas.Result.{IfErr-weaker, IfOk-weaker, err_from_is_err_and}
+use Rattle.kc_tool.specs.CountedTallies.{KnowsOne}
 use Rattle.kc_tool.specs.Tallies.{Counts, RefusesCount}
 use Rattle.kc_tool.proofs.TablesLemmas.{first_named, listed_done, listed_kept, listed_named, listed_refused, same_input}
 use Rattle.kc_tool.proofs.SourcesLemmas.{sources_counted, sources_refused}
@@ -12,8 +13,11 @@ returns-clause-tally g c =
     let list = c.in_ok-list.list in
     let counted = sources_counted (Some list.words) (Some _) (Some (seen c.read_list.new.source)) _ _ c.args.options.now (list, gives, refl) in
     listed_done seen (g.R.Source.seen c.args.input.now) (g.R.Source.seen c.count_of.new.input) c.args.files.now c.requires c.index-files-0.result
-    c.read_list.new.source c.count_of.new.files (λ old new. IfOk c.count_of.result (λ table. Counts old new c.args.options.now (table.0, table.1)))
-    (IfOk-weaker c.count_of.result _ _ (λ table h. counted (table.0, table.1) h) c.count_of.ensures.tally)
+    c.read_list.new.source c.count_of.new.files (λ old new. IfOk c.count_of.result (λ table. KnowsOne table.0 (λ tally. Counts old new c.args.options.now (tally, table.1))))
+    (IfOk-weaker c.count_of.result _ _ (λ table h. record { tally = h.tally; knows = h.knows; holds = counted (h.tally, table.1) h.holds }) c.count_of.ensures.tally)
+
+pub returns-clause-enough : goal.returns-clause-enough
+returns-clause-enough g c = c.count_of.ensures.enough
 
 pub returns-clause-fault : goal.returns-clause-fault
 returns-clause-fault g c =
