@@ -133,3 +133,8 @@ pub list_left : (source : Option Seen) (sources : List Seen) (settings : Setting
 list_left None sources settings fault h = absurd h
 list_left (Some source) sources settings fault h =
     (given (Some h.0) sources, list_refused source h.0 sources settings fault h.1)
+
+-- Nothing is uncounted since a writer failed.
+pub not_counted : (old new : Given) (settings : Settings) → RefusesCount old new settings Write → ⊥
+not_counted old new settings (inl h) = h
+not_counted old new settings (inr h) = h.refused

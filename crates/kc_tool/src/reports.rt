@@ -3,7 +3,7 @@ ghost use Rattle.std.specs.Prelude.{◌≡◌, ◌≢◌, OnOk, IfErr, IfOk, IsE
 ghost use Rattle.kc_tool.specs.NamedSources.{seen_of};
 ghost use Rattle.kc_tool.specs.Reports.{BeginsReport, IsWritable, LeavesUnwritten, WritesReport, WritesText};
 ghost use Rattle.kc_tool.specs.Reports.{report_of, report_text};
-ghost use Rattle.kc_tool.specs.Tallies.{GivesListOf, ListFailsIn, given};
+ghost use Rattle.kc_tool.specs.Tallies.{GivesListOf, IsCountOf, IsRefusedCountOf, ListFailsIn, given};
 ghost use Rattle.kc_report.specs.Table.{MaySay};
 ghost use Rattle.kc_command.specs.Settings.{rule_of};
 
@@ -58,10 +58,28 @@ pub fn count_reads<H: Threads + Wait + Sync, Q: Source + Drop, R: Source + Drop,
         IfErr result (λ fault. fault ≢ ToolFault.Write
         → Leaves options.now (W.seen writer.old) (W.seen writer.new) fault) }
 {
+    let (tally, origin) = tally_of(rt, alloc, only, sources, options)?;
+    write_report(alloc, writer, &tally, origin, report_of(options))
+}
+
+// The tally of the reads of all sources, of those words that occur in the reads of `only` where it is given, and what it
+// was counted from.
+fn tally_of<H: Threads + Wait + Sync, Q: Source + Drop, R: Source + Drop>(
+    rt: &H,
+    alloc: Global,
+    only: Option<Q>,
+    sources: Vec<R>,
+    options: &Options,
+) -> Result<(Tally, Option<Origin>), ToolFault>
+    ensures tally { let Counted = IsCountOf (given (option_map Q.seen only) (map R.seen sources.items)) options.now in
+        IfOk result (λ table. Counted (table.0, table.1)) }
+    ensures origin { IfOk result (λ table. MaySay table.1) }
+    ensures fault { let Refused = IsRefusedCountOf (given (option_map Q.seen only) (map R.seen sources.items)) in
+        IfErr result (Refused options.now) }
+{
     let mut sources = unnamed(alloc, sources)?;
     let list = list_of(alloc, only, options)?;
-    let (tally, origin) = count_sources(rt, alloc, list, &mut sources, options, &NoProgress)?;
-    write_report(alloc, writer, &tally, origin, report_of(options))
+    count_sources(rt, alloc, list, &mut sources, options, &NoProgress)
 }
 
 // The list of the words that occur in the reads of this source, where there is one.
