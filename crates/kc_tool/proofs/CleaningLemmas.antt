@@ -13,7 +13,8 @@ use Rattle.kc_word.specs.Cutting.{cleaned}
 use Rattle.kc_word.specs.OpenCutting.{OpenCutting, HasTaken}
 use Rattle.kc_kmer.specs.Rule.{CountingRule}
 use Rattle.kc_word.proofs.Cleaning.{length-cleaned}
-use Rattle.kc_tool.specs.Tallies.{CutsPieces, CutsSources, FailsAt, RefusesSource, RefusesSources, TakesPiece, pieces_of}
+use Rattle.kc_tool.specs.Tallies.{CutsNext, CutsNone, CutsSources, FailsAt, RefusesSource, RefusesSources, TakesPiece, pieces_of}
+use Rattle.kc_tool.specs.declared.counted_sources.CutReads.{CutReads}
 use Rattle.kc_tool.specs.declared.tool_faults.ToolFault.{ToolFault}
 use Rattle.kc_tool.specs.declared.tool_faults.ToolFault.TheVariants.{Fastx, BadHeader, BadRow, BadEnd, TableTooLong}
 use Rattle.kc_tool.specs.declared.tool_faults.ToolFault.TheVariants.{TableRead, Memory, BadOption, BadWord, Write, Run}
@@ -33,62 +34,57 @@ letters rule (read ∷ reads) =
     pieces ∙ omega (arith, length-cleaned rule read, letters rule reads, bases)
 
 -- The sources before this one were read, and their reads cleaned and cut.
-pub record CutSoFar (old new : List Seen) (rule : CountingRule) (batch : ℕ) (cutting : OpenCutting)
-    (left number count : ℕ) : Type 0 where
+pub record CutSoFar (old new : List Seen) (rule : CountingRule) (batch : ℕ) (cut : CutReads) : Type 0 where
   pub reads : List Read
-  pub so_far : ReadSoFar old new reads left number
-  pub length_of_words : cutting.k ≡ rule.k
-  pub size : cutting.size ≡ batch
-  pub taken : HasTaken cutting (pieces_of rule reads)
-  pub counted : count ≡ length reads
-  pub few : count + left ≤ most_bytes
+  pub so_far : ReadSoFar old new reads cut.left cut.sources
+  pub length_of_words : cut.cutting.k ≡ rule.k
+  pub size : cut.cutting.size ≡ batch
+  pub taken : HasTaken cut.cutting (pieces_of rule reads)
+  pub counted : cut.reads ≡ length reads
+  pub few : cut.reads + cut.left ≤ most_bytes
 
-pub cutting_begun : (sources : List Seen) (rule : CountingRule) (batch : ℕ) (cutting : OpenCutting)
-    → cutting.k ≡ rule.k → cutting.size ≡ batch → HasTaken cutting []
-    → CutSoFar sources sources rule batch cutting most_bytes 0 0
-cutting_begun sources rule batch cutting length_of_words size none = record {
+pub cutting_begun : (sources : List Seen) {rule : CountingRule} {batch : ℕ} {cut : CutReads} → CutsNone rule batch cut
+    → CutSoFar sources sources rule batch cut
+cutting_begun sources {cut = cut} is = record {
   reads = [];
-  so_far = begun sources;
-  length_of_words = length_of_words;
-  size = size;
-  taken = none;
-  counted = refl;
-  few = omega arith;
+  so_far = subst (λ n. ReadSoFar sources sources [] n cut.sources) (sym is.left)
+      (subst (λ n. ReadSoFar sources sources [] most_bytes n) (sym is.sources) (begun sources));
+  length_of_words = is.length_of_words;
+  size = is.size;
+  taken = is.none;
+  counted = is.reads;
+  few = omega (arith, is.left, is.reads);
 }
 
--- A source gave no more bytes than were left.
-pub gives_within : {old new : Seen} {limit : ℕ} {rule : CountingRule} {bytes count : ℕ} {before after : OpenCutting}
-    → CutsPieces old new limit rule bytes count before after → bytes ≤ limit
-gives_within gives = omega (arith, gives.given.counted, gives.given.taken.within)
-
 -- The next source's pieces were cut.
-pub one_more_cut : {old new : List Seen} {rule : CountingRule} {batch : ℕ} (d later : Seen)
-    {cutting after : OpenCutting} {left number count : ℕ} (bytes more_reads : ℕ)
-    → CutSoFar old new rule batch cutting left number count → number < length new
-    → CutsPieces (get_or new number d) later left rule bytes more_reads cutting after
-    → CutSoFar old (set new number later) rule batch after (left - bytes) (number + 1) (count + more_reads)
-one_more_cut {new = new} {rule = rule} d later {after = after} {left = left} {number = number} {count = count} bytes more_reads r within gives =
+pub one_more_cut : {old new : List Seen} {rule : CountingRule} {batch : ℕ} (d later : Seen) {cut after : CutReads}
+    → CutSoFar old new rule batch cut → cut.sources < length new
+    → CutsNext (get_or new cut.sources d) later rule cut after → CutSoFar old (set new cut.sources later) rule batch after
+one_more_cut {old = old} {new = new} {rule = rule} d later {cut} {after} r within next =
+    let gives = next.pieces in
     let more = gives.reads in
-    let few = base_count-gives (get_or new number d) later left more bytes gives.given in
+    let few = base_count-gives (get_or new cut.sources d) later cut.left more next.bytes gives.given in
+    let read = one_more d later more next.bytes r.so_far within gives.given few in
+    let later_all = set new cut.sources later in
     record {
       reads = r.reads ++ more;
-      so_far = one_more d later more bytes r.so_far within gives.given few;
+      so_far = subst (λ n. ReadSoFar old later_all (r.reads ++ more) n after.sources) (sym next.left)
+          (subst (λ n. ReadSoFar old later_all (r.reads ++ more) (cut.left - next.bytes) n) (sym next.sources) read);
       length_of_words = gives.length_of_words ∙ r.length_of_words;
       size = gives.size ∙ r.size;
-      taken = subst (HasTaken after) (sym (pieces_of-append rule r.reads more))
+      taken = subst (HasTaken after.cutting) (sym (pieces_of-append rule r.reads more))
           (gives.behind (pieces_of rule r.reads) r.taken);
-      counted = omega (arith, r.counted, gives.counted, length-append r.reads more);
-      few = omega (arith, r.few, gives.few, gives_within gives);
+      counted = omega (arith, next.reads, r.counted, gives.counted, length-append r.reads more);
+      few = omega (arith, next.reads, next.left, r.few, gives.few, gives.given.counted, gives.given.taken.within);
     }
 
 -- The next source was refused.
-pub refused_cleaning : {old new : List Seen} {rule : CountingRule} {batch : ℕ} (d later : Seen)
-    {cutting : OpenCutting} {left number count : ℕ} (fault : ToolFault)
-    → CutSoFar old new rule batch cutting left number count → number < length new
-    → RefusesSource (get_or new number d) later (number + 1) left fault
-    → RefusesSources old (set new number later) fault
-refused_cleaning {old = old} {new = new} d later {number = number} (Fastx at fault) r within h =
-    subst (λ v. FailsAt old (set new number later) v fault) (sym h.0) (refused d later fault r.so_far within h.1)
+pub refused_cleaning : {old new : List Seen} {rule : CountingRule} {batch : ℕ} (d later : Seen) {cut : CutReads}
+    (fault : ToolFault) → CutSoFar old new rule batch cut → cut.sources < length new
+    → RefusesSource (get_or new cut.sources d) later (cut.sources + 1) cut.left fault
+    → RefusesSources old (set new cut.sources later) fault
+refused_cleaning {old = old} {new = new} d later {cut} (Fastx at fault) r within h =
+    subst (λ v. FailsAt old (set new cut.sources later) v fault) (sym h.0) (refused d later fault r.so_far within h.1)
 refused_cleaning d later Memory r within h = tt
 refused_cleaning d later (Run fault) r within h = absurd h
 refused_cleaning d later BadHeader r within h = absurd h
@@ -105,36 +101,35 @@ refused_cleaning d later TooLarge r within h = absurd h
 
 -- The same, where the sources are seen by `see`, and this one is replaced in their list.
 module _ {X : Type 0} (see : X → Seen) (xs : List X) {i : ℕ} (x y : X) (is : x ≡ get_or xs i x) (within : i < length xs)
-    {old : List Seen} {rule : CountingRule} {batch : ℕ} {cutting : OpenCutting} {left number count : ℕ} (counted : number ≡ i)
-    (r : CutSoFar old (map see xs) rule batch cutting left number count) where
-  here : see x ≡ get_or (map see xs) number (see x)
+    {old : List Seen} {rule : CountingRule} {batch : ℕ} {cut : CutReads} (counted : cut.sources ≡ i)
+    (r : CutSoFar old (map see xs) rule batch cut) where
+  here : see x ≡ get_or (map see xs) cut.sources (see x)
   here = ap see is ∙ sym (get_or-map see xs i x (see x) within) ∙ ap (λ n. get_or (map see xs) n (see x)) (sym counted)
 
-  below : number < length (map see xs)
+  below : cut.sources < length (map see xs)
   below = rw (length-map xs see, counted) within
 
-  replaced : set (map see xs) number (see y) ≡ map see (set xs i y)
+  replaced : set (map see xs) cut.sources (see y) ≡ map see (set xs i y)
   replaced = ap (λ n. set (map see xs) n (see y)) counted ∙ sym (map-set see xs i y)
 
-  pub one_more_kept : {after : OpenCutting} (bytes more : ℕ) → CutsPieces (see x) (see y) left rule bytes more cutting after
-      → CutSoFar old (map see (set xs i y)) rule batch after (left - bytes) (number + 1) (count + more)
-  one_more_kept {after} bytes more gives =
-      subst (λ v. CutSoFar old v rule batch after (left - bytes) (number + 1) (count + more)) replaced
-      (one_more_cut (see x) (see y) bytes more r below (subst (λ v. CutsPieces v (see y) left rule bytes more cutting after) here gives))
+  pub one_more_kept : {after : CutReads} → CutsNext (see x) (see y) rule cut after
+      → CutSoFar old (map see (set xs i y)) rule batch after
+  one_more_kept {after} next =
+      subst (λ v. CutSoFar old v rule batch after) replaced
+      (one_more_cut (see x) (see y) r below (subst (λ v. CutsNext v (see y) rule cut after) here next))
 
-  pub refused_kept : (fault : ToolFault) → RefusesSource (see x) (see y) (number + 1) left fault
+  pub refused_kept : (fault : ToolFault) → RefusesSource (see x) (see y) (cut.sources + 1) cut.left fault
       → RefusesSources old (map see (set xs i y)) fault
   refused_kept fault h =
       subst (λ v. RefusesSources old v fault) replaced
-      (refused_cleaning (see x) (see y) fault r below (subst (λ v. RefusesSource v (see y) (number + 1) left fault) here h))
+      (refused_cleaning (see x) (see y) fault r below (subst (λ v. RefusesSource v (see y) (cut.sources + 1) cut.left fault) here h))
 
 -- All sources were read.
-pub all_cut : {old new : List Seen} {rule : CountingRule} {batch : ℕ} {cutting : OpenCutting} {left number count : ℕ}
-    → CutSoFar old new rule batch cutting left number count → length new ≤ number
-    → CutsSources old new rule batch cutting count
-all_cut {old} {new} {rule = rule} {left = left} {number = number} r all = record {
+pub all_cut : {old new : List Seen} {rule : CountingRule} {batch : ℕ} {cut : CutReads} → CutSoFar old new rule batch cut
+    → length new ≤ cut.sources → CutsSources old new rule batch cut.cutting cut.reads
+all_cut {old} {new} {rule = rule} {cut = cut} r all = record {
   reads = r.reads;
-  are = ended old new r.reads left number r.so_far all;
+  are = ended old new r.reads cut.left cut.sources r.so_far all;
   cut = record {
     length_of_words = r.length_of_words;
     size = r.size;
@@ -145,24 +140,18 @@ all_cut {old} {new} {rule = rule} {left = left} {number = number} r all = record
   few = omega (arith, r.few);
 }
 
-no_more : (count : ℕ) → 0 + count ≡ count
-no_more count = omega arith
+-- One source alone was read, and its pieces were cut; or it was refused.
+module _ (old new : Seen) {rule : CountingRule} {batch : ℕ} {cut : CutReads} (is : CutsNone rule batch cut) where
+  pub one_cut : {after : CutReads} → CutsNext old new rule cut after
+      → CutsSources (old ∷ []) (new ∷ []) rule batch after.cutting after.reads
+  one_cut {after} next =
+      all_cut (one_more_kept (λ seen. seen) (old ∷ []) {i = 0} old new refl (omega arith) is.sources
+      (cutting_begun (old ∷ []) is) next) (omega (arith, is.sources, next.sources))
 
--- One source alone was read, and its pieces were cut.
-pub one_cut : {old new : Seen} {rule : CountingRule} {batch bytes count : ℕ} {cutting after : OpenCutting}
-    → cutting.k ≡ rule.k → cutting.size ≡ batch → HasTaken cutting []
-    → CutsPieces old new most_bytes rule bytes count cutting after
-    → CutsSources (old ∷ []) (new ∷ []) rule batch after count
-one_cut {old} {new} {rule} {batch} {bytes} {count} {cutting} {after} length_of_words size none gives =
-    let begun = cutting_begun (old ∷ []) rule batch cutting length_of_words size none in
-    let all = all_cut (one_more_cut old new bytes count begun (omega arith) gives) (omega arith) in
-    subst (λ n. CutsSources (old ∷ []) (new ∷ []) rule batch after n) (no_more count) all
-
--- It was refused.
-pub one_refused : (old new : Seen) {rule : CountingRule} {batch : ℕ} {cutting : OpenCutting} (fault : ToolFault)
-    → CutSoFar (old ∷ []) (old ∷ []) rule batch cutting most_bytes 0 0
-    → RefusesSource old new 1 most_bytes fault → RefusesSources (old ∷ []) (new ∷ []) fault
-one_refused old new fault begun refuses = refused_cleaning old new fault begun (omega arith) refuses
+  pub one_refused : (fault : ToolFault) → RefusesSource old new (cut.sources + 1) cut.left fault
+      → RefusesSources (old ∷ []) (new ∷ []) fault
+  one_refused fault refuses =
+      refused_kept (λ seen. seen) (old ∷ []) {i = 0} old new refl (omega arith) is.sources (cutting_begun (old ∷ []) is) fault refuses
 
 -- A source was read so far: the pieces of its reads were cut behind those that were cut before.
 pub record PiecesSoFar (start now : Seen) (limit : ℕ) (rule : CountingRule) (before cutting : OpenCutting)

@@ -1,5 +1,5 @@
 -- The commands and their tasks.
-use Rattle.std.proofs.Common.{◌≡◌, ◌≤◌, ◌∙◌, ◌++◌, Bor, List, [], ◌∷◌, Option, Some, None, length, map, take, refl, sym, ap, ap₂, subst, inl, inr, Result, Ok, Err, ℕ, true, false, arith}
+use Rattle.std.proofs.Common.{◌≡◌, ◌≤◌, ◌∙◌, ◌++◌, Bool, Bor, List, [], ◌∷◌, Option, Some, None, length, map, take, refl, sym, ap, ap₂, subst, inl, inr, Result, Ok, Err, ℕ, true, false, arith}
 use Rattle.std.proofs.Common.{append_assoc, append-nil}
 use Rattle.std.specs.Prelude.{◌==◌, ◌⊎◌, unwrap_or, All}
 use Rattle.std.proofs.lemmas.List.{length-map, nil_from_length}
@@ -12,9 +12,9 @@ use Rattle.kc_report.specs.TableReading.{RefusesTable}
 use Rattle.kc_report.specs.Merging.{Merges}
 use Rattle.kc_report.specs.declared.report_faults.ReportFault.{ReportFault}
 use Rattle.kc_report.specs.declared.report_faults.ReportFault.TheVariants as report
-use Rattle.kc_command.specs.Settings.{Settings}
+use Rattle.kc_select.specs.Solid.{SelectionRule}
 use Rattle.kc_tool.specs.Faults.{report_fault}
-use Rattle.kc_tool.specs.Tallies.{Given, RefusesCount, TableSeen}
+use Rattle.kc_tool.specs.Tallies.{Given, TableSeen}
 use Rattle.kc_tool.specs.FileEvents.{FileEvent, created, not_created, opened, wrote}
 use Rattle.kc_tool.specs.NamedSources.{names_of, seen_of}
 use Rattle.kc_tool.specs.Files.{AreOf, AreOpened, FailsToOpen, FileRead, LacksFile, OpensAll, TellsName}
@@ -32,6 +32,7 @@ use Rattle.kc_tool.specs.declared.commands.Task.TheVariants.{Count, CountListed,
 use Rattle.kc_tool.specs.declared.commands.Verb.{Verb}
 use Rattle.kc_tool.specs.declared.commands.Verb.TheVariants as verb
 use Rattle.kc_tool.proofs.FilesLemmas.{PairedTo, unread_back}
+use Rattle.kc_tool.proofs.SourcesLemmas.{not_counted}
 
 -- The texts that were found.
 pub texts_found : {found : Option (List Text)} {texts : List Text} → Some texts ≡ found → texts ≡ unwrap_or found []
@@ -161,10 +162,6 @@ told_sum (first ∷ second ∷ []) [] h = h
 told_sum (first ∷ second ∷ []) (after ∷ []) h = h
 told_sum (first ∷ second ∷ []) (after ∷ other ∷ third ∷ news) h = h
 
-not_counted : (old new : Given) (settings : Settings) → RefusesCount old new settings Write → ⊥
-not_counted old new settings (inl h) = h
-not_counted old new settings (inr h) = h.refused
-
 read_before : (task : Task) (old new : Given) → HasNoTallyFor old new task Write → ⊥
 read_before (Count settings) old new h = not_counted old new settings h
 read_before (CountListed settings) old new h = not_counted old new settings h
@@ -210,6 +207,15 @@ module _ (old new : Given) (task : Task) where
   answered before after table (Err (OpenFailed name)) is h = (h.0, inr (table, is, h.1))
   answered before after table (Err Unlike) is h = (h.0, inr (table, is, h.1))
   answered before after table (Err TooLarge) is h = (h.0, inr (table, is, h.1))
+
+-- A task that is no selection is about a tally.
+pub not_selection : (task : Task) → ((rule : SelectionRule) (tells : Bool) → task ≡ Select rule tells → ⊥) → IsAboutTally task
+not_selection (Count settings) other = tt
+not_selection (CountListed settings) other = tt
+not_selection (Report report) other = tt
+not_selection (Query words) other = tt
+not_selection Merge other = tt
+not_selection (Select rule tells) other = other rule tells refl
 
 -- What a task does about a tally is what it does, where it is no selection, and it tells nothing.
 pub about_tally : (task : Task) (old new : Stage) → IsAboutTally task → DoesByTally task old new (Ok tt)

@@ -1,8 +1,8 @@
 -- From a tally of the reads of sources to the report on it.
-use Rattle.std.proofs.Common.{◌≡◌, ℕ, List, ap, refl}
+use Rattle.std.proofs.Common.{◌≡◌, ℕ, List, ap, refl, subst}
 use Rattle.std.specs.Prelude.{◌≢◌, Result, Ok, Err, OnOk, IfErr, IsErrOf}
 use Rattle.kc_io.specs.Sinks.{Written}
-use Rattle.kc_tool.specs.Tallies.{Counts, Given, TableSeen}
+use Rattle.kc_tool.specs.Tallies.{Counts, Given, IsRefusedCountOf, RefusesCount, TableSeen}
 use Rattle.kc_tool.specs.Reports.{BeginsReport, IsReportOf, LeavesUnwritten, WritesReport, WritesText}
 use Rattle.kc_tool.specs.Reports.{report_of, report_text}
 use Rattle.kc_command.specs.Settings.{Settings}
@@ -11,6 +11,7 @@ use Rattle.kc_tool.specs.declared.tool_faults.ToolFault.TheVariants.{Fastx, BadH
 use Rattle.kc_tool.specs.declared.tool_faults.ToolFault.TheVariants.{TableRead, Memory, BadOption, BadWord, Write, Run}
 use Rattle.kc_tool.specs.declared.tool_faults.ToolFault.TheVariants.{OpenFailed, Unlike, TooLarge}
 use Rattle.kc_tool.specs.declared.reports.Report.{Report}
+use Rattle.kc_tool.proofs.SourcesLemmas.{not_counted}
 
 module _ (given later : Given) (settings : Settings) where
   -- A text that was refused without a write leaves nothing.
@@ -55,3 +56,11 @@ module _ (given later : Given) (settings : Settings) {report : Report} (table : 
       → WritesText (report_text report table) old new result → IsErrOf result Write
       → BeginsReport given settings old new
   begins_report old new result h failed = (report_text report table, is_report, rw failed at h)
+
+-- Where nothing was counted, no writer failed.
+pub not_begun : (given : Given) (settings : Settings) (old new : Written) (result : Result (Unit {0}) ToolFault)
+    (fault : ToolFault) → result ≡ Err fault → IsRefusedCountOf given settings fault → IsErrOf result Write
+    → BeginsReport given settings old new
+not_begun given settings old new result fault is refused failed =
+    let same : fault ≡ Write = cc in
+    absurd (not_counted given refused.0 settings (subst (λ v. RefusesCount given refused.0 settings v) same refused.1))

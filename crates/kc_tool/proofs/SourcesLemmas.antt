@@ -158,3 +158,8 @@ whole_known counted tally is h = record {
   knows = subst (λ known. Knows known tally) (sym is) refl;
   holds = h;
 }
+
+-- Nothing is uncounted since a writer failed.
+pub not_counted : (old new : Given) (settings : Settings) → RefusesCount old new settings Write → ⊥
+not_counted old new settings (inl h) = h
+not_counted old new settings (inr h) = h.refused

@@ -1,7 +1,7 @@
 -- Reports on a tally, and what counting the words of sources writes: source, our formats page ("Reports").
 use Rattle.std.specs.Prelude.{◌≡◌, ◌≤◌, ℕ, List, Result, Ok, Err}
 use Rattle.kc_io.specs.Sinks.{Written, HasWritten, HasBegun}
-use Rattle.kc_tool.specs.Tallies.{Counts, Given, RefusesCount, TableSeen}
+use Rattle.kc_tool.specs.Tallies.{Counts, Given, IsRefusedCountOf, TableSeen}
 use Rattle.kc_report.specs.declared.dump.Dump.{Dump}
 use Rattle.kc_report.specs.Dumping.{dump_text}
 use Rattle.kc_report.specs.Histo.{histo_text}
@@ -58,4 +58,4 @@ BeginsReport given settings old new = (text : List ℕ) × IsReportOf given sett
 -- nothing was written, and nothing was counted for this reason, which later states of what was given show
 abbrev pub LeavesUnwritten : Given → Settings → Written → Written → ToolFault → Type 0
 LeavesUnwritten given settings old new fault =
-    (new ≡ old) × ((later : Given) × RefusesCount given later settings fault)
+    (new ≡ old) × IsRefusedCountOf given settings fault

@@ -14,6 +14,7 @@ use Rattle.kc_kmer.specs.Rule.{CountingRule, with_list}
 use Rattle.kc_tally.specs.Tally.{TallySeen, IsTallyOf}
 use Rattle.kc_report.specs.declared.origin.Origin.{Origin}
 use Rattle.kc_command.specs.Settings.{Settings, rule_of}
+use Rattle.kc_tool.specs.declared.counted_sources.CutReads.{CutReads}
 use Rattle.kc_tool.specs.declared.tool_faults.ToolFault.{ToolFault}
 use Rattle.kc_tool.specs.declared.tool_faults.ToolFault.TheVariants.{Fastx, Memory, Run}
 
@@ -78,6 +79,24 @@ pub record CutsPieces (old new : Seen) (limit : ℕ) (rule : CountingRule) (byte
   pub length_of_words : after.k ≡ before.k
   pub size : after.size ≡ before.size
   pub behind : (pieces : List (List ℕ)) → HasTaken before pieces → HasTaken after (pieces ++ pieces_of rule reads)
+
+-- no source was read yet: nothing was cut, by this rule, and all bytes are left
+pub record CutsNone (rule : CountingRule) (batch : ℕ) (cut : CutReads) : Type 0 where
+  pub length_of_words : cut.cutting.k ≡ rule.k
+  pub size : cut.cutting.size ≡ batch
+  pub none : HasTaken cut.cutting []
+  pub left : cut.left ≡ most_bytes
+  pub sources : cut.sources ≡ 0
+  pub reads : cut.reads ≡ 0
+
+-- one source more was read: it gave no more bytes than were left, and the pieces of its reads were cut
+pub record CutsNext (old new : Seen) (rule : CountingRule) (before after : CutReads) : Type 0 where
+  pub bytes : ℕ
+  pub count : ℕ
+  pub pieces : CutsPieces old new before.left rule bytes count before.cutting after.cutting
+  pub left : after.left ≡ before.left - bytes
+  pub sources : after.sources ≡ before.sources + 1
+  pub reads : after.reads ≡ before.reads + count
 
 -- why of the number-th source no pieces were cut; of want of memory outside its reader nothing is said
 abbrev pub RefusesSource : Seen → Seen → ℕ → ℕ → ToolFault → Type 0
@@ -192,3 +211,10 @@ pub record SourcesFail (old new : Given) (settings : Settings) (fault : ToolFaul
 abbrev pub RefusesCount : Given → Given → Settings → ToolFault → Type 0
 RefusesCount old new settings Memory = ⊤
 RefusesCount old new settings fault = ListFails old new fault ⊎ SourcesFail old new settings fault
+
+-- the table that is counted of what was given, and why nothing was counted of it, up to later states of it
+abbrev pub IsCountOf : Given → Settings → TableSeen → Type 0
+IsCountOf given settings table = (later : Given) × Counts given later settings table
+
+abbrev pub IsRefusedCountOf : Given → Settings → ToolFault → Type 0
+IsRefusedCountOf given settings fault = (later : Given) × RefusesCount given later settings fault

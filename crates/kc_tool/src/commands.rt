@@ -9,7 +9,6 @@ ghost use Rattle.kc_tool.specs.Commands.{
   Answers,
   AsksForTask,
   Does,
-  DoesByTally,
   DoesCommand,
   DoesTask,
   DoesTaskInto,
@@ -239,7 +238,8 @@ fn do_task_into<H: Threads + Wait + Sync, S: Files, R: Source, P: Progress + Syn
     outcome
 }
 
-// Does a task with its files, which keep their names.
+// Does a task with its files, which keep their names: it takes the tally that the task is about, and writes its answer,
+// or it selects reads.
 fn answer<H: Threads + Wait + Sync, R: Source, F: Source, W: Sink, P: Progress + Sync>(
     rt: &H,
     alloc: Global,
@@ -263,35 +263,11 @@ fn answer<H: Threads + Wait + Sync, R: Source, F: Source, W: Sink, P: Progress +
             select_by_table(alloc, *selection, *tells, files, input, output)
         }
         _ => {
-            answer_by_tally(rt, alloc, task, files, input, output, progress)?;
+            let (counted, origin) = tally_for(rt, alloc, task, files, input, progress)?;
+            write_answer(alloc, task, &counted, origin, output)?;
             Ok(None)
         }
     }
-}
-
-// Takes the tally that a task is about, and writes its answer. The files keep their names. Condition: the task is no
-// selection.
-fn answer_by_tally<H: Threads + Wait + Sync, R: Source, F: Source, W: Sink, P: Progress + Sync>(
-    rt: &H,
-    alloc: Global,
-    task: &Task,
-    files: &mut [NamedSource<'_, F>],
-    input: &mut R,
-    output: &mut W,
-    progress: &P,
-) -> Result<(), ToolFault>
-    requires files { HasFilesFor task.now (seen_of F.seen files.old) }
-    requires writable { HasWritableReport task.now }
-    requires about { IsAboutTally task.now }
-    ensures done { DoesByTally task.now
-        (record { given = given_of task.now (R.seen input.old) (seen_of F.seen files.old); output = W.seen output.old })
-        (record { given = given_of task.now (R.seen input.new) (seen_of F.seen files.new); output = W.seen output.new })
-        result }
-    ensures input { KeepsInput (sources_in task.now (seen_of F.seen files.old)) (R.seen input.old) (R.seen input.new) }
-    ensures names { names_of files.new ≡ names_of files.old }
-{
-    let (counted, origin) = tally_for(rt, alloc, task, files, input, progress)?;
-    write_answer(alloc, task, &counted, origin, output)
 }
 
 // Reads the table of the first file, and writes the reads of the others that it selects or, where there are none, those

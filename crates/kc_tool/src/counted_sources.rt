@@ -1,7 +1,7 @@
 //! The tally of the reads of all sources: they are read, cleaned and cut into batches, and the words of the batches are
 //! counted by as many threads as are asked for, all of them or those of a list. Of the tally no more is gathered than the
 //! report is about.
-ghost use Rattle.std.specs.Prelude.{◌≡◌, ◌≤◌, ◌+◌, ◌^◌, ℕ, List, [], ◌∷◌, IfOk, IfErr, IfSome, None, OnOk, length, max};
+ghost use Rattle.std.specs.Prelude.{◌≡◌, ◌≤◌, ◌<◌, ◌+◌, ◌^◌, ℕ, List, [], ◌∷◌, IfOk, IfErr, IfSome, None, OnOk, length, max};
 ghost use Rattle.std.specs.Prelude.{option_map};
 ghost use Rattle.kc_io.specs.Sources.{Seen};
 ghost use Rattle.kc_fastx.specs.Parsing.{most_bytes};
@@ -19,6 +19,8 @@ ghost use Rattle.kc_word.specs.Cutting.{cleaned};
 ghost use Rattle.kc_word.specs.Shared.{values};
 ghost use Rattle.kc_word.specs.Only.{WordList};
 ghost use Rattle.kc_tool.specs.Tallies.{
+  CutsNext,
+  CutsNone,
   CutsPieces,
   CutsSources,
   GivesWords,
@@ -235,9 +237,10 @@ fn count_batches<H: Threads + Wait + Sync, P: Progress + Sync>(
     }
 }
 
-// The cutting of the reads of all sources, in order, and how many reads there are. Each source is read whole before the next one, and each read is
-// cleaned and cut before the next one is read, so that the text of one read is in memory at a time. A fault is that of
-// the first source that has one, with its number from 1, or `Memory` where a growth was refused outside the reading.
+// The cutting of the reads of all sources, in order, and how many reads there are. Each source is read whole before the
+// next one, and each read is cleaned and cut before the next one is read, so that the text of one read is in memory at a
+// time. A fault is that of the first source that has one, with its number from 1, or `Memory` where a growth was refused
+// outside the reading.
 fn cut_sources<R: Source, P: Progress>(
     alloc: Global,
     sources: &mut [NamedSource<'_, R>],
@@ -250,19 +253,12 @@ fn cut_sources<R: Source, P: Progress>(
     ensures names { names_of sources.new ≡ names_of sources.old }
 {
     let rule = options.rule();
-    let mut cutting = Cutting::new(alloc, rule.k(), options.batch());
-    let mut left = MOST_BYTES;
-    let mut number = 0u64;
-    let mut count = 0u64;
+    let mut cut = CutReads::none(alloc, options);
     let _fits = sources.len();
     for source in sources.iter_mut() {
-        number += 1;
-        let source = &mut source.source;
-        let taken = cut_source(alloc, source, number, left, &rule, &mut cutting, progress)?;
-        left -= taken.bytes;
-        count += taken.reads;
+        cut.take(alloc, &mut source.source, &rule, progress)?;
     }
-    Ok((cutting, count))
+    Ok((cut.cutting, cut.reads))
 }
 
 // The cutting of the reads of one source, the input, and how many they are.
@@ -277,9 +273,66 @@ fn cut_input<R: Source, P: Progress>(
     ensures fault { IfErr result (RefusesSources (R.seen input.old ∷ []) (R.seen input.new ∷ [])) }
 {
     let rule = options.rule();
-    let mut cutting = Cutting::new(alloc, rule.k(), options.batch());
-    let taken = cut_source(alloc, input, 1, MOST_BYTES, &rule, &mut cutting, progress)?;
-    Ok((cutting, taken.reads))
+    let mut cut = CutReads::none(alloc, options);
+    cut.take(alloc, input, &rule, progress)?;
+    Ok((cut.cutting, cut.reads))
+}
+
+// The reads of some sources, cut so far.
+#[derive(Drop)]
+struct CutReads {
+    cutting: Cutting,
+    // how many bytes the sources behind them may give
+    left: u64,
+    // how many sources were read
+    sources: u64,
+    // how many reads they gave
+    reads: u64,
+}
+
+impl CutReads {
+    // No source was read yet.
+    fn none(alloc: Global, options: &Options) -> CutReads
+        ensures { CutsNone (rule_of options.now) options.now.batch result }
+    {
+        CutReads {
+            cutting: Cutting::new(alloc, options.rule().k(), options.batch()),
+            left: MOST_BYTES,
+            sources: 0,
+            reads: 0,
+        }
+    }
+
+    // Reads the next source whole, and cuts the pieces of its reads behind those that were cut. A fault is that of the
+    // source, with its number.
+    fn take<R: Source, P: Progress>(
+        &mut self,
+        alloc: Global,
+        source: &mut R,
+        rule: &Rule,
+        progress: &P,
+    ) -> Result<(), ToolFault>
+        requires few { self.old.reads + self.old.left ≤ most_bytes }
+        requires numbered { self.old.sources < u64.MAX }
+        ensures next { OnOk result (CutsNext (R.seen source.old) (R.seen source.new) rule.now self.old self.new) }
+        ensures fault { IfErr result
+            (RefusesSource (R.seen source.old) (R.seen source.new) (self.old.sources + 1) self.old.left) }
+    {
+        self.sources += 1;
+        let cutting = &mut self.cutting;
+        let taken = cut_source(
+            alloc,
+            source,
+            self.sources,
+            self.left,
+            rule,
+            cutting,
+            progress,
+        )?;
+        self.left -= taken.bytes;
+        self.reads += taken.reads;
+        Ok(())
+    }
 }
 
 // What a source gave.

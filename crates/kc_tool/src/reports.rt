@@ -1,11 +1,11 @@
 //! Reports on a tally: which one is written, and from sources of reads to the report on their tally.
 ghost use Rattle.std.specs.Prelude.{◌≡◌, ◌≢◌, OnOk, IfErr, IfOk, IsErrOf, map, option_map};
 ghost use Rattle.kc_tally.specs.Tally.{TallySeen};
-ghost use Rattle.kc_tool.specs.CountedTallies.{IsEnoughFor, Knows};
+ghost use Rattle.kc_tool.specs.CountedTallies.{IsEnoughFor, Knows, KnowsOne};
 ghost use Rattle.kc_tool.specs.NamedSources.{seen_of};
 ghost use Rattle.kc_tool.specs.Reports.{BeginsReport, IsWritable, LeavesUnwritten, WritesReport, WritesText};
 ghost use Rattle.kc_tool.specs.Reports.{report_of, report_text};
-ghost use Rattle.kc_tool.specs.Tallies.{GivesListOf, ListFailsIn, given};
+ghost use Rattle.kc_tool.specs.Tallies.{GivesListOf, IsCountOf, IsRefusedCountOf, ListFailsIn, given};
 ghost use Rattle.kc_report.specs.Table.{MaySay};
 ghost use Rattle.kc_command.specs.Settings.{rule_of};
 
@@ -63,10 +63,29 @@ pub fn count_reads<H: Threads + Wait + Sync, Q: Source + Drop, R: Source + Drop,
         IfErr result (λ fault. fault ≢ ToolFault.Write
         → Leaves options.now (W.seen writer.old) (W.seen writer.new) fault) }
 {
+    let (counted, origin) = tally_of(rt, alloc, only, sources, options)?;
+    write_counted(alloc, writer, &counted, origin, report_of(options))
+}
+
+// What the report that is set is about of the tally of the reads of all sources, of those words that occur in the reads
+// of `only` where it is given, and what it was counted from.
+fn tally_of<H: Threads + Wait + Sync, Q: Source + Drop, R: Source + Drop>(
+    rt: &H,
+    alloc: Global,
+    only: Option<Q>,
+    sources: Vec<R>,
+    options: &Options,
+) -> Result<(CountedTally, Option<Origin>), ToolFault>
+    ensures tally { let Counted = IsCountOf (given (option_map Q.seen only) (map R.seen sources.items)) options.now in
+        IfOk result (λ table. KnowsOne table.0 (λ tally. Counted (tally, table.1))) }
+    ensures enough { IfOk result (λ table. IsEnoughFor table.0 (report_of options.now)) }
+    ensures origin { IfOk result (λ table. MaySay table.1) }
+    ensures fault { let Refused = IsRefusedCountOf (given (option_map Q.seen only) (map R.seen sources.items)) in
+        IfErr result (Refused options.now) }
+{
     let mut sources = unnamed(alloc, sources)?;
     let list = list_of(alloc, only, options)?;
-    let (counted, origin) = count_sources(rt, alloc, list, &mut sources, options, &NoProgress)?;
-    write_counted(alloc, writer, &counted, origin, report_of(options))
+    count_sources(rt, alloc, list, &mut sources, options, &NoProgress)
 }
 
 // The list of the words that occur in the reads of this source, where there is one.

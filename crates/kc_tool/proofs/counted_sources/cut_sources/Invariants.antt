@@ -7,7 +7,7 @@ abbrev pub invariant-loop-source : goal.invariant-loop-source
 invariant-loop-source g l =
     let seen = seen_of g.R.Source.seen in
     record {
-      so_far : CutSoFar (seen l.fn.sources) (seen l.sources) l.rule l.options.batch l.cutting l.left l.number l.count;
-      counted : l.number ≡ l.source-index;
+      so_far : CutSoFar (seen l.fn.sources) (seen l.sources) l.rule l.options.batch l.cut;
+      counted : l.cut.sources ≡ l.source-index;
       names : names_of l.sources ≡ names_of l.fn.sources;
     }
