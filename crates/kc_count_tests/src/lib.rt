@@ -8,6 +8,8 @@ mod counting_tables;
 #[cfg(test)]
 mod hashes;
 #[cfg(test)]
+mod histograms_of_bins;
+#[cfg(test)]
 mod merged_tables;
 #[cfg(test)]
 mod refusing_streams;

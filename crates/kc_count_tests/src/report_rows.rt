@@ -29,7 +29,7 @@ fn worked_tally(alloc: Global, k: K) -> Result<Tally, AllocError>
 }
 
 // The same tally, with its length of words.
-fn tally_of_three(alloc: Global) -> Result<Tally, Fail> {
+pub(crate) fn tally_of_three(alloc: Global) -> Result<Tally, Fail> {
     match K::new(2) {
         Some(k) => Ok(worked_tally(alloc, k)?),
         None => Err(Fail::from("no length of a word")),
@@ -72,7 +72,7 @@ fn statistics_of_three_words(rt: HostRuntime) -> Result<(), Fail> {
 }
 
 // Greatest counts that have a line of their own, and the histograms up to them.
-const HISTOGRAMS: &[(u64, &[u8])] = &[
+pub(crate) const HISTOGRAMS: &[(u64, &[u8])] = &[
     (1, b"1 1\n2 2\n"),
     (2, b"1 1\n2 1\n3 1\n"),
     (10_000, b"1 1\n2 1\n10001 1\n"),

@@ -6,4 +6,6 @@ mod draws;
 #[cfg(test)]
 mod run_examples;
 #[cfg(test)]
+mod whole_histograms;
+#[cfg(test)]
 mod whole_runs;

@@ -1,0 +1,44 @@
+//! Histograms of whole runs, for which no row is taken.
+use crate::whole_runs::{batches_of, setup_of};
+use kc_run::{Histogram, NoGate, plain_tables, run_histogram};
+use std::alloc::Global;
+use std::process::Abort;
+use std::sync::Wait;
+use std::test::Fail;
+use std::thread::Threads;
+
+// Numbers of stripes and of workers.
+const RUNS: &[(u32, u32)] = &[(1, 1), (4, 2), (64, 3)];
+
+// The histogram of the words of three bases of ACGTANACG.
+fn histogram_by<H: Threads + Wait + Sync>(
+    rt: &H,
+    alloc: Global,
+    stripes: u32,
+    workers: u32,
+) -> Result<Histogram, Fail> {
+    if workers < 1 || workers > 64 {
+        return Err(Fail::from("no such workers"));
+    }
+    let setup = setup_of(3, stripes).ok_or("no setup")?;
+    let batches = batches_of(alloc, &setup, b"ACGTANACG", 2)?;
+    let tables = plain_tables(alloc, &setup)?;
+    Ok(run_histogram(rt, alloc, &batches, &setup, tables, workers, &NoGate)?)
+}
+
+// CGT and GTA occur once, ACG twice.
+fn assert_bins(rt: &impl Abort, histogram: &Histogram) {
+    assert_eq!(rt; histogram.bin(1), 2);
+    assert_eq!(rt; histogram.bin(2), 1);
+    for bin in 3..=10_001 {
+        assert_eq!(rt; histogram.bin(bin), 0);
+    }
+}
+
+#[test]
+fn the_histogram_is_one_for_all_workers_and_stripes(rt: HostRuntime) -> Result<(), Fail> {
+    for (stripes, workers) in RUNS {
+        assert_bins(&rt, &histogram_by(&rt, rt.alloc(), *stripes, *workers)?);
+    }
+    Ok(())
+}
