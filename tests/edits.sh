@@ -63,9 +63,11 @@ edit adds_three add_two 'add_one(number) + 1' 'add_one(number) + 2'
 edit adds_ten add_two 'add_one(number) + 1' 'add_one(number) + 9'
 # one whose text stands in several functions, and once in the one that it names
 edit adds_five_to_half add_four 'number as u64' 'number as u64 / 2 + 1'
-wants 0 'edits of small: 4 refused by 1 checks, 0 failed
-4 refused, 0 failed'
-rm "$crate/edits/adds_five_to_half.edit"
+# one that adds a function, which calls another one wrongly
+edit adds_five_for_six add_six '/// Four more.' 'fn add_six(number: u8) -> u64 ensures { result ≡ number + 6 } { add_one(number) + 4 } /// Four more.'
+wants 0 'edits of small: 5 refused by 1 checks, 0 failed
+5 refused, 0 failed'
+rm "$crate"/edits/adds_five_{to_half,for_six}.edit
 
 # beside them one that changes nothing, one of these in a copy, and one whose function is only a caller of what is refused
 edit adds_three_in_another_order add_three 'number as u64 + 3' '3 + number as u64'

@@ -10,7 +10,7 @@ has a line `refused:` with the function that has to be refused by it, as the che
 A function is proved against the contracts of those that it calls, so edits of different functions don't hide one another. The edits of a
 crate are put together into few groups. The second edit of a function in a group and each further one are made in a copy of the function, of
 another name and with a copy of its proof; a function of a trait can't be copied, nor one that another proof speaks of, so there is one edit of
-it in a group. An edit that changes more than bodies of functions is tried alone. Each group is made in a copy of the crate, and its functions
+it in a group. An edit that changes more than bodies of functions, or adds more than the function that it names, is tried alone. Each group is made in a copy of the crate, and its functions
 are checked by one check, over a copy of what was kept of the crate's proof.
 Of each function that an edit names a goal or an answer of its own has to be open: that it calls what is not proved doesn't count, nor that the
 edited text can't be read, nor that the checker could not tell. What isn't refused so in its group is tried once more alone, and that decides.
@@ -31,8 +31,8 @@ from dataclasses import dataclass, field
 import kit
 
 FOLDER = "edits"
-# How many edits a check has at the most. What a check loads is a small part of it then, and several run side by side.
-MOST = 48
+# How many edits a check has at the most: those of any crate today, since what a check loads is paid once then.
+MOST = 96
 
 
 @dataclass(frozen=True)
@@ -189,11 +189,16 @@ def read(rt, folder, name):
                 edit.lines[path, at] = new
                 around = [it for it in functions if it.first <= at <= it.last]
                 edit.changed |= {it.name for it in around}
-                edit.is_of_bodies &= bool(around)
+                edit.is_of_bodies &= bool(around) or is_added(named[0], old, new)
                 edit.copied = next((it for it in around if it.name == edit.refused and can_be_copied(folder, it)), None)
     if edit.changed != {edit.refused}:
         edit.copied = None
     return edit
+
+
+def is_added(function, old, new):
+    """Returns whether the new line adds this function and leaves the old line as it was."""
+    return new.endswith(old) and f"fn {function.rpartition('::')[2]}(" in new
 
 
 def proofs_of(folder, name):
