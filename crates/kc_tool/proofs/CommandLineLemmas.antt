@@ -13,7 +13,10 @@ use Rattle.clap.specs.declared.error.kind.ErrorKind.{ErrorKind}
 use Rattle.clap.specs.declared.error.kind.ErrorKind.TheVariants.{DisplayHelp, DisplayVersion, OutOfMemory}
 use Rattle.kc_io.specs.Sources.{Seen}
 use Rattle.kc_command.specs.Command.{IsCommand, kcount_app}
-use Rattle.kc_tool.specs.CommandLine.{AskForHelp, AreTaken, CarriesOut, DoesCommand, IsHelp, IsTold, ShowsSo, status_of}
+use Rattle.kc_tool.specs.CommandLine.{AskForHelp, AreTaken, CarriesOut, DoesCommand, EndsRefused, EndsWell, FailsSo}
+use Rattle.kc_tool.specs.CommandLine.{IsHelp, IsTold, ShowsSo, status_of}
+use Rattle.kc_tool.specs.FaultLines.{fault_line}
+use Rattle.kc_tool.specs.Process.{Ends}
 use Rattle.kc_tool.specs.Selections.{Told}
 use Rattle.kc_tool.specs.Commands.{EndsSo, Surroundings, name_of, verb_named}
 use Rattle.kc_tool.specs.FileEvents.{FileEvent}
@@ -188,3 +191,20 @@ small_status (Run fault) = omega arith
 small_status (OpenFailed name) = omega arith
 small_status Unlike = omega arith
 small_status TooLarge = omega arith
+
+-- How the program ends, by its status.
+module _ {arguments : List Text} {old new : Surroundings} {errors errors_after : Written} where
+  pub ends_well : EndsWell arguments old new errors errors_after → Ends arguments old new errors errors_after 0
+  ends_well well = record { done = λ status. well; fault = λ status. cc; refused = λ status. cc; within = omega arith }
+
+  pub ends_in_fault : (fault : ToolFault) (status : ℕ) → status ≡ status_of fault → FailsSo arguments old new fault
+      → IsTold errors errors_after (fault_line fault) → Ends arguments old new errors errors_after status
+  ends_in_fault fault status exit failed told = record {
+    done = λ is. absurd (omega (arith, is, exit, some_status fault));
+    fault = λ is. record { fault = fault; exit = sym is ∙ exit; failed = failed; told = told };
+    refused = λ is. inl (record { fault = fault; exit = sym is ∙ exit; failed = failed; told = told });
+    within = rw exit (small_status fault);
+  }
+
+  pub ends_refused : EndsRefused arguments old new errors errors_after → Ends arguments old new errors errors_after 2
+  ends_refused refused = record { done = λ status. cc; fault = λ status. cc; refused = λ status. inr refused; within = omega arith }

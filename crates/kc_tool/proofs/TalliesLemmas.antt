@@ -5,6 +5,7 @@ use Rattle.std.specs.Prelude.{◌==◌, All, sum_by}
 use Rattle.std.proofs.lemmas.Bool.{eqb-false, eqb-true}
 use Rattle.std.proofs.lemmas.List.Elements.{All-cons, All-head, All-nil, All-tail}
 use Rattle.std.proofs.Math.Nat.{div-le_of_le-mul}
+use Rattle.kc_fastx.specs.Parsing.{most_bytes}
 use Rattle.kc_hash.specs.Product.{IsNonsingular, identity}
 use Rattle.kc_hash.specs.Seeds.{NoneIsNonsingular, turn_columns}
 use Rattle.kc_hash.proofs.Generator.{length-seed_columns}
@@ -33,6 +34,13 @@ few_batches k size pieces some room =
     let within : total + size - 1 ≤ size * (total + 1) = omega (arith, not_less size total room) in
     let batches : batch_count k size pieces ≤ total + 1 = div-le_of_le-mul size within in
     omega (arith, length-cutting k size pieces, batches, position_total-le k pieces some)
+
+-- Batches of so few letters are not too many, nor too large.
+pub few_enough : (batches letters : ℕ) → batches ≤ letters + 1 → letters ≤ most_bytes → batches ≤ 2 ^ 40
+few_enough batches letters few within = omega arith
+
+pub small_enough : (positions letters : ℕ) → positions ≤ letters → letters ≤ most_bytes → positions ≤ 2 ^ 62
+small_enough positions letters small within = omega arith
 
 -- What holds of each element by two facts.
 pub All-both : {X : Type 0} (P Q : X → Type 0) (xs : List X) → All P xs → All Q xs → All (λ x. P x × Q x) xs
