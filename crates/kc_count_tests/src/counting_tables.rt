@@ -225,23 +225,24 @@ fn with_a_slot_for_each_key_each_stands_at_its_home(rt: HostRuntime) -> Result<(
     Ok(())
 }
 
-fn part_of<C: Counts>(rt: &impl Abort, table: &C, key: u64) -> u32 {
-    assert_key(rt, table, key);
-    table.part_of(key)
+// Asserts that these keys stand in these parts.
+fn assert_parts<C: Counts>(rt: &impl Abort, table: &C, rows: &[(u64, u32)]) {
+    for (key, part) in rows {
+        assert_key(rt, table, *key);
+        assert_same(rt, *key, &table.part_of(*key), part);
+    }
 }
 
 #[test]
 fn a_key_stands_in_the_part_of_its_home(rt: HostRuntime) -> Result<(), Fail> {
     let alloc = rt.alloc();
     // 4 slots to a part, and a single one
-    let table = QuotientTable::new(alloc, 16, 12, 12)?;
-    assert_eq!(rt; part_of(&rt, &table, 4103), 1);
-    assert_eq!(rt; part_of(&rt, &table, 4095), 1023);
-    let small = QuotientTable::new(alloc, 16, 8, 8)?;
-    assert_eq!(rt; part_of(&rt, &small, 773), 5);
+    let rows = &[(4103, 1), (4095, 1023)];
+    assert_parts(&rt, &QuotientTable::new(alloc, 16, 12, 12)?, rows);
+    assert_parts(&rt, &QuotientTable::new(alloc, 16, 8, 8)?, &[(773, 5)]);
     let limited = LimitedCounts::new(alloc, 16, 2, TableFault::Full);
-    assert_eq!(rt; part_of(&rt, &limited, 773), 0);
-    assert_eq!(rt; part_of(&rt, &PlainCounts::new(alloc, 16), 773), 0);
+    assert_parts(&rt, &limited, &[(773, 0)]);
+    assert_parts(&rt, &PlainCounts::new(alloc, 16), &[(773, 0)]);
     Ok(())
 }
 
@@ -310,18 +311,23 @@ fn assert_longest(rt: &impl Abort, table: &QuotientTable, log: u32, count: u64) 
     assert_same(rt, LONGEST, &count_of(rt, table, LONGEST), &count);
 }
 
+// Counts the longest key in a table of 16 slots, which grows twice meanwhile.
+fn count_through_growths(rt: &impl Abort, table: &mut QuotientTable) -> Result<(), TableFault> {
+    count_times(rt, table, LONGEST, 5)?;
+    ready_all(rt, table, 0, 32)?;
+    assert_longest(rt, table, 6, 5);
+    count_times(rt, table, LONGEST, 2)?;
+    assert_longest(rt, table, 6, 7);
+    ready_all(rt, table, 32, 100)?;
+    assert_longest(rt, table, 7, 7);
+    count_times(rt, table, LONGEST, 2)
+}
+
 #[test]
 fn a_growth_keeps_counts_that_outgrew_their_slots(rt: HostRuntime) -> Result<(), Fail> {
     let alloc = rt.alloc();
     let mut table = QuotientTable::new(alloc, 62, 4, 40)?;
-    count_times(&rt, &mut table, LONGEST, 5)?;
-    ready_all(&rt, &mut table, 0, 32)?;
-    assert_longest(&rt, &table, 6, 5);
-    count_times(&rt, &mut table, LONGEST, 2)?;
-    assert_longest(&rt, &table, 6, 7);
-    ready_all(&rt, &mut table, 32, 100)?;
-    assert_longest(&rt, &table, 7, 7);
-    count_times(&rt, &mut table, LONGEST, 2)?;
+    count_through_growths(&rt, &mut table)?;
     assert_rows(&rt, alloc, &table, &[(LONGEST, 9)])?;
     Ok(())
 }
@@ -415,15 +421,25 @@ fn count_in_both(
     count(rt, table, key)
 }
 
+// Does many drawn things to both maps, and asserts that they answer alike.
+fn do_all_alike(
+    rt: &impl Abort,
+    plain: &mut PlainCounts,
+    table: &mut QuotientTable,
+) -> Result<(), TableFault> {
+    let mut random = SplitMix64::seed_from_u64(7);
+    for _ in 0..100_000u32 {
+        do_alike(rt, plain, table, random.next_word())?;
+    }
+    Ok(())
+}
+
 #[test]
 fn both_representations_agree(rt: HostRuntime) -> Result<(), Fail> {
     let alloc = rt.alloc();
-    let mut random = SplitMix64::seed_from_u64(7);
     let mut plain = PlainCounts::new(alloc, 16);
     let mut table = QuotientTable::new(alloc, 16, 4, 16)?;
-    for _ in 0..100_000u32 {
-        do_alike(&rt, &mut plain, &mut table, random.next_word())?;
-    }
+    do_all_alike(&rt, &mut plain, &mut table)?;
     let rows = sorted_rows(alloc, &plain)?;
     assert_rows(&rt, alloc, &table, &rows)?;
     Ok(())

@@ -12,9 +12,8 @@ use std::test::Fail;
 // The matrix of the columns that begin with these, if there is one.
 fn matrix_of(bits: u32, first: &[u64]) -> Option<Matrix> {
     let mut columns = [0; 62];
-    for (column, given) in columns.iter_mut().zip(first) {
-        *column = *given;
-    }
+    let count = first.len().min(62);
+    columns[..count].copy_from_slice(&first[..count]);
     Matrix::of_columns(bits, columns)
 }
 
@@ -32,7 +31,7 @@ const OUT_OF_RANGE: &[(u32, &[u64])] = &[(0, &[]), (63, &[1, 1, 1]), (2, &[4, 1]
 #[test]
 fn columns_out_of_range_make_no_matrix(rt: HostRuntime) {
     for (bits, first) in OUT_OF_RANGE {
-        assert!(rt; matrix_of(*bits, *first).is_none(), "{bits} bits");
+        assert_same(&rt, *bits, &matrix_of(*bits, *first).is_none(), &true);
     }
     assert!(rt; Matrix::of_columns(62, [(1 << 62) - 1; 62]).is_some());
 }
@@ -53,8 +52,8 @@ fn assert_product<H: Abort>(rt: &H, matrix: &Matrix, tables: &MatrixTables, x: u
     assert!(rt; tables.matrix() == *matrix);
     let bits = matrix.bits();
     assert!(rt; x >> bits == 0);
-    assert!(rt; matrix.apply(x) == product, "of {x}");
-    assert!(rt; tables.apply(x) == product, "of {x} by tables");
+    assert_same(rt, x, &matrix.apply(x), &product);
+    assert_same(rt, x, &tables.apply(x), &product);
 }
 
 // Numbers, and what the matrix of the columns 1 and 3 makes of them.
@@ -130,9 +129,9 @@ fn assert_seeded<H: Abort>(rt: &H, bits: u32, seed: u64, first: u64, all: u64) {
     let hash = Hash::seeded(bits, seed);
     assert!(rt; hash.bits() == bits);
     assert!(rt; 1u64 >> bits == 0);
-    assert!(rt; hash.forward(1) == first, "column 0 at {bits} bits");
+    assert_same(rt, bits, &hash.forward(1), &first);
     let greatest = (1 << bits) - 1;
-    assert!(rt; hash.forward(greatest) == all, "all columns at {bits} bits");
+    assert_same(rt, bits, &hash.forward(greatest), &all);
 }
 
 #[test]

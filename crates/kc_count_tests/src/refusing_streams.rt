@@ -1,7 +1,7 @@
 //! Tables and reports over streams that give and take few bytes at a time, and fail.
 use crate::count_assertions::{assert_items, assert_same};
-use crate::report_rows::strings_of;
-use kc_io::{FromBytes, FromRead, ToWrite};
+use crate::report_rows::{strings_of, table_of};
+use kc_io::{FromRead, ToWrite};
 use kc_report::{
     Dump, ReportFault, query, read_table, write_dump, write_histo, write_stats, write_table,
 };
@@ -138,7 +138,7 @@ struct Writing<'a> {
 fn assert_written<H: Abort + AllocGlobal>(rt: &H, writing: &Writing<'_>) -> Result<(), Fail> {
     let alloc = rt.alloc();
     let (report, room) = (writing.report, writing.room);
-    let (tally, _) = read_table(alloc, &mut FromBytes::new(TABLE), 100)?;
+    let tally = table_of(alloc, TABLE)?;
     let asked = strings_of(alloc, &["CGT", "aaa"])?;
     let mut sink = narrow_writer(alloc, room, writing.flushes)?;
     let outcome = write_report(alloc, &mut sink, &tally, report, &asked);
@@ -241,8 +241,8 @@ fn every_failed_read(rt: HostRuntime) -> Result<(), ReportFault> {
 
 // The tally of a table text. Asserts that nothing but want of memory refuses it.
 fn read_if_memory<H: Abort + AllocGlobal>(rt: &H, text: &[u8]) -> Result<Tally, AllocError> {
-    match read_table(rt.alloc(), &mut FromBytes::new(text), 100) {
-        Ok((tally, _)) => Ok(tally),
+    match table_of(rt.alloc(), text) {
+        Ok(tally) => Ok(tally),
         Err(fault) => {
             assert_same(rt, "fault", &fault, &ReportFault::Memory);
             Err(AllocError)

@@ -100,6 +100,12 @@ fn histograms(rt: HostRuntime) -> Result<(), Fail> {
     Ok(())
 }
 
+// The tally of a table's text, which has at most 100 bytes.
+pub(crate) fn table_of(alloc: Global, text: &[u8]) -> Result<Tally, ReportFault> {
+    let (tally, _) = read_table(alloc, &mut FromBytes::new(text), 100)?;
+    Ok(tally)
+}
+
 const TABLE: &[u8] = b"KCT 1 3 c\nACG 2\nGTA 1\nEND 2 3\n";
 
 // Asserts that reading a text of at most so many bytes as a table ends in this fault.
@@ -254,7 +260,7 @@ fn assert_answer<H: Abort + AllocGlobal>(
     text: &[u8],
 ) -> Result<(), Fail> {
     let alloc = rt.alloc();
-    let (tally, _) = read_table(alloc, &mut FromBytes::new(TABLE), 100)?;
+    let tally = table_of(alloc, TABLE)?;
     let asked = strings_of(alloc, words)?;
     let mut sink = ToVec::new(Vec::new(alloc));
     let found = query(&mut sink, &tally, &asked);

@@ -1,8 +1,8 @@
 //! Reads that are selected by their words and a table.
 use crate::count_assertions::{assert_items, assert_same};
+use crate::report_rows::table_of;
 use kc_fastx::{FastxFault, SeqRead};
-use kc_io::{FromBytes, ToVec, ToWrite};
-use kc_report::{ReportFault, read_table};
+use kc_io::{FromBytes, Sink, ToVec, ToWrite};
 use kc_select::{SelectFault, Selected, Selection, SelectionCounts, Selector, select};
 use kc_tally::Tally;
 use std::alloc::{AllocError, Global};
@@ -17,23 +17,22 @@ const TABLE: &[u8] = b"KCT 1 3 s\nACG 2\nCGT 2\nGTA 1\nEND 3 5\n";
 // The same on both strands.
 const BOTH: &[u8] = b"KCT 1 3 c\nACG 4\nGTA 1\nEND 2 5\n";
 
-fn table_of(alloc: Global, text: &[u8]) -> Result<Tally, ReportFault> {
-    let (tally, _) = read_table(alloc, &mut FromBytes::new(text), 100)?;
-    Ok(tally)
+// A copy of these qualities, where there are any.
+fn quals_of(alloc: Global, quals: &[u8]) -> Result<Option<Vec<u8>>, AllocError> {
+    if quals.is_empty() {
+        return Ok(None);
+    }
+    Ok(Some(Vec::from_slice(alloc, quals)?))
 }
 
-// A read of these bases, with these qualities where there are any.
-fn read_of(alloc: Global, bases: &[u8], quals: &[u8]) -> Option<SeqRead> {
-    let Ok(bases) = Vec::from_slice(alloc, bases) else {
-        return None;
-    };
-    if quals.is_empty() {
-        return SeqRead::new(bases, None);
+// A read of these bases, with these qualities where there are any. A test without it fails.
+fn made_read(alloc: Global, bases: &[u8], quals: &[u8]) -> Result<SeqRead, Fail> {
+    let quals = quals_of(alloc, quals)?;
+    let bases = Vec::from_slice(alloc, bases)?;
+    match SeqRead::new(bases, quals) {
+        Some(read) => Ok(read),
+        None => Err(Fail::from("no read")),
     }
-    let Ok(quals) = Vec::from_slice(alloc, quals) else {
-        return None;
-    };
-    SeqRead::new(bases, Some(quals))
 }
 
 // A selection of this least count, share and floor, where these are in their limits.
@@ -42,14 +41,6 @@ fn selection_of(least: u64, share: u64, floor: u8) -> Option<Selection> {
         return None;
     }
     Some(Selection::new(least, share).with_floor(floor))
-}
-
-// The same read. A test without it fails.
-fn made_read(alloc: Global, bases: &[u8], quals: &[u8]) -> Result<SeqRead, Fail> {
-    match read_of(alloc, bases, quals) {
-        Some(read) => Ok(read),
-        None => Err(Fail::from("no read")),
-    }
 }
 
 // The same selection. A test without it fails.
@@ -74,8 +65,7 @@ fn assert_solid_or_other<H: Abort + AllocGlobal>(
     read: &SeqRead,
     want: bool,
 ) -> Result<(), AllocError> {
-    let selector = Selector::new(rt.alloc(), tally, selection)?;
-    assert_solid(rt, &selector, read, want);
+    assert_solid_by(rt, tally, selection, read, want)?;
     let others = Selector::new(rt.alloc(), tally, selection.with_inverted(true))?;
     assert_same(rt, "others", &others.is_selected(read), &!want);
     Ok(())
@@ -129,7 +119,9 @@ fn assert_read<H: Abort + AllocGlobal>(
 
 // The bases and the qualities of a read, the floor and the share, and whether the read is solid where a word is from 2
 // on.
-const FLOORS: &[(&[u8], &[u8], u8, u64, bool)] = &[
+type Floor = (&'static [u8], &'static [u8], u8, u64, bool);
+
+const FLOORS: &[Floor] = &[
     // ACG 2, CGT 2, GTA 1, and TAC, which isn't in the table: two of four words
     (b"ACGTAC", b"IIIII!", b'!', 66, false),
     // the last base is below the floor, and with it TAC is no word: two of three
@@ -147,12 +139,18 @@ const FLOORS: &[(&[u8], &[u8], u8, u64, bool)] = &[
 #[test]
 fn reads_with_a_floor(rt: HostRuntime) -> Result<(), Fail> {
     let tally = table_of(rt.alloc(), TABLE)?;
-    for (bases, quals, floor, share, want) in FLOORS {
-        let read = made_read(rt.alloc(), *bases, *quals)?;
-        let selection = made_selection(2, *share, *floor)?;
-        assert_solid_by(&rt, &tally, selection, &read, *want)?;
+    for row in FLOORS {
+        assert_floor(&rt, &tally, row)?;
     }
     Ok(())
+}
+
+// Asserts what a row says of its read and the table.
+fn assert_floor<H: Abort + AllocGlobal>(rt: &H, tally: &Tally, row: &Floor) -> Result<(), Fail> {
+    let (bases, quals, floor, share, want) = row;
+    let selection = made_selection(2, *share, *floor)?;
+    let read = made_read(rt.alloc(), *bases, *quals)?;
+    Ok(assert_solid_by(rt, tally, selection, &read, *want)?)
 }
 
 // Asserts whether the read is solid by the table, whose length of words the selector has.
@@ -169,17 +167,25 @@ fn assert_solid_by<H: Abort + AllocGlobal>(
     Ok(())
 }
 
-#[test]
-fn one_read_of_three_words(rt: HostRuntime) -> Result<(), Fail> {
-    let alloc = rt.alloc();
-    let tally = table_of(alloc, TABLE)?;
+// What is told of one read of three words by a table, and what is written of it.
+fn select_one_read(alloc: Global, tally: &Tally) -> Result<(Selected, Vec<u8>), Fail> {
     let selection = Selection::new(2, 100).with_floor(b'#');
     let mut source = FromBytes::new(b">r\nACGTA\n");
     let mut sink = ToVec::new(Vec::new(alloc));
     let selector = Selector::new(alloc, &tally, selection)?;
     let selected = select(alloc, &mut source, 1 << 36, &mut sink, &selector)?;
-    assert_eq!(rt; numbers_of(Ok(selected)), Ok([9, 1, 0, 3, 2]));
-    assert_eq!(rt; sink.as_slice(), b"".as_slice());
+    Ok((selected, sink.into_inner()))
+}
+
+// What is told of one read of which not all words are solid.
+const ONE_READ: Result<[u64; 5], SelectFault> = Ok([9, 1, 0, 3, 2]);
+
+#[test]
+fn one_read_of_three_words(rt: HostRuntime) -> Result<(), Fail> {
+    let tally = table_of(rt.alloc(), TABLE)?;
+    let (selected, written) = select_one_read(rt.alloc(), &tally)?;
+    assert_same(&rt, "numbers", &numbers_of(Ok(selected)), &ONE_READ);
+    assert_items(&rt, "written", written.as_slice(), b"");
     Ok(())
 }
 
@@ -234,19 +240,19 @@ fn numbers_of(answer: Result<Selected, SelectFault>) -> Result<[u64; 5], SelectF
     ])
 }
 
-// What a selection writes of a text, behind which the reads may have met a fault.
-fn selected(
+// What is told of a selection of a text, behind which the reads may have met a fault.
+fn answer_of<W: Sink>(
     alloc: Global,
     selector: &Selector<'_>,
     text: &[u8],
     limit: u64,
-) -> (Result<[u64; 5], SelectFault>, Vec<u8>) {
-    let mut sink = ToVec::new(Vec::new(alloc));
+    sink: &mut W,
+) -> Result<[u64; 5], SelectFault> {
     if limit > 1_000_000 {
-        return (Err(SelectFault::Write), sink.into_inner());
+        return Err(SelectFault::Write);
     }
-    let answer = select(alloc, &mut FromBytes::new(text), limit, &mut sink, selector);
-    (numbers_of(answer), sink.into_inner())
+    let mut source = FromBytes::new(text);
+    numbers_of(select(alloc, &mut source, limit, sink, selector))
 }
 
 const FASTA: &[u8] = b"\n>one two\r\nACGTA\n\n>b\nAAA\n>c>c\nac\ngta";
@@ -254,7 +260,15 @@ const FASTA: &[u8] = b"\n>one two\r\nACGTA\n\n>b\nAAA\n>c>c\nac\ngta";
 const FASTQ: &[u8] = b"@q x\nACG\nTA\n+q x\nIII@I\n\n@r\nTTT\n+\n!!!\n@\nACGT\n+\n+++~\n";
 
 // A text of at most so many bytes, whether the other reads are selected, and what is written of it.
-const SELECTED: &[(&[u8], u64, bool, Result<[u64; 5], SelectFault>, &[u8])] = &[
+type Choice = (
+    &'static [u8],
+    u64,
+    bool,
+    Result<[u64; 5], SelectFault>,
+    &'static [u8],
+);
+
+const SELECTED: &[Choice] = &[
     (b"", 0, false, Ok([0, 0, 0, 0, 0]), b""),
     (b"\n\r\n", 9, false, Ok([3, 0, 0, 0, 0]), b""),
     // three words of which two are solid, one that isn't, and three of which two are
@@ -318,16 +332,22 @@ const SELECTED: &[(&[u8], u64, bool, Result<[u64; 5], SelectFault>, &[u8])] = &[
 #[test]
 fn reads_that_are_written(rt: HostRuntime) -> Result<(), Fail> {
     let tally = table_of(rt.alloc(), TABLE)?;
-    let solid = Selector::new(rt.alloc(), &tally, Selection::new(2, 66))?;
-    let others = Selector::new(
-        rt.alloc(),
-        &tally,
-        Selection::new(2, 66).with_inverted(true),
-    )?;
-    for (text, limit, inverted, want, written) in SELECTED {
-        let selector = if *inverted { &others } else { &solid };
-        assert_selected(&rt, selector, *text, *limit, want, *written);
+    for row in SELECTED {
+        assert_choice(&rt, &tally, row)?;
     }
+    Ok(())
+}
+
+// Asserts what a row says of the selection from its text by the table.
+fn assert_choice<H: Abort + AllocGlobal>(
+    rt: &H,
+    tally: &Tally,
+    row: &Choice,
+) -> Result<(), AllocError> {
+    let (text, limit, inverted, want, written) = row;
+    let selection = Selection::new(2, 66).with_inverted(*inverted);
+    let selector = Selector::new(rt.alloc(), tally, selection)?;
+    assert_selected(rt, &selector, *text, *limit, want, *written);
     Ok(())
 }
 
@@ -340,9 +360,10 @@ fn assert_selected<H: Abort + AllocGlobal>(
     want: &Result<[u64; 5], SelectFault>,
     written: &[u8],
 ) {
-    let (answer, found) = selected(rt.alloc(), selector, text, limit);
+    let mut sink = ToVec::new(Vec::new(rt.alloc()));
+    let answer = answer_of(rt.alloc(), selector, text, limit, &mut sink);
     assert_same(rt, text.len(), &answer, want);
-    assert_items(rt, text.len(), found.as_slice(), written);
+    assert_items(rt, text.len(), sink.as_slice(), written);
 }
 
 // A record of FASTA with this many bases.
@@ -398,7 +419,6 @@ fn a_writer_that_fails(rt: HostRuntime) -> Result<(), Fail> {
 // Asserts that what is kept can't be written to a writer that takes nothing.
 fn assert_write_refused<H: Abort + AllocGlobal>(rt: &H, selector: &Selector<'_>) {
     let mut sink = ToWrite::new(Full);
-    let mut source = FromBytes::new(FASTA);
-    let answer = select(rt.alloc(), &mut source, 100, &mut sink, selector);
-    assert_same(rt, "refused", &answer.err(), &Some(SelectFault::Write));
+    let answer = answer_of(rt.alloc(), selector, FASTA, 100, &mut sink);
+    assert_same(rt, "refused", &answer, &Err(SelectFault::Write));
 }

@@ -247,10 +247,10 @@ fn assert_tally_rows<H: Abort>(rt: &H, tally: &Tally, want: &[(u64, u64)]) {
     let mut rows = tally.rows();
     for (word, count) in want {
         let (word, count) = (*word, *count);
-        assert!(rt; rows.next() == Some(Row { word, count }), "word {word}");
+        assert_same(rt, word, &rows.next(), &Some(Row { word, count }));
     }
-    assert!(rt; rows.next().is_none());
-    assert!(rt; rows.next().is_none());
+    assert_same(rt, "end", &rows.next(), &None);
+    assert_same(rt, "end", &rows.next(), &None);
 }
 
 // Run with each allocation refused in turn: `rt try --test --fail-alloc N`.
@@ -290,6 +290,11 @@ fn parted_tally(alloc: Global, k: K, ends: &[usize]) -> Result<Tally, AllocError
         Row { word: 15, count: 1 },
     ];
     Tally::of_parts(alloc, k, false, in_parts(alloc, &rows, ends)?)
+}
+
+// The same tally, with its length of words.
+fn made_parted(alloc: Global, ends: &[usize]) -> Result<Tally, Fail> {
+    Ok(parted_tally(alloc, k_of(2)?, ends)?)
 }
 
 // The rows of the parted tally.
@@ -339,9 +344,8 @@ const PARTINGS: &[&[usize]] = &[
 
 #[test]
 fn tallies_of_parts(rt: HostRuntime) -> Result<(), Fail> {
-    let k = k_of(2)?;
     for ends in PARTINGS {
-        let tally = parted_tally(rt.alloc(), k, *ends)?;
+        let tally = made_parted(rt.alloc(), *ends)?;
         assert_parted(&rt, &tally);
     }
     Ok(())
@@ -349,22 +353,17 @@ fn tallies_of_parts(rt: HostRuntime) -> Result<(), Fail> {
 
 #[test]
 fn sums_of_parts(rt: HostRuntime) -> Result<(), Fail> {
-    let k = k_of(2)?;
-    let one = parted_tally(rt.alloc(), k, &[2])?;
+    let one = made_parted(rt.alloc(), &[2])?;
     for ends in PARTINGS {
-        let other = parted_tally(rt.alloc(), k, *ends)?;
-        assert_sum(&rt, &one, &other)?;
+        assert_sum(&rt, &one, *ends)?;
     }
     Ok(())
 }
 
-// Asserts that both tallies together have each row twice.
-fn assert_sum<H: Abort + AllocGlobal>(
-    rt: &H,
-    one: &Tally,
-    other: &Tally,
-) -> Result<(), AllocError> {
-    let sum = sum_of(rt, one, other)?;
+// Asserts that the parted tally together with itself in these parts has each row twice.
+fn assert_sum<H: Abort + AllocGlobal>(rt: &H, one: &Tally, ends: &[usize]) -> Result<(), Fail> {
+    let other = made_parted(rt.alloc(), ends)?;
+    let sum = sum_of(rt, one, &other)?;
     assert_tally_rows(rt, &sum, DOUBLED);
     Ok(())
 }

@@ -109,10 +109,22 @@ fn cut_into<H: AllocGlobal + Abort>(
 ) -> Result<Vec<Arc<Batch>>, Fail> {
     let rule = rule_of(3, false)?;
     let batches = cut_texts(rt.alloc(), texts, &rule, size)?;
-    let others = cut_texts(rt.alloc(), pieces, &rule, size)?;
-    assert_same(rt, "batches", &are_same(&batches, &others), &true);
+    assert_cut_alike(rt, &batches, pieces, size)?;
     assert_numbered(rt, &batches);
     Ok(batches)
+}
+
+// Asserts that a text of these pieces is cut into these batches for words of three.
+fn assert_cut_alike<H: AllocGlobal + Abort>(
+    rt: &H,
+    batches: &[Arc<Batch>],
+    pieces: &[&[u8]],
+    size: u64,
+) -> Result<(), Fail> {
+    let rule = rule_of(3, false)?;
+    let others = cut_texts(rt.alloc(), pieces, &rule, size)?;
+    assert_same(rt, "batches", &are_same(batches, &others), &true);
+    Ok(())
 }
 
 // Asserts that each batch has the number of its place.
@@ -130,12 +142,17 @@ fn batches(rt: HostRuntime) -> Result<(), Fail> {
         &[b"ACGT", b"GTA", b"NGT", b"GTN"],
         2,
     )?;
-    assert_same(&rt, "batches", &batches.len(), &BATCHES.len());
+    assert_rows(&rt, &batches)
+}
+
+// Asserts that batches have and show what their rows say.
+fn assert_rows<H: AllocGlobal + Abort>(rt: &H, batches: &[Arc<Batch>]) -> Result<(), Fail> {
+    assert_same(rt, "batches", &batches.len(), &BATCHES.len());
     for (batch, row) in batches.iter().zip(BATCHES) {
-        assert_batch(&rt, batch, row)?;
+        assert_batch(rt, batch, row)?;
     }
     for (batch, want) in batches.iter().zip(BATCH_PIECES) {
-        assert_pieces(&rt, batch, *want)?;
+        assert_pieces(rt, batch, *want)?;
     }
     Ok(())
 }
@@ -299,28 +316,44 @@ fn pieces_as_they_come(rt: HostRuntime) -> Result<(), Fail> {
 // The word of 31 T, twice.
 const BESIDE_A_GAP: &[u64] = &[4_611_686_018_427_387_903, 4_611_686_018_427_387_903];
 
+// Bases that have these words.
+const WITH_A_GAP: &[&[u8]] = &[b"TTTTTTTTTTTTTTTTTTTTTTTTTTTTTTTNTTTTTTTTTTTTTTTTTTTTTTTTTTTTTTT"];
+
 #[test]
 fn words_beside_a_gap(rt: HostRuntime) -> Result<(), Fail> {
     let rule = rule_of(31, false)?;
-    let bases = b"TTTTTTTTTTTTTTTTTTTTTTTTTTTTTTTNTTTTTTTTTTTTTTTTTTTTTTTTTTTTTTT".as_slice();
-    let batches = cut_texts(rt.alloc(), &[bases], &rule, 100)?;
+    let batches = cut_texts(rt.alloc(), WITH_A_GAP, &rule, 100)?;
     assert_same(&rt, "batches", &batches.len(), &1);
     let found = words_of_all(rt.alloc(), &batches, &rule)?;
     assert_numbers(&rt, "words", found.as_slice(), BESIDE_A_GAP);
     Ok(())
 }
 
+// The words of five bases that two batches have which were cut for words of three.
+const LONGER_WORDS: &[&[u64]] = &[&[108, 433], &[]];
+
 // A batch may be asked for longer words than those that it was cut for: its pieces then have fewer positions.
 #[test]
 fn words_of_another_length(rt: HostRuntime) -> Result<(), Fail> {
     let batches = cut_into(&rt, &[b"ACGTACG", b"ACG"], &[b"ACGTAC", b"ACG", b"ACG"], 4)?;
-    let [first, second] = batches.as_slice() else {
-        return Err(Fail::from("not two batches"));
-    };
+    assert_longer_words(&rt, &batches)
+}
+
+fn assert_longer_words<H: AllocGlobal + Abort>(rt: &H, batches: &[Arc<Batch>]) -> Result<(), Fail> {
     let longer = rule_of(5, false)?;
-    assert_words(&rt, first, &longer, &[108, 433])?;
-    assert_words(&rt, second, &longer, &[])?;
+    assert_same(rt, "batches", &batches.len(), &LONGER_WORDS.len());
+    for (batch, want) in batches.iter().zip(LONGER_WORDS) {
+        assert_words(rt, batch, &longer, *want)?;
+    }
     Ok(())
+}
+
+// Whether the first list has a batch at the first index that is the same as the second list's at the second.
+fn is_same_at(batches: &[Arc<Batch>], i: usize, others: &[Arc<Batch>], j: usize) -> bool {
+    match (batches.get(i), others.get(j)) {
+        (Some(batch), Some(other)) => is_same(batch, other),
+        _ => false,
+    }
 }
 
 // Asserts which of the two batches of these bases are those of ACGTA and ACG.
@@ -333,12 +366,13 @@ fn assert_same_batches<H: AllocGlobal + Abort>(
     let rule = rule_of(3, false)?;
     let batches = cut_texts(rt.alloc(), &[b"ACGTA", b"ACG"], &rule, 2)?;
     let others = cut_texts(rt.alloc(), texts, &rule, 2)?;
-    let ([first, second], [other, later]) = (batches.as_slice(), others.as_slice()) else {
-        return Err(Fail::from("not two batches each"));
-    };
-    assert_same(rt, "first", &is_same(first, other), &is_first_same);
-    assert_same(rt, "second", &is_same(second, later), &is_second_same);
-    assert_same(rt, "first and second", &is_same(first, second), &false);
+    assert_same(rt, "batches", &(batches.len(), others.len()), &(2, 2));
+    let first = is_same_at(&batches, 0, &others, 0);
+    assert_same(rt, "first", &first, &is_first_same);
+    let second = is_same_at(&batches, 1, &others, 1);
+    assert_same(rt, "second", &second, &is_second_same);
+    let of_one = is_same_at(&batches, 0, &batches, 1);
+    assert_same(rt, "first and second", &of_one, &false);
     Ok(())
 }
 

@@ -27,7 +27,9 @@ fn is_held(only: &Only, letters: &[u8]) -> Result<bool, Fail> {
 }
 
 // Reads, whether both strands count, a word, and whether the list of the reads holds it.
-const HELD: &[(&[&[u8]], bool, &[u8], bool)] = &[
+type Held = (&'static [&'static [u8]], bool, &'static [u8], bool);
+
+const HELD: &[Held] = &[
     (&[b"CGT"], false, b"CGT", true),
     (&[b"CGT"], false, b"ACG", false),
     (&[b"CGT"], true, b"ACG", true),
@@ -84,18 +86,24 @@ const HELD: &[(&[&[u8]], bool, &[u8], bool)] = &[
 
 #[test]
 fn words_held(rt: HostRuntime) -> Result<(), Fail> {
-    for (row, (texts, both, word, want)) in HELD.iter().enumerate() {
-        let rule = rule_of(word.len().min(31) as u32, *both)?;
-        let only = list_of(rt.alloc(), *texts, &rule)?;
-        assert_same(&rt, row, &only.k(), &rule.k());
-        assert_same(&rt, row, &only.both(), both);
-        assert_held(&rt, row, &only, *word, *want)?;
+    for (row, held) in HELD.iter().enumerate() {
+        assert_held(&rt, row, held)?;
     }
     Ok(())
 }
 
+// Asserts what a row says of the list of its reads.
+fn assert_held<H: AllocGlobal + Abort>(rt: &H, row: usize, held: &Held) -> Result<(), Fail> {
+    let (texts, both, word, want) = held;
+    let rule = rule_of(word.len().min(31) as u32, *both)?;
+    let only = list_of(rt.alloc(), *texts, &rule)?;
+    assert_same(rt, row, &only.k(), &rule.k());
+    assert_same(rt, row, &only.both(), both);
+    assert_holds(rt, row, &only, *word, *want)
+}
+
 // Asserts whether a list, and the list of its words, hold a word.
-fn assert_held<H: AllocGlobal + Abort>(
+fn assert_holds<H: AllocGlobal + Abort>(
     rt: &H,
     row: usize,
     only: &Only,
@@ -111,12 +119,17 @@ fn assert_held<H: AllocGlobal + Abort>(
 // Words, and whether the list of a read with a base of low quality holds them.
 const PASSED: &[(&[u8], bool)] = &[(b"AC", true), (b"CG", false), (b"GT", false)];
 
+// The list of the words of that read.
+fn list_with_low_quality(alloc: Global) -> Result<Only, Fail> {
+    let rule = Rule::new(k_of(2)?, false, b'#');
+    let mut reads = Vec::new(alloc);
+    reads.push(read_of(alloc, b"ACGT", Some(b"II!I"))?)?;
+    Ok(Only::of(alloc, &reads, &rule)?)
+}
+
 #[test]
 fn words_of_low_quality_are_not_held(rt: HostRuntime) -> Result<(), Fail> {
-    let read = read_of(rt.alloc(), b"ACGT", Some(b"II!I"))?;
-    let mut reads = Vec::new(rt.alloc());
-    reads.push(read)?;
-    let only = Only::of(rt.alloc(), &reads, &Rule::new(k_of(2)?, false, b'#'))?;
+    let only = list_with_low_quality(rt.alloc())?;
     for (row, (word, want)) in PASSED.iter().enumerate() {
         assert_same(&rt, row, &is_held(&only, *word)?, want);
     }
@@ -125,7 +138,9 @@ fn words_of_low_quality_are_not_held(rt: HostRuntime) -> Result<(), Fail> {
 
 // Reads, the length of words and the strands of a list, and whether it is the list of `CGTA` for words of 3 bases on
 // one strand.
-const EQUAL: &[(&[&[u8]], u32, bool, bool)] = &[
+type Equal = (&'static [&'static [u8]], u32, bool, bool);
+
+const EQUAL: &[Equal] = &[
     (&[b"CGTA"], 3, false, true),
     (&[b"GTA", b"N", b"CGTA", b"CGT"], 3, false, true),
     (&[b"CGT"], 3, false, false),
@@ -137,9 +152,22 @@ const EQUAL: &[(&[&[u8]], u32, bool, bool)] = &[
 #[test]
 fn lists_are_equal_by_value(rt: HostRuntime) -> Result<(), Fail> {
     let only = list_of(rt.alloc(), &[b"CGTA"], &rule_of(3, false)?)?;
-    for (row, (texts, k, both, want)) in EQUAL.iter().enumerate() {
-        let other = list_of(rt.alloc(), *texts, &rule_of(*k, *both)?)?;
-        assert_same(&rt, row, &(only == other), want);
+    for (row, equal) in EQUAL.iter().enumerate() {
+        assert_equal(&rt, row, &only, equal)?;
     }
+    Ok(())
+}
+
+// Asserts whether the list of a row's reads is this one.
+fn assert_equal<H: AllocGlobal + Abort>(
+    rt: &H,
+    row: usize,
+    only: &Only,
+    equal: &Equal,
+) -> Result<(), Fail> {
+    let (texts, k, both, want) = equal;
+    let rule = rule_of(*k, *both)?;
+    let other = list_of(rt.alloc(), *texts, &rule)?;
+    assert_same(rt, row, &(*only == other), want);
     Ok(())
 }

@@ -149,17 +149,21 @@ fn assert_fills<H: Abort, S: Source>(rt: &H, intake: &mut Intake, source: &mut S
 
 #[test]
 fn bytes_used_as_they_come(rt: HostRuntime) -> Result<(), Fail> {
-    let mut source = slow_source(usize::MAX);
+    assert_used(&rt, &mut slow_source(usize::MAX))
+}
+
+// Asserts that an intake of a source that gives the text has what wasn't used of it, up to its end.
+fn assert_used<H: AllocGlobal + Abort, S: Source>(rt: &H, source: &mut S) -> Result<(), Fail> {
     let mut intake = Intake::new(rt.alloc(), 8)?;
     for bytes in FIRST_THREE {
-        assert_fills(&rt, &mut intake, &mut source, *bytes);
+        assert_fills(rt, &mut intake, source, *bytes);
     }
     assert!(rt; intake.as_slice().len() >= 2);
     intake.use_up(2);
-    assert_bytes(&rt, "rest", intake.as_slice(), b"G");
-    assert_fills(&rt, &mut intake, &mut source, b"GT");
-    assert_same(&rt, "skipped", &intake.skip_rest(&mut source), &Ok(4));
-    nothing_more_comes(&rt, &mut source)
+    assert_bytes(rt, "rest", intake.as_slice(), b"G");
+    assert_fills(rt, &mut intake, source, b"GT");
+    assert_same(rt, "skipped", &intake.skip_rest(source), &Ok(4));
+    nothing_more_comes(rt, source)
 }
 
 // What is there after each of three reads.
@@ -210,10 +214,16 @@ fn bytes_of_a_slice(rt: HostRuntime) -> Result<(), Fail> {
     assert_reads(&rt, &mut source, b"AC");
     assert_same(&rt, "read", &source.read(&mut []), &Ok(0));
     assert_bytes(&rt, "left", source.as_slice(), b"GTA");
-    let mut rest = Intake::new(rt.alloc(), 3)?;
-    assert_fills(&rt, &mut rest, &mut source, b"GTA");
-    assert_same(&rt, "end", &rest.fill(&mut source), &Ok(false));
+    fills_to_its_end(&rt, &mut source)?;
     assert_reads(&rt, &mut source, b"");
+    Ok(())
+}
+
+// Asserts that an intake takes GTA of the source, and then is told of its end.
+fn fills_to_its_end<H: AllocGlobal + Abort, S: Source>(rt: &H, source: &mut S) -> Result<(), Fail> {
+    let mut rest = Intake::new(rt.alloc(), 3)?;
+    assert_fills(rt, &mut rest, source, b"GTA");
+    assert_same(rt, "end", &rest.fill(source), &Ok(false));
     Ok(())
 }
 
@@ -245,39 +255,40 @@ fn assert_written<H: Abort>(
 fn text_written_three_bytes_at_a_time(rt: HostRuntime) {
     assert_written(&rt, narrow_sink(rt.alloc(), 8, false, true), 8, Ok(()));
     for room in 0..8usize {
-        assert_written(
-            &rt,
-            narrow_sink(rt.alloc(), room, false, true),
-            room,
-            Err(Failed),
-        );
-        assert_written(
-            &rt,
-            narrow_sink(rt.alloc(), room, true, true),
-            room,
-            Err(Failed),
-        );
+        assert_write_refused(&rt, room, false, true);
+        assert_write_refused(&rt, room, true, true);
     }
-    assert_written(
-        &rt,
-        narrow_sink(rt.alloc(), 8, false, false),
-        8,
-        Err(Failed),
-    );
+    assert_write_refused(&rt, 8, false, false);
+}
+
+// Asserts that a writer that is so refuses the text.
+fn assert_write_refused<H: AllocGlobal + Abort>(
+    rt: &H,
+    room: usize,
+    takes_none: bool,
+    flushes: bool,
+) {
+    let sink = narrow_sink(rt.alloc(), room, takes_none, flushes);
+    assert_written(rt, sink, room, Err(Failed));
 }
 
 #[test]
 fn text_written_to_a_vector(rt: HostRuntime) -> Result<(), Fail> {
     let mut sink = ToVec::new(b">".to_vec(rt.alloc())?);
-    assert_same(&rt, "nothing flushed", &sink.flush(), &Ok(()));
-    assert_same(&rt, "part", &write_all(&mut sink, b"AC"), &Ok(()));
-    assert_same(&rt, "nothing", &write_out(&mut sink, b""), &Ok(()));
-    assert_same(&rt, "whole", &write_out(&mut sink, b"GT"), &Ok(()));
-    assert_same(&rt, "write", &sink.write(b"A"), &Ok(1));
-    assert_same(&rt, "flush", &sink.flush(), &Ok(()));
+    assert_takes(&rt, &mut sink);
     assert_bytes(&rt, "bytes", sink.as_slice(), b">ACGTA");
     assert_same(&rt, "length", &sink.into_inner().len(), &6);
     Ok(())
+}
+
+// Asserts that a sink takes ACGTA in parts.
+fn assert_takes<H: Abort, S: Sink>(rt: &H, sink: &mut S) {
+    assert_same(rt, "nothing flushed", &sink.flush(), &Ok(()));
+    assert_same(rt, "part", &write_all(sink, b"AC"), &Ok(()));
+    assert_same(rt, "nothing", &write_out(sink, b""), &Ok(()));
+    assert_same(rt, "whole", &write_out(sink, b"GT"), &Ok(()));
+    assert_same(rt, "write", &sink.write(b"A"), &Ok(1));
+    assert_same(rt, "flush", &sink.flush(), &Ok(()));
 }
 
 // Run with each allocation refused in turn: `rt try --test --fail-alloc N`.
@@ -287,10 +298,14 @@ fn memory_or_the_bytes(rt: HostRuntime) -> Result<(), AllocError> {
         Ok(intake) => assert_bytes(&rt, "taken", intake.as_slice(), TEXT),
         Err(fault) => assert_same(&rt, "fault", &fault, &TakeFault::Memory),
     }
+    memory_or_the_text(&rt);
+    Ok(())
+}
+
+fn memory_or_the_text<H: AllocGlobal + Abort>(rt: &H) {
     let mut sink = ToVec::new(Vec::new(rt.alloc()));
     match write_out(&mut sink, b"ACGT") {
-        Ok(()) => assert_bytes(&rt, "written", sink.as_slice(), b"ACGT"),
-        Err(Failed) => assert_bytes(&rt, "refused", sink.as_slice(), b""),
+        Ok(()) => assert_bytes(rt, "written", sink.as_slice(), b"ACGT"),
+        Err(Failed) => assert_bytes(rt, "refused", sink.as_slice(), b""),
     }
-    Ok(())
 }

@@ -131,9 +131,19 @@ fn collected_slowly(
     collected(alloc, slow_source(bytes, fails_at), 1 << 20)
 }
 
+// The reads of all bytes of a source, of which there are at most this many, and how many bytes there are. It promises
+// nothing, since what is read is compared when a test runs.
+fn all_reads<S: Source>(
+    alloc: Global,
+    source: &mut S,
+    limit: u32,
+) -> Result<(Vec<SeqRead>, u64), FastxFault> {
+    read_all(alloc, source, u64::from(limit))
+}
+
 // What `read_all` answers of these bytes, given one at a time.
 fn read_slowly(alloc: Global, bytes: &[u8], fails_at: u64) -> Result<Vec<SeqRead>, FastxFault> {
-    let (reads, _count) = read_all(alloc, &mut slow_source(bytes, fails_at), 1 << 36)?;
+    let (reads, _count) = all_reads(alloc, &mut slow_source(bytes, fails_at), 1 << 20)?;
     Ok(reads)
 }
 
@@ -288,7 +298,7 @@ fn faults_behind_faults(rt: HostRuntime) -> Result<(), AllocError> {
 
 // Why all bytes of a source, of which there are more than this limit, are refused.
 fn fault_of<S: Source>(alloc: Global, source: &mut S, limit: u32) -> Option<FastxFault> {
-    match read_all(alloc, source, u64::from(limit)) {
+    match all_reads(alloc, source, limit) {
         Ok(_) => None,
         Err(fault) => Some(fault),
     }
@@ -439,13 +449,21 @@ fn last_bases(alloc: Global, bytes: &[u8]) -> Result<Vec<u8>, FastxFault> {
 #[test]
 fn long_records(rt: HostRuntime) -> Result<(), Fail> {
     for width in WIDTHS {
-        let fasta = long_fasta(rt.alloc(), *width)?;
-        assert_base_counts(&rt, &fasta, &[200_000])?;
-        let fastq = long_fastq(rt.alloc(), *width)?;
-        assert_base_counts(&rt, &fastq, &[200_000, 2])?;
-        assert_last_bases(&rt, &fastq, b"AC")?;
+        assert_long_fasta(&rt, *width)?;
+        assert_long_fastq(&rt, *width)?;
     }
     Ok(())
+}
+
+fn assert_long_fasta<H: AllocGlobal + Abort>(rt: &H, width: usize) -> Result<(), FastxFault> {
+    let fasta = long_fasta(rt.alloc(), width)?;
+    assert_base_counts(rt, &fasta, &[200_000])
+}
+
+fn assert_long_fastq<H: AllocGlobal + Abort>(rt: &H, width: usize) -> Result<(), FastxFault> {
+    let fastq = long_fastq(rt.alloc(), width)?;
+    assert_base_counts(rt, &fastq, &[200_000, 2])?;
+    assert_last_bases(rt, &fastq, b"AC")
 }
 
 // Widths of the lines of a long read.
@@ -478,13 +496,19 @@ const PASSED_LIMITS: &[(&[u8], u32)] = &[(b">r1\nACGTA\n", 9), (b"ACGT\n", 3), (
 
 #[test]
 fn limits(rt: HostRuntime) -> Result<(), Fail> {
-    let (reads, count) = read_all(rt.alloc(), &mut FromBytes::new(b">r1\nACGTA\n"), 10)?;
-    assert_same(&rt, "bytes", &count, &10);
-    assert_shown(&rt, 10, &Ok(reads), b"ACGTA|")?;
+    assert_read_to_its_limit(&rt)?;
     for (bytes, limit) in PASSED_LIMITS {
         let passed = fault_of(rt.alloc(), &mut FromBytes::new(*bytes), *limit);
         assert_same(&rt, *limit, &passed, &Some(FastxFault::TooLong));
     }
+    Ok(())
+}
+
+// Asserts that ten bytes are read where there may be ten.
+fn assert_read_to_its_limit<H: AllocGlobal + Abort>(rt: &H) -> Result<(), FastxFault> {
+    let (reads, count) = all_reads(rt.alloc(), &mut FromBytes::new(b">r1\nACGTA\n"), 10)?;
+    assert_same(rt, "bytes", &count, &10);
+    assert_shown(rt, 10, &Ok(reads), b"ACGTA|")?;
     Ok(())
 }
 
@@ -533,11 +557,8 @@ fn numbers(rt: HostRuntime) {
     }
 }
 
-// The reads of a FASTQ of 27 bytes that come one at a time.
-fn read_all_slowly(alloc: Global) -> Result<(Vec<SeqRead>, u64), FastxFault> {
-    let bytes = b"@q\nAC\nGT\n+q\n@I\nII\n@r\nA\n+\nI\n".as_slice();
-    read_all(alloc, &mut slow_source(bytes, u64::MAX), 27)
-}
+// A FASTQ of 27 bytes.
+const TWO_READS: &[u8] = b"@q\nAC\nGT\n+q\n@I\nII\n@r\nA\n+\nI\n";
 
 // Asserts that these are reads of ACGT and of A.
 fn assert_two_reads<H: Abort>(rt: &H, reads: &[SeqRead]) {
@@ -553,15 +574,19 @@ fn assert_two_reads<H: Abort>(rt: &H, reads: &[SeqRead]) {
 // Run with each allocation refused in turn: `rt try --test --fail-alloc N`.
 #[test]
 fn memory_or_the_reads(rt: HostRuntime) {
-    match read_all_slowly(rt.alloc()) {
+    match all_reads(rt.alloc(), &mut slow_source(TWO_READS, u64::MAX), 27) {
         Ok((reads, count)) => {
             assert_same(&rt, "bytes", &count, &27);
             assert_two_reads(&rt, &reads);
         }
         Err(fault) => assert_same(&rt, "fault", &fault, &FastxFault::Memory),
     }
+    memory_or_one_read(&rt);
+}
+
+fn memory_or_one_read<H: AllocGlobal + Abort>(rt: &H) {
     match collected(rt.alloc(), FromBytes::new(b">r\nAC\n"), 7) {
-        Ok(reads) => assert_same(&rt, "reads", &reads.len(), &1),
-        Err(fault) => assert_same(&rt, "fault", &fault, &FastxFault::Memory),
+        Ok(reads) => assert_same(rt, "reads", &reads.len(), &1),
+        Err(fault) => assert_same(rt, "fault", &fault, &FastxFault::Memory),
     }
 }

@@ -1,6 +1,6 @@
 //! Worked rows of words, of rules and of pieces.
 use crate::assertions::{assert_bytes, assert_numbers, assert_same};
-use crate::sample_reads::{k_of, pieces_of, read_of, reads_of, rule_of};
+use crate::sample_reads::{k_of, read_of, reads_of, rule_of};
 use kc_fastx::SeqRead;
 use kc_word::{
     K, Piece, Rule, Word, canonical, clean, pack, read_words, reverse_complement, slow_count, text,
@@ -119,6 +119,19 @@ fn assert_piece<H: Abort>(rt: &H, piece: &Piece, want: &[u8]) {
     assert_same(rt, "emptiness", &piece.is_empty(), &want.is_empty());
 }
 
+// Asserts that the piece of a read has these bytes.
+fn assert_cleaned<H: AllocGlobal + Abort>(
+    rt: &H,
+    rule: &Rule,
+    bases: &[u8],
+    quals: Option<&[u8]>,
+    want: &[u8],
+) -> Result<(), Fail> {
+    let piece = piece_of(rt.alloc(), bases, quals, rule)?;
+    assert_piece(rt, &piece, want);
+    Ok(())
+}
+
 // Bases, qualities, and the bytes of the piece.
 const CLEANED: &[(&[u8], Option<&[u8]>, &[u8])] = &[
     (b"acgtNnR-", None, b"ACGTNNNN"),
@@ -131,32 +144,41 @@ const CLEANED: &[(&[u8], Option<&[u8]>, &[u8])] = &[
 fn cleaned(rt: HostRuntime) -> Result<(), Fail> {
     let rule = Rule::new(k_of(3)?, false, b'#');
     for (bases, quals, want) in CLEANED {
-        let piece = piece_of(rt.alloc(), *bases, *quals, &rule)?;
-        assert_piece(&rt, &piece, *want);
+        assert_cleaned(&rt, &rule, *bases, *quals, *want)?;
     }
     Ok(())
 }
 
 // The bases of a piece stand 32 to a word of 64 bits: here the last one of the first word is N.
+const TWO_WORDS: &[u8] = b"ACGTACGTACGTACGTACGTACGTACGTACGNT";
+
 #[test]
 fn bytes_over_two_words(rt: HostRuntime) -> Result<(), Fail> {
-    let bases = b"ACGTACGTACGTACGTACGTACGTACGTACGNT".as_slice();
-    assert_same(&rt, "length", &bases.len(), &33);
-    let piece = piece_of(rt.alloc(), bases, None, &rule_of(3, false)?)?;
-    assert_piece(&rt, &piece, bases);
-    Ok(())
+    assert_same(&rt, "length", &TWO_WORDS.len(), &33);
+    assert_cleaned(&rt, &rule_of(3, false)?, TWO_WORDS, None, TWO_WORDS)
 }
+
+// Whether the pieces of these bases are equal.
+fn are_equal(alloc: Global, bases: &[u8], others: &[u8]) -> Result<bool, Fail> {
+    let rule = rule_of(3, false)?;
+    let piece = piece_of(alloc, bases, None, &rule)?;
+    let other = piece_of(alloc, others, None, &rule)?;
+    Ok(piece == other)
+}
+
+// The bases of two pieces, and whether these are equal.
+const COMPARED: &[(&[u8], &[u8], bool)] = &[
+    (b"NNN", b"AAA", false),
+    (b"NNN", b"nnn", true),
+    (b"AAA", b"AAAA", false),
+];
 
 #[test]
 fn pieces_by_value(rt: HostRuntime) -> Result<(), Fail> {
-    let rule = rule_of(3, false)?;
-    let pieces = pieces_of(rt.alloc(), &[b"NNN", b"AAA", b"nnn", b"AAAA"], &rule)?;
-    let [of_n, of_a, of_small_n, longer] = pieces.as_slice() else {
-        return Err(Fail::from("not four pieces"));
-    };
-    assert_same(&rt, "N and A", &(of_n == of_a), &false);
-    assert_same(&rt, "N and n", &(of_n == of_small_n), &true);
-    assert_same(&rt, "A and one more", &(of_a == longer), &false);
+    for (row, (bases, others, want)) in COMPARED.iter().enumerate() {
+        let equal = are_equal(rt.alloc(), *bases, *others)?;
+        assert_same(&rt, row, &equal, want);
+    }
     Ok(())
 }
 
@@ -164,7 +186,15 @@ fn pieces_by_value(rt: HostRuntime) -> Result<(), Fail> {
 const LONG: &[u8] = b"TTTTTTTTTTTTTTTTTTTTTTTTTTTTTTT";
 
 // Bases, qualities, the length of a word, whether both strands count, and the words.
-const READS: &[(&[u8], Option<&[u8]>, u32, bool, &[u64])] = &[
+type Words = (
+    &'static [u8],
+    Option<&'static [u8]>,
+    u32,
+    bool,
+    &'static [u64],
+);
+
+const READS: &[Words] = &[
     (b"ACGTA", None, 3, false, &[6, 27, 44]),
     (b"ACGTA", None, 3, true, &[6, 6, 44]),
     (b"ACNGT", None, 2, false, &[1, 11]),
@@ -186,12 +216,19 @@ fn words_of(
     Ok(read_words(alloc, &read, rule)?)
 }
 
+// Asserts that a read has the words of its row.
+fn assert_words_of<H: AllocGlobal + Abort>(rt: &H, row: usize, read: &Words) -> Result<(), Fail> {
+    let (bases, quals, k, both, want) = read;
+    let rule = rule_of(*k, *both)?;
+    let found = words_of(rt.alloc(), *bases, *quals, &rule)?;
+    assert_numbers(rt, row, found.as_slice(), *want);
+    Ok(())
+}
+
 #[test]
 fn words_of_reads(rt: HostRuntime) -> Result<(), Fail> {
-    for (row, (bases, quals, k, both, want)) in READS.iter().enumerate() {
-        let rule = rule_of(*k, *both)?;
-        let found = words_of(rt.alloc(), *bases, *quals, &rule)?;
-        assert_numbers(&rt, row, found.as_slice(), *want);
+    for (row, read) in READS.iter().enumerate() {
+        assert_words_of(&rt, row, read)?;
     }
     Ok(())
 }
@@ -206,7 +243,9 @@ fn count_slowly(reads: &[SeqRead], both: bool, word: &[u8]) -> Result<u64, Fail>
 }
 
 // Reads, whether both strands count, a word, and how often it is counted.
-const COUNTED: &[(&[&[u8]], bool, &[u8], u64)] = &[
+type Count = (&'static [&'static [u8]], bool, &'static [u8], u64);
+
+const COUNTED: &[Count] = &[
     (&[b"ACGTA"], false, b"acg", 1),
     (&[b"ACGTA"], true, b"acg", 2),
     (&[b"ACGT", b"", b"ac"], false, b"ac", 2),
@@ -215,11 +254,18 @@ const COUNTED: &[(&[&[u8]], bool, &[u8], u64)] = &[
     (&[b"AAAAAAAAAA"], false, b"AAA", 8),
 ];
 
+// Asserts how often the word of a row is counted in its reads.
+fn assert_count<H: AllocGlobal + Abort>(rt: &H, row: usize, count: &Count) -> Result<(), Fail> {
+    let (texts, both, word, want) = count;
+    let reads = reads_of(rt.alloc(), *texts)?;
+    assert_same(rt, row, &count_slowly(&reads, *both, *word)?, want);
+    Ok(())
+}
+
 #[test]
 fn counted_slowly(rt: HostRuntime) -> Result<(), Fail> {
-    for (row, (texts, both, word, want)) in COUNTED.iter().enumerate() {
-        let reads = reads_of(rt.alloc(), *texts)?;
-        assert_same(&rt, row, &count_slowly(&reads, *both, *word)?, want);
+    for (row, count) in COUNTED.iter().enumerate() {
+        assert_count(&rt, row, count)?;
     }
     Ok(())
 }
