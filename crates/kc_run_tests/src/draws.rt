@@ -3,6 +3,7 @@ ghost use Rattle.std.specs.Prelude.{◌≡◌, ◌<◌, ◌≤◌, ◌^◌, [], 
 ghost use Rattle.std.specs.List.{flat_map, IsDistinct};
 ghost use Rattle.kc_tickets.specs.Tickets.{IsSeatOf, IsDone, answers_of, AreNumbersBelow};
 
+use crate::run_assertions::assert_same;
 use kc_run::ticket_laws::{each_stands_once, none_is_left_out};
 use kc_run::{Seat, Tickets};
 use std::alloc::{AllocError, Global};
@@ -124,11 +125,21 @@ fn draw_at(tickets: &Tickets, seats: &mut Vec<Seat>, index: usize) -> Option<u64
     ensures own { All (IsSeatOf tickets.now) seats.new.items }
     ensures len { vec_len seats.new ≡ vec_len seats.old }
 {
-    let seat = &mut seats[index];
-    if seat.is_done() {
+    if seats[index].is_done() {
         return None;
     }
-    tickets.draw(seat)
+    tickets.draw(&mut seats[index])
+}
+
+// The same, and whether the seat is done then.
+fn turn_at(tickets: &Tickets, seats: &mut Vec<Seat>, index: usize) -> (Option<u64>, bool)
+    requires own { All (IsSeatOf tickets.now) seats.old.items }
+    requires index { index < vec_len seats.old }
+    ensures own { All (IsSeatOf tickets.now) seats.new.items }
+    ensures len { vec_len seats.new ≡ vec_len seats.old }
+{
+    let number = draw_at(tickets, seats, index);
+    (number, seats[index].is_done())
 }
 
 // A seat's index, what it is to be answered, and whether it is done then.
@@ -142,10 +153,8 @@ fn assert_turn<R: Abort>(rt: &R, tickets: &Tickets, seats: &mut Vec<Seat>, turn:
 {
     let (index, number, is_done) = *turn;
     assert!(rt; index < seats.len());
-    let drawn = draw_at(tickets, seats, index);
-    assert_eq!(rt; drawn, number, "of seat {index}");
-    let done = seats[index].is_done();
-    assert_eq!(rt; done, is_done, "of seat {index}");
+    let drawn = turn_at(tickets, seats, index);
+    assert_same(rt, index, &drawn, &(number, is_done));
 }
 
 // Lets so many seats draw below a limit, in these turns.
@@ -188,7 +197,7 @@ fn numbers_below_the_limit_are_answered_in_turn(rt: HostRuntime) -> Result<(), F
 #[test]
 fn as_many_seats_as_numbers_are_answered(rt: HostRuntime) -> Result<(), Fail> {
     let (tickets, mut seats) = Tickets::new(rt.alloc(), 3, 64)?;
-    assert_eq!(rt; seats.len(), 64);
+    assert_same(&rt, "seats", &seats.len(), &64);
     let (mut some, mut none) = (0u64, 0u64);
     for index in 0..64 {
         match draw_at(&tickets, &mut seats, index) {
@@ -199,24 +208,36 @@ fn as_many_seats_as_numbers_are_answered(rt: HostRuntime) -> Result<(), Fail> {
             None => none += 1,
         }
     }
-    assert_eq!(rt; (some, none), (3, 61));
+    assert_same(&rt, "answers", &(some, none), &(3, 61));
     tickets.close(seats);
     Ok(())
+}
+
+// The numbers of all lists, in ascending order.
+fn sorted(alloc: Global, lists: &[Vec<u64>]) -> Result<Vec<u64>, AllocError> {
+    let mut all = Vec::new(alloc);
+    for numbers in lists {
+        all.extend_from_slice(numbers)?;
+    }
+    all.sort_unstable();
+    Ok(all)
+}
+
+// The numbers below a limit, in ascending order.
+fn numbers_below(alloc: Global, limit: u64) -> Result<Vec<u64>, AllocError> {
+    let mut numbers = Vec::new(alloc);
+    for number in 0..limit {
+        numbers.push(number)?;
+    }
+    Ok(numbers)
 }
 
 #[test]
 fn threads_are_answered_each_number_once(rt: HostRuntime) -> Result<(), Fail> {
     let alloc = rt.alloc();
-    let mut all = Vec::new(alloc);
-    for numbers in share_out(&rt, alloc, 1000, 8)? {
-        all.extend_from_slice(numbers.as_slice())?;
-    }
-    all.sort_unstable();
-    let mut want = Vec::new(alloc);
-    for number in 0..1000u64 {
-        want.push(number)?;
-    }
-    assert_eq!(rt; all, want);
+    let all = share_out(&rt, alloc, 1000, 8)?;
+    let numbers = sorted(alloc, &all)?;
+    assert_same(&rt, "numbers", &numbers, &numbers_below(alloc, 1000)?);
     Ok(())
 }
 

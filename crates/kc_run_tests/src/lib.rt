@@ -4,6 +4,8 @@
 #[cfg(test)]
 mod draws;
 #[cfg(test)]
+mod run_assertions;
+#[cfg(test)]
 mod run_examples;
 #[cfg(test)]
 mod whole_histograms;

@@ -1,5 +1,5 @@
 //! The examples at the front of kc_tickets and kc_run.
-use crate::whole_runs::{batches_of, setup_of};
+use crate::whole_runs::{batches_of, made_setup};
 use kc_run::{NoGate, Tickets, plain_tables, run};
 use std::test::Fail;
 
@@ -17,7 +17,7 @@ fn a_seat_draws_the_first_number(rt: HostRuntime) -> Result<(), Fail> {
 #[test]
 fn two_workers_count_batches(rt: HostRuntime) -> Result<(), Fail> {
     let alloc = rt.alloc();
-    let setup = setup_of(3, 2).ok_or("no setup")?;
+    let setup = made_setup(3, 2)?;
     let batches = batches_of(alloc, &setup, b"ACGTA", 1)?;
     let tables = plain_tables(alloc, &setup)?;
     let tally = run(&rt, alloc, &batches, &setup, tables, 2, &NoGate)?;

@@ -6,6 +6,7 @@ ghost use Rattle.kc_table.specs.QuotientTable.{counts_in};
 ghost use Rattle.kc_booking.specs.Setup.{stripe_count, key_bits};
 ghost use Rattle.kc_gather.specs.Gathering.{position_sum};
 
+use crate::run_assertions::assert_same;
 use kc_fastx::SeqRead;
 use kc_hash::{Hash, Matrix};
 use kc_run::{Gate, NoGate, RunFault, Tally, plain_tables, run};
@@ -27,10 +28,18 @@ use std::thread::Threads;
 use std::time::{Clock, Duration};
 
 // Words of k bases on one strand, in so many stripes, by a hash that leaves them as they are.
-pub(crate) fn setup_of(k: u32, stripes: u32) -> Option<Setup> {
+fn setup_of(k: u32, stripes: u32) -> Option<Setup> {
     let k = K::new(k)?;
     let hash = Hash::of_matrix(Matrix::identity(2 * k.get())).ok()?;
     Setup::new(Rule::new(k, false, b'!'), hash, stripes)
+}
+
+// The same setup. A test without it fails.
+pub(crate) fn made_setup(k: u32, stripes: u32) -> Result<Setup, Fail> {
+    match setup_of(k, stripes) {
+        Some(setup) => Ok(setup),
+        None => Err(Fail::from("no setup")),
+    }
 }
 
 // A read of these bases.
@@ -92,16 +101,25 @@ fn run_over<H: Threads + Wait + Sync, C: Counts + Drop + Send, G: Gate + Sync>(
     Ok(run(rt, alloc, &batches, setup, tables, case.workers, gate))
 }
 
-// The tally of a run over tables that are never full.
-fn counted<H: Threads + Wait + Sync, G: Gate + Sync>(
+// What a run over tables that are never full answers.
+fn run_plainly<H: Threads + Wait + Sync + AllocGlobal, G: Gate + Sync>(
     rt: &H,
-    alloc: Global,
+    setup: &Setup,
+    case: &Case<'_>,
+    gate: &G,
+) -> Result<Result<Tally, RunFault>, Fail> {
+    let tables = plain_tables(rt.alloc(), setup)?;
+    run_over(rt, rt.alloc(), setup, tables, case, gate)
+}
+
+// The tally of a run over tables that are never full.
+fn counted<H: Threads + Wait + Sync + AllocGlobal, G: Gate + Sync>(
+    rt: &H,
     setup: &Setup,
     case: &Case<'_>,
     gate: &G,
 ) -> Result<Tally, Fail> {
-    let tables = plain_tables(alloc, setup)?;
-    match run_over(rt, alloc, setup, tables, case, gate)? {
+    match run_plainly(rt, setup, case, gate)? {
         Ok(tally) => Ok(tally),
         Err(_) => Err(Fail::from("no tally")),
     }
@@ -111,9 +129,24 @@ fn counted<H: Threads + Wait + Sync, G: Gate + Sync>(
 fn assert_rows<H: Abort>(rt: &H, tally: &Tally, rows: &[Row]) {
     let mut left = tally.rows();
     for row in rows {
-        assert_eq!(rt; left.next(), Some(*row));
+        assert_same(rt, "a row", &left.next(), &Some(*row));
     }
-    assert_eq!(rt; left.next(), None);
+    assert_same(rt, "no row", &left.next(), &None);
+}
+
+// Asserts that a run over tables that are never full counts these rows and no others, of so many words in all.
+fn assert_counted<H: Threads + Wait + Abort + Sync + AllocGlobal, G: Gate + Sync>(
+    rt: &H,
+    setup: &Setup,
+    case: &Case<'_>,
+    gate: &G,
+    rows: &[Row],
+    total: u64,
+) -> Result<(), Fail> {
+    let tally = counted(rt, setup, case, gate)?;
+    assert_rows(rt, &tally, rows);
+    assert_same(rt, "in all", &tally.total(), &total);
+    Ok(())
 }
 
 // The one word of ten bases A.
@@ -127,16 +160,13 @@ fn count_ten<H: Threads + Wait + Abort + Sync + AllocGlobal>(
 ) -> Result<(), Fail>
     requires { (size ≤ 11) × (workers ≤ 8) }
 {
-    let setup = setup_of(3, 1 << ((size + workers) % 7)).ok_or("no setup")?;
+    let setup = made_setup(3, 1 << ((size + workers) % 7))?;
     let case = Case {
         bases: b"AAAAAAAAAA",
         size: u64::from(size),
         workers,
     };
-    let tally = counted(rt, rt.alloc(), &setup, &case, &NoGate)?;
-    assert_rows(rt, &tally, EIGHT);
-    assert_eq!(rt; tally.total(), 8);
-    Ok(())
+    assert_counted(rt, &setup, &case, &NoGate, EIGHT, 8)
 }
 
 #[test]
@@ -149,18 +179,17 @@ fn the_tally_is_one_for_all_workers_stripes_and_batches(rt: HostRuntime) -> Resu
     Ok(())
 }
 
+// A read that is shorter than a word, for two workers.
+const NOTHING: Case = Case {
+    bases: b"AC",
+    size: 1,
+    workers: 2,
+};
+
 #[test]
 fn no_batches_have_no_rows(rt: HostRuntime) -> Result<(), Fail> {
-    let setup = setup_of(3, 4).ok_or("no setup")?;
-    let case = Case {
-        bases: b"AC",
-        size: 1,
-        workers: 2,
-    };
-    let tally = counted(&rt, rt.alloc(), &setup, &case, &NoGate)?;
-    assert_rows(&rt, &tally, &[]);
-    assert_eq!(rt; tally.total(), 0);
-    Ok(())
+    let setup = made_setup(3, 4)?;
+    assert_counted(&rt, &setup, &NOTHING, &NoGate, &[], 0)
 }
 
 // So many bases, each a letter of ACGTACGTN that is drawn.
@@ -204,7 +233,7 @@ fn count_with_workers<H: Threads + Wait + Abort + Sync + AllocGlobal>(
             size,
             workers: *workers,
         };
-        let tally = counted(rt, rt.alloc(), setup, &case, &NoGate)?;
+        let tally = counted(rt, setup, &case, &NoGate)?;
         assert_rows(rt, &tally, want);
     }
     Ok(())
@@ -242,6 +271,19 @@ fn refusing(
     Ok(tables)
 }
 
+// What a run answers over tables for this many keys each, which refuse the next one.
+fn run_refusing<H: Threads + Wait + Sync + AllocGlobal, G: Gate + Sync>(
+    rt: &H,
+    setup: &Setup,
+    keys: u64,
+    refusal: TableFault,
+    case: &Case<'_>,
+    gate: &G,
+) -> Result<Result<Tally, RunFault>, Fail> {
+    let tables = refusing(rt.alloc(), setup, keys, refusal)?;
+    run_over(rt, rt.alloc(), setup, tables, case, gate)
+}
+
 // Bases whose first key is refused, why, and what is answered: AAA falls in stripe 0, and AAC in stripe 1.
 const REFUSALS: &[(&[u8], TableFault, RunFault)] = &[
     (b"AAA", TableFault::Full, RunFault::Full(0)),
@@ -257,14 +299,13 @@ fn refused<H: Threads + Wait + Sync + AllocGlobal>(
     refusal: TableFault,
     workers: u32,
 ) -> Result<RunFault, Fail> {
-    let setup = setup_of(3, 2).ok_or("no setup")?;
+    let setup = made_setup(3, 2)?;
     let case = Case {
         bases,
         size: 1,
         workers,
     };
-    let tables = refusing(rt.alloc(), &setup, 0, refusal)?;
-    match run_over(rt, rt.alloc(), &setup, tables, &case, &NoGate)? {
+    match run_refusing(rt, &setup, 0, refusal, &case, &NoGate)? {
         Ok(_) => Err(Fail::from("a tally")),
         Err(fault) => Ok(fault),
     }
@@ -275,7 +316,7 @@ fn a_refused_key_ends_the_run(rt: HostRuntime) -> Result<(), Fail> {
     for (bases, refusal, want) in REFUSALS {
         for workers in 1..=2 {
             let fault = refused(&rt, *bases, *refusal, workers)?;
-            assert_eq!(rt; fault, *want);
+            assert_same(&rt, workers, &fault, want);
         }
     }
     Ok(())
@@ -328,7 +369,7 @@ fn count_crowded<H: Threads + Wait + Sync + AllocGlobal>(
     rt: &H,
     words: u64,
 ) -> Result<Result<Tally, RunFault>, Fail> {
-    let setup = setup_of(8, 1).ok_or("no setup")?;
+    let setup = made_setup(8, 1)?;
     let bases = crowded(rt.alloc(), words)?;
     let case = Case {
         bases: &bases,
@@ -343,16 +384,16 @@ fn count_crowded<H: Threads + Wait + Sync + AllocGlobal>(
 fn a_stripe_is_full_at_the_64th_word_of_one_place(rt: HostRuntime) -> Result<(), Fail> {
     match count_crowded(&rt, 63)? {
         Ok(tally) => {
-            assert_eq!(rt; tally.row_count(), 63);
-            assert_eq!(rt; tally.bin(1), 63);
-            assert_eq!(rt; tally.total(), 63);
+            assert_same(&rt, "rows", &tally.row_count(), &63);
+            assert_same(&rt, "words once", &tally.bin(1), &63);
+            assert_same(&rt, "in all", &tally.total(), &63);
         }
         Err(_) => return Err(Fail::from("no tally")),
     }
     match count_crowded(&rt, 64)? {
         Ok(_) => Err(Fail::from("a tally")),
         Err(fault) => {
-            assert_eq!(rt; fault, RunFault::Full(0));
+            assert_same(&rt, "a fault", &fault, &RunFault::Full(0));
             Ok(())
         }
     }
@@ -410,17 +451,15 @@ const FOUR_BY_TWO: Case = Case {
 
 #[test]
 fn two_workers_book_at_once(rt: HostRuntime) -> Result<(), Fail> {
-    let setup = setup_of(3, 4).ok_or("no setup")?;
+    let setup = made_setup(3, 4)?;
     let gate = HoldsFirst {
         clock: &rt,
         first: AtomicU64::new(0),
         booked: AtomicU64::new(0),
         released: AtomicU64::new(0),
     };
-    let tally = counted(&rt, rt.alloc(), &setup, &FOUR_BY_TWO, &gate)?;
-    assert_eq!(rt; gate.released.load(Ordering::SeqCst), 1);
-    assert_rows(&rt, &tally, FOUR);
-    assert_eq!(rt; tally.total(), 4);
+    assert_counted(&rt, &setup, &FOUR_BY_TWO, &gate, FOUR, 4)?;
+    assert_same(&rt, "released", &gate.released.load(Ordering::SeqCst), &1);
     Ok(())
 }
 
@@ -430,6 +469,24 @@ struct Told {
     before: AtomicU64,
     after: AtomicU64,
     unbegun: AtomicU64,
+}
+
+impl Told {
+    fn nothing() -> Told {
+        Told {
+            before: AtomicU64::new(0),
+            after: AtomicU64::new(0),
+            unbegun: AtomicU64::new(0),
+        }
+    }
+}
+
+// Asserts which calls the gate counted before and after batches, and that each batch was begun once.
+fn assert_told<H: Abort>(rt: &H, gate: &Told, before: u64, after: u64) {
+    let order = Ordering::SeqCst;
+    assert_same(rt, "before", &gate.before.load(order), &before);
+    assert_same(rt, "after", &gate.after.load(order), &after);
+    assert_same(rt, "unbegun", &gate.unbegun.load(order), &0);
 }
 
 // Below the four bits of a batch.
@@ -460,28 +517,22 @@ fn tell_of_eight<H: Threads + Wait + Sync + AllocGlobal>(
     workers: u32,
     gate: &Told,
 ) -> Result<(), Fail> {
-    let setup = setup_of(3, 4).ok_or("no setup")?;
+    let setup = made_setup(3, 4)?;
     let case = Case {
         bases: b"AAAAAAAAAA",
         size: 1,
         workers,
     };
-    counted(rt, rt.alloc(), &setup, &case, gate)?;
+    counted(rt, &setup, &case, gate)?;
     Ok(())
 }
 
 #[test]
 fn the_gate_is_told_of_each_batch_before_and_after(rt: HostRuntime) -> Result<(), Fail> {
     for workers in 1..=2 {
-        let gate = Told {
-            before: AtomicU64::new(0),
-            after: AtomicU64::new(0),
-            unbegun: AtomicU64::new(0),
-        };
+        let gate = Told::nothing();
         tell_of_eight(&rt, workers, &gate)?;
-        assert_eq!(rt; gate.before.load(Ordering::SeqCst), 0x1111_1111);
-        assert_eq!(rt; gate.after.load(Ordering::SeqCst), 0x1111_1111);
-        assert_eq!(rt; gate.unbegun.load(Ordering::SeqCst), 0);
+        assert_told(&rt, &gate, 0x1111_1111, 0x1111_1111);
     }
     Ok(())
 }
@@ -496,14 +547,16 @@ fn tell_of_one<H: Threads + Wait + Sync + AllocGlobal>(
     bases: &[u8],
     gate: &Told,
 ) -> Result<bool, Fail> {
-    let setup = setup_of(3, 2).ok_or("no setup")?;
+    let setup = made_setup(3, 2)?;
     let case = Case {
         bases,
         size: 2,
         workers: 1,
     };
-    let tables = refusing(rt.alloc(), &setup, 1, TableFault::Full)?;
-    Ok(run_over(rt, rt.alloc(), &setup, tables, &case, gate)?.is_ok())
+    match run_refusing(rt, &setup, 1, TableFault::Full, &case, gate)? {
+        Ok(_) => Ok(true),
+        Err(_) => Ok(false),
+    }
 }
 
 // A batch that is refused was told before it, and not after it: so the gate is told before the first booking of a
@@ -511,15 +564,10 @@ fn tell_of_one<H: Threads + Wait + Sync + AllocGlobal>(
 #[test]
 fn the_gate_is_told_of_a_refused_batch_only_before(rt: HostRuntime) -> Result<(), Fail> {
     for (bases, after) in ONE_KEY_EACH {
-        let gate = Told {
-            before: AtomicU64::new(0),
-            after: AtomicU64::new(0),
-            unbegun: AtomicU64::new(0),
-        };
+        let gate = Told::nothing();
         let is_counted = tell_of_one(&rt, *bases, &gate)?;
-        assert_eq!(rt; is_counted, *after == 1);
-        assert_eq!(rt; gate.before.load(Ordering::SeqCst), 1);
-        assert_eq!(rt; gate.after.load(Ordering::SeqCst), *after);
+        assert_same(&rt, "counted", &is_counted, &(*after == 1));
+        assert_told(&rt, &gate, 1, *after);
     }
     Ok(())
 }
@@ -568,7 +616,7 @@ fn longest_round<H: Threads + Wait + Sync + AllocGlobal>(
         size: 1,
         workers,
     };
-    counted(rt, rt.alloc(), setup, &case, &gate)?;
+    counted(rt, setup, &case, &gate)?;
     Ok(gate.most.load(Ordering::SeqCst))
 }
 
@@ -579,11 +627,12 @@ const ROUNDS: &[(u32, u64)] = &[(1, 4), (2, 2), (3, 1), (64, 1)];
 // there are more batches than both could have begun one of.
 #[test]
 fn a_round_leaves_each_worker_four(rt: HostRuntime) -> Result<(), Fail> {
-    let setup = setup_of(3, 1).ok_or("no setup")?;
-    assert_eq!(rt; batches_of(rt.alloc(), &setup, SIXTEEN, 1)?.len(), 16);
+    let setup = made_setup(3, 1)?;
+    let batches = batches_of(rt.alloc(), &setup, SIXTEEN, 1)?;
+    assert_same(&rt, "batches", &batches.len(), &16);
     for (workers, want) in ROUNDS {
         let longest = longest_round(&rt, &setup, *workers)?;
-        assert_eq!(rt; longest, *want, "{workers}");
+        assert_same(&rt, *workers, &longest, want);
     }
     Ok(())
 }
@@ -591,9 +640,8 @@ fn a_round_leaves_each_worker_four(rt: HostRuntime) -> Result<(), Fail> {
 // Run with each growth refused in turn, by `make memory`: no other fault is answered, and no other tally.
 #[test]
 fn a_refused_growth_gives_no_tally(rt: HostRuntime) -> Result<(), Fail> {
-    let setup = setup_of(3, 4).ok_or("no setup")?;
-    let tables = plain_tables(rt.alloc(), &setup)?;
-    match run_over(&rt, rt.alloc(), &setup, tables, &FOUR_BY_TWO, &NoGate)? {
+    let setup = made_setup(3, 4)?;
+    match run_plainly(&rt, &setup, &FOUR_BY_TWO, &NoGate)? {
         Ok(tally) => {
             assert_rows(&rt, &tally, FOUR);
             Ok(())
