@@ -1,5 +1,6 @@
 //! Histograms of whole runs, for which no row is taken.
-use crate::whole_runs::{batches_of, setup_of};
+use crate::run_assertions::assert_same;
+use crate::whole_runs::{batches_of, made_setup};
 use kc_run::{Histogram, NoGate, plain_tables, run_histogram};
 use std::alloc::Global;
 use std::process::Abort;
@@ -20,7 +21,7 @@ fn histogram_by<H: Threads + Wait + Sync>(
     if workers < 1 || workers > 64 {
         return Err(Fail::from("no such workers"));
     }
-    let setup = setup_of(3, stripes).ok_or("no setup")?;
+    let setup = made_setup(3, stripes)?;
     let batches = batches_of(alloc, &setup, b"ACGTANACG", 2)?;
     let tables = plain_tables(alloc, &setup)?;
     Ok(run_histogram(rt, alloc, &batches, &setup, tables, workers, &NoGate)?)
@@ -28,10 +29,10 @@ fn histogram_by<H: Threads + Wait + Sync>(
 
 // CGT and GTA occur once, ACG twice.
 fn assert_bins(rt: &impl Abort, histogram: &Histogram) {
-    assert_eq!(rt; histogram.bin(1), 2);
-    assert_eq!(rt; histogram.bin(2), 1);
+    assert_same(rt, "words once", &histogram.bin(1), &2);
+    assert_same(rt, "words twice", &histogram.bin(2), &1);
     for bin in 3..=10_001 {
-        assert_eq!(rt; histogram.bin(bin), 0);
+        assert_same(rt, bin, &histogram.bin(bin), &0);
     }
 }
 
