@@ -10,8 +10,8 @@ has a line `refused:` with the function that has to be refused by it, as the che
 A function is proved against the contracts of those that it calls, so edits of different functions don't hide one another. The edits of a
 crate are put together into few groups. The second edit of a function in a group and each further one are made in a copy of the function, of
 another name and with a copy of its proof; a function of a trait can't be copied, nor one that another proof speaks of, so there is one edit of
-it in a group. An edit that changes more than bodies of functions, or adds more than the function that it names, is tried alone. Each group is made in a copy of the crate, and its functions
-are checked by one check, over a copy of what was kept of the crate's proof.
+it in a group. An edit that changes more than bodies of functions, or adds more than the function that it names, is tried alone. Each group is
+made in a copy of the crate, and its functions are checked by one check, over a copy of what was kept of the crate's proof.
 Of each function that an edit names a goal or an answer of its own has to be open: that it calls what is not proved doesn't count, nor that the
 edited text can't be read, nor that the checker could not tell. What isn't refused so in its group is tried once more alone, and that decides.
 

@@ -7,6 +7,8 @@ mod bookings;
 #[cfg(test)]
 mod cut_rows;
 #[cfg(test)]
+mod gathered_histograms;
+#[cfg(test)]
 mod gathered_tallies;
 #[cfg(test)]
 mod gatherings;

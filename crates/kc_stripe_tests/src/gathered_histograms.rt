@@ -1,0 +1,73 @@
+//! Histograms that are gathered from the stripes of a count, without a row.
+use crate::gatherings::{batches_of, stripes_of};
+use crate::sample_batches::made_setup;
+use crate::stripe_assertions::assert_same;
+use kc_gather::{GatherFault, gather_histogram};
+use kc_stripe::Setup;
+use kc_tally::Histogram;
+use kc_word::Batch;
+use std::alloc::Global;
+use std::process::Abort;
+use std::sync::Arc;
+use std::test::Fail;
+
+// What gathering the histogram answers, where these batches are given and those were booked.
+fn gathered(
+    alloc: Global,
+    setup: &Setup,
+    batches: &[Arc<Batch>],
+    booked: &[Arc<Batch>],
+) -> Result<Result<Histogram, GatherFault>, Fail> {
+    let stripes = stripes_of(alloc, setup, booked)?;
+    if stripes.len() != setup.stripes() as usize {
+        return Err(Fail::from("not a stripe for each number"));
+    }
+    Ok(gather_histogram(alloc, stripes, batches, setup))
+}
+
+// Numbers of stripes, and positions of a batch.
+const COUNTS: &[(u32, u64)] = &[(1, 1), (4, 2), (4, 7), (64, 1)];
+
+#[test]
+fn the_histogram_of_all_stripes(rt: HostRuntime) -> Result<(), Fail> {
+    for (stripes, size) in COUNTS {
+        let setup = made_setup(3, *stripes)?;
+        let batches = batches_of(rt.alloc(), &setup, b"ACGTANACG", *size)?;
+        match gathered(rt.alloc(), &setup, &batches, &batches)? {
+            Ok(histogram) => assert_bins(&rt, &histogram),
+            Err(_) => return Err(Fail::from("no histogram")),
+        }
+    }
+    Ok(())
+}
+
+// CGT and GTA occur once, ACG twice.
+fn assert_bins(rt: &impl Abort, histogram: &Histogram) {
+    assert_same(rt, "words once", &histogram.bin(1), &2);
+    assert_same(rt, "words twice", &histogram.bin(2), &1);
+    for bin in 3..=10_001 {
+        assert_same(rt, "no word", &histogram.bin(bin), &0);
+    }
+}
+
+// Bases whose batches are given where those of AAAA were booked, and how that is refused.
+const REFUSALS: &[(&[u8], GatherFault)] = &[
+    (b"AAAAC", GatherFault::Missing(0, 1)),
+    (b"CCCCC", GatherFault::Foreign(0)),
+];
+
+#[test]
+fn a_stripe_that_lacks_a_batch_or_has_another_has_no_histogram(
+    rt: HostRuntime,
+) -> Result<(), Fail> {
+    let setup = made_setup(3, 1)?;
+    let booked = batches_of(rt.alloc(), &setup, b"AAAA", 2)?;
+    for (bases, want) in REFUSALS {
+        let batches = batches_of(rt.alloc(), &setup, *bases, 2)?;
+        match gathered(rt.alloc(), &setup, &batches, &booked)? {
+            Ok(_) => return Err(Fail::from("a histogram")),
+            Err(fault) => assert_same(&rt, "a fault", &fault, want),
+        }
+    }
+    Ok(())
+}
