@@ -43,9 +43,15 @@ fn assert_counts<C: Counts>(rt: &impl Abort, stripe: &Stripe<C>, counts: &[(u64,
 // The journal has the batches of these numbers.
 fn assert_journal(rt: &impl Abort, journal: &[Arc<Batch>], numbers: &[u64]) {
     assert_same(rt, "batches", &journal.len(), &numbers.len());
-    for (batch, number) in journal.iter().zip(numbers) {
-        assert_same(rt, "a batch", &batch.number(), number);
+    for place in 0..numbers.len() {
+        let number = number_at(journal, place);
+        assert_same(rt, "a batch", &number, &Some(numbers[place]));
     }
+}
+
+// The number of the batch at this place.
+fn number_at(journal: &[Arc<Batch>], place: usize) -> Option<u64> {
+    Some(journal.get(place)?.number())
 }
 
 pub(crate) fn assert_held<C: Counts>(rt: &impl Abort, stripe: &Stripe<C>, held: &Held<'_>) {
@@ -133,11 +139,11 @@ fn is_booked_in_order<C: Counts>(
     alloc: Global,
     stripe: &mut Stripe<C>,
     cuts: &[Cut],
-) -> Result<(), AllocError> {
+) -> Result<(), Fail> {
     assert_same(rt, "cuts", &cuts.len(), &3);
     assert_held(rt, stripe, &NOTHING);
     assert_steps(rt, stripe, cuts);
-    assert_rows(rt, alloc, stripe)
+    Ok(assert_rows(rt, alloc, stripe)?)
 }
 
 // The stripe has the rows after these steps.
@@ -152,40 +158,31 @@ fn assert_rows<C: Counts>(
 }
 
 // An empty stripe over a quotient table with a slot for each key: all words of three bases in one stripe.
-pub(crate) fn quotient_stripe(alloc: Global) -> Result<Stripe<QuotientTable>, Fail> {
+pub(crate) fn quotient_stripe(alloc: Global) -> Result<Box<Stripe<QuotientTable>>, Fail> {
     let setup = made_setup(3, 1)?;
     quotient_stripe_by(alloc, &setup)
 }
 
-fn quotient_stripe_by(alloc: Global, setup: &Setup) -> Result<Stripe<QuotientTable>, Fail> {
+fn quotient_stripe_by(alloc: Global, setup: &Setup) -> Result<Box<Stripe<QuotientTable>>, Fail> {
     if setup.key_bits() != 6 || setup.stripes() != 1 {
         return Err(Fail::from("another setup"));
     }
     let table = QuotientTable::new(alloc, 6, 6, 6)?;
-    Ok(Stripe::new(alloc, setup, 0, table)?)
+    Ok(Box::new(alloc, Stripe::new(alloc, setup, 0, table)?)?)
 }
 
 // The same over a `BTreeMap`.
-pub(crate) fn map_stripe(alloc: Global) -> Result<Stripe<PlainCounts>, Fail> {
+pub(crate) fn map_stripe(alloc: Global) -> Result<Box<Stripe<PlainCounts>>, Fail> {
     let setup = made_setup(3, 1)?;
     plain_stripe(alloc, &setup, 0)
 }
 
 #[test]
 fn batches_are_booked_in_order(rt: HostRuntime) -> Result<(), Fail> {
-    let cuts = cuts_and_stranger(rt.alloc())?;
-    map_is_booked(&rt, rt.alloc(), &cuts)?;
-    quotient_table_is_booked(&rt, rt.alloc(), &cuts)
-}
-
-fn map_is_booked(rt: &impl Abort, alloc: Global, cuts: &[Cut]) -> Result<(), Fail> {
-    let mut stripe = map_stripe(alloc)?;
-    Ok(is_booked_in_order(rt, alloc, &mut stripe, cuts)?)
-}
-
-fn quotient_table_is_booked(rt: &impl Abort, alloc: Global, cuts: &[Cut]) -> Result<(), Fail> {
-    let mut stripe = quotient_stripe(alloc)?;
-    Ok(is_booked_in_order(rt, alloc, &mut stripe, cuts)?)
+    let alloc = rt.alloc();
+    let cuts = cuts_and_stranger(alloc)?;
+    is_booked_in_order(&rt, alloc, &mut *map_stripe(alloc)?, &cuts)?;
+    is_booked_in_order(&rt, alloc, &mut *quotient_stripe(alloc)?, &cuts)
 }
 
 // ACG alone, in batch 1.
@@ -203,13 +200,13 @@ const THREE_AND_ONE: &[&[u8]] = &[b"ACGTA", b"ACG"];
 pub(crate) fn limited_stripe(
     alloc: Global,
     refusal: TableFault,
-) -> Result<Stripe<LimitedCounts>, Fail> {
+) -> Result<Box<Stripe<LimitedCounts>>, Fail> {
     let setup = made_setup(3, 1)?;
     if setup.stripes() != 1 {
         return Err(Fail::from("another setup"));
     }
     let table = LimitedCounts::new(alloc, setup.key_bits(), 2, refusal);
-    Ok(Stripe::new(alloc, &setup, 0, table)?)
+    Ok(Box::new(alloc, Stripe::new(alloc, &setup, 0, table)?)?)
 }
 
 // The stripe refuses a cut of three words so, and then takes one of one word.
@@ -220,8 +217,13 @@ fn refuses_three(
     refusal: TableFault,
     fault: BookFault,
 ) -> Result<(), Fail> {
-    let mut stripe = limited_stripe(alloc, refusal)?;
-    refuses_first(rt, alloc, &mut stripe, cuts, fault)
+    refuses_first(
+        rt,
+        alloc,
+        &mut *limited_stripe(alloc, refusal)?,
+        cuts,
+        fault,
+    )
 }
 
 // The stripe refuses the first of two cuts so, and then takes the second.
@@ -285,11 +287,11 @@ fn assert_last_bins<C: Counts>(
     rt: &impl Abort,
     stripe: &mut Stripe<C>,
     cuts: &[Cut],
-) -> Result<(), BookFault> {
-    for (cut, bins) in cuts.iter().zip(LAST_BINS) {
-        stripe.book(cut)?;
+) -> Result<(), Fail> {
+    for index in 0..LAST_BINS.len() {
+        book_at(stripe, cuts, index)?;
         let now = [stripe.bin(5_000), stripe.bin(10_000), stripe.bin(10_001)];
-        assert_same(rt, "the bins", &now, bins);
+        assert_same(rt, "the bins", &now, &LAST_BINS[index]);
     }
     Ok(())
 }
@@ -298,7 +300,7 @@ fn comes_to_the_last_bin<C: Counts>(
     rt: &impl Abort,
     stripe: &mut Stripe<C>,
     cuts: &[Cut],
-) -> Result<(), BookFault> {
+) -> Result<(), Fail> {
     assert_same(rt, "cuts", &cuts.len(), &3);
     assert_last_bins(rt, stripe, cuts)?;
     assert_same(rt, "the total", &stripe.total(), &10_003);
@@ -307,21 +309,8 @@ fn comes_to_the_last_bin<C: Counts>(
 
 #[test]
 fn the_last_bin(rt: HostRuntime) -> Result<(), Fail> {
-    let cuts = long_cuts(rt.alloc())?;
-    map_comes_to_the_last_bin(&rt, rt.alloc(), &cuts)?;
-    quotient_table_comes_to_the_last_bin(&rt, rt.alloc(), &cuts)
-}
-
-fn map_comes_to_the_last_bin(rt: &impl Abort, alloc: Global, cuts: &[Cut]) -> Result<(), Fail> {
-    let mut stripe = map_stripe(alloc)?;
-    Ok(comes_to_the_last_bin(rt, &mut stripe, cuts)?)
-}
-
-fn quotient_table_comes_to_the_last_bin(
-    rt: &impl Abort,
-    alloc: Global,
-    cuts: &[Cut],
-) -> Result<(), Fail> {
-    let mut stripe = quotient_stripe(alloc)?;
-    Ok(comes_to_the_last_bin(rt, &mut stripe, cuts)?)
+    let alloc = rt.alloc();
+    let cuts = long_cuts(alloc)?;
+    comes_to_the_last_bin(&rt, &mut *map_stripe(alloc)?, &cuts)?;
+    comes_to_the_last_bin(&rt, &mut *quotient_stripe(alloc)?, &cuts)
 }

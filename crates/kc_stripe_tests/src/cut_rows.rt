@@ -4,7 +4,7 @@ use crate::stripe_assertions::{assert_items, assert_same};
 use kc_hash::{Hash, Matrix};
 use kc_stripe::{Cut, Setup, Stripe};
 use kc_table::PlainCounts;
-use kc_word::Word;
+use kc_word::{K, Rule, Word};
 use std::alloc::Global;
 use std::process::Abort;
 use std::test::Fail;
@@ -51,9 +51,9 @@ fn setups(rt: HostRuntime) -> Result<(), Fail> {
 
 #[test]
 fn a_setup_wants_the_hash_of_its_words(rt: HostRuntime) -> Result<(), Fail> {
-    let setup = made_setup(3, 4)?;
     let hash = Hash::of_matrix(Matrix::identity(8))?;
-    assert!(rt; Setup::new(*setup.rule(), hash, 4).is_none());
+    let k = K::new(3).ok_or("no length of a word")?;
+    assert!(rt; Setup::new(Rule::new(k, false, b'!'), hash, 4).is_none());
     Ok(())
 }
 
@@ -96,14 +96,18 @@ fn cuts_of_a_batch(rt: HostRuntime) -> Result<(), Fail> {
 }
 
 fn assert_cuts(rt: &impl Abort, setup: &Setup, cuts: &[Cut]) {
-    assert_same(rt, "cuts", &cuts.len(), &4);
-    for (stripe, (cut, keys)) in cuts.iter().zip(KEYS).enumerate() {
-        assert_cut(rt, setup, cut, stripe, *keys);
+    assert!(rt; cuts.len() == KEYS.len());
+    for stripe in 0..KEYS.len() {
+        assert_cut(rt, setup, &cuts[stripe], stripe, KEYS[stripe]);
     }
 }
 
 // Stripe 2 of four, in which the one batch of this text is booked.
-fn stripe_of_text(alloc: Global, setup: &Setup, text: &[u8]) -> Result<Stripe<PlainCounts>, Fail> {
+fn stripe_of_text(
+    alloc: Global,
+    setup: &Setup,
+    text: &[u8],
+) -> Result<Box<Stripe<PlainCounts>>, Fail> {
     let cuts = cuts_in(alloc, setup, text)?;
     let mut stripe = plain_stripe(alloc, setup, 2)?;
     book_at(&mut stripe, &cuts, 2)?;

@@ -2,12 +2,12 @@
 ghost use Rattle.std.specs.Prelude.{◌≤◌};
 ghost use Rattle.kc_tally.specs.Histogram.{last_bin};
 
-use crate::sample_batches::{batches_of, plain_stripe};
+use crate::sample_batches::{batches_of, book_batch, plain_stripes};
 use crate::stripe_assertions::{assert_items, assert_same};
 use kc_fastx::SeqRead;
 use kc_hash::Hash;
-use kc_stripe::{BookFault, Setup, Stripe, cut_up};
-use kc_table::{Counts, PlainCounts, QuotientTable};
+use kc_stripe::{Setup, Stripe};
+use kc_table::{Counts, QuotientTable};
 use kc_tally::Row;
 use kc_word::slow_count::base_count;
 use kc_word::{Batch, K, Rule};
@@ -123,20 +123,6 @@ fn shuffled(alloc: Global, count: usize) -> Result<Vec<(u64, u64)>, AllocError> 
     Ok(order)
 }
 
-// Books the batch in each of the stripes.
-fn book_batch<C: Counts>(
-    alloc: Global,
-    setup: &Setup,
-    stripes: &mut [Stripe<C>],
-    batch: &Arc<Batch>,
-) -> Result<(), BookFault> {
-    let cuts = cut_up(alloc, setup, batch)?;
-    for (stripe, cut) in stripes.iter_mut().zip(&cuts) {
-        stripe.book(cut)?;
-    }
-    Ok(())
-}
-
 // Books the batches in all stripes, in this order.
 fn book_in_order<C: Counts>(
     alloc: Global,
@@ -144,11 +130,11 @@ fn book_in_order<C: Counts>(
     stripes: &mut [Stripe<C>],
     batches: &[Arc<Batch>],
     order: &[(u64, u64)],
-) -> Result<(), BookFault> {
+) -> Result<(), Fail> {
     for (_, index) in order {
         match batches.get(*index as usize) {
             Some(batch) => book_batch(alloc, setup, stripes, batch)?,
-            None => return Err(BookFault::Stranger),
+            None => return Err(Fail::from("no batch")),
         }
     }
     Ok(())
@@ -160,7 +146,7 @@ fn book_everywhere<C: Counts>(
     setup: &Setup,
     stripes: &mut [Stripe<C>],
     reads: &[SeqRead],
-) -> Result<(), BookFault> {
+) -> Result<(), Fail> {
     let batches = batches_of(alloc, setup, reads, 7)?;
     let order = shuffled(alloc, batches.len())?;
     book_in_order(alloc, setup, stripes, &batches, &order)
@@ -223,11 +209,11 @@ fn total_of(rows: &[(u64, u64)]) -> u64 {
 fn hold_the_tally<C: Counts + Drop>(
     rt: &impl Abort,
     alloc: Global,
+    setup: &Setup,
     mut stripes: Vec<Stripe<C>>,
 ) -> Result<(), Fail> {
-    let setup = seeded_setup()?;
     let reads = random_reads(alloc, &mut SplitMix64::seed_from_u64(11))?;
-    holds_the_tally(rt, alloc, &setup, &mut stripes, &reads)
+    holds_the_tally(rt, alloc, setup, &mut stripes, &reads)
 }
 
 // Books these reads in the stripes, and compares the stripes with the slow tally of the reads.
@@ -257,35 +243,15 @@ fn assert_booked<C: Counts>(
     Ok(())
 }
 
-// An empty stripe over a quotient table with a slot for each key.
-fn quotient_stripe(
-    alloc: Global,
-    setup: &Setup,
-    number: u32,
-) -> Result<Stripe<QuotientTable>, Fail> {
-    if setup.key_bits() != 3 || number >= setup.stripes() {
+// All stripes of the setup, empty, over a quotient table each, with a slot for each key.
+fn quotient_stripes(alloc: Global, setup: &Setup) -> Result<Vec<Stripe<QuotientTable>>, Fail> {
+    if setup.key_bits() != 3 {
         return Err(Fail::from("another setup"));
     }
-    let table = QuotientTable::new(alloc, 3, 3, 3)?;
-    Ok(Stripe::new(alloc, setup, number, table)?)
-}
-
-// The eight stripes over a `BTreeMap`.
-fn plain_stripes(alloc: Global) -> Result<Vec<Stripe<PlainCounts>>, Fail> {
-    let setup = seeded_setup()?;
     let mut stripes = Vec::new(alloc);
-    for number in 0..8 {
-        stripes.push(plain_stripe(alloc, &setup, number)?)?;
-    }
-    Ok(stripes)
-}
-
-// The eight stripes over quotient tables.
-fn quotient_stripes(alloc: Global) -> Result<Vec<Stripe<QuotientTable>>, Fail> {
-    let setup = seeded_setup()?;
-    let mut stripes = Vec::new(alloc);
-    for number in 0..8 {
-        stripes.push(quotient_stripe(alloc, &setup, number)?)?;
+    for number in 0..setup.stripes() {
+        let table = QuotientTable::new(alloc, 3, 3, 3)?;
+        stripes.push(Stripe::new(alloc, setup, number, table)?)?;
     }
     Ok(stripes)
 }
@@ -293,6 +259,8 @@ fn quotient_stripes(alloc: Global) -> Result<Vec<Stripe<QuotientTable>>, Fail> {
 #[test]
 fn stripes_hold_the_tally(rt: HostRuntime) -> Result<(), Fail> {
     let alloc = rt.alloc();
-    hold_the_tally(&rt, alloc, plain_stripes(alloc)?)?;
-    hold_the_tally(&rt, alloc, quotient_stripes(alloc)?)
+    let setup = seeded_setup()?;
+    assert_same(&rt, "stripes", &setup.stripes(), &8);
+    hold_the_tally(&rt, alloc, &setup, plain_stripes(alloc, &setup)?)?;
+    hold_the_tally(&rt, alloc, &setup, quotient_stripes(alloc, &setup)?)
 }

@@ -4,12 +4,12 @@ ghost use Rattle.kc_booking.specs.Setup.{stripe_count};
 ghost use Rattle.kc_word.specs.Shared.{values};
 ghost use Rattle.kc_gather.specs.Gathering.{position_sum};
 
-use crate::sample_batches::{cut_of, made_setup, plain_stripe, read_of};
+use crate::sample_batches::{book_batch, made_setup, plain_stripes, read_of};
 use crate::stripe_assertions::{assert_items, assert_same};
 use kc_gather::{GatherFault, gather, gather_in_parallel, plain_tables, quotient_tables};
 use kc_stripe::{Setup, Stripe};
 use kc_table::{Counts, PlainCounts, QuotientTable};
-use kc_tally::Tally;
+use kc_tally::{Row, Tally};
 use kc_word::{Batch, clean, cut, cutting_laws};
 use std::alloc::{AllocError, Global};
 use std::process::Abort;
@@ -36,26 +36,6 @@ fn assert_tables<C: Counts>(
     Ok(())
 }
 
-fn assert_plain_tables(
-    rt: &impl Abort,
-    alloc: Global,
-    setup: &Setup,
-    bits: u32,
-) -> Result<(), AllocError> {
-    let tables = plain_tables(alloc, setup)?;
-    assert_tables(rt, alloc, &tables, setup.stripes(), bits)
-}
-
-fn assert_quotient_tables(
-    rt: &impl Abort,
-    alloc: Global,
-    setup: &Setup,
-    bits: u32,
-) -> Result<(), AllocError> {
-    let tables = quotient_tables(alloc, setup, 1_000)?;
-    assert_tables(rt, alloc, &tables, setup.stripes(), bits)
-}
-
 #[test]
 fn a_table_for_each_stripe(rt: HostRuntime) -> Result<(), Fail> {
     let alloc = rt.alloc();
@@ -74,17 +54,24 @@ fn assert_tables_of(
     bits: u32,
 ) -> Result<(), Fail> {
     let setup = made_setup(k, stripes)?;
-    Ok(assert_both_tables(rt, alloc, &setup, bits)?)
+    Ok(assert_both_tables(rt, alloc, &setup, stripes, bits)?)
 }
 
 fn assert_both_tables(
     rt: &impl Abort,
     alloc: Global,
     setup: &Setup,
+    stripes: u32,
     bits: u32,
 ) -> Result<(), AllocError> {
-    assert_plain_tables(rt, alloc, setup, bits)?;
-    assert_quotient_tables(rt, alloc, setup, bits)
+    assert_tables(rt, alloc, &plain_tables(alloc, setup)?, stripes, bits)?;
+    assert_tables(
+        rt,
+        alloc,
+        &quotient_tables(alloc, setup, 1_000)?,
+        stripes,
+        bits,
+    )
 }
 
 // Lengths of words, numbers of stripes, sizes, and the logs with which the tables begin.
@@ -134,39 +121,15 @@ pub(crate) fn batches_of(
     Ok(cut(alloc, pieces, setup.rule().k(), size.max(1))?)
 }
 
-// The stripe of this number in which the batches were booked.
-fn stripe_of(
-    alloc: Global,
-    setup: &Setup,
-    number: u32,
-    batches: &[Arc<Batch>],
-) -> Result<Stripe<PlainCounts>, Fail> {
-    let mut stripe = plain_stripe(alloc, setup, number)?;
-    for batch in batches {
-        book_batch(alloc, &mut stripe, batch)?;
-    }
-    Ok(stripe)
-}
-
-// Books the batch in the stripe.
-fn book_batch(
-    alloc: Global,
-    stripe: &mut Stripe<PlainCounts>,
-    batch: &Arc<Batch>,
-) -> Result<(), Fail> {
-    let cut = cut_of(alloc, stripe.setup(), batch, stripe.number() as usize)?;
-    Ok(stripe.book(&cut)?)
-}
-
-// A stripe of each number in which the batches were booked.
+// All stripes of the setup, in which the batches were booked.
 fn stripes_of(
     alloc: Global,
     setup: &Setup,
     batches: &[Arc<Batch>],
 ) -> Result<Vec<Stripe<PlainCounts>>, Fail> {
-    let mut stripes = Vec::new(alloc);
-    for number in 0..setup.stripes() {
-        stripes.push(stripe_of(alloc, setup, number, batches)?)?;
+    let mut stripes = plain_stripes(alloc, setup)?;
+    for batch in batches {
+        book_batch(alloc, setup, &mut stripes, batch)?;
     }
     Ok(stripes)
 }
@@ -210,9 +173,13 @@ fn gather_by<H: Threads + Sync>(
 // The tally has these rows and no others.
 fn assert_rows(rt: &impl Abort, tally: &Tally, want: &[(u64, u64)]) {
     assert_same(rt, "rows", &(tally.row_count() as usize), &want.len());
-    for (row, (word, count)) in tally.rows().zip(want) {
-        assert_same(rt, "a word", &row.word, word);
-        assert_same(rt, "a count", &row.count, count);
+    let mut rows = tally.rows();
+    for (word, count) in want {
+        let row = Row {
+            word: *word,
+            count: *count,
+        };
+        assert_same(rt, "a row", &rows.next(), &Some(row));
     }
 }
 

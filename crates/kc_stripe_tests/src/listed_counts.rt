@@ -47,7 +47,7 @@ const LISTED: &[(bool, &[&[u8]], &[Row])] = &[
 ];
 
 // The stripe of the setup, in which ACGTA is booked.
-fn booked(alloc: Global, setup: &Setup) -> Result<Stripe<PlainCounts>, Fail> {
+fn booked(alloc: Global, setup: &Setup) -> Result<Box<Stripe<PlainCounts>>, Fail> {
     let cuts = cuts_in(alloc, setup, b"ACGTA")?;
     let mut stripe = plain_stripe(alloc, setup, 0)?;
     book_at(&mut stripe, &cuts, 0)?;
@@ -81,7 +81,11 @@ fn listed_words_alone_are_counted(rt: HostRuntime) -> Result<(), Fail> {
 }
 
 // The stripe that is kept to the words of these reads, in which ACGTA is booked.
-fn booked_by_list(alloc: Global, both: bool, texts: &[&[u8]]) -> Result<Stripe<PlainCounts>, Fail> {
+fn booked_by_list(
+    alloc: Global,
+    both: bool,
+    texts: &[&[u8]],
+) -> Result<Box<Stripe<PlainCounts>>, Fail> {
     let setup = listed_setup(alloc, both, texts)?;
     booked(alloc, &setup)
 }
@@ -116,10 +120,19 @@ fn assert_booking(
     cuts: &[Cut],
     answer: &Result<(), BookFault>,
 ) -> Result<(), Fail> {
-    let mut stripe = plain_stripe(alloc, setup, 0)?;
+    assert_answer(rt, &mut *plain_stripe(alloc, setup, 0)?, cuts, answer);
+    Ok(())
+}
+
+// The stripe answers so to the first of the cuts.
+fn assert_answer(
+    rt: &impl Abort,
+    stripe: &mut Stripe<PlainCounts>,
+    cuts: &[Cut],
+    answer: &Result<(), BookFault>,
+) {
     assert!(rt; !cuts.is_empty());
     assert_same(rt, "a booking", &stripe.book(&cuts[0]), answer);
-    Ok(())
 }
 
 #[test]

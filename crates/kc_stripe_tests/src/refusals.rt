@@ -85,19 +85,10 @@ fn is_booked_at_last<C: Counts>(
 
 #[test]
 fn a_refused_growth_leaves_the_stripe(rt: HostRuntime) -> Result<(), Fail> {
-    let cuts = cuts_of_three(rt.alloc(), 1, TEXTS, 40)?;
-    map_is_left(&rt, rt.alloc(), &cuts)?;
-    quotient_table_is_left(&rt, rt.alloc(), &cuts)
-}
-
-fn map_is_left(rt: &impl Abort, alloc: Global, cuts: &[Cut]) -> Result<(), Fail> {
-    let mut stripe = map_stripe(alloc)?;
-    is_booked_at_last(rt, alloc, &mut stripe, cuts)
-}
-
-fn quotient_table_is_left(rt: &impl Abort, alloc: Global, cuts: &[Cut]) -> Result<(), Fail> {
-    let mut stripe = quotient_stripe(alloc)?;
-    is_booked_at_last(rt, alloc, &mut stripe, cuts)
+    let alloc = rt.alloc();
+    let cuts = cuts_of_three(alloc, 1, TEXTS, 40)?;
+    is_booked_at_last(&rt, alloc, &mut *map_stripe(alloc)?, &cuts)?;
+    is_booked_at_last(&rt, alloc, &mut *quotient_stripe(alloc)?, &cuts)
 }
 
 // Both batches as one round.
@@ -135,8 +126,8 @@ fn is_round_booked_again<C: Counts>(
 #[test]
 fn a_refused_growth_leaves_the_stripe_of_a_round(rt: HostRuntime) -> Result<(), Fail> {
     let alloc = rt.alloc();
-    is_round_booked_at_last(&rt, alloc, &mut map_stripe(alloc)?)?;
-    is_round_booked_at_last(&rt, alloc, &mut quotient_stripe(alloc)?)
+    is_round_booked_at_last(&rt, alloc, &mut *map_stripe(alloc)?)?;
+    is_round_booked_at_last(&rt, alloc, &mut *quotient_stripe(alloc)?)
 }
 
 // What a share tells of stripe 0: words and entries; and its parts.

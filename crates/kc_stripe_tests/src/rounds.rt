@@ -1,14 +1,14 @@
 //! Several batches that are cut up at once, and booked into a stripe by one call.
-ghost use Rattle.std.specs.Prelude.{◌≡◌};
+ghost use Rattle.std.specs.Prelude.{◌≡◌, ◌<◌};
 ghost use Rattle.kc_booking.specs.Setup.{stripe_count};
 
 use crate::bookings::{Held, NOTHING, assert_held, limited_stripe, map_stripe, quotient_stripe};
 use crate::sample_batches::{batches_in, made_setup};
 use crate::sharings::stripes_of;
 use crate::stripe_assertions::{assert_items, assert_same};
-use kc_share::{Books, Sheet};
-use kc_stripe::{BookFault, Cuts, Setup, Stripe, cut_up_all};
-use kc_table::{Counts, TableFault};
+use kc_share::{Books, Share, Sheet};
+use kc_stripe::{BookFault, Cuts, Setup, Stripe, Stripes, cut_up_all};
+use kc_table::{Counts, PlainCounts, TableFault};
 use kc_word::Batch;
 use std::alloc::Global;
 use std::marker::Brand;
@@ -56,9 +56,10 @@ fn assert_cuts(
 
 // There are as many stripes as rows, and each has the cuts of its row.
 fn assert_round(rt: &impl Abort, setup: &Setup, rounds: &[Cuts]) {
-    assert_same(rt, "stripes", &rounds.len(), &ROUND.len());
-    for (stripe, (cuts, (keys, sizes))) in rounds.iter().zip(ROUND).enumerate() {
-        assert_cuts(rt, setup, cuts, stripe, *keys, *sizes);
+    assert!(rt; rounds.len() == ROUND.len());
+    for stripe in 0..ROUND.len() {
+        let (keys, sizes) = ROUND[stripe];
+        assert_cuts(rt, setup, &rounds[stripe], stripe, keys, sizes);
     }
 }
 
@@ -73,7 +74,7 @@ fn cuts_of_two_batches(rt: HostRuntime) -> Result<(), Fail> {
 
 #[test]
 fn a_number_that_stands_twice(rt: HostRuntime) -> Result<(), Fail> {
-    let cuts = round_of(rt.alloc(), 1, &[1, 0, 1])?;
+    let cuts = round_in(rt.alloc(), 1, TWO_BATCHES, &[1, 0, 1])?;
     assert!(rt; !cuts.numbers_differ());
     Ok(())
 }
@@ -91,7 +92,9 @@ const TURNED: Held<'static> = Held {
 
 // The number of stripes of the setup by which a round is cut up, the places of its batches, what is answered where it
 // is booked, and what the stripe then holds. The stripe is of one stripe's setup.
-const STEPS: &[(u32, &[usize], Result<(), BookFault>, Held<'static>)] = &[
+type Step = (u32, &'static [usize], Result<(), BookFault>, Held<'static>);
+
+const STEPS: &[Step] = &[
     (1, &[], Ok(()), NOTHING),
     (2, &[], Ok(()), NOTHING),
     (1, &[0, 1, 0], Err(BookFault::Twice), NOTHING),
@@ -100,11 +103,6 @@ const STEPS: &[(u32, &[usize], Result<(), BookFault>, Held<'static>)] = &[
     (2, &[1], Err(BookFault::Twice), TURNED),
     (1, &[0], Err(BookFault::Twice), TURNED),
 ];
-
-// The words of the batches of these places in stripe 0 of so many.
-fn round_of(alloc: Global, stripes: u32, places: &[usize]) -> Result<Cuts, Fail> {
-    round_in(alloc, stripes, TWO_BATCHES, places)
-}
 
 // The words of these places' batches of the texts in stripe 0 of so many.
 fn round_in(alloc: Global, stripes: u32, texts: &[&[u8]], places: &[usize]) -> Result<Cuts, Fail> {
@@ -126,14 +124,16 @@ pub(crate) fn first_cuts(
     Ok(rounds.swap_remove(0))
 }
 
-// The stripe takes the steps one after another.
+// The stripe takes the steps, rounds of batches of these texts, one after another.
 fn takes_the_steps<C: Counts>(
     rt: &impl Abort,
     alloc: Global,
     stripe: &mut Stripe<C>,
+    texts: &[&[u8]],
+    steps: &[Step],
 ) -> Result<(), Fail> {
-    for (stripes, places, answer, held) in STEPS {
-        let cuts = round_of(alloc, *stripes, *places)?;
+    for (stripes, places, answer, held) in steps {
+        let cuts = round_in(alloc, *stripes, texts, *places)?;
         assert_round_booked(rt, stripe, &cuts, answer, held);
     }
     Ok(())
@@ -154,8 +154,14 @@ fn assert_round_booked<C: Counts>(
 #[test]
 fn rounds_are_booked_or_refused(rt: HostRuntime) -> Result<(), Fail> {
     let alloc = rt.alloc();
-    takes_the_steps(&rt, alloc, &mut map_stripe(alloc)?)?;
-    takes_the_steps(&rt, alloc, &mut quotient_stripe(alloc)?)
+    takes_the_steps(&rt, alloc, &mut *map_stripe(alloc)?, TWO_BATCHES, STEPS)?;
+    takes_the_steps(
+        &rt,
+        alloc,
+        &mut *quotient_stripe(alloc)?,
+        TWO_BATCHES,
+        STEPS,
+    )
 }
 
 // ACG and CGT in batch 0, TTT in batch 1.
@@ -170,24 +176,36 @@ const FIRST: Held<'static> = Held {
 };
 
 // A table of two keys refuses the third, which is that of the second batch: neither is booked. The first alone then is.
+const FULL: &[Step] = &[
+    (1, &[0, 1], Err(BookFault::Full), NOTHING),
+    (1, &[0], Ok(()), FIRST),
+];
+
+const NO_MEMORY: &[Step] = &[
+    (1, &[0, 1], Err(BookFault::Memory), NOTHING),
+    (1, &[0], Ok(()), FIRST),
+];
+
+#[test]
+fn a_round_that_is_full_in_its_second_batch(rt: HostRuntime) -> Result<(), Fail> {
+    refuses_the_second(&rt, rt.alloc(), TableFault::Full, FULL)?;
+    refuses_the_second(&rt, rt.alloc(), TableFault::Memory, NO_MEMORY)
+}
+
+// A stripe over a table that takes two keys, and refuses a third like this, takes the steps.
 fn refuses_the_second(
     rt: &impl Abort,
     alloc: Global,
     refusal: TableFault,
-    fault: BookFault,
+    steps: &[Step],
 ) -> Result<(), Fail> {
-    let both = round_in(alloc, 1, THREE_WORDS, &[0, 1])?;
-    let first = round_in(alloc, 1, THREE_WORDS, &[0])?;
-    let mut stripe = limited_stripe(alloc, refusal)?;
-    assert_round_booked(rt, &mut stripe, &both, &Err(fault), &NOTHING);
-    assert_round_booked(rt, &mut stripe, &first, &Ok(()), &FIRST);
-    Ok(())
-}
-
-#[test]
-fn a_round_that_is_full_in_its_second_batch(rt: HostRuntime) -> Result<(), Fail> {
-    refuses_the_second(&rt, rt.alloc(), TableFault::Full, BookFault::Full)?;
-    refuses_the_second(&rt, rt.alloc(), TableFault::Memory, BookFault::Memory)
+    takes_the_steps(
+        rt,
+        alloc,
+        &mut *limited_stripe(alloc, refusal)?,
+        THREE_WORDS,
+        steps,
+    )
 }
 
 // Books the round twice with the share of everything: what is answered, and what the share then tells of the stripe.
@@ -205,8 +223,21 @@ fn share_twice<N: Books, R: Wait>(
         return Err(Fail::from("another stripe"));
     }
     let (stripes, mut share) = stripes_of::<N>(alloc, setup, sheet)?;
-    stripes.book_all(rt, &mut share, cuts)?;
-    let again = stripes.book_all(rt, &mut share, cuts);
+    book_twice(rt, &stripes, &mut share, cuts)
+}
+
+// Books the round twice in these stripes: what is answered, and what the share then tells of stripe 0.
+fn book_twice<N: Books, R: Wait>(
+    rt: &R,
+    stripes: &Stripes<PlainCounts, N>,
+    share: &mut Share<N>,
+    cuts: &Cuts,
+) -> Result<(Result<(), BookFault>, [u64; 2]), Fail>
+    requires cuts { cuts.now.stripe < stripe_count stripes.now.setup }
+    requires plan { 0 < share.old.plan.stripes }
+{
+    stripes.book_all(rt, share, cuts)?;
+    let again = stripes.book_all(rt, share, cuts);
     Ok((again, [share.words(0), share.entries(0)]))
 }
 
@@ -214,7 +245,7 @@ fn share_twice<N: Books, R: Wait>(
 fn a_share_has_the_batches_of_a_round_once(rt: HostRuntime) -> Result<(), Fail> {
     let alloc = rt.alloc();
     let setup = made_setup(3, 1)?;
-    let cuts = round_of(alloc, 1, &[0, 1])?;
+    let cuts = round_in(alloc, 1, TWO_BATCHES, &[0, 1])?;
     if setup.stripes() != 1 {
         return Err(Fail::from("another setup"));
     }

@@ -155,15 +155,43 @@ pub(crate) fn book_at<C: Counts>(
     }
 }
 
-// An empty stripe over a `BTreeMap`.
+// An empty stripe over a `BTreeMap`, in a box: a box is let go with no proof of the parts of the stripe.
 pub(crate) fn plain_stripe(
     alloc: Global,
     setup: &Setup,
     number: u32,
-) -> Result<Stripe<PlainCounts>, Fail> {
+) -> Result<Box<Stripe<PlainCounts>>, Fail> {
     if number >= setup.stripes() {
         return Err(Fail::from("no such stripe"));
     }
     let table = PlainCounts::new(alloc, setup.key_bits());
-    Ok(Stripe::new(alloc, setup, number, table)?)
+    Ok(Box::new(alloc, Stripe::new(alloc, setup, number, table)?)?)
+}
+
+// All stripes of the setup, empty, over a `BTreeMap` each.
+pub(crate) fn plain_stripes(
+    alloc: Global,
+    setup: &Setup,
+) -> Result<Vec<Stripe<PlainCounts>>, AllocError> {
+    let mut stripes = Vec::new(alloc);
+    for number in 0..setup.stripes() {
+        let table = PlainCounts::new(alloc, setup.key_bits());
+        stripes.push(Stripe::new(alloc, setup, number, table)?)?;
+    }
+    Ok(stripes)
+}
+
+// Books the batch in all stripes of the setup.
+pub(crate) fn book_batch<C: Counts>(
+    alloc: Global,
+    setup: &Setup,
+    stripes: &mut [Stripe<C>],
+    batch: &Arc<Batch>,
+) -> Result<(), Fail> {
+    let cuts = cut_up(alloc, setup, batch)?;
+    for stripe in stripes.iter_mut() {
+        let number = stripe.number() as usize;
+        book_at(stripe, &cuts, number)?;
+    }
+    Ok(())
 }

@@ -1,9 +1,12 @@
 //! The examples at the front of kc_booking and kc_gather.
 use crate::gatherings::batches_of;
-use crate::sample_batches::made_setup;
+use crate::sample_batches::{made_setup, plain_stripe};
 use kc_gather::gather;
-use kc_stripe::{Stripe, cut_up};
+use kc_stripe::{Setup, Stripe, cut_up};
 use kc_table::PlainCounts;
+use kc_word::Batch;
+use std::alloc::Global;
+use std::sync::Arc;
 use std::test::Fail;
 
 #[test]
@@ -14,14 +17,33 @@ fn a_batch_is_cut_up_booked_and_gathered(rt: HostRuntime) -> Result<(), Fail> {
         return Err(Fail::from("another setup"));
     }
     let batches = batches_of(alloc, &setup, b"ACGTA", 8)?;
-    let table = PlainCounts::new(alloc, setup.key_bits());
-    let mut stripe = Stripe::new(alloc, &setup, 0, table)?;
-    for batch in &batches {
-        let cuts = cut_up(alloc, &setup, batch)?;
-        stripe.book(cuts.first().ok_or("no cut")?)?;
-    }
-    let stripes = vec![in alloc; stripe]?;
+    let stripe = booked(alloc, &setup, &batches)?;
+    let stripes = vec![in alloc; Box::into_inner(stripe)]?;
     let tally = gather(alloc, stripes, &batches, &setup)?;
     assert_eq!(rt; tally.total(), 3);
+    Ok(())
+}
+
+// The one stripe of the setup, in which the batches are booked.
+fn booked(
+    alloc: Global,
+    setup: &Setup,
+    batches: &[Arc<Batch>],
+) -> Result<Box<Stripe<PlainCounts>>, Fail> {
+    let mut stripe = plain_stripe(alloc, setup, 0)?;
+    for batch in batches {
+        book(alloc, setup, &mut stripe, batch)?;
+    }
+    Ok(stripe)
+}
+
+fn book(
+    alloc: Global,
+    setup: &Setup,
+    stripe: &mut Stripe<PlainCounts>,
+    batch: &Arc<Batch>,
+) -> Result<(), Fail> {
+    let cuts = cut_up(alloc, setup, batch)?;
+    stripe.book(cuts.first().ok_or("no cut")?)?;
     Ok(())
 }
