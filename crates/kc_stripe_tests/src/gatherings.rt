@@ -122,7 +122,7 @@ pub(crate) fn batches_of(
 }
 
 // All stripes of the setup, in which the batches were booked.
-fn stripes_of(
+pub(crate) fn stripes_of(
     alloc: Global,
     setup: &Setup,
     batches: &[Arc<Batch>],
