@@ -109,8 +109,8 @@ booked_again() {
     [ "$held" -gt 0 ] || { echo "kc_stripe, $1: no growth of a booking was refused"; exit 1; }
     echo "memory: $held growths refused in turn, and $3"
 }
-booked_again a_refused_growth_leaves_the_stripe 60 "the stripe stays"
-booked_again a_refused_growth_leaves_the_stripe_of_a_round 147 "the stripe of a round stays"
+booked_again a_refused_growth_leaves_the_stripe 62 "the stripe stays"
+booked_again a_refused_growth_leaves_the_stripe_of_a_round 149 "the stripe of a round stays"
 booked_again a_refused_growth_leaves_the_share 46 "the share stays"
 
 # Gathering and a run answer 34, or 33 for a thread, and no tally where memory is refused, and the same tally where they
