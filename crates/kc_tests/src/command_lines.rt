@@ -92,10 +92,43 @@ fn refuses<H: Files + Threads + Wait + Abort + Sync + AllocGlobal>(
     why: &str,
 ) -> Result<(), Fail> {
     let ran = run(rt, line, input)?;
-    let errors = format!(in rt.alloc(); "kcount: {why}\n")?;
+    let errors = joined(rt.alloc(), "kcount: ", why, "\n")?;
     assert_ran(rt, line, &ran, status, "", errors.as_str());
     Ok(())
 }
+
+// Three parts of a text, one behind the other.
+fn joined(alloc: Global, head: &str, middle: &str, tail: &str) -> Result<String, AllocError> {
+    format!(in alloc; "{head}{middle}{tail}")
+}
+
+// Asserts that a count with these options and these others writes this to the output and nothing to the errors.
+fn count_answers<H: Files + Threads + Wait + Abort + Sync + AllocGlobal>(
+    rt: &H,
+    options: &str,
+    others: &str,
+    input: &str,
+    output: &str,
+) -> Result<(), Fail> {
+    let line = joined(rt.alloc(), "count ", options, others)?;
+    answers(rt, line.as_str(), input, output)
+}
+
+// Asserts that a count with these options and these others is refused so.
+fn count_refuses<H: Files + Threads + Wait + Abort + Sync + AllocGlobal>(
+    rt: &H,
+    options: &str,
+    others: &str,
+    input: &str,
+    status: u8,
+    why: &str,
+) -> Result<(), Fail> {
+    let line = joined(rt.alloc(), "count ", options, others)?;
+    refuses(rt, line.as_str(), input, status, why)
+}
+
+// To write the dump in columns.
+const IN_COLUMNS: &str = " --print dump --column";
 
 // Options of a count, its input, and the dump of its words in columns.
 const DUMPS: &[(&str, &str, &str)] = &[
@@ -152,8 +185,7 @@ const DUMPS: &[(&str, &str, &str)] = &[
 #[test]
 fn dumps(rt: HostRuntime) -> Result<(), Fail> {
     for (options, input, output) in DUMPS {
-        let line = format!(in rt.alloc(); "count {options} --print dump --column")?;
-        answers(&rt, line.as_str(), *input, *output)?;
+        count_answers(&rt, *options, IN_COLUMNS, *input, *output)?;
     }
     Ok(())
 }
@@ -198,8 +230,7 @@ const TABLES: &[(&str, &str, &str)] = &[
 #[test]
 fn tables(rt: HostRuntime) -> Result<(), Fail> {
     for (options, input, output) in TABLES {
-        let line = format!(in rt.alloc(); "count {options}")?;
-        answers(&rt, line.as_str(), *input, *output)?;
+        count_answers(&rt, *options, "", *input, *output)?;
     }
     Ok(())
 }
@@ -221,10 +252,19 @@ const READINGS: &[(&str, &str)] = &[
 #[test]
 fn tables_of_both_versions_are_read(rt: HostRuntime) -> Result<(), Fail> {
     for header in HEADERS {
-        let table = format!(in rt.alloc(); "{header}\nACG 2\nGTA 1\nEND 2 3\n")?;
-        for (command, output) in READINGS {
-            answers(&rt, *command, table.as_str(), *output)?;
-        }
+        let table = joined(rt.alloc(), *header, "\nACG 2\nGTA 1\n", "END 2 3\n")?;
+        assert_read(&rt, table.as_str())?;
+    }
+    Ok(())
+}
+
+// Asserts what each of the commands writes on this table.
+fn assert_read<H: Files + Threads + Wait + Abort + Sync + AllocGlobal>(
+    rt: &H,
+    table: &str,
+) -> Result<(), Fail> {
+    for (command, output) in READINGS {
+        answers(rt, *command, table, *output)?;
     }
     Ok(())
 }
@@ -266,8 +306,7 @@ const REFUSALS: &[(&str, &str, &str)] = &[
 #[test]
 fn refusals(rt: HostRuntime) -> Result<(), Fail> {
     for (options, input, why) in REFUSALS {
-        let line = format!(in rt.alloc(); "count {options} --print dump --column")?;
-        refuses(&rt, line.as_str(), *input, 1, *why)?;
+        count_refuses(&rt, *options, IN_COLUMNS, *input, 1, *why)?;
     }
     Ok(())
 }
@@ -343,9 +382,8 @@ const BAD_OPTIONS: &[(&str, &str)] = &[
 #[test]
 fn bad_options(rt: HostRuntime) -> Result<(), Fail> {
     for (options, name) in BAD_OPTIONS {
-        let line = format!(in rt.alloc(); "count {options}")?;
-        let why = format!(in rt.alloc(); "51: bad option {name}")?;
-        refuses(&rt, line.as_str(), "ACGT\n", 2, why.as_str())?;
+        let why = joined(rt.alloc(), "51: bad option ", *name, "")?;
+        count_refuses(&rt, *options, "", "ACGT\n", 2, why.as_str())?;
     }
     Ok(())
 }
@@ -371,12 +409,14 @@ const LIMITS: &[&str] = &[
     "--high 10000000",
 ];
 
+// The options before these.
+const TO_COUNT_8: &str = "-m 3 --print dump --column ";
+
 // Values at their limits are taken, and what does not act changes nothing.
 #[test]
 fn values_at_their_limits(rt: HostRuntime) -> Result<(), Fail> {
     for option in LIMITS {
-        let line = format!(in rt.alloc(); "count -m 3 --print dump --column {option}")?;
-        answers(&rt, line.as_str(), ">r\nAAAAAAAAAA\n", "AAA 8\n")?;
+        count_answers(&rt, TO_COUNT_8, *option, ">r\nAAAAAAAAAA\n", "AAA 8\n")?;
     }
     Ok(())
 }

@@ -116,10 +116,19 @@ pub(crate) fn sources_of<'a>(
     inputs: &[&'a str],
 ) -> Result<Vec<FromBytes<'a>>, AllocError> {
     let mut sources = Vec::new(alloc);
+    add_sources(&mut sources, inputs)?;
+    Ok(sources)
+}
+
+// Puts the bytes of these inputs behind the sources.
+pub(crate) fn add_sources<'a>(
+    sources: &mut Vec<FromBytes<'a>>,
+    inputs: &[&'a str],
+) -> Result<(), AllocError> {
     for input in inputs {
         sources.push(FromBytes::new(input.as_bytes()))?;
     }
-    Ok(sources)
+    Ok(())
 }
 
 // Counts the words of these sources, where a list is given those of the list.
@@ -210,11 +219,23 @@ const DUMP: &[u8] = b"ACG 1\nCGT 1\nGTA 1\n";
 fn slow_and_failing_sources(rt: HostRuntime) -> Result<(), Fail> {
     let failed = Err(fault_of(1, FastxFault::Read));
     for n in 0..11 {
-        assert_counted(&rt, n, &count_slowly(&rt, n)?, &failed, b"");
+        assert_slow(&rt, n, &failed, b"")?;
     }
     for n in 11..13 {
-        assert_counted(&rt, n, &count_slowly(&rt, n)?, &Ok(()), DUMP);
+        assert_slow(&rt, n, &Ok(()), DUMP)?;
     }
+    Ok(())
+}
+
+// Asserts what is answered and written where the source fails at its n-th read.
+fn assert_slow<H: Threads + Wait + Abort + Sync + AllocGlobal>(
+    rt: &H,
+    n: usize,
+    answer: &Result<(), ToolFault>,
+    text: &[u8],
+) -> Result<(), Fail> {
+    let counted = count_slowly(rt, n)?;
+    assert_counted(rt, n, &counted, answer, text);
     Ok(())
 }
 

@@ -1,8 +1,9 @@
 //! Tables of reads that are counted apart and put together.
+use crate::failing::{Counted, add_sources, counted_of, sources_of};
 use crate::listed_reads::{BOTH, How, PLAIN, count_listed, options_of};
 use crate::written_bytes::{assert_bytes, assert_same};
 use kc_fastx::FromBytes;
-use kc_tool::{Print, ToVec, ToolFault, count_reads, merge, read_table, write_table};
+use kc_tool::{Print, ToVec, ToolFault, merge, read_table, write_table};
 use std::alloc::Global;
 use std::process::Abort;
 use std::sync::Wait;
@@ -10,24 +11,24 @@ use std::test::Fail;
 use std::thread::Threads;
 
 // The table of some inputs and, behind them, some more.
-fn table_of<H: Threads + Wait + Abort + Sync + AllocGlobal>(
+fn table_of<'a, H: Threads + Wait + Abort + Sync + AllocGlobal>(
     rt: &H,
     how: How,
-    inputs: &[&str],
-    more: &[&str],
+    inputs: &[&'a str],
+    more: &[&'a str],
 ) -> Result<Vec<u8>, Fail> {
-    let alloc = rt.alloc();
     let options = options_of(rt, how, Print::Table)?;
-    let mut sources = Vec::new(alloc);
-    for input in inputs {
-        sources.push(FromBytes::new(input.as_bytes()))?;
-    }
-    for input in more {
-        sources.push(FromBytes::new(input.as_bytes()))?;
-    }
-    let mut writer = ToVec::new(Vec::new(alloc));
-    count_reads(rt, alloc, None::<FromBytes>, sources, &options, &mut writer)?;
-    Ok(writer.into_inner())
+    let mut sources = sources_of(rt.alloc(), inputs)?;
+    add_sources(&mut sources, more)?;
+    let counted = counted_of(rt, rt.alloc(), None::<FromBytes>, sources, &options);
+    written_of(counted)
+}
+
+// What was written by a count that was not refused.
+fn written_of(counted: Counted) -> Result<Vec<u8>, Fail> {
+    let Counted { answer, written } = counted;
+    answer?;
+    Ok(written)
 }
 
 // The table of both together.
