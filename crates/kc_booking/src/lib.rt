@@ -7,10 +7,9 @@
 //! [`plain_tables`] and [`quotient_tables`] make one for each.
 //!
 //! ```ignore
-//! let mut stripe = Stripe::new(alloc, &setup, 0, table)?;    // the one stripe of the setup
-//! for batch in &batches {
-//!     let cuts = cut_up(alloc, &setup, batch)?;
-//!     stripe.book(cuts.first().ok_or("no cut")?)?;
+//! for batch in batches {
+//!     let cuts = cut_up(alloc, setup, batch)?;
+//!     stripe.book(cuts.first().ok_or("no cut")?)?;    // the one stripe of the setup
 //! }
 //! ```
 #![tactic(auto)]

@@ -31,19 +31,20 @@ fn booked(
     batches: &[Arc<Batch>],
 ) -> Result<Box<Stripe<PlainCounts>>, Fail> {
     let mut stripe = plain_stripe(alloc, setup, 0)?;
-    for batch in batches {
-        book(alloc, setup, &mut stripe, batch)?;
-    }
+    book(alloc, setup, &mut stripe, batches)?;
     Ok(stripe)
 }
 
+// Books the batches in the one stripe of the setup.
 fn book(
     alloc: Global,
     setup: &Setup,
     stripe: &mut Stripe<PlainCounts>,
-    batch: &Arc<Batch>,
+    batches: &[Arc<Batch>],
 ) -> Result<(), Fail> {
-    let cuts = cut_up(alloc, setup, batch)?;
-    stripe.book(cuts.first().ok_or("no cut")?)?;
+    for batch in batches {
+        let cuts = cut_up(alloc, setup, batch)?;
+        stripe.book(cuts.first().ok_or("no cut")?)?;
+    }
     Ok(())
 }
