@@ -381,7 +381,8 @@ impl<C: Counts> Stripe<C> {
     }
 }
 
-// The row of a key of this stripe and its count. Conditions: the tables are those of a map of as many bits as words have.
+// The row of a key of this stripe and its count. Conditions: the tables are those of a map of as many bits as words
+// have.
 fn row_of_key(setup: &Setup, tables: &MatrixTables, stripe: u32, key: u64, count: u64) -> Row
     requires stripe { stripe < stripe_count setup.now }
     requires key { key < 2 ^ key_bits setup.now }

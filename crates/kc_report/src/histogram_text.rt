@@ -115,8 +115,8 @@ fn words_above(tally: &Tally, words: &[u64]) -> u64
     above
 }
 
-// Writes the lines of the counts from 1 on, of which so many words have each, and that of all greater counts, a block at
-// a time.
+// Writes the lines of the counts from 1 on, of which so many words have each, and that of all greater counts, a block
+// at a time.
 fn histo_by_blocks<W: Sink>(writer: &mut W, words: &[u64], above: u64) -> Result<(), Failed>
     requires { length words.now < 2 ^ 63 }
     ensures { Writes (W.seen writer.old) (W.seen writer.new) result (lines_from 1 words.now above) }

@@ -23,8 +23,8 @@ abbrev pub IsWhole : CountedTally → Type 0
 IsWhole (Rows tally) = Unit
 IsWhole (Bins bins) = ⊥
 
--- what is known is enough for the report: the bins alone are so for a histogram in which no count above 10,000 has a line of
--- its own
+-- what is known is enough for the report: the bins alone are so for a histogram in which no count above 10,000 has a
+-- line of its own
 abbrev pub IsEnoughFor : CountedTally → Report → Type 0
 IsEnoughFor (Rows tally) report = Unit
 IsEnoughFor (Bins bins) report = (report.print ≡ print.Histo) × (report.high ≤ 10000)

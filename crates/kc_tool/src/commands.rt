@@ -448,8 +448,8 @@ fn owned_texts(alloc: Global, texts: &[&str]) -> Result<Vec<String>, AllocError>
     Ok(strings)
 }
 
-// Writes what a task is to write about its tally, of which enough is known. Conditions: a histogram is for counts up to 1
-// to 10,000,000, and the origin is one that a header can say.
+// Writes what a task is to write about its tally, of which enough is known. Conditions: a histogram is for counts up to
+// 1 to 10,000,000, and the origin is one that a header can say.
 fn write_answer<W: Sink>(
     alloc: Global,
     task: &Task,

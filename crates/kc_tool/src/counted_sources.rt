@@ -1,6 +1,6 @@
 //! The tally of the reads of all sources: they are read, cleaned and cut into batches, and the words of the batches are
-//! counted by as many threads as are asked for, all of them or those of a list. Of the tally no more is gathered than the
-//! report is about.
+//! counted by as many threads as are asked for, all of them or those of a list. Of the tally no more is gathered than
+//! the report is about.
 ghost use Rattle.std.specs.Prelude.{◌≡◌, ◌≤◌, ◌<◌, ◌+◌, ◌^◌, ℕ, List, [], ◌∷◌, IfOk, IfErr, IfSome, None, OnOk, length, max};
 ghost use Rattle.std.specs.Prelude.{option_map};
 ghost use Rattle.kc_io.specs.Sources.{Seen};
@@ -92,8 +92,9 @@ pub(crate) fn read_list<R: Source, P: Progress>(
 }
 
 /// What the report that is set is about of the tally of the reads of all sources, in order, counted as the options say,
-/// and what it was counted from. Where a list is given, its words alone are counted. How many bytes each read gave is told, how many batches there are, and
-/// each that was booked. The sources keep their names. Condition: the list is one under the rule of the options.
+/// and what it was counted from. Where a list is given, its words alone are counted. How many bytes each read gave is
+/// told, how many batches there are, and each that was booked. The sources keep their names. Condition: the list is one
+/// under the rule of the options.
 ///
 /// # Errors
 /// `Fastx` with the fault of the first source that has one, and its number from 1; the sources behind it are as they
@@ -238,9 +239,9 @@ fn count_batches<H: Threads + Wait + Sync, P: Progress + Sync>(
 }
 
 // The cutting of the reads of all sources, in order, and how many reads there are. Each source is read whole before the
-// next one, and each read is cleaned and cut before the next one is read, so that the text of one read is in memory at a
-// time. A fault is that of the first source that has one, with its number from 1, or `Memory` where a growth was refused
-// outside the reading.
+// next one, and each read is cleaned and cut before the next one is read, so that the text of one read is in memory at
+// a time. A fault is that of the first source that has one, with its number from 1, or `Memory` where a growth was
+// refused outside the reading.
 fn cut_sources<R: Source, P: Progress>(
     alloc: Global,
     sources: &mut [NamedSource<'_, R>],

@@ -46,8 +46,8 @@ use std::thread::Threads;
 /// The most bytes that a table may have.
 const MOST_TABLE_BYTES: u64 = 1 << 42;
 
-/// What a task is about of its tally, and its origin where that is told: of the reads of the files or, where there are none,
-/// of the given input, whose counting is told; of a table; or of two tables together. The files keep their names.
+/// What a task is about of its tally, and its origin where that is told: of the reads of the files or, where there are
+/// none, of the given input, whose counting is told; of a table; or of two tables together. The files keep their names.
 /// Condition: the task has such files as it is to have.
 ///
 /// # Errors
@@ -92,8 +92,9 @@ fn known(table: (Tally, Option<Origin>)) -> (CountedTally, Option<Origin>)
     (CountedTally::Rows(tally), origin)
 }
 
-// What the report that is set is about of the tally of the reads of the files behind the first, or where there are none,
-// of those of the given input, of those words that occur in the reads of the first file. Condition: there is a first file.
+// What the report that is set is about of the tally of the reads of the files behind the first, or where there are
+// none, of those of the given input, of those words that occur in the reads of the first file. Condition: there is a
+// first file.
 fn count_listed<H: Threads + Wait + Sync, R: Source, F: Source, P: Progress + Sync>(
     rt: &H,
     alloc: Global,
@@ -119,7 +120,8 @@ fn count_listed<H: Threads + Wait + Sync, R: Source, F: Source, P: Progress + Sy
 }
 
 // What the report that is set is about of the tally of the reads of the files, or where there are none, of those of the
-// given input, of the words of the list alone where one is given. Condition: the list is one under the rule of the options.
+// given input, of the words of the list alone where one is given. Condition: the list is one under the rule of the
+// options.
 fn count_of<H: Threads + Wait + Sync, R: Source, F: Source, P: Progress + Sync>(
     rt: &H,
     alloc: Global,
