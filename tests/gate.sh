@@ -1,7 +1,8 @@
 #!/bin/bash
-# The toolchain's gate, and then what it can't do, over the libraries, the program and the tests that it has built:
+# The toolchain's gate, and what it can't do, over the libraries, the program and the tests that it has built:
 #   tests/gate.sh
-# What the documents name is there. All other edits have to be refused, each by the function that it names; beside that each growth of memory is
+# What the documents name is there. All other edits have to be refused, each by the function that it names: they are tried beside the toolchain's
+# gate, each crate's once that is done with the crate. Then each growth of memory is
 # refused, files are missing or directories, the man page and the completions are compared with the help, the program's texts, streams and
 # statuses with what they should be, and the examples of the documents and the workflow over them are run. Where all of it passed, the last line is
 # `N passed, 0 failed`, N counting proofs and edits.
@@ -35,12 +36,13 @@ link_what_is_kept() {
 tests/documents.py
 link_what_is_kept &
 linking=$!
+touch "$work/ci"
+tools/edits.py --kept "$work/kept" --beside "$work/ci" > "$work/edits" 2>&1 &
+edits=$!
 TMPDIR=$work/tmp rt ci | tee "$work/ci"
 kill "$linking"
 minutes "proofs, tests and the wrong bodies in must-fail"
 install -D crates/kcount/out/kcount bin/kcount
-tools/edits.py --kept "$work/kept" > "$work/edits" 2>&1 &
-edits=$!
 tests/edits.sh
 tests/memory.sh
 tests/files.sh

@@ -1,8 +1,9 @@
 #!/usr/bin/env python3
 """Tries the edits that the prover must refuse, many by one check:
-    tools/edits.py [--kept FOLDER] [CRATE..]
+    tools/edits.py [--kept FOLDER [--beside LOG]] [CRATE..]
 The crates are proved first, from what earlier runs kept. With --kept they are taken as the gate has proved and built them, and the folder has what
-checks of them kept, as far as it was saved.
+checks of them kept, as far as it was saved. With --beside the toolchain's gate still runs and writes LOG: the edits of a crate are tried, at the
+lowest priority, as soon as that has tried the crate's wrong bodies, so that no processor is idle while it goes through the longest chain of crates.
 
 An edit is a file crates/NAME/edits/WHAT_IS_WRONG.edit. Besides the lines of a must-fail edit of the toolchain (`file:`, `old:`, `new:`) it
 has a line `refused:` with the function that has to be refused by it, as the checker names it, without the crate's name.
@@ -25,6 +26,8 @@ import shutil
 import subprocess
 import sys
 import tempfile
+import time
+from concurrent.futures import FIRST_COMPLETED, ThreadPoolExecutor, wait
 from contextlib import contextmanager, suppress
 from dataclasses import dataclass, field
 
@@ -414,6 +417,49 @@ def try_crates(rt, crates, kept):
     return tried
 
 
+def has_ended(log):
+    """Returns whether the toolchain's gate, which writes this log, has come to its last line."""
+    return bool(re.search(r"(?m)^\d+ passed, \d+ failed$", log))
+
+
+def is_tried(crate, log):
+    """Returns whether the toolchain's gate is done with the crate: it has proved it and tried its wrong bodies, if there are any."""
+    if has_ended(log):
+        return True
+    if not os.path.isdir(f"{crate.folder}/must-fail"):
+        return f"rt: {crate.name} proved\n" in log
+    return f"rt: {crate.name}: trying its must-fail edits" in log and not is_being_tried(crate.name)
+
+
+def is_being_tried(name):
+    """Returns whether the toolchain checks the crate with a wrong body just now: such a check keeps its proofs in a folder rt-edits-..."""
+    for pid in filter(str.isdigit, os.listdir("/proc")):
+        # (a process may have ended since)
+        with suppress(OSError):
+            words = text_of("/proc", f"{pid}/cmdline")
+            if f"--crate-name\0{name}\0" in words and "/rt-edits-" in words:
+                return True
+    return False
+
+
+def try_beside(rt, crates, kept, path):
+    """Tries the edits of these crates as `try_crates` does, each crate's as soon as the toolchain's gate is done with it. Until that has ended half
+    of the processors are used at the most."""
+    os.nice(19)
+    left, running, tried = [*crates], set(), {}
+    with ThreadPoolExecutor(rt.processors()) as pool:
+        while left or running:
+            log = text_of(*os.path.split(path))
+            most = rt.processors() if has_ended(log) else max(rt.processors() // 2, 1)
+            for crate in [it for it in left if is_tried(it, log)][: most - len(running)]:
+                left.remove(crate)
+                running.add(pool.submit(try_crates, rt, [crate], kept))
+            for it in wait(running, timeout=2, return_when=FIRST_COMPLETED).done if running else time.sleep(2) or ():
+                running.remove(it)
+                tried |= it.result()
+    return tried
+
+
 def are_proved(crates):
     """Proves and builds the libraries from what earlier runs kept, and returns whether they are."""
     libraries = [it for it in crates if it.makes_rlib()]
@@ -423,12 +469,14 @@ def are_proved(crates):
 def main(words):
     rt = kit.load()
     kept, names = (words[1], words[2:]) if words[:1] == ["--kept"] else (None, words)
+    log, names = (names[1], names[2:]) if names[:1] == ["--beside"] else (None, names)
     crates = [it for it in kit.crates_of(rt) if not names or it.name in names]
     below = [it for crate in crates for it in crate.below()]
     if not kept and not are_proved(dict.fromkeys([*below, *crates])):
         return 1
     refused = failures = 0
-    for name, (groups, failed) in try_crates(rt, crates, kept).items():
+    tried = try_beside(rt, crates, kept, log) if log else try_crates(rt, crates, kept)
+    for name, (groups, failed) in tried.items():
         for edit, why in failed.items():
             if why:
                 print(f"NOT REFUSED: {name}/{FOLDER}/{edit}: {why}", flush=True)

@@ -10,7 +10,7 @@ import os
 import shutil
 import sys
 
-USED = ("in_lanes", "need", "read_edit", "rtlib", "unread")
+USED = ("in_lanes", "need", "processors", "read_edit", "rtlib", "unread")
 TOP = os.path.dirname(os.path.dirname(os.path.abspath(__file__)))
 
 
