@@ -10,10 +10,10 @@ use Rattle.std.proofs.Math.Pow.{pow_mono}
 use Rattle.kc_lemmas.proofs.Lists.{map-same, All-range}
 use Rattle.kc_lemmas.proofs.Sums.{sum_by-map, sum_by-same, sum_by-zeros, sum_by-range_more, term-le-sum_by}
 use Rattle.kc_table.specs.Counts.{KeyCounts, IsStored, count_at, readied, added}
-use Rattle.kc_table.proofs.KeyCounts.{count_at-empty, count_at-readied, IsStored-readied, IsStored-readied_other, IsStored-added, count_at-added_same, count_at-added_other}
+use Rattle.kc_table.proofs.KeyCounts.{count_at-empty, count_at-readied, IsStored-readied, IsStored-readied_other, count_at-added_same, count_at-added_other}
 use Rattle.kc_tally.specs.Histogram.{bins_of, bin_of, bin_at, raised}
 use Rattle.kc_tally.proofs.Bins.{IsOneMore, raise-some, raise-fits, bins_of-raised, bins_of-same}
-use Rattle.kc_booking.specs.Counted.{TableSeen, KeepsLimits, counts_of, IsCounted, all_readied}
+use Rattle.kc_booking.specs.Counted.{KeepsLimits, counts_of, IsCounted, all_readied}
 
 -- ---- the counts of all keys
 
@@ -150,21 +150,6 @@ KeepsLimits-then bits full old table new first second = record {
   same_limits = λ m q. (λ h. (first.same_limits m q).0 ((second.same_limits m q).0 h), λ h. (second.same_limits m q).1 ((first.same_limits m q).1 h));
 }
 
--- the keys before i are stored
-pub record IsReadiedTo {C : Type 0} (bits : C → ℕ) (counts : C → KeyCounts) (full : C → KeyCounts → ℕ → Type 0) (old new : TableSeen C) (keys : List ℕ) (i : ℕ) : Type 0 where
-  pub stored : counts new.table ≡ all_readied (counts old.table) (take i keys)
-  pub limits : KeepsLimits bits full old.table new.table
-  pub same_bins : new.bins ≡ old.bins
-  pub same_total : new.total ≡ old.total
-
--- the keys before i are added
-pub record IsAddedTo {C : Type 0} (bits : C → ℕ) (counts : C → KeyCounts) (full : C → KeyCounts → ℕ → Type 0) (old new : TableSeen C) (keys : List ℕ) (i : ℕ) : Type 0 where
-  pub counted : (q : ℕ) → count_at (counts new.table) q ≡ count_at (counts old.table) q + count_by (λ key. eqb key q) (take i keys)
-  pub stored : (q : ℕ) → IsStored (counts old.table) q → IsStored (counts new.table) q
-  pub limits : KeepsLimits bits full old.table new.table
-  pub total : new.total ≡ old.total + i
-  pub bins : IsCounted (bits new.table) (counts new.table) new.bins new.total
-
 pub counted-more : (m now : KeyCounts) (keys : List ℕ) (i q : ℕ) → i < length keys
     → ((k : ℕ) → count_at now k ≡ count_at m k + count_by (λ key. eqb key k) (take i keys))
     → count_at (added now (get_or keys i 0)) q ≡ count_at m q + count_by (λ key. eqb key q) (take (i + 1) keys)
@@ -180,26 +165,6 @@ counted-more m now keys i q within so_far =
     let same = count_at-added_other now (get_or keys i 0) q apart in
     let before = so_far q in omega arith)
     (cases_eq q (get_or keys i 0))
-
--- one key more
-pub record AddStep {C : Type 0} (bits : C → ℕ) (counts : C → KeyCounts) (full : C → KeyCounts → ℕ → Type 0) (keys : List ℕ) (i : ℕ) : Type 0 where
-  pub now : TableSeen C
-  pub new : TableSeen C
-  pub within : i < length keys
-  pub counts_are : counts new.table ≡ added (counts now.table) (get_or keys i 0)
-  pub limits : KeepsLimits bits full now.table new.table
-  pub total : new.total ≡ now.total + 1
-  pub bins : IsCounted (bits new.table) (counts new.table) new.bins new.total
-
-pub IsAddedTo-more : {C : Type 0} (bits : C → ℕ) (counts : C → KeyCounts) (full : C → KeyCounts → ℕ → Type 0) (old : TableSeen C) (keys : List ℕ) (i : ℕ)
-    (step : AddStep bits counts full keys i) → IsAddedTo bits counts full old step.now keys i → IsAddedTo bits counts full old step.new keys (i + 1)
-IsAddedTo-more bits counts full old keys i step so_far = record {
-  counted = λ q. ap (λ (m : KeyCounts). count_at m q) step.counts_are ∙ counted-more (counts old.table) (counts step.now.table) keys i q step.within so_far.counted;
-  stored = λ q stored. subst (λ (m : KeyCounts). IsStored m q) (sym step.counts_are) (IsStored-added (counts step.now.table) (get_or keys i 0) q (so_far.stored q stored));
-  limits = KeepsLimits-then bits full old.table step.now.table step.new.table so_far.limits step.limits;
-  total = step.total ∙ ap (λ n. n + 1) so_far.total ∙ omega arith;
-  bins = step.bins;
-}
 
 -- whatever `ready` answers, the counts stay
 pub count_at-asked : {T E : Type 0} (r : Result T E) (old new : KeyCounts) (key : ℕ) → OnOk r (new ≡ readied old key) → OnErr r (new ≡ old) → (q : ℕ) → count_at new q ≡ count_at old q

@@ -8,3 +8,5 @@ pub mod Forms
 pub mod Logs
 pub mod PartOrder
 pub mod ListedLemmas
+pub mod NotedCountLemmas
+pub mod PlaceLemmas

@@ -2,7 +2,7 @@
 use Rattle.std.specs.Prelude.{◌≡◌, ℕ, ◌<◌, ◌≤◌, ◌^◌, ◌↔◌, List, length, map, take, fold, sum, slice_index}
 use Rattle.std.specs.List.{range_with_len}
 use Rattle.std.specs.List.Sorted.{IsPermutation}
-use Rattle.kc_table.specs.Counts.{KeyCounts, count_at, readied}
+use Rattle.kc_table.specs.Counts.{KeyCounts, count_at, readied, added}
 use Rattle.kc_tally.specs.Histogram.{bins_of}
 
 -- a table, the sizes of the bins of its counts, and their sum
@@ -40,3 +40,12 @@ SomeMayBeFull may_be_full counts keys =
 abbrev pub SomeMayBeFullInSomeOrder : (KeyCounts → ℕ → Type 0) → KeyCounts → List ℕ → Type 0
 SomeMayBeFullInSomeOrder may_be_full counts keys =
     (order : List ℕ) × IsPermutation keys order × SomeMayBeFull may_be_full counts order
+
+-- one is added to the count of each key, one after another
+abbrev pub all_added : KeyCounts → List ℕ → KeyCounts
+all_added counts keys = fold added counts keys
+
+-- each of the keys stands at the place that is noted for it
+pub record StandAt {C : Type 0} (stands_at : C → ℕ → ℕ → Type 0) (table : C) (keys places : List ℕ) : Type 0 where
+  pub all : length places ≡ length keys
+  pub there : (i : ℕ) → i < length keys → stands_at table (slice_index keys i) (slice_index places i)

@@ -7,3 +7,4 @@ pub mod Counted
 pub mod Stripe
 pub mod Faults
 pub mod Tables
+pub mod NotedCounts

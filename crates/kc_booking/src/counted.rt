@@ -1,13 +1,15 @@
 //! A table of counts with the histogram and the sum of its counts.
-ghost use Rattle.std.specs.Prelude.{◌≡◌, ℕ, ◌+◌, ◌<◌, ◌≤◌, ◌^◌, ◌==◌, length, count_by, All, IfOk, OnOk, OnErr};
+ghost use Rattle.std.specs.Prelude.{◌≡◌, ℕ, ◌+◌, ◌<◌, ◌≤◌, ◌^◌, ◌==◌, [], length, count_by, All, IfOk, OnOk, OnErr};
 ghost use Rattle.std.specs.FinMap.{empty};
 ghost use Rattle.std.specs.List.Sorted.{IsPermutation};
-ghost use Rattle.kc_table.specs.Counts.{IsStored, count_at, readied, added};
+ghost use Rattle.kc_table.specs.Counts.{IsStored, count_at, readied};
 ghost use Rattle.kc_tally.specs.Histogram.{last_bin, bin_at};
-ghost use Rattle.kc_booking.specs.Counted.{IsCounted, KeepsLimits, SomeMayBeFull, all_readied};
-ghost use Rattle.kc_booking.specs.Counted.{SomeMayBeFullInSomeOrder};
+ghost use Rattle.kc_booking.specs.Counted.{IsCounted, KeepsLimits, SomeMayBeFull, StandAt, all_readied, all_added};
+ghost use Rattle.kc_booking.specs.NotedCounts.{block_len};
 
+use crate::noted_counts::{BLOCK, count_keys, raise_all};
 use crate::part_order::part_by_part;
+use kc_lemmas::room_for_each;
 use kc_table::{Counts, TableFault};
 use kc_tally::Histogram;
 use std::alloc::{AllocError, Global};
@@ -83,9 +85,47 @@ impl<C: Counts> CountedTable<C> {
         self.total
     }
 
-    /// Stores the keys, one after another, as the table's `ready` does. The first refusal is answered.
-    pub fn ready_all(&mut self, keys: &[u64]) -> Result<(), TableFault>
+    /// The keys in the order of the table's parts. Condition: they are keys of the table.
+    pub fn by_parts(&self, alloc: Global, keys: &[u64]) -> Result<Vec<u64>, AllocError>
+        requires { All (λ key. key < 2 ^ C.bits self.now.table) keys.now }
+        ensures { IfOk result (λ ordered. IsPermutation keys.now ordered.items) }
+    {
+        part_by_part(alloc, &self.table, keys)
+    }
+
+    /// Stores the keys, one after another, as the table's `ready` does, and gives their places. The first refusal is
+    /// answered.
+    pub fn ready_all(&mut self, alloc: Global, keys: &[u64]) -> Result<Vec<u64>, TableFault>
         requires { All (λ key. key < 2 ^ C.bits self.old.table) keys.now }
+        ensures places { IfOk result (λ places. StandAt C.stands_at self.new.table keys.now places.items) }
+        ensures stored { OnOk result (C.counts self.new.table ≡ all_readied (C.counts self.old.table) keys.now) }
+        ensures same_counts { (q : ℕ) → count_at (C.counts self.new.table) q ≡ count_at (C.counts self.old.table) q }
+        ensures full { result ≡ Err TableFault.Full
+            → SomeMayBeFull (C.may_be_full self.old.table) (C.counts self.old.table) keys.now }
+        ensures limits { KeepsLimits C.bits C.may_be_full self.old.table self.new.table }
+        ensures same_bins { self.new.bins ≡ self.old.bins }
+        ensures same_total { self.new.total ≡ self.old.total }
+    {
+        let Ok(mut places) = room_for_each(alloc, keys) else {
+            return Err(TableFault::Memory);
+        };
+        let growth = self.table.growth();
+        self.store_all(keys, &mut places)?;
+        if self.table.growth() > growth {
+            // keys that were stored before the table grew have other places now
+            self.find_all(keys, &mut places);
+        }
+        Ok(places)
+    }
+
+    // Stores the keys, one after another, and notes their places, which they have unless the table has grown since.
+    fn store_all(&mut self, keys: &[u64], places: &mut Vec<u64>) -> Result<(), TableFault>
+        requires in_range { All (λ key. key < 2 ^ C.bits self.old.table) keys.now }
+        requires none { places.old.items ≡ [] }
+        ensures all { OnOk result (length places.new.items ≡ length keys.now) }
+        ensures grown { C.growth self.old.table ≤ C.growth self.new.table }
+        ensures places { C.growth self.new.table ≡ C.growth self.old.table
+            → OnOk result (StandAt C.stands_at self.new.table keys.now places.new.items) }
         ensures stored { OnOk result (C.counts self.new.table ≡ all_readied (C.counts self.old.table) keys.now) }
         ensures same_counts { (q : ℕ) → count_at (C.counts self.new.table) q ≡ count_at (C.counts self.old.table) q }
         ensures full { result ≡ Err TableFault.Full
@@ -95,34 +135,30 @@ impl<C: Counts> CountedTable<C> {
         ensures same_total { self.new.total ≡ self.old.total }
     {
         for key in keys {
-            self.ready(*key)?;
+            let place = self.store(*key)?;
+            let Ok(()) = places.push(place) else {
+                return Err(TableFault::Memory);
+            };
         }
         Ok(())
     }
 
-    /// Stores the keys in the order of the table's parts, as `ready_all` does, and gives them in this order.
-    pub fn ready_by_parts(&mut self, alloc: Global, keys: &[u64]) -> Result<Vec<u64>, TableFault>
-        requires { All (λ key. key < 2 ^ C.bits self.old.table) keys.now }
-        ensures ordered { IfOk result (λ ordered. IsPermutation keys.now ordered.items) }
-        ensures stored { IfOk result (λ ordered. All (λ key. IsStored (C.counts self.new.table) key) ordered.items) }
-        ensures same_counts { (q : ℕ) → count_at (C.counts self.new.table) q ≡ count_at (C.counts self.old.table) q }
-        ensures full { result ≡ Err TableFault.Full → SomeMayBeFullInSomeOrder (C.may_be_full self.old.table)
-            (C.counts self.old.table) keys.now }
-        ensures limits { KeepsLimits C.bits C.may_be_full self.old.table self.new.table }
-        ensures same_bins { self.new.bins ≡ self.old.bins }
-        ensures same_total { self.new.total ≡ self.old.total }
+    // Writes down where the keys, which are stored, stand now.
+    fn find_all(&self, keys: &[u64], places: &mut [u64])
+        requires in_range { All (λ key. key < 2 ^ C.bits self.now.table) keys.now }
+        requires stored { All (λ key. IsStored (C.counts self.now.table) key) keys.now }
+        requires all { length places.old ≡ length keys.now }
+        ensures { StandAt C.stands_at self.now.table keys.now places.new }
     {
-        let Ok(ordered) = part_by_part(alloc, &self.table, keys) else {
-            return Err(TableFault::Memory);
-        };
-        self.ready_all(&ordered)?;
-        Ok(ordered)
+        for i in 0..keys.len() {
+            places[i] = self.table.place_of(keys[i]);
+        }
     }
 
-    /// Adds one to the count of each key, as often as it stands among the keys. It takes no memory.
-    pub fn add_all(&mut self, keys: &[u64])
+    /// Adds one to the count of each key at its place, as often as it stands among the keys. It takes no memory.
+    pub fn add_all(&mut self, keys: &[u64], places: &[u64])
         requires in_range { All (λ key. key < 2 ^ C.bits self.old.table) keys.now }
-        requires stored { All (λ key. IsStored (C.counts self.old.table) key) keys.now }
+        requires there { StandAt C.stands_at self.old.table keys.now places.now }
         requires room { self.old.total + length keys.now ≤ 2 ^ 62 }
         ensures counts { (q : ℕ) → count_at (C.counts self.new.table) q
             ≡ count_at (C.counts self.old.table) q + count_by (λ key. key == q) keys.now }
@@ -132,36 +168,46 @@ impl<C: Counts> CountedTable<C> {
     {
         // what is known of an empty list of keys
         let _total = self.total();
-        for key in keys {
-            self.add(*key);
+        for block in 0..keys.len().div_ceil(BLOCK) {
+            let begin = block * BLOCK;
+            let end = keys.len().min(begin + BLOCK);
+            self.add_block(&keys[begin..end], &places[begin..end]);
         }
     }
 
-    // Makes sure that the key has a slot, so that it can be counted without a refusal.
-    fn ready(&mut self, key: u64) -> Result<(), TableFault>
+    // The same for a block of keys: they are counted in the table, and then in the histogram, so that the loop over the
+    // table does nothing else while it waits for memory.
+    fn add_block(&mut self, keys: &[u64], places: &[u64])
+        requires short { length keys.now ≤ block_len }
+        requires in_range { All (λ key. key < 2 ^ C.bits self.old.table) keys.now }
+        requires there { StandAt C.stands_at self.old.table keys.now places.now }
+        requires room { self.old.total + length keys.now ≤ 2 ^ 62 }
+        ensures counts { C.counts self.new.table ≡ all_added (C.counts self.old.table) keys.now }
+        ensures kept { (q place : ℕ) → C.stands_at self.old.table q place → C.stands_at self.new.table q place }
+        ensures limits { KeepsLimits C.bits C.may_be_full self.old.table self.new.table }
+        ensures total { self.new.total ≡ self.old.total + length keys.now }
+        ensures counted { IsCounted (C.bits self.new.table) (C.counts self.new.table) self.new.bins self.new.total }
+    {
+        let mut noted = [0; BLOCK];
+        count_keys(&mut self.table, keys, places, &mut noted);
+        raise_all(&mut self.histogram, &noted[..keys.len()]);
+        self.total += keys.len() as u64;
+    }
+
+    // Makes sure that the key has a slot, so that it can be counted without a refusal, and tells its place.
+    fn store(&mut self, key: u64) -> Result<u64, TableFault>
         requires { key < 2 ^ C.bits self.old.table }
+        ensures place { IfOk result (C.stands_at self.new.table key) }
         ensures stored { OnOk result (C.counts self.new.table ≡ readied (C.counts self.old.table) key) }
         ensures refused { OnErr result (C.counts self.new.table ≡ C.counts self.old.table) }
         ensures full { result ≡ Err TableFault.Full → C.may_be_full self.old.table (C.counts self.old.table) key }
         ensures limits { KeepsLimits C.bits C.may_be_full self.old.table self.new.table }
+        ensures grown { C.growth self.old.table ≤ C.growth self.new.table }
+        ensures kept { C.growth self.new.table ≡ C.growth self.old.table
+            → (q place : ℕ) → C.stands_at self.old.table q place → C.stands_at self.new.table q place }
         ensures same_bins { self.new.bins ≡ self.old.bins }
         ensures same_total { self.new.total ≡ self.old.total }
     {
-        self.table.ready(key)
-    }
-
-    // Counts a stored key once: its count, the histogram and the sum of the counts rise.
-    fn add(&mut self, key: u64)
-        requires in_range { key < 2 ^ C.bits self.old.table }
-        requires stored { IsStored (C.counts self.old.table) key }
-        requires room { self.old.total < 2 ^ 62 }
-        ensures counts { C.counts self.new.table ≡ added (C.counts self.old.table) key }
-        ensures limits { KeepsLimits C.bits C.may_be_full self.old.table self.new.table }
-        ensures total { self.new.total ≡ self.old.total + 1 }
-        ensures counted { IsCounted (C.bits self.new.table) (C.counts self.new.table) self.new.bins self.new.total }
-    {
-        let count = self.table.increment(key);
-        self.histogram.raise(count - 1);
-        self.total += 1;
+        self.table.store(key)
     }
 }

@@ -18,6 +18,7 @@ mod booking_fault;
 mod counted;
 mod cut;
 mod cuts;
+mod noted_counts;
 mod part_order;
 mod setup;
 mod starting_tables;

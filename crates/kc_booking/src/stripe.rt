@@ -223,9 +223,10 @@ impl<C: Counts> Stripe<C> {
         word_laws::joined_occurrences();
         // what can fail comes first; where it does, no count and no name in the journal has changed
         let batch = cut.batch();
-        self.counted.ready_all(cut.keys())?;
+        let alloc = *self.journal.allocator();
+        let places = self.counted.ready_all(alloc, cut.keys())?;
         enter(&mut self.journal, &mut self.booked, batch)?;
-        self.counted.add_all(cut.keys());
+        self.counted.add_all(cut.keys(), &places);
         Ok(())
     }
 
@@ -306,9 +307,10 @@ impl<C: Counts> Stripe<C> {
         word_laws::joined_occurrences();
         // what can fail comes first; where it does, no count and no name in the journal has changed
         let alloc = *self.journal.allocator();
-        let keys = self.counted.ready_by_parts(alloc, cuts.keys())?;
+        let keys = self.counted.by_parts(alloc, cuts.keys())?;
+        let places = self.counted.ready_all(alloc, &keys)?;
         enter_all(&mut self.journal, &mut self.booked, cuts.batches())?;
-        self.counted.add_all(&keys);
+        self.counted.add_all(&keys, &places);
         Ok(())
     }
 

@@ -1,9 +1,12 @@
 -- What a slot that is written changes in a table of fixed size.
-use Rattle.std.proofs.Common.{◌≡◌, ◌≢◌, ◌∙◌, ℕ, ◌^◌, ◌<◌, List, length, set, Some, sym, ap, subst, inl, inr, zero-add}
+use Rattle.std.proofs.Common.{◌≡◌, ◌≢◌, ◌∙◌, ℕ, ◌^◌, ◌<◌, List, length, set, Option, Some, None, slice_get}
+use Rattle.std.proofs.Common.{sym, ap, subst, inl, inr, zero-add}
 use Rattle.std.specs.FinMap.{insert}
 use Rattle.std.proofs.lemmas.Bool.{cases_eq}
+use Rattle.std.proofs.lemmas.Option.{slice_get_within}
+use Rattle.kc_lemmas.proofs.Lists.{slice_get-set_same, slice_get-set_other}
 use Rattle.kc_table.specs.declared.slots.Slots.{Slots}
-use Rattle.kc_table.specs.QuotientTable.{counts_in}
+use Rattle.kc_table.specs.QuotientTable.{SlotList, counts_in, HoldsKey}
 use Rattle.kc_table.specs.Reprobing.{IsFound, IsFree}
 use Rattle.kc_table.specs.Slot.{Slot, IsSound, key_in, tag_at, slot_count, content_of, contents_of}
 use Rattle.kc_table.proofs.Contents.{counts_in-set}
@@ -36,10 +39,9 @@ module _ (table : Slots) (key index : ℕ) where
         (tag_at-set_same table.slots.items index (record { tag = new; count = count }) fits)
         (tag_at-set_other table.slots.items index (record { tag = new; count = count }))
 
-    pub counts_slot_put : counts_in
-        (contents_of table.log (set table.slots.items index (record { tag = new; count = count })))
-        ≡ insert (counts_in (contents_of table.log table.slots.items)) key count
-    counts_slot_put =
+    pub contents_slot_put : contents_of table.log (set table.slots.items index (record { tag = new; count = count }))
+        ≡ set (contents_of table.log table.slots.items) index (Some (key, count))
+    contents_slot_put =
         let found : IsFound table.log (tag_at (set table.slots.items index (record { tag = new; count = count }))) key
         index = record {
           reprobe = free.reprobe;
@@ -49,9 +51,15 @@ module _ (table : Slots) (key index : ℕ) where
         } in
         let after : tag_at (set table.slots.items index (record { tag = new; count = count })) index ≡ new =
         tag_at-set_same table.slots.items index (record { tag = new; count = count }) fits in
-        ap counts_in (contents_of-set table.log table.slots.items index (record { tag = new; count = count }) key
+        contents_of-set table.log table.slots.items index (record { tag = new; count = count }) key
         (λ none. found_some sound_slot_put key index found (after ∙ none))
-        (ap (key_in table.log index) (sym after) ∙ found_key sound_slot_put key index found))
+        (ap (key_in table.log index) (sym after) ∙ found_key sound_slot_put key index found)
+
+    pub counts_slot_put : counts_in
+        (contents_of table.log (set table.slots.items index (record { tag = new; count = count })))
+        ≡ insert (counts_in (contents_of table.log table.slots.items)) key count
+    counts_slot_put =
+        ap counts_in contents_slot_put
         ∙ counts_in-set (contents_of table.log table.slots.items) index key count
         (subst (λ n. index < n) (sym (length-contents_from table.log 0 table.slots.items)) fits)
         (inl (empty_at table.log table.slots.items index fits free.empty))
@@ -71,6 +79,14 @@ module _ (table : Slots) (key index : ℕ) where
           | inr apart ↦ tag_at-set_other table.slots.items index slot s apart
         ])
 
+    pub contents_slot_count_put : contents_of table.log
+        (set table.slots.items index (record { tag = tag_at table.slots.items index; count = count }))
+        ≡ set (contents_of table.log table.slots.items) index (Some (key, count))
+    contents_slot_count_put =
+        contents_of-set table.log table.slots.items index
+        (record { tag = tag_at table.slots.items index; count = count }) key
+        (found_some table.sound key index found) (found_key table.sound key index found)
+
     pub counts_slot_count_put : counts_in
         (contents_of table.log
         (set table.slots.items index (record { tag = tag_at table.slots.items index; count = count })))
@@ -78,12 +94,42 @@ module _ (table : Slots) (key index : ℕ) where
     counts_slot_count_put =
         let some = found_some table.sound key index found in
         let held = holds_found table.slots.items table.sound key index found in
-        ap counts_in (contents_of-set table.log table.slots.items index
-        (record { tag = tag_at table.slots.items index; count = count }) key some
-        (found_key table.sound key index found))
+        ap counts_in contents_slot_count_put
         ∙ counts_in-set (contents_of table.log table.slots.items) index key count
         (subst (λ n. index < n) (sym (length-contents_from table.log 0 table.slots.items))
         (within_slots table.slots.items index some))
         (inr (slot_count table.slots.items index, held))
         (λ t m apart other. apart
         (slots_apart table.slots.items table.sound t index key m (slot_count table.slots.items index) other held))
+
+-- a key that stands in a slot stands there still where another key is put into an empty one
+pub stands-put : (slots : SlotList) (s k n : ℕ) → slice_get slots s ≡ Some None
+    → (t q : ℕ) → HoldsKey slots t q → HoldsKey (set slots s (Some (k, n))) t q
+stands-put slots s k n empty t q (m, held) =
+    elim (cases_eq t s) [
+      | inl same ↦ absurd (let never : ◌≡◌ {A = Option (Option (ℕ × ℕ))} (Some None) (Some (Some (q, m))) =
+          sym empty ∙ ap (slice_get slots) (sym same) ∙ held in cc)
+      | inr apart ↦ (m, slice_get-set_other slots s t (Some (k, n)) apart ∙ held)
+    ]
+
+-- and where a count is written for the key of a slot
+pub stands-counted : (slots : SlotList) (s k n : ℕ) → HoldsKey slots s k
+    → (t q : ℕ) → HoldsKey slots t q → HoldsKey (set slots s (Some (k, n))) t q
+stands-counted slots s k n (old, there) t q (m, held) =
+    elim (cases_eq t s) [
+      | inl same ↦
+          let both : ◌≡◌ {A = Option (Option (ℕ × ℕ))} (Some (Some (k, old))) (Some (Some (q, m))) =
+          sym there ∙ ap (slice_get slots) (sym same) ∙ held in
+          let entry : ◌≡◌ {A = ℕ × ℕ} (k, old) (q, m) = cc in
+          let key : k ≡ q = ap (λ (e : ℕ × ℕ). e.0) entry in (
+            n,
+            ap (slice_get (set slots s (Some (k, n)))) same
+                ∙ slice_get-set_same slots s (Some (k, n)) (slice_get_within slots s (Some (k, old)) there)
+                ∙ ap (λ x. Some (Some (x, n))) key,
+          )
+      | inr apart ↦ (m, slice_get-set_other slots s t (Some (k, n)) apart ∙ held)
+    ]
+
+-- the key that was put stands there
+pub stands-here : (slots : SlotList) (s k n : ℕ) → s < length slots → HoldsKey (set slots s (Some (k, n))) s k
+stands-here slots s k n below = (n, slice_get-set_same slots s (Some (k, n)) below)

@@ -34,3 +34,7 @@ pub record AreRowsOf (counts : KeyCounts) (rows : List (ℕ × ℕ)) : Type 0 wh
 -- each stored key is a number of so many bits
 abbrev pub IsWithin : ℕ → KeyCounts → Type 0
 IsWithin bits counts = (key : ℕ) → IsStored counts key → key < 2 ^ bits
+
+-- in a table without places a stored key is its own place
+abbrev pub IsItsOwnPlace : KeyCounts → ℕ → ℕ → Type 0
+IsItsOwnPlace counts key place = IsStored counts key × (place ≡ key)

@@ -16,6 +16,12 @@ pub trait Counts {
     // For which maps and keys this table may answer `Full`.
     ghost may_be_full: { Self → KeyCounts → ℕ → Type 0 };
 
+    // The key stands at this place of the table.
+    ghost stands_at: { Self → ℕ → ℕ → Type 0 };
+
+    // How far the table has grown.
+    ghost growth: { Self → ℕ };
+
     /// The number of bits of the keys.
     fn key_bits(&self) -> u32
         ensures bits { result ≡ bits self.now }
@@ -32,6 +38,30 @@ pub trait Counts {
         ensures full_only_there { result ≡ Err TableFault.Full → may_be_full self.old (counts self.old) key }
         ensures same_bits { bits self.new ≡ bits self.old }
         ensures same_limits { (m : KeyCounts) (q : ℕ) → may_be_full self.new m q ↔ may_be_full self.old m q };
+
+    /// How far the table has grown: the number is greater after each growth.
+    fn growth(&self) -> u32
+        ensures { result ≡ growth self.now };
+
+    /// Stores the key, as `ready` does, and tells its place, at which `increment_at` counts it. Each key keeps its place
+    /// until the table grows.
+    fn store(&mut self, key: u64) -> Result<u64, TableFault>
+        requires { key < 2 ^ bits self.old }
+        ensures place { IfOk result (stands_at self.new key) }
+        ensures stored { OnOk result (counts self.new ≡ readied (counts self.old) key) }
+        ensures refused { OnErr result (counts self.new ≡ counts self.old) }
+        ensures full_only_there { result ≡ Err TableFault.Full → may_be_full self.old (counts self.old) key }
+        ensures same_bits { bits self.new ≡ bits self.old }
+        ensures same_limits { (m : KeyCounts) (q : ℕ) → may_be_full self.new m q ↔ may_be_full self.old m q }
+        ensures grown { growth self.old ≤ growth self.new }
+        ensures kept { growth self.new ≡ growth self.old
+            → (q place : ℕ) → stands_at self.old q place → stands_at self.new q place };
+
+    /// The place of a stored key.
+    fn place_of(&self, key: u64) -> u64
+        requires in_range { key < 2 ^ bits self.now }
+        requires stored { IsStored (counts self.now) key }
+        ensures { stands_at self.now key result };
 
     /// Adds one to the count of a stored key. It takes no memory.
     fn add(&mut self, key: u64)
@@ -51,6 +81,17 @@ pub trait Counts {
         ensures counted { counts self.new ≡ added (counts self.old) key }
         ensures same_bits { bits self.new ≡ bits self.old }
         ensures same_limits { (m : KeyCounts) (q : ℕ) → may_be_full self.new m q ↔ may_be_full self.old m q };
+
+    /// Adds one to the count of the key at its place, as `increment` does, without looking for the key.
+    fn increment_at(&mut self, key: u64, place: u64) -> u64
+        requires in_range { key < 2 ^ bits self.old }
+        requires there { stands_at self.old key place }
+        requires room { count_at (counts self.old) key < 2 ^ count_bits }
+        ensures told { result ≡ count_at (counts self.old) key + 1 }
+        ensures counted { counts self.new ≡ added (counts self.old) key }
+        ensures same_bits { bits self.new ≡ bits self.old }
+        ensures same_limits { (m : KeyCounts) (q : ℕ) → may_be_full self.new m q ↔ may_be_full self.old m q }
+        ensures kept { (q other : ℕ) → stands_at self.old q other → stands_at self.new q other };
 
     /// The key's count, and 0 where the key is not stored.
     fn get(&self, key: u64) -> u64

@@ -1,7 +1,7 @@
 //! A map that takes so many keys and no more, for tests.
 ghost use Rattle.std.specs.Prelude.{◌≡◌, ℕ, ◌<◌, ◌≤◌, ◌^◌, ◌↔◌, IsOk, OnOk, OnErr};
 ghost use Rattle.std.specs.FinMap as map;
-ghost use Rattle.kc_table.specs.Counts.{KeyCounts, IsStored, readied};
+ghost use Rattle.kc_table.specs.Counts.{KeyCounts, IsStored, IsItsOwnPlace, readied};
 ghost use Rattle.kc_table.specs.LimitedCounts.{Limited, HasReachedLimit, IsAtLimit};
 ghost use Rattle.kc_table.specs.Sizes.{most_bits, most_parts};
 
@@ -56,6 +56,10 @@ impl Counts for LimitedCounts {
 
     ghost may_be_full = { IsAtLimit };
 
+    ghost stands_at = { λ t. IsItsOwnPlace t.counts };
+
+    ghost growth = { λ _. 0 };
+
     fn key_bits(&self) -> u32 {
         self.plain.key_bits()
     }
@@ -84,12 +88,29 @@ impl Counts for LimitedCounts {
         Ok(())
     }
 
+    fn growth(&self) -> u32 {
+        self.plain.growth()
+    }
+
+    fn store(&mut self, key: u64) -> Result<u64, TableFault> {
+        self.ready(key)?;
+        Ok(key)
+    }
+
+    fn place_of(&self, key: u64) -> u64 {
+        self.plain.place_of(key)
+    }
+
     fn add(&mut self, key: u64) {
         self.plain.add(key);
     }
 
     fn increment(&mut self, key: u64) -> u64 {
         self.plain.increment(key)
+    }
+
+    fn increment_at(&mut self, key: u64, place: u64) -> u64 {
+        self.plain.increment_at(key, place)
     }
 
     fn get(&self, key: u64) -> u64 {

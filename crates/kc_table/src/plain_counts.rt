@@ -3,6 +3,7 @@ ghost use Rattle.std.specs.Prelude.{◌≡◌, ◌<◌, ◌≤◌, ◌^◌, IfOk
 ghost use Rattle.std.specs.Ordering.{nat_cmp};
 ghost use Rattle.std.specs.BTreeMap.{IsOrdered};
 ghost use Rattle.std.specs.FinMap as map;
+ghost use Rattle.kc_table.specs.Counts.{IsItsOwnPlace};
 ghost use Rattle.kc_table.specs.PlainCounts.{Plain};
 ghost use Rattle.kc_table.specs.Sizes.{most_bits, most_parts};
 
@@ -62,6 +63,10 @@ impl Counts for PlainCounts {
 
     ghost may_be_full = { λ _ _ _. ⊥ };
 
+    ghost stands_at = { λ p. IsItsOwnPlace p.counts };
+
+    ghost growth = { λ _. 0 };
+
     fn key_bits(&self) -> u32 {
         self.bits
     }
@@ -76,6 +81,20 @@ impl Counts for PlainCounts {
         Ok(())
     }
 
+    /// The map has no size to grow.
+    fn growth(&self) -> u32 {
+        0
+    }
+
+    fn store(&mut self, key: u64) -> Result<u64, TableFault> {
+        self.ready(key)?;
+        Ok(key)
+    }
+
+    fn place_of(&self, key: u64) -> u64 {
+        key
+    }
+
     fn add(&mut self, key: u64) {
         self.increment(key);
     }
@@ -88,6 +107,10 @@ impl Counts for PlainCounts {
             }
             None => unreachable!(),
         }
+    }
+
+    fn increment_at(&mut self, key: u64, _place: u64) -> u64 {
+        self.increment(key)
     }
 
     fn get(&self, key: u64) -> u64 {

@@ -125,7 +125,7 @@ impl QuotientTable {
         ensures one_find { IsSearchedBy self.old key (steps.new.count - steps.old.count) }
     {
         match self.find(key, steps) {
-            Some(place) => self.slots.count_key(key, place as usize),
+            Some(place) => self.increment_at(key, place),
             None => unreachable!(),
         }
     }
@@ -137,6 +137,10 @@ impl Counts for QuotientTable {
     ghost counts = { λ t. counts_in t.slots };
 
     ghost may_be_full = { MayBeFull };
+
+    ghost stands_at = { λ t key place. HoldsKey t.slots place key };
+
+    ghost growth = { λ t. t.log };
 
     fn key_bits(&self) -> u32 {
         self.slots.bits
@@ -178,6 +182,32 @@ impl Counts for QuotientTable {
         }
     }
 
+    fn growth(&self) -> u32 {
+        self.slots.log
+    }
+
+    #[inline]
+    fn store(&mut self, key: u64) -> Result<u64, TableFault> {
+        match self.slots.reprobe(key, &mut Counter::zero()) {
+            Reprobing::Found { place } => Ok(place as u64),
+            Reprobing::Free { place, tag } => {
+                self.slots.put(key, place, tag, 0);
+                Ok(place as u64)
+            }
+            Reprobing::Crowded => {
+                self.ready(key)?;
+                Ok(self.place_of(key))
+            }
+        }
+    }
+
+    fn place_of(&self, key: u64) -> u64 {
+        match self.find(key, &mut Counter::zero()) {
+            Some(place) => place,
+            None => unreachable!(),
+        }
+    }
+
     /// Adds one to the key's count, as the trait says. The table keeps its size.
     #[inline]
     fn add(&mut self, key: u64)
@@ -207,6 +237,23 @@ impl Counts for QuotientTable {
         ensures same_max_log { self.new.max_log ≡ self.old.max_log }
     {
         self.increment_by_one_find(key, &mut Counter::zero())
+    }
+
+    /// Adds one to the count of the key at its place, as the trait says. The table keeps its size.
+    #[inline]
+    fn increment_at(&mut self, key: u64, place: u64) -> u64
+        requires in_range { key < 2 ^ self.old.bits }
+        requires there { HoldsKey self.old.slots place key }
+        requires room { count_at (counts_in self.old.slots) key < 2 ^ count_bits }
+        ensures told { result ≡ count_at (counts_in self.old.slots) key + 1 }
+        ensures counted { counts_in self.new.slots ≡ added (counts_in self.old.slots) key }
+        ensures same_bits { self.new.bits ≡ self.old.bits }
+        ensures same_limits { (m : KeyCounts) (q : ℕ) → MayBeFull self.new m q ↔ MayBeFull self.old m q }
+        ensures kept { (q other : ℕ) → HoldsKey self.old.slots other q → HoldsKey self.new.slots other q }
+        ensures same_log { self.new.log ≡ self.old.log }
+        ensures same_max_log { self.new.max_log ≡ self.old.max_log }
+    {
+        self.slots.count_key(key, place as usize)
     }
 
     #[inline]

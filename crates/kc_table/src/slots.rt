@@ -1,6 +1,6 @@
 //! A table of fixed size, whose slots hold a key's remainder, its number of reprobes and its count.
 ghost use Rattle.std.specs.Prelude.{◌≡◌, ◌≢◌, ℕ, ◌+◌, ◌-◌, ◌<◌, ◌≤◌, ◌^◌, length, true, false, None};
-ghost use Rattle.std.specs.Prelude.{IfOk, IfSome, IfNone};
+ghost use Rattle.std.specs.Prelude.{IfOk, IfSome, IfNone, Some, slice_set};
 ghost use Rattle.std.specs.FinMap.{empty, insert, get};
 ghost use Rattle.std.specs.Vec.{vec_capacity};
 ghost use Rattle.kc_table.specs.QuotientTable.{Holds, HasStoredCrowd, MayBeTooSmall};
@@ -87,6 +87,7 @@ impl Slots {
         ensures bits { self.new.bits ≡ self.old.bits }
         ensures log { self.new.log ≡ self.old.log }
         ensures put { key_counts self.new ≡ insert (key_counts self.old) key count }
+        ensures slots { slot_list self.new ≡ slice_set (slot_list self.old) place (Some (key, count)) }
     {
         self.slots.put(place, tag, count);
     }
@@ -100,6 +101,8 @@ impl Slots {
         ensures log { self.new.log ≡ self.old.log }
         ensures told { result ≡ slot_counts self.old place + 1 }
         ensures counted { key_counts self.new ≡ insert (key_counts self.old) key (slot_counts self.old place + 1) }
+        ensures slots { slot_list self.new
+            ≡ slice_set (slot_list self.old) place (Some (key, slot_counts self.old place + 1)) }
     {
         self.slots.add_one(place)
     }

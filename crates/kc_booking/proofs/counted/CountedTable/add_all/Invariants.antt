@@ -1,5 +1,7 @@
-use Rattle.kc_booking.proofs.CountedTables.{IsAddedTo}
+use Rattle.kc_booking.proofs.NotedCountLemmas.{AreAddedTo, begun}
 use Rattle.kc_booking.proofs.counted.CountedTable.add_all.Given as goal
 
-abbrev pub invariant-loop-key : goal.invariant-loop-key
-invariant-loop-key g l = IsAddedTo g.C.Counts.bits g.C.Counts.counts g.C.Counts.may_be_full l.fn.self l.self l.keys l.key-index
+abbrev pub invariant-loop-block : goal.invariant-loop-block
+invariant-loop-block g l =
+    AreAddedTo g.C.Counts.bits g.C.Counts.counts g.C.Counts.may_be_full g.C.Counts.stands_at l.fn.self l.self l.keys
+    (begun l.block l.keys)

@@ -1,11 +1,6 @@
-use Rattle.std.proofs.Common.{◌∙◌, ap, take}
-use Rattle.kc_table.specs.Counts.{KeyCounts, count_at}
-use Rattle.kc_booking.proofs.CountedTables.{count_at-all_readied}
+use Rattle.kc_booking.proofs.CountedTables.{IsStored-all_readied}
 use Rattle.kc_booking.proofs.counted.CountedTable.ready_all.Goals as goal
 
-pub returns-in_err-ready-clause-same_counts : goal.returns-in_err-ready-clause-same_counts
-returns-in_err-ready-clause-same_counts g c = λ q.
-    ap (λ (m : KeyCounts). count_at m q) (c.in_err-ready.ensures.refused ∙ c.loop-key.invariant.stored) ∙ count_at-all_readied (take c.loop-key.key-index c.args.keys.now) _ q
-
-pub returns-clause-same_counts : goal.returns-clause-same_counts
-returns-clause-same_counts g c = λ q. ap (λ (m : KeyCounts). count_at m q) c.loop-key.invariant.stored ∙ count_at-all_readied (take c.loop-key.key-index c.args.keys.now) _ q
+pub find_all-requires-clause-stored : goal.find_all-requires-clause-stored
+find_all-requires-clause-stored g c =
+    rw c.in_ok-store_all.ensures.stored (IsStored-all_readied c.args.keys.now _)

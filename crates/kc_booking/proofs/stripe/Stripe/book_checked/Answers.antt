@@ -8,7 +8,6 @@ use Rattle.kc_booking.specs.Faults.{booking_fault}
 use Rattle.kc_booking.specs.Cut.{keys_of, cut_at}
 use Rattle.kc_booking.specs.Counted.{SomeMayBeFull}
 use Rattle.kc_booking.specs.Stripe.{IsKept, IsBooked, KnowsNumbers}
-use Rattle.kc_booking.proofs.CountedTables.{IsStored-all_readied}
 use Rattle.kc_booking.proofs.Lawful.{IsLawful-from, CountsWords-more, keys-fit, numbers_differ-more, own_keys, was_full}
 use Rattle.kc_booking.proofs.stripe.Stripe.book_checked.Goals as goal
 
@@ -19,11 +18,11 @@ ready_all-requires g c =
     rw (c.keys.ensures, own_keys c.self.inside.setup c.self.inside.number c.args.cut.now.batch c.args.cut.now own.0 own.1 refl)
     (keys-fit c.self.inside.setup c.self.inside.number _ c.args.cut.now.batch c.words_of_reads.ensures.below kept.divided kept.bits_are)
 
-pub returns-in_err-ready_all-clause-full : goal.returns-in_err-ready_all-clause-full
-returns-in_err-ready_all-clause-full g c = λ is.
+pub returns-in_err-places-clause-full : goal.returns-in_err-places-clause-full
+returns-in_err-places-clause-full g c = λ is.
     let p = err_from_is_err_and c.from_residual.result c.from_residual.ensures.1 in
-    let fault : booking_fault c.in_err-ready_all.field-0.0 ≡ book.Full = cc in
-    let refused = c.in_err-ready_all.ensures.full (ap Err (was_full _ fault)) in
+    let fault : booking_fault c.in_err-places.field-0.0 ≡ book.Full = cc in
+    let refused = c.in_err-places.ensures.full (ap Err (was_full _ fault)) in
     subst (λ (table : g.row.C.Denot). SomeMayBeFull (g.C.Counts.may_be_full table) (g.C.Counts.counts table) (keys_of c.args.cut.now)) (ap (λ s. s.table) c.self.view_is)
     (subst (λ (keys : List ℕ). SomeMayBeFull (g.C.Counts.may_be_full c.self.inside.counted.table) (g.C.Counts.counts c.self.inside.counted.table) keys) c.keys.ensures refused)
 
@@ -32,11 +31,7 @@ add_all-requires-clause-in_range g c =
     let kept = c.self.invariant.1 in
     let own = rw (← c.self.view_is) at c.requires.own in
     rw (c.keys-2.ensures, own_keys c.self.inside.setup c.self.inside.number c.args.cut.now.batch c.args.cut.now own.0 own.1 refl)
-    (keys-fit c.self.inside.setup c.self.inside.number _ c.args.cut.now.batch c.words_of_reads.ensures.below kept.divided (c.in_ok-ready_all.ensures.limits.same_bits ∙ kept.bits_are))
-
-pub add_all-requires-clause-stored : goal.add_all-requires-clause-stored
-add_all-requires-clause-stored g c =
-    rw (c.in_ok-ready_all.ensures.stored, c.keys-2.ensures, ← c.keys.ensures) (IsStored-all_readied c.keys.result.now _)
+    (keys-fit c.self.inside.setup c.self.inside.number _ c.args.cut.now.batch c.words_of_reads.ensures.below kept.divided (c.in_ok-places.ensures.limits.same_bits ∙ kept.bits_are))
 
 pub invariant_of-self-2 : goal.invariant_of-self-2
 invariant_of-self-2 g c =
@@ -55,7 +50,7 @@ invariant_of-self-2 g c =
     let kept : IsKept setup c.self.inside.number (old ++ batch ∷ []) (g.C.Counts.bits c.add_all.new.self.table) (contains nat_eq c.enter.new.booked) = record {
       own = held.own;
       divided = held.divided;
-      bits_are = c.add_all.ensures.limits.same_bits ∙ c.in_ok-ready_all.ensures.limits.same_bits ∙ held.bits_are;
+      bits_are = c.add_all.ensures.limits.same_bits ∙ c.in_ok-places.ensures.limits.same_bits ∙ held.bits_are;
       known_are = subst (KnowsNumbers (contains nat_eq c.enter.new.booked)) journal c.in_ok-enter.ensures.known;
     } in
     let lawful = IsLawful-from kept c.add_all.ensures.counted (numbers_differ-more old batch before.numbers_differ new)
@@ -65,6 +60,6 @@ invariant_of-self-2 g c =
       divided = held.divided;
       before = before.counts_are;
       added = λ q. c.add_all.ensures.counts q
-          ∙ ap₂ (λ (m n : ℕ). m + n) (c.in_ok-ready_all.ensures.same_counts q) (ap (λ (ks : List ℕ). count_by (λ key. eqb key q) ks) keys);
+          ∙ ap₂ (λ (m n : ℕ). m + n) (c.in_ok-places.ensures.same_counts q) (ap (λ (ks : List ℕ). count_by (λ key. eqb key q) ks) keys);
     })) in
     rw journal (lawful, kept)

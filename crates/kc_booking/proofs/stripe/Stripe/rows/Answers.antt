@@ -1,6 +1,5 @@
-use Rattle.std.proofs.Common.{◌≡◌, ◌∙◌, ◌<◌, ◌^◌, ◌++◌, [], ◌∷◌, ℕ, List, All, get_or, map, ap, subst}
+use Rattle.std.proofs.Common.{◌≡◌, ◌∙◌, ◌<◌, ◌^◌, ◌++◌, [], ◌∷◌, ℕ, List, All, map, ap, subst}
 use Rattle.std.proofs.lemmas.List.{take_all}
-use Rattle.kc_hash.specs.Product.{product}
 use Rattle.kc_word.specs.Shared.{values}
 use Rattle.kc_table.specs.Counts.{AreRowsOf}
 use Rattle.kc_tally.specs.declared.row.Row.{Row}

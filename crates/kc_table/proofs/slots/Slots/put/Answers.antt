@@ -2,7 +2,7 @@ use Rattle.std.proofs.Common.{◌∙◌, ◌+◌, ◌*◌, ◌^◌, ◌<◌, ap,
 use Rattle.kc_table.specs.QuotientTable.{counts_in}
 use Rattle.kc_table.specs.Slot.{Slot, IsSound, tag_at, contents_of}
 use Rattle.kc_table.proofs.Soundness.{tag_fits}
-use Rattle.kc_table.proofs.Writing.{sound_slot_put, counts_slot_put}
+use Rattle.kc_table.proofs.Writing.{sound_slot_put, counts_slot_put, contents_slot_put}
 use Rattle.kc_table.proofs.slots.Slots.put.Goals as goal
 
 pub put-requires-clause-fits : goal.put-requires-clause-fits
@@ -25,4 +25,10 @@ pub returns-clause-put : goal.returns-clause-put
 returns-clause-put c =
     ap (λ (s : List Slot). counts_in (contents_of c.args.self.now.log s)) c.put.ensures.put
     ∙ counts_slot_put c.args.self.now c.args.key c.args.place c.args.tag c.args.count c.requires.in_range
+    c.requires.free
+
+pub returns-clause-slots : goal.returns-clause-slots
+returns-clause-slots c =
+    ap (λ (s : List Slot). contents_of c.args.self.now.log s) c.put.ensures.put
+    ∙ contents_slot_put c.args.self.now c.args.key c.args.place c.args.tag c.args.count c.requires.in_range
     c.requires.free
