@@ -142,6 +142,49 @@ fn each_type_is_a_finite_map(rt: HostRuntime) -> Result<(), Fail> {
     Ok(())
 }
 
+// Stores the key and counts it twice at its place: the place, and what is told of the count each time.
+fn count_at_its_place<C: Counts>(
+    rt: &impl Abort,
+    table: &mut C,
+    key: u64,
+) -> Result<(u64, u64, u64), TableFault> {
+    assert_key(rt, table, key);
+    let place = table.store(key)?;
+    assert!(rt; table.get(key) < 1 << 62);
+    let once = table.increment_at(key, place);
+    assert!(rt; table.get(key) < 1 << 62);
+    let twice = table.increment_at(key, place);
+    Ok((place, once, twice))
+}
+
+// Stores the key and looks for its place.
+fn place_found<C: Counts>(rt: &impl Abort, table: &mut C, key: u64) -> Result<u64, TableFault> {
+    assert_key(rt, table, key);
+    table.ready(key)?;
+    Ok(table.place_of(key))
+}
+
+// Asserts that 5 stands at the place 5 of a table that has grown so far, and is counted there.
+fn assert_place<C: Counts>(
+    rt: &impl Abort,
+    table: &mut C,
+    growth: u32,
+) -> Result<(), TableFault> {
+    assert_same(rt, "counted", &count_at_its_place(rt, table, 5)?, &(5, 1, 2));
+    assert_same(rt, "found", &place_found(rt, table, 5)?, &5);
+    assert_same(rt, "growth", &table.growth(), &growth);
+    Ok(())
+}
+
+#[test]
+fn each_type_counts_a_key_at_its_place(rt: HostRuntime) -> Result<(), Fail> {
+    let alloc = rt.alloc();
+    assert_place(&rt, &mut PlainCounts::new(alloc, 3), 0)?;
+    assert_place(&rt, &mut LimitedCounts::new(alloc, 3, 3, TableFault::Full), 0)?;
+    assert_place(&rt, &mut QuotientTable::new(alloc, 3, 3, 3)?, 3)?;
+    Ok(())
+}
+
 // A key of 16 bits whose low 8 bits are 5.
 fn key_of_one_home(number: u8) -> u64 {
     256 * u64::from(number) + 5
@@ -204,6 +247,19 @@ fn a_64th_key_of_a_home_is_taken_by_a_larger_table(rt: HostRuntime) -> Result<()
     ready(&rt, &mut table, key_of_one_home(63))?;
     assert_same(&rt, "log", &table.log(), &9);
     assert_home(&rt, &table, 63);
+    Ok(())
+}
+
+#[test]
+fn a_growth_gives_a_key_another_place(rt: HostRuntime) -> Result<(), Fail> {
+    let mut table = QuotientTable::new(rt.alloc(), 16, 8, 9)?;
+    count_home(&rt, &mut table)?;
+    let second = key_of_one_home(1);
+    assert_same(&rt, "before", &place_found(&rt, &mut table, second)?, &6);
+    assert_same(&rt, "growth", &table.growth(), &8);
+    ready(&rt, &mut table, key_of_one_home(63))?;
+    assert_same(&rt, "after", &place_found(&rt, &mut table, second)?, &261);
+    assert_same(&rt, "growth", &table.growth(), &9);
     Ok(())
 }
 
