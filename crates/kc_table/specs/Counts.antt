@@ -34,3 +34,8 @@ pub record AreRowsOf (counts : KeyCounts) (rows : List (ℕ × ℕ)) : Type 0 wh
 -- each stored key is a number of so many bits
 abbrev pub IsWithin : ℕ → KeyCounts → Type 0
 IsWithin bits counts = (key : ℕ) → IsStored counts key → key < 2 ^ bits
+
+-- the number is the greatest count of a key, where the count of a key that is not stored is 0
+pub record IsGreatestCount (counts : KeyCounts) (greatest : ℕ) : Type 0 where
+  pub most : (key : ℕ) → count_at counts key ≤ greatest
+  pub reached : (key : ℕ) × (count_at counts key ≡ greatest)
