@@ -1,11 +1,11 @@
 -- The greatest of some numbers.
-use Rattle.std.proofs.Common.{◌≡◌, ◌≢◌, ℕ, zero, suc, ◌<◌, ◌≤◌, ◌⊎◌, inl, inr, List, [], ◌∷◌, ◌++◌, Contains, fold, max}
-use Rattle.std.proofs.Common.{sum_by, nat_eq, cond, length, get_or, refl, sym, ap, ◌∙◌, arith, ⊎_elim}
+use Rattle.std.proofs.Common.{◌≡◌, ◌≢◌, ℕ, ◌<◌, ◌≤◌, ◌⊎◌, inl, inr, List, [], ◌∷◌, ◌++◌, Contains, fold, max}
+use Rattle.std.proofs.Common.{sum_by, nat_eq, cond, refl, sym, ap, ◌∙◌, arith, ⊎_elim}
 use Rattle.std.proofs.lemmas.Bool.{cases_eq, cases_lt, ne_eqb}
 use Rattle.std.proofs.lemmas.Bool.Decides.{eqb_tells}
 use Rattle.std.proofs.lemmas.List.Sums.{fold-append}
 use Rattle.kc_lemmas.proofs.Distinct.{Contains-from_times, times-some}
-use Rattle.kc_lemmas.proofs.Lists.{Contains-cons}
+use Rattle.kc_lemmas.proofs.Lists.{Contains-cons, Contains-cons_cases}
 
 -- the greatest of a number and others is not less than the number
 pub max-least : (a : ℕ) (ns : List ℕ) → a ≤ fold max a ns
@@ -15,11 +15,11 @@ max-least a (n ∷ ns) = let rest = max-least (max a n) ns in omega (arith, rest
 -- nor than one of the others
 pub max-most : (a : ℕ) (ns : List ℕ) (n : ℕ) → Contains ns n → n ≤ fold max a ns
 max-most a [] n (k, within, is) = absurd (omega (arith, within))
-max-most a (m ∷ ns) n (k, within, is) = by k within is
-  where
-    by : (i : ℕ) → i < length (m ∷ ns) → get_or (m ∷ ns) i n ≡ n → n ≤ fold max (max a m) ns
-    by zero l p = let first = max-least (max a m) ns in omega (arith, first, p)
-    by (suc i) l p = max-most (max a m) ns n (i, omega (arith, l), p)
+max-most a (m ∷ ns) n there =
+    ⊎_elim
+    (λ (first : m ≡ n). let least = max-least (max a m) ns in omega (arith, least, first))
+    (λ (later : Contains ns n). max-most (max a m) ns n later)
+    (Contains-cons_cases ns n m there)
 
 -- and it is one of them
 pub max-reached : (a : ℕ) (ns : List ℕ) → (fold max a ns ≡ a) ⊎ Contains ns (fold max a ns)

@@ -2,7 +2,7 @@ use Rattle.std.proofs.Common.{◌≡◌, ◌<◌, ◌≤◌, ◌∙◌, refl, sy
 use Rattle.std.specs.Map.{values_of}
 use Rattle.kc_table.specs.Counts.{IsGreatestCount}
 use Rattle.kc_table.specs.Slots.{slot_list, key_counts, counted_entries}
-use Rattle.kc_table.proofs.Contents.{counted_in-none, counted_in-some, counted_in-all, keys_apart}
+use Rattle.kc_table.proofs.Contents.{counted_in, counted_in-none, counted_in-some, counted_in-all, keys_apart}
 use Rattle.kc_table.proofs.Greatest.{max-push, greatest_of_rows}
 use Rattle.kc_table.proofs.KeyCounts.{rows_of_entries}
 use Rattle.kc_table.proofs.SlotSteps.{content_at, length-contents_from, slots_apart}
@@ -22,8 +22,8 @@ loop-index-preserved c =
     let more =
     counted_in-some (slot_list c.args.self.now) c.loop-index.index _ _ c.in-Some.ensures.some.0
     c.in-Some.ensures.some.1 in
-    c.max.ensures ∙ ap (λ n. max n c.in-Some.entry.1) c.loop-index.invariant
-    ∙ max-push _ c.in-Some.entry.0 c.in-Some.entry.1
+    c.max-greatest.ensures ∙ ap (λ n. max n c.in-Some.entry.1) c.loop-index.invariant
+    ∙ max-push (counted_in c.loop-index.index (slot_list c.args.self.now)) c.in-Some.entry.0 c.in-Some.entry.1
     ∙ sym (ap (λ (es : List (ℕ × ℕ)). fold max 0 (values_of es)) more)
 
 pub returns : goal.returns
