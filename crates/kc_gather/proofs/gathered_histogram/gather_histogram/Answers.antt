@@ -1,7 +1,8 @@
-use Rattle.std.proofs.Common.{◌≡◌, ◌≤◌, ◌∙◌, ap, length, subst, arith}
+use Rattle.std.proofs.Common.{◌≡◌, ◌≤◌, ◌∙◌, Err, ap, length, subst, arith}
 use Rattle.std.proofs.lemmas.Result.{err_from_is_err_and}
 use Rattle.kc_kmer.specs.Rule.{CountingRule}
 use Rattle.kc_word.specs.Shared.{values}
+use Rattle.kc_gather.specs.declared.gather_fault.GatherFault.TheVariants.{Missing}
 use Rattle.kc_gather.specs.Gathering.{AreWholeBefore, IsRefusal, StandsThere}
 use Rattle.kc_gather.proofs.JoinedLemmas.{AreOfCount, words-few, bins-of_tally}
 use Rattle.kc_gather.proofs.gathered_histogram.gather_histogram.Goals as goal
@@ -20,8 +21,9 @@ returns-in_err-check_all-clause-counted g c =
     let p = err_from_is_err_and c.from_residual.result c.from_residual.ensures.1 in
     rw (p.1, p.2)
     (λ index batch same.
+    let missing : c.in_err-check_all.field-0.0 ≡ Missing index batch = cc in
     subst (λ stripes. StandsThere stripes index (λ stripe. length stripe.journal ≡ length c.args.batches.now → ⊥)) c.as_slice-all.ensures.value
-    (c.in_err-check_all.ensures.counted index batch same))
+    (c.in_err-check_all.ensures.counted index batch (ap Err missing)))
 
 pub returns-clause-whole : goal.returns-clause-whole
 returns-clause-whole g c =

@@ -8,7 +8,7 @@ use Rattle.kc_gather.proofs.joined_stripes.joined_greatest.Goals as goal
 pub loop-stripe-preserved : goal.loop-stripe-preserved
 loop-stripe-preserved g c =
     c.max-greatest.ensures
-    ∙ greatest-more c.args.stripes.now c.loop-stripe.stripe-index c.stripe-item.result (c.loop-stripe-test.true, c.stripe-item.is) c.loop-stripe.invariant c.greatest-in-loop-stripe.ensures
+    ∙ greatest-more c.args.stripes.now c.loop-stripe.stripe-index c.stripe-item.result (c.loop-stripe-test.true, c.stripe-item.is) c.loop-stripe.invariant c.greatest.ensures
 
 pub returns : goal.returns
 returns g c =
