@@ -103,7 +103,7 @@ abbrev pub CountsWords : StripeSetup → ℕ → List NumberedPieces → KeyCoun
 CountsWords setup number journal counts =
     (word : ℕ) → word < word_count setup → stripe_of setup word ≡ number → count_at counts (key_of setup word) ≡ word_occurrences setup journal word
 
-occurrences-by_keys : (setup : StripeSetup) (number : ℕ) (journal : List NumberedPieces) (counts : KeyCounts) → DividesWords setup → number < stripe_count setup
+pub occurrences-by_keys : (setup : StripeSetup) (number : ℕ) (journal : List NumberedPieces) (counts : KeyCounts) → DividesWords setup → number < stripe_count setup
     → CountsWords setup number journal counts → WeighTheSame (counts_of (key_bits setup) counts) (stripe_occurrences setup number journal)
 occurrences-by_keys setup number journal counts divided own is h =
     let words = stripe_words setup number in

@@ -2,6 +2,7 @@ pub mod Codes
 pub mod Parts
 pub mod CountedTables
 pub mod Lawful
+pub mod Greatest
 pub mod RoundLemmas
 pub mod StripeRows
 pub mod Forms

@@ -8,12 +8,13 @@ ghost use Rattle.kc_hash.specs.Product.{product};
 ghost use Rattle.kc_word.specs.Cutting.{NumberedPieces};
 ghost use Rattle.kc_word.specs.Shared.{values};
 ghost use Rattle.kc_tally.specs.Histogram.{last_bin, bin_of, bin_at};
+ghost use Rattle.kc_tally.specs.Statistics.{greatest_of};
 ghost use Rattle.kc_booking.specs.Setup.{word_count, stripe_count, key_bits, stripe_of, stripe_words};
 ghost use Rattle.kc_booking.specs.Cut.{keys_of};
 ghost use Rattle.kc_booking.specs.Cuts.{all_keys_of, IsOwnRound, FirstIsBooked, FirstIsNew};
 ghost use Rattle.kc_booking.specs.Counted.{KeepsLimits, SomeMayBeFull, SomeMayBeFullInSomeOrder};
 ghost use Rattle.kc_booking.specs.Stripe.{StripeState, IsLawful, IsBooked, IsOwnCut, IsUnchanged, AreStripeRows};
-ghost use Rattle.kc_booking.specs.Stripe.{word_occurrences, NumbersDiffer, KnowsNumbers};
+ghost use Rattle.kc_booking.specs.Stripe.{word_occurrences, stripe_occurrences, NumbersDiffer, KnowsNumbers};
 
 use crate::booking_fault::BookFault;
 use crate::counted::CountedTable;
@@ -150,6 +151,17 @@ impl<C: Counts> Stripe<C> {
         ensures { result.now ≡ self.now.bins }
     {
         self.counted.histogram()
+    }
+
+    /// How often the word of the stripe occurs in the journal's batches that occurs most, and 0 where none does. It looks
+    /// at each key once and takes no memory.
+    pub fn greatest(&self) -> u64
+        ensures { result ≡ greatest_of (stripe_occurrences self.now.setup self.now.number self.now.journal) }
+    {
+        let table = self.counted.table();
+        // what is known of the keys
+        let _bits = table.key_bits();
+        table.greatest()
     }
 
     /// How often a word of the stripe occurs in the journal's batches, and 0 for a word of another stripe.

@@ -118,9 +118,11 @@ fn is_a_finite_map<C: Counts + Send>(
 ) -> Result<(), Fail> {
     readies_0(rt, table)?;
     assert_rows(rt, alloc, table, &[])?;
+    assert_same(rt, "no count", &table.greatest(), &0);
     count_0_and_7(rt, table)?;
     assert_counts(rt, table, &[(0, 1), (7, 2)]);
     assert_uncounted(rt, table, 1, 7);
+    assert_same(rt, "the greatest count", &table.greatest(), &2);
     Ok(assert_rows(rt, alloc, table, &[(0, 1), (7, 2)])?)
 }
 

@@ -7,8 +7,9 @@ use kc_io::{FromBytes, ToVec};
 use kc_kmer::K;
 use kc_report::{
     Dump, GREATEST_HIGH, ReportFault, query, read_table, write_dump, write_histo, write_stats,
+    write_stats_of,
 };
-use kc_tally::{Row, Tally};
+use kc_tally::{Row, Statistics, Tally};
 use std::alloc::{AllocError, Global};
 use std::process::Abort;
 use std::test::Fail;
@@ -66,10 +67,28 @@ fn statistics_of_three_words(rt: HostRuntime) -> Result<(), Fail> {
     let tally = tally_of_three(rt.alloc())?;
     let mut sink = ToVec::new(Vec::new(rt.alloc()));
     write_stats(&mut sink, &tally)?;
-    let want = b"Unique:    1\nDistinct:  3\nTotal:     70003\nMax_count: 70000\n";
-    assert_items(&rt, "statistics", sink.as_slice(), want);
+    assert_items(&rt, "statistics", sink.as_slice(), STATISTICS_TEXT);
     Ok(())
 }
+
+#[test]
+fn statistics_without_rows(rt: HostRuntime) -> Result<(), Fail> {
+    let mut sink = ToVec::new(Vec::new(rt.alloc()));
+    write_stats_of(&mut sink, &STATISTICS)?;
+    assert_items(&rt, "statistics", sink.as_slice(), STATISTICS_TEXT);
+    Ok(())
+}
+
+// The statistics of the worked tally, and their text.
+const STATISTICS: Statistics = Statistics {
+    unique: 1,
+    distinct: 3,
+    total: 70_003,
+    greatest: 70_000,
+};
+
+const STATISTICS_TEXT: &[u8] =
+    b"Unique:    1\nDistinct:  3\nTotal:     70003\nMax_count: 70000\n";
 
 // Greatest counts that have a line of their own, and the histograms up to them.
 pub(crate) const HISTOGRAMS: &[(u64, &[u8])] = &[

@@ -5,4 +5,4 @@ pub mod PileLemmas
 pub mod Stripes
 pub mod Tallies
 pub mod LawLemmas
-pub mod BinLemmas
+pub mod JoinedLemmas

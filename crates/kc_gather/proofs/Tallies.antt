@@ -60,7 +60,7 @@ IsTally-sorted setup batches rows sorted from same up = record {
     distinct = distinct-permuted rows sorted same from.once
 
 -- the batches have at most as many words as positions
-few_words : (setup : StripeSetup) (batches : List NumberedPieces) → length (words_of setup.rule (reads_in batches)) ≤ position_sum setup.rule.k batches
+pub few_words : (setup : StripeSetup) (batches : List NumberedPieces) → length (words_of setup.rule (reads_in batches)) ≤ position_sum setup.rule.k batches
 unfolding words_of
 few_words setup [] = omega arith
 few_words setup (batch ∷ batches) =

@@ -1,5 +1,7 @@
 pub mod Gathering
 pub mod Parts
+pub mod JoinedStripes
 pub mod Laws
 pub mod Piles
 pub mod TallyBins
+pub mod TallyStatistics

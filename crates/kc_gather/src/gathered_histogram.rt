@@ -1,15 +1,13 @@
 //! The histogram that is gathered from the stripes of a count, without a row of the tally.
-ghost use Rattle.std.specs.Prelude.{◌≡◌, ◌≢◌, ◌≤◌, ℕ, length, map, All, IfOk, OnOk, IfErr};
+ghost use Rattle.std.specs.Prelude.{◌≡◌, ◌≢◌, ◌≤◌, ℕ, length, IfOk, OnOk, IfErr};
 ghost use Rattle.kc_word.specs.Shared.{values};
 ghost use Rattle.kc_booking.specs.Setup.{stripe_count};
 ghost use Rattle.kc_booking.specs.Stripe.{reads_in};
-ghost use Rattle.kc_gather.specs.declared.gather_fault.GatherFault.TheVariants.{Memory};
-ghost use Rattle.kc_gather.specs.Gathering.{AreWholeBefore, IsWholeThere, IsFirstRefusal, IsRefusal, StandsThere};
-ghost use Rattle.kc_gather.specs.TallyBins.{AreBinsOf, HaveOwnIndices, bins_below};
+ghost use Rattle.kc_gather.specs.Gathering.{AreWholeBefore, IsRefusal, StandsThere};
+ghost use Rattle.kc_gather.specs.TallyBins.{AreBinsOf};
 
 use crate::gather_fault::GatherFault;
-use crate::journal::check_stripe;
-use crate::placed::{Placed, at_places};
+use crate::joined_stripes::{check_all, joined_histogram};
 use kc_booking::{Setup, Stripe};
 use kc_table::Counts;
 use kc_tally::Histogram;
@@ -36,34 +34,8 @@ pub fn gather_histogram<C: Counts + Drop>(
 {
     // what is known of the length of words
     let _bases = setup.rule().k().get();
-    let placed = at_places(alloc, stripes, setup)?;
-    let histogram = joined_histogram(alloc, placed, batches, setup)?;
-    Ok(histogram)
-}
-
-// The histograms of all stripes, added bin by bin. It is refused at the first stripe that isn't that of its index, or
-// whose journal doesn't hold exactly the given batches. Each stripe is freed as soon as its histogram is added.
-fn joined_histogram<C: Counts + Drop>(
-    alloc: Global,
-    stripes: Vec<Placed<C>>,
-    batches: &[Arc<Batch>],
-    setup: &Setup,
-) -> Result<Histogram, GatherFault>
-    requires { HaveOwnIndices stripes.items }
-    ensures whole { OnOk result (All (IsWholeThere setup.now (values batches.now)) stripes.items) }
-    ensures bins { IfOk result (λ bins. bins ≡ bins_below setup.now (values batches.now) (length stripes.items)) }
-    ensures refused { IfErr result (λ fault. fault ≢ Memory
-        → IsFirstRefusal setup.now (values batches.now) stripes.items fault) }
-{
-    // what is known of the length of words
-    let _bases = setup.rule().k().get();
-    let mut histogram = Histogram::new(alloc)?;
-    for placed in stripes {
-        let Placed { index, stripe } = placed;
-        check_stripe(alloc, index, &stripe, batches, setup)?;
-        // what is known of the bins
-        stripe.is_lawful();
-        histogram.add(stripe.histogram());
-    }
+    let all = stripes.as_slice();
+    check_all(alloc, all, batches, setup)?;
+    let histogram = joined_histogram(alloc, all)?;
     Ok(histogram)
 }

@@ -11,7 +11,9 @@ mod columns;
 mod gather_fault;
 pub mod gather_laws;
 mod gathered_histogram;
+mod gathered_statistics;
 mod gatherer;
+mod joined_stripes;
 mod journal;
 mod parts;
 mod piles;
@@ -20,6 +22,7 @@ mod taken_rows;
 
 pub use gather_fault::GatherFault;
 pub use gathered_histogram::gather_histogram;
+pub use gathered_statistics::gather_statistics;
 pub use gatherer::{gather, gather_in_parallel};
 /// The tables with which a count begins.
 pub use kc_booking::{plain_tables, quotient_tables};

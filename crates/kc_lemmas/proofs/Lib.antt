@@ -1,4 +1,5 @@
 pub mod Distinct
+pub mod Greatest
 pub mod Lists
 pub mod Numbers
 pub mod Permutations

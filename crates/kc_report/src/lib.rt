@@ -39,6 +39,6 @@ pub use merging::merge;
 pub use origin::Origin;
 pub use queries::query;
 pub use report_faults::ReportFault;
-pub use statistics::write_stats;
+pub use statistics::{write_stats, write_stats_of};
 pub use table::write_table;
 pub use table_reader::read_table;

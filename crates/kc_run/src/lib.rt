@@ -19,7 +19,7 @@ mod worker;
 
 pub use crate::gate::{Gate, NoGate};
 pub use crate::run_fault::RunFault;
-pub use crate::whole_run::{run, run_histogram};
+pub use crate::whole_run::{run, run_histogram, run_statistics};
 pub use kc_gather::{GatherFault, gather, plain_tables, quotient_tables};
-pub use kc_tally::{Histogram, Tally};
+pub use kc_tally::{Histogram, Statistics, Tally};
 pub use kc_tickets::{Seat, Tickets, ticket_laws, tickets};

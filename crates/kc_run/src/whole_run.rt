@@ -9,6 +9,7 @@ ghost use Rattle.kc_booking.specs.Setup.{stripe_count, key_bits};
 ghost use Rattle.kc_booking.specs.Stripe.{reads_in};
 ghost use Rattle.kc_gather.specs.Gathering.{position_sum};
 ghost use Rattle.kc_gather.specs.TallyBins.{AreBinsOf};
+ghost use Rattle.kc_gather.specs.TallyStatistics.{AreStatisticsOf};
 ghost use Rattle.kc_run.specs.Runs.{HaveCounted, IsReady, IsGatheringFault, IsRunFault};
 
 use crate::crew::{joined, work_all, workers_of};
@@ -16,11 +17,11 @@ use crate::gate::Gate;
 use crate::round::round_len;
 use crate::run_fault::RunFault;
 use crate::worker::{Job, Worker};
-use kc_gather::{gather_histogram, gather_in_parallel};
+use kc_gather::{gather_histogram, gather_in_parallel, gather_statistics};
 use kc_share::{Books, Plan, Share, Sheet};
 use kc_stripe::{Setup, Stripe, Stripes};
 use kc_table::Counts;
-use kc_tally::{Histogram, Tally};
+use kc_tally::{Histogram, Statistics, Tally};
 use kc_tickets::Tickets;
 use kc_word::Batch;
 use std::alloc::Global;
@@ -94,6 +95,37 @@ pub fn run_histogram<H: Threads + Wait + Sync, C: Counts + Drop + Send, G: Gate 
     };
     let stripes = counted(rt, alloc, &count, tables)?;
     histogram_gathered(alloc, &count, stripes)
+}
+
+/// Counts batches as `run` does, and answers the statistics of their tally alone: no row is taken from a stripe. It is
+/// refused where `run` is.
+///
+/// Conditions: those of `run`.
+pub fn run_statistics<H: Threads + Wait + Sync, C: Counts + Drop + Send, G: Gate + Sync>(
+    rt: &H,
+    alloc: Global,
+    batches: &[Arc<Batch>],
+    setup: &Setup,
+    tables: Vec<C>,
+    workers: u32,
+    gate: &G,
+) -> Result<Statistics, RunFault>
+    requires workers { (1 ≤ workers) × (workers ≤ 64) }
+    requires few { length batches.now ≤ 2 ^ 40 }
+    requires small { position_sum setup.now.rule.k (values batches.now) ≤ 2 ^ 62 }
+    requires one_each { length tables.items ≡ stripe_count setup.now }
+    requires tables { All (λ table. (C.counts table ≡ empty) × (C.bits table ≡ key_bits setup.now)) tables.items }
+    ensures statistics { IfOk result (AreStatisticsOf setup.now.rule (reads_in (values batches.now))) }
+    ensures refused { IfErr result (IsRunFault workers (stripe_count setup.now)) }
+{
+    let count = Count {
+        batches,
+        setup,
+        workers,
+        gate,
+    };
+    let stripes = counted(rt, alloc, &count, tables)?;
+    statistics_gathered(alloc, &count, stripes)
 }
 
 // What is counted, and how.
@@ -245,6 +277,24 @@ fn histogram_gathered<C: Counts + Drop, G: Gate>(
 {
     match gather_histogram(alloc, stripes, count.batches, count.setup) {
         Ok(histogram) => Ok(histogram),
+        Err(fault) => Err(RunFault::of_gathering(fault)),
+    }
+}
+
+// The statistics that are gathered from the stripes, of which none lacks a batch.
+fn statistics_gathered<C: Counts + Drop, G: Gate>(
+    alloc: Global,
+    count: &Count<G>,
+    stripes: Vec<Stripe<C>>,
+) -> Result<Statistics, RunFault>
+    requires small { position_sum count.now.setup.now.rule.k (values count.now.batches.now) ≤ 2 ^ 62 }
+    requires counted { HaveCounted count.now.setup.now (length count.now.batches.now) stripes.items }
+    ensures statistics { IfOk result
+        (AreStatisticsOf count.now.setup.now.rule (reads_in (values count.now.batches.now))) }
+    ensures refused { IfErr result (IsGatheringFault (stripe_count count.now.setup.now)) }
+{
+    match gather_statistics(alloc, stripes, count.batches, count.setup) {
+        Ok(statistics) => Ok(statistics),
         Err(fault) => Err(RunFault::of_gathering(fault)),
     }
 }

@@ -11,3 +11,5 @@ mod run_examples;
 mod whole_histograms;
 #[cfg(test)]
 mod whole_runs;
+#[cfg(test)]
+mod whole_statistics;

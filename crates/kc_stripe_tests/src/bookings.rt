@@ -59,7 +59,17 @@ pub(crate) fn assert_held<C: Counts>(rt: &impl Abort, stripe: &Stripe<C>, held: 
     assert_same(rt, "the total", &stripe.total(), &held.total);
     let bins = [stripe.bin(1), stripe.bin(2), stripe.bin(3)];
     assert_same(rt, "the bins", &bins, &held.bins);
+    assert_same(rt, "the greatest", &stripe.greatest(), &greatest_among(held.counts));
     assert_counts(rt, stripe, held.counts);
+}
+
+// The greatest of these counts, 0 where there is none.
+fn greatest_among(counts: &[(u64, u64)]) -> u64 {
+    let mut greatest: u64 = 0;
+    for (_, count) in counts {
+        greatest = greatest.max(*count);
+    }
+    greatest
 }
 
 pub(crate) const NOTHING: Held<'static> = Held {

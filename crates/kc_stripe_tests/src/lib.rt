@@ -9,6 +9,8 @@ mod cut_rows;
 #[cfg(test)]
 mod gathered_histograms;
 #[cfg(test)]
+mod gathered_statistics;
+#[cfg(test)]
 mod gathered_tallies;
 #[cfg(test)]
 mod gatherings;

@@ -9,3 +9,4 @@ pub mod SlotWords
 pub mod Soundness
 pub mod Writing
 pub mod Parts
+pub mod Greatest

@@ -38,3 +38,8 @@ IsWithin bits counts = (key : ℕ) → IsStored counts key → key < 2 ^ bits
 -- in a table without places a stored key is its own place
 abbrev pub IsItsOwnPlace : KeyCounts → ℕ → ℕ → Type 0
 IsItsOwnPlace counts key place = IsStored counts key × (place ≡ key)
+
+-- the number is the greatest count of a key, where the count of a key that is not stored is 0
+pub record IsGreatestCount (counts : KeyCounts) (greatest : ℕ) : Type 0 where
+  pub most : (key : ℕ) → count_at counts key ≤ greatest
+  pub reached : (key : ℕ) × (count_at counts key ≡ greatest)

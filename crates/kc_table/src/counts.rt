@@ -2,6 +2,7 @@
 ghost use Rattle.std.specs.Prelude.{◌≡◌, ℕ, ◌+◌, ◌<◌, ◌≤◌, ◌^◌, ◌↔◌, OnOk, OnErr, IsOk, IfOk, All};
 ghost use Rattle.kc_table.specs.Sizes.{most_bits, most_parts, count_bits};
 ghost use Rattle.kc_table.specs.Counts.{KeyCounts, IsStored, IsWithin, count_at, readied, added, AreRowsOf};
+ghost use Rattle.kc_table.specs.Counts.{IsGreatestCount};
 
 use crate::table_fault::TableFault;
 use std::alloc::{AllocError, Global};
@@ -108,4 +109,8 @@ pub trait Counts {
     fn rows(&self, alloc: Global) -> Result<Vec<(u64, u64)>, AllocError>
         ensures told { IfOk result (λ v. AreRowsOf (counts self.now) v.items) }
         ensures in_range { IfOk result (λ v. All (λ row. row.0 < 2 ^ bits self.now) v.items) };
+
+    /// The greatest count of a key, and 0 where nothing was counted. It looks at each key once and takes no memory.
+    fn greatest(&self) -> u64
+        ensures { IsGreatestCount (counts self.now) result };
 }

@@ -128,4 +128,8 @@ impl Counts for LimitedCounts {
     fn rows(&self, alloc: Global) -> Result<Vec<(u64, u64)>, AllocError> {
         self.plain.rows(alloc)
     }
+
+    fn greatest(&self) -> u64 {
+        self.plain.greatest()
+    }
 }

@@ -1,7 +1,7 @@
 //! The finite map as a `BTreeMap`, to compare the hash table with.
-ghost use Rattle.std.specs.Prelude.{◌≡◌, ◌<◌, ◌≤◌, ◌^◌, IfOk, filter, nat_lt};
+ghost use Rattle.std.specs.Prelude.{◌≡◌, ◌<◌, ◌≤◌, ◌^◌, IfOk, filter, fold, max, nat_lt};
 ghost use Rattle.std.specs.Ordering.{nat_cmp};
-ghost use Rattle.std.specs.BTreeMap.{IsOrdered};
+ghost use Rattle.std.specs.BTreeMap.{IsOrdered, values};
 ghost use Rattle.std.specs.FinMap as map;
 ghost use Rattle.kc_table.specs.Counts.{IsItsOwnPlace};
 ghost use Rattle.kc_table.specs.PlainCounts.{Plain};
@@ -129,6 +129,10 @@ impl Counts for PlainCounts {
     fn rows(&self, alloc: Global) -> Result<Vec<(u64, u64)>, AllocError> {
         counted_entries(alloc, &self.map)
     }
+
+    fn greatest(&self) -> u64 {
+        greatest_value(&self.map)
+    }
 }
 
 // The entries whose count is at least 1, in the keys' order.
@@ -140,4 +144,18 @@ fn counted_entries(alloc: Global, map: &BTreeMap<u64, u64>) -> Result<Vec<(u64, 
         .filter(|(_, count)| **count > 0)
         .map(|(key, count)| (*key, *count))
         .collect(alloc)
+}
+
+// The greatest of the values, 0 where there is none.
+fn greatest_value(map: &BTreeMap<u64, u64>) -> u64
+    ensures greatest { result ≡ fold max 0 (values map.now) }
+    ensures ordered { IsOrdered nat_cmp map.now }
+{
+    let mut greatest = 0;
+    for value in map.values() {
+        greatest = greatest.max(*value);
+    }
+    // what is known of the order of the keys
+    let _count = map.len();
+    greatest
 }

@@ -275,4 +275,8 @@ impl Counts for QuotientTable {
     fn rows(&self, alloc: Global) -> Result<Vec<(u64, u64)>, AllocError> {
         self.slots.entries(alloc)
     }
+
+    fn greatest(&self) -> u64 {
+        self.slots.greatest()
+    }
 }

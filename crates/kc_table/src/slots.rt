@@ -3,6 +3,7 @@ ghost use Rattle.std.specs.Prelude.{◌≡◌, ◌≢◌, ℕ, ◌+◌, ◌-◌,
 ghost use Rattle.std.specs.Prelude.{IfOk, IfSome, IfNone, Some, slice_set};
 ghost use Rattle.std.specs.FinMap.{empty, insert, get};
 ghost use Rattle.std.specs.Vec.{vec_capacity};
+ghost use Rattle.kc_table.specs.Counts.{IsGreatestCount};
 ghost use Rattle.kc_table.specs.QuotientTable.{Holds, HasStoredCrowd, MayBeTooSmall};
 ghost use Rattle.kc_table.specs.Reprobing.{IsFound, IsFree, IsOut, IsReprobing};
 ghost use Rattle.kc_table.specs.Sizes.{most_bits, most_log, remainder_bits, count_bits};
@@ -245,5 +246,19 @@ impl Slots {
             return None;
         }
         Some((self.key_at(index, tag), count))
+    }
+
+    /// The greatest count, 0 where there is none.
+    pub fn greatest(&self) -> u64
+        ensures { IsGreatestCount (key_counts self.now) result }
+    {
+        let mut greatest: u64 = 0;
+        for index in 0..self.slots.len() {
+            let Some(entry) = self.entry(index) else {
+                continue;
+            };
+            greatest = greatest.max(entry.1);
+        }
+        greatest
     }
 }

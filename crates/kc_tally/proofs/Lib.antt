@@ -2,6 +2,7 @@ pub mod Bins
 pub mod MapCounts
 pub mod Parts
 pub mod Searches
+pub mod StatisticsLemmas
 pub mod SumLemmas
 pub mod Tallies
 pub mod TalliedRows

@@ -1,5 +1,6 @@
 pub mod Tally
 pub mod Histogram
+pub mod Statistics
 pub mod Sum
 pub mod Laws
 pub mod Searching

@@ -3,7 +3,8 @@
 //!
 //! A `Tally` is made of its rows, a `Row` for each word that occurs, in rising order of the words. They may come in
 //! parts, which it keeps. `bin`, `total` and `count_of` are then functions of the rows. A `Histogram` stands alone
-//! where words are still counted: it moves with each count that is raised, and histograms of parts add up.
+//! where words are still counted: it moves with each count that is raised, and histograms of parts add up. `Statistics`
+//! are four numbers about a tally, which need no rows where its histogram is known.
 //! `slow_tally::tally` counts small examples straight from the definitions, and `tally_laws` says what holds of every
 //! tally.
 //!
@@ -25,6 +26,7 @@ mod row;
 mod rows;
 mod search;
 pub mod slow_tally;
+mod statistics;
 mod sums;
 mod tally;
 pub mod tally_laws;
@@ -32,4 +34,5 @@ pub mod tally_laws;
 pub use histogram::Histogram;
 pub use row::Row;
 pub use rows::Rows;
+pub use statistics::Statistics;
 pub use tally::Tally;

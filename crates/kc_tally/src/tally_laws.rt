@@ -4,6 +4,7 @@ ghost use Rattle.kc_fastx.specs.Reads.{read_of};
 ghost use Rattle.kc_kmer.specs.Rule.{counting_all, with_list};
 ghost use Rattle.kc_tally.specs.Tally.{row_of, count_of, total_of, IsTally};
 ghost use Rattle.kc_tally.specs.Histogram.{bin_of, bin_count};
+ghost use Rattle.kc_tally.specs.Statistics.{statistics_of};
 ghost use Rattle.kc_tally.specs.Laws.{OneTally, OneValue, JoinedTally, SummedTally, OneSum};
 ghost use Rattle.kc_tally.specs.Laws.{TallyTotal, BoundedTally, RowsOfTally};
 
@@ -53,4 +54,7 @@ pub fn worked_rows()
     ensures last_bin { bin_of 70_000 ≡ 10_001 }
     ensures bin { bin_count (row_of 0 5 ∷ row_of 1 1 ∷ row_of 2 10_001 ∷ row_of 3 5 ∷ []) 5 ≡ 2 }
     ensures shared { bin_count (row_of 0 10_001 ∷ row_of 1 10_000 ∷ row_of 2 70_000 ∷ []) 10_001 ≡ 2 }
+    ensures statistics { statistics_of (row_of 0 3 ∷ row_of 1 1 ∷ row_of 2 70_000 ∷ row_of 3 1 ∷ [])
+        ≡ record { unique = 2; distinct = 4; total = 70_005; greatest = 70_000 } }
+    ensures no_statistics { statistics_of [] ≡ record { unique = 0; distinct = 0; total = 0; greatest = 0 } }
 {}

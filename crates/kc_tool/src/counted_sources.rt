@@ -46,7 +46,7 @@ use kc_fastx::{FastxFault, Reading, SeqRead, Source, read_all};
 use kc_gather::gather_laws;
 use kc_hash::Hash;
 use kc_report::Origin;
-use kc_run::{quotient_tables, run, run_histogram};
+use kc_run::{quotient_tables, run, run_histogram, run_statistics};
 use kc_stripe::Setup;
 use kc_word::{Batch, Cutting, Only, Rule, clean};
 use std::alloc::{AllocError, Global};
@@ -230,6 +230,10 @@ fn count_batches<H: Threads + Wait + Sync, P: Progress + Sync>(
         Print::Histo if options.high() <= GREATEST_BIN => {
             let bins = run_histogram(rt, alloc, batches, setup, tables, workers, &gate)?;
             Ok(CountedTally::Bins(bins))
+        }
+        Print::Stats => {
+            let numbers = run_statistics(rt, alloc, batches, setup, tables, workers, &gate)?;
+            Ok(CountedTally::Numbers(numbers))
         }
         _ => {
             let tally = run(rt, alloc, batches, setup, tables, workers, &gate)?;

@@ -2,15 +2,18 @@
 ghost use Rattle.std.specs.Prelude.{◌≡◌};
 ghost use Rattle.kc_tool.specs.CountedTallies.{IsWhole};
 
-use kc_tally::{Histogram, Tally};
+use kc_tally::{Histogram, Statistics, Tally};
 
-/// What is known of the tally of a count: the whole of it or, where no more is asked for, its histogram alone.
+/// What is known of the tally of a count: the whole of it or, where no more is asked for, its histogram or its
+/// statistics alone.
 #[derive(Drop)]
 pub(crate) enum CountedTally {
     /// The tally.
     Rows(Tally),
     /// How many words have which count.
     Bins(Histogram),
+    /// Four numbers about all words and counts.
+    Numbers(Statistics),
 }
 
 impl CountedTally {
@@ -22,6 +25,7 @@ impl CountedTally {
         match self {
             CountedTally::Rows(tally) => tally,
             CountedTally::Bins(_) => unreachable!(),
+            CountedTally::Numbers(_) => unreachable!(),
         }
     }
 }

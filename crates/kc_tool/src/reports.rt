@@ -17,7 +17,8 @@ use crate::tool_faults::ToolFault;
 use kc_command::{Options, Print};
 use kc_io::{Sink, Source};
 use kc_report::{
-    Dump, Origin, write_dump, write_histo, write_histo_of_bins, write_stats, write_table,
+    Dump, Origin, write_dump, write_histo, write_histo_of_bins, write_stats, write_stats_of,
+    write_table,
 };
 use kc_tally::Tally;
 use kc_word::Only;
@@ -151,6 +152,7 @@ pub(crate) fn write_counted<W: Sink>(
     match counted {
         CountedTally::Rows(tally) => write_report(alloc, writer, tally, origin, report),
         CountedTally::Bins(bins) => Ok(write_histo_of_bins(writer, bins, report.high)?),
+        CountedTally::Numbers(numbers) => Ok(write_stats_of(writer, numbers)?),
     }
 }
 

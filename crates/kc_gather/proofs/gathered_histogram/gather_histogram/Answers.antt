@@ -1,35 +1,52 @@
-use Rattle.std.proofs.Common.{◌≡◌, ◌≤◌, ◌∙◌, ap, arith}
-use Rattle.kc_kmer.specs.Rule.{CountingRule}
-use Rattle.std.proofs.lemmas.List.{length-map}
+use Rattle.std.proofs.Common.{◌≡◌, ◌≤◌, ◌∙◌, Err, ap, length, subst, arith}
 use Rattle.std.proofs.lemmas.Result.{err_from_is_err_and}
+use Rattle.kc_kmer.specs.Rule.{CountingRule}
 use Rattle.kc_word.specs.Shared.{values}
 use Rattle.kc_gather.specs.declared.gather_fault.GatherFault.TheVariants.{Missing}
-use Rattle.kc_gather.proofs.BinLemmas.{bins-all}
-use Rattle.kc_gather.proofs.Stripes.{whole-at_places, refusal-at_places, counted-at_places, at_places-count}
+use Rattle.kc_gather.specs.Gathering.{AreWholeBefore, IsRefusal, StandsThere}
+use Rattle.kc_gather.proofs.JoinedLemmas.{AreOfCount, words-few, bins-of_tally}
 use Rattle.kc_gather.proofs.gathered_histogram.gather_histogram.Goals as goal
 
+pub check_all-requires : goal.check_all-requires
+check_all-requires g c = ap length c.as_slice-all.ensures.value ∙ c.requires.one_each
+
+pub returns-in_err-check_all-clause-refused : goal.returns-in_err-check_all-clause-refused
+returns-in_err-check_all-clause-refused g c =
+    let p = err_from_is_err_and c.from_residual.result c.from_residual.ensures.1 in
+    rw (p.1, p.2)
+    (subst (λ stripes. IsRefusal c.args.setup.now (values c.args.batches.now) stripes c.in_err-check_all.field-0.0) c.as_slice-all.ensures.value c.in_err-check_all.ensures.refused)
+
+pub returns-in_err-check_all-clause-counted : goal.returns-in_err-check_all-clause-counted
+returns-in_err-check_all-clause-counted g c =
+    let p = err_from_is_err_and c.from_residual.result c.from_residual.ensures.1 in
+    rw (p.1, p.2)
+    (λ index batch same.
+    let missing : c.in_err-check_all.field-0.0 ≡ Missing index batch = cc in
+    subst (λ stripes. StandsThere stripes index (λ stripe. length stripe.journal ≡ length c.args.batches.now → ⊥)) c.as_slice-all.ensures.value
+    (c.in_err-check_all.ensures.counted index batch (ap Err missing)))
+
 pub returns-clause-whole : goal.returns-clause-whole
-returns-clause-whole g c = whole-at_places c.args.stripes.items c.in_ok-placed.placed.items c.in_ok-placed.ensures c.in_ok-histogram.ensures.whole
+returns-clause-whole g c =
+    subst (λ stripes. AreWholeBefore c.args.setup.now (values c.args.batches.now) stripes (length stripes)) c.as_slice-all.ensures.value c.in_ok-check_all.ensures.whole
+
+pub joined_histogram-requires : goal.joined_histogram-requires
+joined_histogram-requires g c =
+    let short : c.args.setup.now.rule.k ≤ 31 = omega (arith, c.get-bases.ensures, c.k.ensures, ap (λ (rule : CountingRule). rule.k) c.rule.ensures) in
+    let of : AreOfCount c.args.setup.now (values c.args.batches.now) c.as_slice-all.result.now = record {
+      one_each = ap length c.as_slice-all.ensures.value ∙ c.requires.one_each;
+      whole = c.in_ok-check_all.ensures.whole;
+      differ = c.in_ok-check_all.ensures.differ;
+      short = short;
+    } in
+    words-few c.args.setup.now (values c.args.batches.now) c.as_slice-all.result.now of
 
 pub returns-clause-bins : goal.returns-clause-bins
 returns-clause-bins g c =
     let short : c.args.setup.now.rule.k ≤ 31 = omega (arith, c.get-bases.ensures, c.k.ensures, ap (λ (rule : CountingRule). rule.k) c.rule.ensures) in
-    bins-all c.args.setup.now (values c.args.batches.now) _ c.in_ok-histogram.histogram short (at_places-count c.in_ok-placed.ensures ∙ c.requires.one_each) c.in_ok-histogram.ensures.bins
-
-pub returns-in_err-histogram-clause-refused : goal.returns-in_err-histogram-clause-refused
-returns-in_err-histogram-clause-refused g c =
-    let p = err_from_is_err_and c.from_residual-in_err-histogram.result c.from_residual-in_err-histogram.ensures.1 in
-    rw (p.1, p.2)
-    (refusal-at_places c.args.stripes.items c.in_ok-placed.placed.items c.in_err-histogram.field-0.0 c.in_ok-placed.ensures c.in_err-histogram.ensures.refused)
-
-pub returns-in_err-histogram-clause-counted : goal.returns-in_err-histogram-clause-counted
-returns-in_err-histogram-clause-counted g c =
-    let p = err_from_is_err_and c.from_residual-in_err-histogram.result c.from_residual-in_err-histogram.ensures.1 in
-    let many = length-map c.args.batches.now (λ batch. batch.value) in
-    rw (p.1, p.2)
-    (λ index batch same.
-    let missing : c.in_err-histogram.field-0.0 ≡ Missing index batch = cc in
-    counted-at_places c.args.stripes.items c.in_ok-placed.placed.items c.in_err-histogram.field-0.0 c.in_ok-placed.ensures c.in_err-histogram.ensures.refused many index batch missing)
-
-pub joined_histogram-requires : goal.joined_histogram-requires
-joined_histogram-requires g c = c.in_ok-placed.ensures.indices_are
+    let of : AreOfCount c.args.setup.now (values c.args.batches.now) c.as_slice-all.result.now = record {
+      one_each = ap length c.as_slice-all.ensures.value ∙ c.requires.one_each;
+      whole = c.in_ok-check_all.ensures.whole;
+      differ = c.in_ok-check_all.ensures.differ;
+      short = short;
+    } in
+    bins-of_tally c.args.setup.now (values c.args.batches.now) c.as_slice-all.result.now c.in_ok-histogram.histogram of c.in_ok-histogram.ensures

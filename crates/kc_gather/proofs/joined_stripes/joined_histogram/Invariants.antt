@@ -1,0 +1,7 @@
+use Rattle.std.proofs.Common.{◌≡◌, take}
+use Rattle.kc_tally.specs.Histogram.{bins_of}
+use Rattle.kc_gather.specs.JoinedStripes.{joined_occurrences}
+use Rattle.kc_gather.proofs.joined_stripes.joined_histogram.Given as goal
+
+abbrev pub invariant-loop-stripe : goal.invariant-loop-stripe
+invariant-loop-stripe g l = l.histogram ≡ bins_of (joined_occurrences (take l.stripe-index l.stripes))
