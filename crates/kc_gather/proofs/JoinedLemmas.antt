@@ -16,7 +16,7 @@ use Rattle.kc_lemmas.proofs.Lists.{map-same, flat_map_take_more}
 use Rattle.kc_lemmas.proofs.Sums.{sum_by-plus, sum_by-same, sum_by-filter, sum_by-map, sum_by-zeros, sum_by-ones}
 use Rattle.kc_word.specs.Cutting.{NumberedPieces}
 use Rattle.kc_tally.specs.declared.row.Row.{Row}
-use Rattle.kc_tally.specs.declared.statistics.Statistics.{Statistics}
+use Rattle.kc_tally.specs.declared.tally_statistics.Statistics.{Statistics}
 use Rattle.kc_tally.specs.Histogram.{bins_of, joined_bins, counts_of, bin_at}
 use Rattle.kc_tally.specs.Statistics.{greatest_of}
 use Rattle.kc_tally.specs.Tally.{TallySeen, IsTallyOf, total_of}

@@ -4,7 +4,7 @@ use Rattle.std.specs.Prelude.{◌≡◌, List}
 use Rattle.kc_fastx.specs.Reads.{Read}
 use Rattle.kc_kmer.specs.Rule.{CountingRule}
 use Rattle.kc_tally.specs.Tally.{TallySeen, IsTallyOf}
-use Rattle.kc_tally.specs.declared.statistics.Statistics.{Statistics}
+use Rattle.kc_tally.specs.declared.tally_statistics.Statistics.{Statistics}
 use Rattle.kc_tally.specs.Statistics.{statistics_of}
 
 -- the statistics are those of the tally of the reads

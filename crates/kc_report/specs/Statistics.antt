@@ -1,7 +1,7 @@
 -- The text of the statistics of a tally: source, what `jellyfish stats` prints, Marçais and Kingsford 2011.
 use Rattle.std.specs.Prelude.{ℕ, List, [], ◌∷◌, ◌++◌, codes, decimal}
 use Rattle.kc_tally.specs.declared.row.Row.{Row}
-use Rattle.kc_tally.specs.declared.statistics.Statistics.{Statistics}
+use Rattle.kc_tally.specs.declared.tally_statistics.Statistics.{Statistics}
 use Rattle.kc_tally.specs.Statistics.{statistics_of}
 use Rattle.kc_report.specs.Bytes.{line_feed}
 

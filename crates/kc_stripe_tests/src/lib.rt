@@ -9,8 +9,6 @@ mod cut_rows;
 #[cfg(test)]
 mod gathered_histograms;
 #[cfg(test)]
-mod gathered_statistics;
-#[cfg(test)]
 mod gathered_tallies;
 #[cfg(test)]
 mod gatherings;
@@ -30,6 +28,8 @@ mod sample_batches;
 mod sharings;
 #[cfg(test)]
 mod sheets;
+#[cfg(test)]
+mod statistics_of_stripes;
 #[cfg(test)]
 mod stripe_assertions;
 #[cfg(test)]

@@ -8,7 +8,7 @@ use Rattle.std.proofs.lemmas.List.Sums.{sum_by_more}
 use Rattle.kc_lemmas.proofs.Greatest.{max-same}
 use Rattle.kc_lemmas.proofs.Sums.{sum_by-same, sum_by-plus, sum_by-map, count_by-same, count_by-all, count_by-none}
 use Rattle.kc_tally.specs.declared.row.Row.{Row}
-use Rattle.kc_tally.specs.declared.statistics.Statistics.{Statistics}
+use Rattle.kc_tally.specs.declared.tally_statistics.Statistics.{Statistics}
 use Rattle.kc_tally.specs.Histogram.{last_bin, bin_of, bin_at, bin_size, bins_of, counts_of}
 use Rattle.kc_tally.specs.Statistics.{greatest_of, statistics_of}
 use Rattle.kc_tally.proofs.Bins.{length-bins_of, get_or-bins_of, bin_count-is}

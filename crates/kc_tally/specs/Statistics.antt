@@ -1,7 +1,7 @@
 -- The statistics of a tally, a function of its rows: source, what `jellyfish stats` prints, Marçais and Kingsford 2011.
 use Rattle.std.specs.Prelude.{ℕ, ◌==◌, List, length, max, fold, count_by}
 use Rattle.kc_tally.specs.declared.row.Row.{Row}
-use Rattle.kc_tally.specs.declared.statistics.Statistics.{Statistics}
+use Rattle.kc_tally.specs.declared.tally_statistics.Statistics.{Statistics}
 use Rattle.kc_tally.specs.Tally.{total_of}
 use Rattle.kc_tally.specs.Histogram.{counts_of}
 

@@ -26,13 +26,13 @@ mod row;
 mod rows;
 mod search;
 pub mod slow_tally;
-mod statistics;
 mod sums;
 mod tally;
 pub mod tally_laws;
+mod tally_statistics;
 
 pub use histogram::Histogram;
 pub use row::Row;
 pub use rows::Rows;
-pub use statistics::Statistics;
 pub use tally::Tally;
+pub use tally_statistics::Statistics;
