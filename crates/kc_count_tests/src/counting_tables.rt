@@ -167,12 +167,13 @@ fn place_found<C: Counts>(rt: &impl Abort, table: &mut C, key: u64) -> Result<u6
 }
 
 // Asserts that 5 stands at the place 5 of a table that has grown so far, and is counted there.
-fn assert_place<C: Counts>(
-    rt: &impl Abort,
-    table: &mut C,
-    growth: u32,
-) -> Result<(), TableFault> {
-    assert_same(rt, "counted", &count_at_its_place(rt, table, 5)?, &(5, 1, 2));
+fn assert_place<C: Counts>(rt: &impl Abort, table: &mut C, growth: u32) -> Result<(), TableFault> {
+    assert_same(
+        rt,
+        "counted",
+        &count_at_its_place(rt, table, 5)?,
+        &(5, 1, 2),
+    );
     assert_same(rt, "found", &place_found(rt, table, 5)?, &5);
     assert_same(rt, "growth", &table.growth(), &growth);
     Ok(())
@@ -182,7 +183,11 @@ fn assert_place<C: Counts>(
 fn each_type_counts_a_key_at_its_place(rt: HostRuntime) -> Result<(), Fail> {
     let alloc = rt.alloc();
     assert_place(&rt, &mut PlainCounts::new(alloc, 3), 0)?;
-    assert_place(&rt, &mut LimitedCounts::new(alloc, 3, 3, TableFault::Full), 0)?;
+    assert_place(
+        &rt,
+        &mut LimitedCounts::new(alloc, 3, 3, TableFault::Full),
+        0,
+    )?;
     assert_place(&rt, &mut QuotientTable::new(alloc, 3, 3, 3)?, 3)?;
     Ok(())
 }

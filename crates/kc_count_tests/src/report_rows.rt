@@ -87,8 +87,7 @@ const STATISTICS: Statistics = Statistics {
     greatest: 70_000,
 };
 
-const STATISTICS_TEXT: &[u8] =
-    b"Unique:    1\nDistinct:  3\nTotal:     70003\nMax_count: 70000\n";
+const STATISTICS_TEXT: &[u8] = b"Unique:    1\nDistinct:  3\nTotal:     70003\nMax_count: 70000\n";
 
 // Greatest counts that have a line of their own, and the histograms up to them.
 pub(crate) const HISTOGRAMS: &[(u64, &[u8])] = &[

@@ -254,12 +254,12 @@ statistics-of_tally setup batches stripes bins statistics of is found =
       tally = have.tally;
       is_tally = have.is_tally;
       statistics_are = statistics-are have.tally.rows bins (joined_occurrences stripes) statistics (record {
-            bins_are = is ∙ bins_of-same (joined_occurrences stripes) (counts_of have.tally.rows) have.weigh;
-            present = have.is_tally.rows.ordered.present;
-            weigh = have.weigh;
-            unique = found.unique;
-            distinct = found.distinct;
-            total = found.total;
-            greatest = found.greatest;
-          });
+        bins_are = is ∙ bins_of-same (joined_occurrences stripes) (counts_of have.tally.rows) have.weigh;
+        present = have.is_tally.rows.ordered.present;
+        weigh = have.weigh;
+        unique = found.unique;
+        distinct = found.distinct;
+        total = found.total;
+        greatest = found.greatest;
+      });
     }

@@ -26,10 +26,7 @@ pub fn write_stats<W: Sink>(writer: &mut W, tally: &Tally) -> Result<(), ReportF
 ///
 /// # Errors
 /// `Write` where the writer failed or took no byte. It took a beginning of the text.
-pub fn write_stats_of<W: Sink>(
-    writer: &mut W,
-    statistics: &Statistics,
-) -> Result<(), ReportFault>
+pub fn write_stats_of<W: Sink>(writer: &mut W, statistics: &Statistics) -> Result<(), ReportFault>
     ensures written { Writes (W.seen writer.old) (W.seen writer.new) result (statistics_lines statistics.now) }
     ensures fault { IfErr result (λ fault. fault ≡ Write) }
 {

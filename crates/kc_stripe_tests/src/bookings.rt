@@ -59,7 +59,12 @@ pub(crate) fn assert_held<C: Counts>(rt: &impl Abort, stripe: &Stripe<C>, held: 
     assert_same(rt, "the total", &stripe.total(), &held.total);
     let bins = [stripe.bin(1), stripe.bin(2), stripe.bin(3)];
     assert_same(rt, "the bins", &bins, &held.bins);
-    assert_same(rt, "the greatest", &stripe.greatest(), &greatest_among(held.counts));
+    assert_same(
+        rt,
+        "the greatest",
+        &stripe.greatest(),
+        &greatest_among(held.counts),
+    );
     assert_counts(rt, stripe, held.counts);
 }
 
