@@ -16,6 +16,7 @@
 #define BITS (2 * K)
 #define DEPTH 20
 #define LAST_BIN 10001
+#define BLOCK 64
 
 // Writes seeded reads for so many batches. 0 where that went well.
 static int make(long batch_total, const char *path) {
@@ -75,17 +76,37 @@ static __attribute__((noinline)) void cut_up(const struct batch *batch, const ui
     free(found);
 }
 
-static __attribute__((noinline)) void book(Stripe *stripe, const Cut *cut) {
-    for (size_t i = 0; i < cut->length; i++) ready(&stripe->table, cut->keys[i]);
-    for (size_t i = 0; i < cut->length; i++) {
-        uint64_t place, tag;
-        if (probe(&stripe->table, cut->keys[i], &place, &tag) != FOUND) exit(3);
-        uint64_t count = add_one(&stripe->table, place);
-        if (count > LAST_BIN) continue;
-        if (count > 1) stripe->bins[count - 1]--;
-        stripe->bins[count]++;
+// One more word counts so often.
+static inline void raise(Stripe *stripe, uint64_t count) {
+    if (count > LAST_BIN) return;
+    if (count > 1) stripe->bins[count - 1]--;
+    stripe->bins[count]++;
+}
+
+// Counts keys at their places; the histogram moves behind each block of them.
+static void add_all(Stripe *stripe, const uint64_t *places, size_t length) {
+    uint64_t noted[BLOCK];
+    for (size_t begin = 0; begin < length; begin += BLOCK) {
+        size_t count = length - begin < BLOCK ? length - begin : BLOCK;
+        for (size_t i = 0; i < count; i++) noted[i] = add_one(&stripe->table, places[begin + i]);
+        for (size_t i = 0; i < count; i++) raise(stripe, noted[i]);
     }
-    stripe->total += cut->length;
+    stripe->total += length;
+}
+
+// Stores the keys and notes their places, which are asked again where the table grew meanwhile; then counts the keys.
+static __attribute__((noinline)) void book_keys(Stripe *stripe, const uint64_t *keys, size_t length) {
+    uint64_t *places = malloc(length * sizeof *places + 1);
+    uint32_t log = stripe->table.log;
+    for (size_t i = 0; i < length; i++) places[i] = store(&stripe->table, keys[i]);
+    if (stripe->table.log > log)
+        for (size_t i = 0; i < length; i++) places[i] = place_of(&stripe->table, keys[i]);
+    add_all(stripe, places, length);
+    free(places);
+}
+
+static __attribute__((noinline)) void book(Stripe *stripe, const Cut *cut) {
+    book_keys(stripe, cut->keys, cut->length);
 }
 
 #endif

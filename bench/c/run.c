@@ -19,6 +19,8 @@
 // positions of a round, and the rounds that each worker is left at the least
 #define ROUND 4000000
 #define ROUNDS 4
+// a table tells by so many bits in which part of it a key stands
+#define PART_BITS 10
 
 typedef struct {
     pthread_mutex_t lock;
@@ -47,21 +49,43 @@ static size_t draw_round(Cut (*cuts)[64]) {
     return drawn;
 }
 
-// Books the round stripe by stripe, and frees its cuts.
+// The part of the table in which a key's home is.
+static inline uint64_t part_of(const Table *table, uint64_t key) {
+    uint64_t home = key & ((1ull << table->log) - 1);
+    return home >> (table->log > PART_BITS ? table->log - PART_BITS : 0);
+}
+
+// Books several cuts together, their keys in the order of the table's parts.
+static __attribute__((noinline)) void book_all(Stripe *stripe, const Cut *cuts, size_t count, size_t apart) {
+    size_t length = 0, ends[1 << PART_BITS] = {0};
+    for (size_t c = 0; c < count; c++) {
+        const Cut *cut = &cuts[c * apart];
+        length += cut->length;
+        for (size_t i = 0; i < cut->length; i++) ends[part_of(&stripe->table, cut->keys[i])]++;
+    }
+    for (size_t at = 1; at < 1 << PART_BITS; at++) ends[at] += ends[at - 1];
+    uint64_t *keys = malloc(length * sizeof *keys + 1);
+    for (size_t c = count; c-- > 0;) {
+        const Cut *cut = &cuts[c * apart];
+        for (size_t i = cut->length; i-- > 0;) keys[--ends[part_of(&stripe->table, cut->keys[i])]] = cut->keys[i];
+    }
+    book_keys(stripe, keys, length);
+    free(keys);
+}
+
+// Books the round stripe by stripe, each stripe's cuts together, and frees its cuts.
 static void book_round(Worker *worker, Cut (*cuts)[64], size_t drawn) {
     int count = 1 << stripe_bits, first = worker->number * count / workers;
     for (int i = 0; i < count; i++) {
         int at = (first + i) % count;
-        for (size_t b = 0; b < drawn; b++) {
-            uint64_t start = nanoseconds();
-            if (pthread_mutex_lock(&stripes[at].lock)) exit(4);
-            uint64_t locked = nanoseconds();
-            book(&stripes[at].stripe, &cuts[b][at]);
-            pthread_mutex_unlock(&stripes[at].lock);
-            worker->wait += locked - start;
-            worker->book += nanoseconds() - locked;
-            free(cuts[b][at].keys);
-        }
+        uint64_t start = nanoseconds();
+        if (pthread_mutex_lock(&stripes[at].lock)) exit(4);
+        uint64_t locked = nanoseconds();
+        book_all(&stripes[at].stripe, &cuts[0][at], drawn, sizeof cuts[0] / sizeof cuts[0][0]);
+        pthread_mutex_unlock(&stripes[at].lock);
+        worker->wait += locked - start;
+        worker->book += nanoseconds() - locked;
+        for (size_t b = 0; b < drawn; b++) free(cuts[b][at].keys);
     }
 }
 

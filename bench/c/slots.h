@@ -133,17 +133,31 @@ static __attribute__((noinline)) void grow(Table *table, uint64_t key) {
     exit(1);
 }
 
-static inline void ready(Table *table, uint64_t key) {
+// The place of a key that is stored.
+static inline uint64_t place_of(const Table *table, uint64_t key) {
+    uint64_t place, tag;
+    if (probe(table, key, &place, &tag) != FOUND)
+        exit(3);
+    return place;
+}
+
+// Stores a key, and returns its place, which is the key's until the table grows.
+static inline uint64_t store(Table *table, uint64_t key) {
     uint64_t place, tag;
     switch (probe(table, key, &place, &tag)) {
     case FOUND:
-        return;
+        return place;
     case FREE:
         put(table, place, tag, 0);
-        return;
+        return place;
     default:
         grow(table, key);
+        return place_of(table, key);
     }
+}
+
+static inline void ready(Table *table, uint64_t key) {
+    store(table, key);
 }
 
 #endif
