@@ -1,6 +1,7 @@
 //! Two stripes that are booked at the same time, each under its own lock.
 ghost use Rattle.std.specs.Prelude.{◌≡◌, All, IfOk, vec_len};
 ghost use Rattle.std.specs.FinMap.{empty};
+ghost use Rattle.kc_table.specs.Counts.{IsItsOwnPlace};
 ghost use Rattle.kc_booking.specs.Setup.{stripe_count, key_bits};
 
 use crate::sample_batches::{cuts_in, made_setup};
@@ -15,14 +16,14 @@ use std::sync::atomic::{AtomicBool, Ordering};
 use std::test::Fail;
 use std::thread::{Threads, join};
 
-// What two tables tell each other: that a key is readied in them, and that they saw the other's flag meanwhile.
+// What two tables tell each other: that a key is stored in them, and that they saw the other's flag meanwhile.
 #[derive(Drop)]
 struct Flags {
     raised: (AtomicBool, AtomicBool),
     met: (AtomicBool, AtomicBool),
 }
 
-// A table that raises its flag where a key is readied, and looks for the flag of another one.
+// A table that raises its flag where a key is stored, and looks for the flag of another one.
 #[derive(Drop)]
 struct MeetingCounts<'a> {
     plain: PlainCounts,
@@ -41,6 +42,12 @@ fn is_raised_in_time(flag: &AtomicBool) -> bool {
     false
 }
 
+// Raises a flag, and looks for the other one.
+fn look_for(other: &AtomicBool, own: &AtomicBool, met: &AtomicBool) {
+    own.store(true, Ordering::SeqCst);
+    met.store(is_raised_in_time(other), Ordering::SeqCst);
+}
+
 impl Counts for MeetingCounts<'_> {
     ghost bits = { λ t. t.plain.bits };
 
@@ -48,15 +55,30 @@ impl Counts for MeetingCounts<'_> {
 
     ghost may_be_full = { λ _ _ _. ⊥ };
 
+    ghost stands_at = { λ t. IsItsOwnPlace t.plain.counts };
+
+    ghost growth = { λ _. 0 };
+
     fn key_bits(&self) -> u32 {
         self.plain.key_bits()
     }
 
     fn ready(&mut self, key: u64) -> Result<(), TableFault> {
-        self.own.store(true, Ordering::SeqCst);
-        let met = is_raised_in_time(self.other);
-        self.met.store(met, Ordering::SeqCst);
+        look_for(self.other, self.own, self.met);
         self.plain.ready(key)
+    }
+
+    fn growth(&self) -> u32 {
+        self.plain.growth()
+    }
+
+    fn store(&mut self, key: u64) -> Result<u64, TableFault> {
+        look_for(self.other, self.own, self.met);
+        self.plain.store(key)
+    }
+
+    fn place_of(&self, key: u64) -> u64 {
+        self.plain.place_of(key)
     }
 
     fn add(&mut self, key: u64) {
@@ -65,6 +87,10 @@ impl Counts for MeetingCounts<'_> {
 
     fn increment(&mut self, key: u64) -> u64 {
         self.plain.increment(key)
+    }
+
+    fn increment_at(&mut self, key: u64, place: u64) -> u64 {
+        self.plain.increment_at(key, place)
     }
 
     fn get(&self, key: u64) -> u64 {
@@ -77,6 +103,10 @@ impl Counts for MeetingCounts<'_> {
 
     fn rows(&self, alloc: Global) -> Result<Vec<(u64, u64)>, AllocError> {
         self.plain.rows(alloc)
+    }
+
+    fn greatest(&self) -> u64 {
+        self.plain.greatest()
     }
 }
 
