@@ -153,8 +153,8 @@ impl<C: Counts> Stripe<C> {
         self.counted.histogram()
     }
 
-    /// How often the word of the stripe occurs in the journal's batches that occurs most, and 0 where none does. It looks
-    /// at each key once and takes no memory.
+    /// How often the word of the stripe occurs in the journal's batches that occurs most, and 0 where none does. It
+    /// looks at each key once and takes no memory.
     pub fn greatest(&self) -> u64
         ensures { result ≡ greatest_of (stripe_occurrences self.now.setup self.now.number self.now.journal) }
     {

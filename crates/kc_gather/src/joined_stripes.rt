@@ -17,8 +17,8 @@ use kc_word::Batch;
 use std::alloc::{AllocError, Global};
 use std::sync::Arc;
 
-/// Whether each stripe is that of its index, and its journal holds exactly the given batches. It is refused at the first
-/// stripe that isn't so. Condition: as many stripes as the setup says.
+/// Whether each stripe is that of its index, and its journal holds exactly the given batches. It is refused at the
+/// first stripe that isn't so. Condition: as many stripes as the setup says.
 pub(crate) fn check_all<C: Counts>(
     alloc: Global,
     stripes: &[Stripe<C>],
