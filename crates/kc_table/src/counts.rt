@@ -44,8 +44,8 @@ pub trait Counts {
     fn growth(&self) -> u32
         ensures { result ≡ growth self.now };
 
-    /// Stores the key, as `ready` does, and tells its place, at which `increment_at` counts it. Each key keeps its place
-    /// until the table grows.
+    /// Stores the key, as `ready` does, and tells its place, at which `increment_at` counts it. Each key keeps its
+    /// place until the table grows.
     fn store(&mut self, key: u64) -> Result<u64, TableFault>
         requires { key < 2 ^ bits self.old }
         ensures place { IfOk result (stands_at self.new key) }
