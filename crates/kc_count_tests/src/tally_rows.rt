@@ -367,3 +367,99 @@ fn assert_sum<H: Abort + AllocGlobal>(rt: &H, one: &Tally, ends: &[usize]) -> Re
     assert_tally_rows(rt, &sum, DOUBLED);
     Ok(())
 }
+
+// The tally of words of 31 bases from the first to the last one, beside which two bits are left for a count.
+fn spread_tally(alloc: Global, k: K, ends: &[usize]) -> Result<Tally, AllocError>
+    requires { k ≡ 31 }
+{
+    let rows = [
+        Row { word: 0, count: 3 },
+        Row { word: 1, count: 4 },
+        Row {
+            word: 6,
+            count: 1 << 40,
+        },
+        Row { word: 7, count: 1 },
+        Row {
+            word: 1 << 61,
+            count: 5,
+        },
+        Row {
+            word: (1 << 62) - 1,
+            count: 2,
+        },
+    ];
+    Tally::of_parts(alloc, k, false, in_parts(alloc, &rows, ends)?)
+}
+
+// The rows of that tally.
+const SPREAD: &[(u64, u64)] = &[
+    (0, 3),
+    (1, 4),
+    (6, 1 << 40),
+    (7, 1),
+    (1 << 61, 5),
+    ((1 << 62) - 1, 2),
+];
+
+// Words that have no row there.
+const ABSENT: &[u64] = &[2, 5, 8, (1 << 61) + 1, (1 << 62) - 2, 1 << 62];
+
+// Asserts that the tally has these words with these counts, by going over them and by looking them up.
+fn assert_looked_up<H: Abort>(rt: &H, tally: &Tally, want: &[(u64, u64)], absent: &[u64]) {
+    assert_tally_rows(rt, tally, want);
+    for (word, count) in want {
+        assert_same(rt, *word, &tally.count_of(*word), count);
+    }
+    for word in absent {
+        assert_same(rt, *word, &tally.count_of(*word), &0);
+    }
+}
+
+// Ends of parts of the spread tally. Most parts leave more bits for a count.
+const SPREAD_PARTINGS: &[&[usize]] = &[&[], &[2], &[1, 3, 4], &[4, 5], &[0, 1, 2, 3, 4, 5]];
+
+#[test]
+fn counts_beside_long_words(rt: HostRuntime) -> Result<(), Fail> {
+    for ends in SPREAD_PARTINGS {
+        let tally = spread_tally(rt.alloc(), k_of(31)?, *ends)?;
+        assert_looked_up(&rt, &tally, SPREAD, ABSENT);
+    }
+    Ok(())
+}
+
+// The tally of words of 21 bases, beside which 22 bits are left for a count.
+fn middling_tally(alloc: Global, k: K) -> Result<Tally, AllocError>
+    requires { k ≡ 21 }
+{
+    let rows = [
+        Row {
+            word: 0,
+            count: (1 << 22) - 1,
+        },
+        Row {
+            word: 9,
+            count: 1 << 22,
+        },
+        Row {
+            word: (1 << 42) - 1,
+            count: 1,
+        },
+    ];
+    Tally::of_rows(alloc, k, false, Vec::from_slice(alloc, &rows)?)
+}
+
+#[test]
+fn counts_beside_middling_words(rt: HostRuntime) -> Result<(), Fail> {
+    let tally = middling_tally(rt.alloc(), k_of(21)?)?;
+    let want = &[(0, (1 << 22) - 1), (9, 1 << 22), ((1 << 42) - 1, 1)];
+    assert_looked_up(&rt, &tally, want, &[1, 8, 10, 1 << 42]);
+    Ok(())
+}
+
+#[test]
+fn no_rows(rt: HostRuntime) -> Result<(), Fail> {
+    let tally = tally_in(rt.alloc(), &[], k_of(1)?)?;
+    assert_looked_up(&rt, &tally, &[], &[0, 1, 4]);
+    Ok(())
+}

@@ -2,6 +2,8 @@ pub mod Bins
 pub mod MapCounts
 pub mod Parts
 pub mod Searches
+pub mod PackingLemmas
+pub mod PackingSteps
 pub mod SumLemmas
 pub mod Tallies
 pub mod TalliedRows

@@ -15,6 +15,31 @@ use Rattle.kc_tally.specs.Tally.{total_of, AreRows}
 use Rattle.kc_tally.specs.Histogram.{bins_of, joined_bins, counts_of}
 use Rattle.kc_tally.proofs.Bins.{bins_of-append}
 
+-- ---- parts of any kind, of which each has rows
+
+module _ {P : Type 0} (items : P → List Row) where
+  pub parts-split : (parts : List P) (i : ℕ) → flat_map items parts ≡ flat_map items (take i parts) ++ flat_map items (drop i parts)
+  parts-split parts i = ap (flat_map items) (sym (take-append-drop i parts)) ∙ flat_map-append items (take i parts) (drop i parts)
+
+  pub parts-next : (parts : List P) (i : ℕ) (d : P) → i < length parts
+      → flat_map items (take (i + 1) parts) ≡ flat_map items (take i parts) ++ items (get_or parts i d)
+  parts-next parts i d h = flat_map_take_more items parts i d h
+
+  pub parts-push : (parts : List P) (part : P) → flat_map items (parts ++ part ∷ []) ≡ flat_map items parts ++ items part
+  parts-push parts part =
+      flat_map-append items parts (part ∷ []) ∙ ap (λ xs. flat_map items parts ++ xs) (append-nil (items part))
+
+  pub long-front : (parts : List P) (i : ℕ) → length (flat_map items (take i parts)) ≤ length (flat_map items parts)
+  long-front parts i =
+      let long = ap length (parts-split parts i) ∙ length-append (flat_map items (take i parts)) (flat_map items (drop i parts)) in
+      omega (arith, long)
+
+  pub long-next : (parts : List P) (i : ℕ) (d : P) → i < length parts
+      → length (flat_map items (take (i + 1) parts)) ≡ length (flat_map items (take i parts)) + length (items (get_or parts i d))
+  long-next parts i d h = ap length (parts-next parts i d h) ∙ length-append (flat_map items (take i parts)) (items (get_or parts i d))
+
+-- ---- parts that are vectors, and parts that are seen as lists
+
 abbrev pub Part : Type 0
 Part = Vec Row Global
 
@@ -22,12 +47,15 @@ Part = Vec Row Global
 abbrev pub joined : List Part → List Row
 joined parts = flat_map (λ part. part.items) parts
 
+abbrev pub all_rows : List (List Row) → List Row
+all_rows parts = flat_map (λ part. part) parts
+
 pub joined-split : (parts : List Part) (i : ℕ) → joined parts ≡ joined (take i parts) ++ joined (drop i parts)
-joined-split parts i = ap joined (sym (take-append-drop i parts)) ∙ flat_map-append (λ part. part.items) (take i parts) (drop i parts)
+joined-split parts i = parts-split (λ (part : Part). part.items) parts i
 
 pub joined-next : (parts : List Part) (i : ℕ) (d : Part) → i < length parts
     → joined (take (i + 1) parts) ≡ joined (take i parts) ++ (get_or parts i d).items
-joined-next parts i d h = flat_map_take_more (λ part. part.items) parts i d h
+joined-next parts i d h = parts-next (λ (part : Part). part.items) parts i d h
 
 -- one part more, of the rows up to an end
 pub joined-on : (parts : List Part) (part : Part) (rows : List Row) (at end : ℕ) → at ≤ end → joined parts ≡ take at rows
@@ -40,13 +68,11 @@ joined-on parts part rows at end le so_far is =
 -- ---- how many rows there are, and what they count
 
 pub length-front : (parts : List Part) (i : ℕ) → length (joined (take i parts)) ≤ length (joined parts)
-length-front parts i =
-    let long = ap length (joined-split parts i) ∙ length-append (joined (take i parts)) (joined (drop i parts)) in
-    omega (arith, long)
+length-front parts i = long-front (λ (part : Part). part.items) parts i
 
 pub length-next : (parts : List Part) (i : ℕ) (d : Part) → i < length parts
     → length (joined (take (i + 1) parts)) ≡ length (joined (take i parts)) + length (get_or parts i d).items
-length-next parts i d h = ap length (joined-next parts i d h) ∙ length-append (joined (take i parts)) (get_or parts i d).items
+length-next parts i d h = long-next (λ (part : Part). part.items) parts i d h
 
 pub total-front : (parts : List Part) (i : ℕ) → total_of (joined (take i parts)) ≤ total_of (joined parts)
 total-front parts i =
@@ -76,27 +102,3 @@ pub bins-next : (parts : List Part) (i : ℕ) (d : Part) → i < length parts
 bins-next parts i d h =
     bins_of-append (counts_of (joined (take i parts))) (counts_of (get_or parts i d).items)
     ∙ ap bins_of (sym (map-append (λ (row : Row). row.count) (joined (take i parts)) (get_or parts i d).items) ∙ ap counts_of (sym (joined-next parts i d h)))
-
--- ---- the parts that have rows
-
-unfoldable pub has_rows : Part → Bool
-has_rows part = nat_lt 0 (length part.items)
-
-joined-or_none : (b : Bool) (part : Part) (parts : List Part) → b ≡ has_rows part → joined (cond b (part ∷ parts) parts) ≡ part.items ++ joined parts
-unfolding has_rows
-joined-or_none true part parts is = refl
-joined-or_none false part parts is = ap (λ rows. rows ++ joined parts) (none part.items is) where
-  none : (rows : List Row) → false ≡ nat_lt 0 (length rows) → [] ≡ rows
-  none [] h = refl
-  none (row ∷ rows) h = grind (arith, nat_tests, h)
-
-pub joined-some : (parts : List Part) → joined (filter has_rows parts) ≡ joined parts
-joined-some [] = refl
-joined-some (part ∷ parts) =
-    joined-or_none (has_rows part) part (filter has_rows parts) refl ∙ ap (λ rows. part.items ++ rows) (joined-some parts)
-
-pub All-some : (parts : List Part) → All (λ part. 1 ≤ length part.items) (filter has_rows parts)
-unfolding has_rows
-All-some parts =
-    All-weaker (λ part. has_rows part ≡ true) (λ part. 1 ≤ length part.items) (λ part h. grind (arith, nat_tests, h)) (filter has_rows parts)
-    (filter_passes has_rows parts)

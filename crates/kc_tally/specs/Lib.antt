@@ -3,3 +3,4 @@ pub mod Histogram
 pub mod Sum
 pub mod Laws
 pub mod Searching
+pub mod Packing

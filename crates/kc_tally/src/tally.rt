@@ -7,9 +7,9 @@ ghost use Rattle.kc_tally.specs.Histogram.{last_bin, bin_count, bins_of, counts_
 ghost use Rattle.kc_tally.specs.Sum.{IsSumOf};
 
 use crate::histogram::Histogram;
+use crate::packed_rows::{PackedRows, packed_parts};
 use crate::row::Row;
 use crate::rows::Rows;
-use crate::search::{count_in, last_word};
 use crate::sums::summed_rows;
 use kc_kmer::K;
 use std::alloc::{AllocError, Global};
@@ -22,7 +22,7 @@ pub struct Tally {
     k: K,
     both: bool,
     // the rows, one part after another: no part is empty
-    parts: Vec<Vec<Row>>,
+    parts: Vec<PackedRows>,
     histogram: Histogram,
     total: u64,
 }
@@ -37,12 +37,12 @@ impl Model for Tally {
     ghost use Rattle.kc_tally.specs.Tally.{AreRows, total_of};
     ghost use Rattle.kc_tally.specs.Histogram.{bins_of, counts_of};
 
-    ghost view = { λ t. record { k = t.k; both = t.both; rows = flat_map (λ part. part.items) t.parts.items } };
+    ghost view = { λ t. record { k = t.k; both = t.both; rows = flat_map (λ part. part) t.parts.items } };
 
-    ghost invariant = { λ t. AreRows t.k t.both (flat_map (λ part. part.items) t.parts.items)
-        × (t.histogram ≡ bins_of (counts_of (flat_map (λ part. part.items) t.parts.items)))
-        × (t.total ≡ total_of (flat_map (λ part. part.items) t.parts.items))
-        × All (λ part. 1 ≤ length part.items) t.parts.items };
+    ghost invariant = { λ t. AreRows t.k t.both (flat_map (λ part. part) t.parts.items)
+        × (t.histogram ≡ bins_of (counts_of (flat_map (λ part. part) t.parts.items)))
+        × (t.total ≡ total_of (flat_map (λ part. part) t.parts.items))
+        × All (λ part. 1 ≤ length part) t.parts.items };
 }
 
 impl Tally {
@@ -55,8 +55,9 @@ impl Tally {
         Tally::of_parts(alloc, k, both, as_one_part(alloc, rows)?)
     }
 
-    /// The tally of the rows of all parts, one part after another, which may be empty. No row is copied. Condition: all
-    /// rows together are such as `of_rows` takes.
+    /// The tally of the rows of all parts, one part after another, which may be empty. The rows take half the
+    /// memory here, or little more where counts are large, and the given ones are freed bit by bit. Condition: all rows
+    /// together are such as `of_rows` takes.
     pub fn of_parts(
         alloc: Global,
         k: K,
@@ -68,10 +69,12 @@ impl Tally {
             ≡ record { k = k; both = both; rows = flat_map (λ part. part.items) parts.items }) }
     {
         let (histogram, total) = Histogram::of_parts(alloc, &parts)?;
+        // words of k bases are below 2^62
+        let _bases = k.get();
         Ok(Tally {
             k,
             both,
-            parts: without_empty(parts),
+            parts: packed_parts(alloc, parts)?,
             histogram,
             total,
         })
@@ -125,9 +128,9 @@ impl Tally {
         ensures { result ≡ count_of self.now.rows word }
     {
         // the first part that does not end below the word
-        let index = self.parts.partition_point(|part| last_word(part) < word);
+        let index = self.parts.partition_point(|part| part.last_word() < word);
         if index < self.parts.len() {
-            count_in(&self.parts[index], word)
+            self.parts[index].count_of(word)
         } else {
             0
         }
@@ -169,19 +172,10 @@ fn as_one_part(alloc: Global, rows: Vec<Row>) -> Result<Vec<Vec<Row>>, AllocErro
     Ok(parts)
 }
 
-// The parts that have rows.
-fn without_empty(mut parts: Vec<Vec<Row>>) -> Vec<Vec<Row>>
-    ensures same { flat_map (λ part. part.items) result.items ≡ flat_map (λ part. part.items) parts.items }
-    ensures some { All (λ part. 1 ≤ length part.items) result.items }
-{
-    parts.retain(|part| !part.is_empty());
-    parts
-}
-
 // How many rows the parts have.
-fn row_count(parts: &[Vec<Row>]) -> u64
-    requires { length (flat_map (λ part. part.items) parts.now) ≤ 2 ^ 62 }
-    ensures { result ≡ length (flat_map (λ part. part.items) parts.now) }
+fn row_count(parts: &[PackedRows]) -> u64
+    requires { length (flat_map (λ part. part) parts.now) ≤ 2 ^ 62 }
+    ensures { result ≡ length (flat_map (λ part. part) parts.now) }
 {
     let mut count = 0;
     for part in parts {

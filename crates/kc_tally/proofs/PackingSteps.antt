@@ -1,0 +1,172 @@
+-- Rows that are packed one by one, and parts of them.
+use Rattle.std.proofs.Common.{◌≡◌, ◌∙◌, ℕ, ◌+◌, ◌-◌, ◌*◌, ◌^◌, ◌<◌, ◌≤◌, Bool, true, false, cond, List, [], ◌∷◌, ◌++◌}
+use Rattle.std.proofs.Common.{map, length, get_or, take, drop, min, max, filter, All, refl, sym, ap, subst, arith, pow_mono}
+use Rattle.std.specs.List.{flat_map}
+use Rattle.std.proofs.lemmas.Bool.{cond-true, cond-false}
+use Rattle.std.proofs.lemmas.List.{length-append, get_or_append_left, get_or-append-add, map_more, take-append-drop, take_all}
+use Rattle.std.proofs.lemmas.List.{append-nil, append_assoc, reverse-append}
+use Rattle.std.proofs.lemmas.List.Elements.{All-nil, All-more, All-weaker, All-take, filter_more, filter-append}
+use Rattle.std.proofs.lemmas.List.Filters.{length-filter_more}
+use Rattle.kc_kmer.proofs.Letters.{pow-four}
+use Rattle.kc_tally.specs.declared.row.Row.{Row}
+use Rattle.kc_tally.specs.Packing.{LayoutSeen, is_large, packed_row, large_rows, rows_from_last}
+use Rattle.kc_tally.proofs.Parts.{Part, joined, parts-push}
+
+-- ---- the least and the greatest word
+
+-- so many rows were looked at, whose words are within these
+pub record IsWithin (rows : List Row) (i least greatest : ℕ) : Type 0 where
+  pub lower : All (λ row. least ≤ row.word) (take i rows)
+  pub upper : All (λ row. row.word ≤ greatest) (take i rows)
+  pub small : greatest < 2 ^ 62
+
+pub within-none : (rows : List Row) (least : ℕ) → IsWithin rows 0 least 0
+within-none rows least = record { lower = All-nil _; upper = All-nil _; small = omega arith }
+
+pub within-more : (rows : List Row) (i : ℕ) (row : Row) {least greatest lesser greater : ℕ} → i < length rows
+    → row ≡ get_or rows i row → All (λ row. row.word < 2 ^ 62) rows → IsWithin rows i least greatest
+    → lesser ≡ min row.word least → greater ≡ max row.word greatest → IsWithin rows (i + 1) lesser greater
+within-more rows i row {least} {greatest} {lesser} {greater} h read below within is_least is_greatest =
+    let word : row.word ≡ (get_or rows i row).word = ap (λ (r : Row). r.word) read in
+    let here = below i row h in
+    record {
+      lower = All-more (λ (r : Row). lesser ≤ r.word) rows i row h
+          (All-weaker (λ (r : Row). least ≤ r.word) (λ (r : Row). lesser ≤ r.word) (λ r le. omega (arith, le, is_least)) (take i rows) within.lower)
+          (omega (arith, word, is_least));
+      upper = All-more (λ (r : Row). r.word ≤ greater) rows i row h
+          (All-weaker (λ (r : Row). r.word ≤ greatest) (λ (r : Row). r.word ≤ greater) (λ r le. omega (arith, le, is_greatest)) (take i rows) within.upper)
+          (omega (arith, word, is_greatest));
+      small = let small = within.small in omega (arith, word, here, small, is_greatest);
+    }
+
+pub within-all : (rows : List Row) (i least greatest : ℕ) → length rows ≤ i → IsWithin rows i least greatest
+    → All (λ row. least ≤ row.word) rows × All (λ row. row.word ≤ greatest) rows
+within-all rows i least greatest all within =
+    (subst (All (λ (row : Row). least ≤ row.word)) (take_all i rows all) within.lower,
+    subst (All (λ (row : Row). row.word ≤ greatest)) (take_all i rows all) within.upper)
+
+-- ---- rows of a layout
+
+module _ (l : LayoutSeen) where
+  pub packed-more : (rows : List Row) (i : ℕ) (row : Row) (packed : List ℕ) (p : ℕ) → i < length rows → row ≡ get_or rows i row
+      → packed ≡ map (packed_row l) (take i rows) → p ≡ packed_row l row
+      → packed ++ p ∷ [] ≡ map (packed_row l) (take (i + 1) rows)
+  packed-more rows i row packed p h read is packed_is =
+      ap (λ ps. ps ++ p ∷ []) is
+      ∙ ap (λ q. map (packed_row l) (take i rows) ++ q ∷ []) (packed_is ∙ ap (packed_row l) read)
+      ∙ sym (map_more (packed_row l) rows i row h)
+
+  large-more : (rows : List Row) (i : ℕ) (row : Row) (b : Bool) → i < length rows → row ≡ get_or rows i row
+      → is_large l row ≡ b → large_rows l (take (i + 1) rows) ≡ large_rows l (take i rows) ++ cond b (row ∷ []) []
+  large-more rows i row b h read is =
+      filter_more (is_large l) rows i row h
+      ∙ ap (λ r. large_rows l (take i rows) ++ cond (is_large l r) (r ∷ []) []) (sym read)
+      ∙ ap (λ c. large_rows l (take i rows) ++ cond c (row ∷ []) []) is
+
+  pub large-next : (rows : List Row) (i : ℕ) (row : Row) → i < length rows → row ≡ get_or rows i row
+      → is_large l row ≡ true → large_rows l (take (i + 1) rows) ≡ large_rows l (take i rows) ++ row ∷ []
+  large-next rows i row h read is = large-more rows i row true h read is
+
+  pub large-same : (rows : List Row) (i : ℕ) (row : Row) → i < length rows → row ≡ get_or rows i row
+      → is_large l row ≡ false → large_rows l (take (i + 1) rows) ≡ large_rows l (take i rows)
+  large-same rows i row h read is = large-more rows i row false h read is ∙ append-nil (large_rows l (take i rows))
+
+  large-front : (rows : List Row) (i : ℕ) → length (large_rows l (take i rows)) ≤ length (large_rows l rows)
+  large-front rows i =
+      let whole : large_rows l rows ≡ large_rows l (take i rows) ++ large_rows l (drop i rows) =
+      ap (large_rows l) (sym (take-append-drop i rows)) ∙ filter-append (is_large l) (take i rows) (drop i rows) in
+      let long = ap length whole ∙ length-append (large_rows l (take i rows)) (large_rows l (drop i rows)) in
+      omega (arith, long)
+
+  pub large-room : (rows : List Row) (i : ℕ) (row : Row) → i < length rows → row ≡ get_or rows i row
+      → is_large l row ≡ true → length (large_rows l (take i rows)) < length (large_rows l rows)
+  large-room rows i row h read is =
+      let next = ap length (large-next rows i row h read is) ∙ length-append (large_rows l (take i rows)) (row ∷ []) in
+      let front = large-front rows (i + 1) in
+      omega (arith, next, front)
+
+  pub large-counted : (rows : List Row) (i : ℕ) (row : Row) → i < length rows → row ≡ get_or rows i row
+      → length (large_rows l (take (i + 1) rows)) ≡ length (large_rows l (take i rows)) + cond (is_large l row) 1 0
+  large-counted rows i row h read =
+      length-filter_more (is_large l) rows i row h
+      ∙ ap (λ r. length (large_rows l (take i rows)) + cond (is_large l r) 1 0) (sym read)
+
+-- ---- parts
+
+-- one part more stands first
+pub from_last-push : (parts : List (List Row)) (part : List Row) → rows_from_last (parts ++ part ∷ []) ≡ part ++ rows_from_last parts
+from_last-push parts part = ap (flat_map (λ (p : List Row). p)) (reverse-append parts (part ∷ []))
+
+All-middle : {X : Type 0} (P : X → Type 0) (xs ys zs : List X) → All P (xs ++ (ys ++ zs)) → All P ys
+All-middle P xs ys zs all k d h =
+    let first = length-append xs (ys ++ zs) in
+    let second = length-append ys zs in
+    subst P (get_or-append-add xs (ys ++ zs) k d ∙ get_or_append_left ys zs d k h) (all (length xs + k) d (omega (arith, first, second, h)))
+
+-- what holds of the rows of some parts and a last one holds of both
+pub All-parts : (P : Row → Type 0) (parts front : List Part) (part : Part) → parts ≡ front ++ part ∷ []
+    → All P (joined parts) → All P (joined front) × All P part.items
+All-parts P parts front part split all =
+    let whole : joined parts ≡ joined front ++ part.items = ap joined split ∙ parts-push (λ (p : Part). p.items) front part in
+    let both = subst (All P) whole all in
+    (All-middle P [] (joined front) part.items both,
+    All-middle P (joined front) part.items [] (subst (λ rows. All P (joined front ++ rows)) (sym (append-nil part.items)) both))
+
+-- the rows from a place on are packed in front of the others
+pub record IsPackedFrom (rows before after : List Row) (packed : List (List Row)) : Type 0 where
+  pub same : before ++ rows_from_last packed ≡ rows ++ after
+  pub words : All (λ row. row.word < 2 ^ 62) before
+  pub present : All (λ row. 1 ≤ row.count) before
+
+pub packed-none : (rows : List Row) (packed : List (List Row)) → All (λ row. row.word < 2 ^ 62) rows
+    → All (λ row. 1 ≤ row.count) rows → IsPackedFrom rows rows (rows_from_last packed) packed
+packed-none rows packed words present = record { same = refl; words = words; present = present }
+
+pub packed-part : (rows before after : List Row) (packed : List (List Row)) (at : ℕ) (part left : List Row)
+    → IsPackedFrom rows before after packed → part ≡ drop at before → left ≡ take at before
+    → IsPackedFrom rows left after (packed ++ part ∷ [])
+packed-part rows before after packed at part left is part_is left_is = record {
+  same = ap (λ xs. left ++ xs) (from_last-push packed part)
+      ∙ ap (λ xs. xs ++ (part ++ rows_from_last packed)) left_is
+      ∙ ap (λ xs. take at before ++ (xs ++ rows_from_last packed)) part_is
+      ∙ sym (append_assoc (take at before) (drop at before) (rows_from_last packed))
+      ∙ ap (λ xs. xs ++ rows_from_last packed) (take-append-drop at before)
+      ∙ is.same;
+  words = subst (All (λ (row : Row). row.word < 2 ^ 62)) (sym left_is) (All-take (λ (row : Row). row.word < 2 ^ 62) at before is.words);
+  present = subst (All (λ (row : Row). 1 ≤ row.count)) (sym left_is) (All-take (λ (row : Row). 1 ≤ row.count) at before is.present);
+}
+
+-- the parts from a place on are packed
+pub record ArePackedFrom (parts before : List Part) (packed : List (List Row)) : Type 0 where
+  pub same : joined before ++ rows_from_last packed ≡ joined parts
+  pub words : All (λ row. row.word < 2 ^ 62) (joined before)
+  pub present : All (λ row. 1 ≤ row.count) (joined before)
+  pub some : All (λ part. 1 ≤ length part) packed
+
+pub none-packed : (parts : List Part) → All (λ row. row.word < 2 ^ 62) (joined parts)
+    → All (λ row. 1 ≤ row.count) (joined parts) → ArePackedFrom parts parts []
+none-packed parts words present =
+    record { same = append-nil (joined parts); words = words; present = present; some = All-nil _ }
+
+pub part-packed : (parts before front : List Part) (part : Part) (packed more : List (List Row)) → before ≡ front ++ part ∷ []
+    → ArePackedFrom parts before packed → rows_from_last more ≡ part.items ++ rows_from_last packed
+    → All (λ part. 1 ≤ length part) more → ArePackedFrom parts front more
+part-packed parts before front part packed more split are is some =
+    let words = All-parts (λ (row : Row). row.word < 2 ^ 62) before front part split are.words in
+    let present = All-parts (λ (row : Row). 1 ≤ row.count) before front part split are.present in
+    record {
+      same = ap (λ xs. joined front ++ xs) is ∙ sym (append_assoc (joined front) part.items (rows_from_last packed))
+          ∙ ap (λ xs. xs ++ rows_from_last packed) (sym (ap joined split ∙ parts-push (λ (p : Part). p.items) front part))
+          ∙ are.same;
+      words = words.0;
+      present = present.0;
+      some = some;
+    }
+
+-- words of k bases are below 2 ^ 62
+pub words-small : (k : ℕ) (rows : List Row) → k ≤ 31 → All (λ row. row.word < 4 ^ k) rows → All (λ row. row.word < 2 ^ 62) rows
+words-small k rows most words =
+    let twice : 2 * k ≤ 62 = omega (arith, most) in
+    let few : 2 ^ (2 * k) ≤ 2 ^ 62 = pow_mono twice in
+    let same = pow-four k in
+    All-weaker (λ (row : Row). row.word < 4 ^ k) (λ (row : Row). row.word < 2 ^ 62) (λ row h. omega (arith, h, few, same)) rows words
