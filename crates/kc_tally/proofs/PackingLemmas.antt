@@ -1,25 +1,25 @@
 -- Rows in words: what is read of them is what was packed.
 use Rattle.std.proofs.Common.{◌≡◌, ◌≢◌, ◌∙◌, ℕ, zero, suc, ◌+◌, ◌-◌, ◌*◌, ◌/◌, ◌%◌, ◌^◌, ◌<◌, ◌≤◌, ◌&&◌, min, max}
-use Rattle.std.proofs.Common.{Bool, true, false, cond, eqb, leb, List, [], ◌∷◌, ◌++◌, map, length, get_or, take, drop}
-use Rattle.std.proofs.Common.{filter, All, Result, Ok, Err, bit_and, refl, sym, ap, subst, arith, ⊎_elim, eq-eqb, ne_eqb}
+use Rattle.std.proofs.Common.{Bool, true, false, cond, List, [], ◌∷◌, map, length, get_or, drop}
+use Rattle.std.proofs.Common.{All, Result, Ok, Err, bit_and, refl, sym, ap, subst, arith, ⊎_elim, eq-eqb, ne_eqb}
 use Rattle.std.proofs.Common.{mod-eq_of_lt, pow-add, pow-suc, pow_pos}
 use Rattle.std.specs.Prelude.{MatchResult}
 use Rattle.std.specs.List.Sorted.{IsStrictlyIncreasing, IsSearchInRange, IsBinarySearchResult, IsNonDecreasingBy}
 use Rattle.std.specs.Ordering.{nat_cmp, ordering_index}
-use Rattle.std.proofs.lemmas.Bool.{cases_Bool, cases_eq, cases_lt, cond-true, cond-false, le-leb, leb-true, leb-false}
+use Rattle.std.proofs.lemmas.Bool.{cases_Bool, cases_eq, cases_lt, cond-true, cond-false, le-leb}
 use Rattle.std.proofs.lemmas.Bool.Decides.{nat_tests}
 use Rattle.std.proofs.lemmas.Cmp.{ranked}
-use Rattle.std.proofs.lemmas.List.{length-map, length-append, get_or-map, get_or_append_left, get_or-append-add, take_more, map_push}
-use Rattle.std.proofs.lemmas.List.Elements.{All-head, All-tail, filter_more}
-use Rattle.std.proofs.lemmas.List.Filters.{length-filter_more}
+use Rattle.std.proofs.lemmas.List.{length-map, get_or-map, get_or_read}
+use Rattle.std.proofs.lemmas.List.Elements.{All-head, All-tail}
 use Rattle.std.proofs.lemmas.List.Sorted.{IsNonDecreasingBy-from_default}
 use Rattle.std.proofs.lemmas.Nat.{and_mask, one_shl, div-mul-add, mod-mul-add, mul-add-lt, shr_below}
 use Rattle.kc_tally.specs.declared.row.Row.{Row}
 use Rattle.kc_tally.specs.Tally.{row_of, count_of}
+use Rattle.kc_tally.specs.Searching.{last_word}
 use Rattle.kc_tally.specs.Packing.{LayoutSeen, is_large, packed_row, large_rows, word_in, is_apart, first_count, unpacked}
 use Rattle.kc_tally.specs.Packing.{rows_of, ArePacked}
 use Rattle.kc_tally.proofs.Tallies.{RisesFrom, rises-from, count_of-here, count_of-past}
-use Rattle.kc_tally.proofs.Searches.{words, no_row, word_at, rises, climbs, ascends, count_at, count-none}
+use Rattle.kc_tally.proofs.Searches.{words, no_row, word_at, rises, ascends, count_at, count-none}
 
 -- ---- bits of a word
 
@@ -79,7 +79,7 @@ module _ (least greatest highest : ℕ) (span : IsSpan least greatest highest) w
 -- ---- one row
 
 module _ (l : LayoutSeen) where
-  abbrev small : Row → ℕ
+  abbrev pub small : Row → ℕ
   small row = cond (is_large l row) 0 row.count
 
   small-below : (row : Row) → small row < 2 ^ l.low
@@ -173,6 +173,14 @@ module _ (l : LayoutSeen) where
   word-there packed large i h =
       ap (λ ws. get_or ws i 0) (words-rows_of packed large) ∙ get_or-map (word_in l) packed i 0 0 h
 
+  pub last-packed : (packed : List ℕ) (large : List Row) (p : ℕ) → 0 < length packed → p ≡ get_or packed (length packed - 1) p
+      → word_in l p ≡ last_word (rows_of l packed large)
+  last-packed packed large p some read =
+      let h : length packed - 1 < length packed = omega (arith, some) in
+      sym (ap (λ n. get_or (words (rows_of l packed large)) (n - 1) 0) (length-rows_of packed large)
+      ∙ word-there packed large (length packed - 1) h
+      ∙ ap (word_in l) (sym (get_or_read packed (length packed - 1) p h read 0)))
+
   -- ---- the first row
 
   pub ended : (packed : List ℕ) (large : List Row) → length packed ≡ 0 → rows_of l packed large ≡ []
@@ -233,28 +241,30 @@ module _ (l : LayoutSeen) where
   -- rows that rise still rise where some are left out
   rises-lower : (low high : ℕ) (rows : List Row) → low ≤ high → RisesFrom high rows → RisesFrom low rows
   unfolding RisesFrom
-  rises-lower low high [] le rises = tt
-  rises-lower low high (row ∷ rows) le rises = (let least = rises.0 in omega (arith, le, least), rises.1)
+  rises-lower low high [] le up = tt
+  rises-lower low high (row ∷ rows) le up = (let least = up.0 in omega (arith, le, least), up.1)
 
   rises-apart : (low : ℕ) (rows : List Row) → RisesFrom low rows → RisesFrom low (large_rows l rows)
   unfolding RisesFrom
-  rises-apart low [] rises = tt
-  rises-apart low (row ∷ rows) rises =
-      let rest = rises-apart (suc row.word) rows rises.1 in
+  rises-apart low [] up = tt
+  rises-apart low (row ∷ rows) up =
+      let rest = rises-apart (suc row.word) rows up.1 in
       ⊎_elim
       (λ is. subst (RisesFrom low) (sym (cond-true (is_large l row) (row ∷ large_rows l rows) (large_rows l rows) is))
-      (rises.0, rest))
+      (up.0, rest))
       (λ is. subst (RisesFrom low) (sym (cond-false (is_large l row) (row ∷ large_rows l rows) (large_rows l rows) is))
-      (rises-lower low (suc row.word) (large_rows l rows) (let least = rises.0 in omega (arith, least)) rest))
+      (rises-lower low (suc row.word) (large_rows l rows) (let least = up.0 in omega (arith, least)) rest))
       (cases_Bool (is_large l row))
 
   increasing : (low : ℕ) (rows : List Row) → RisesFrom low rows → IsStrictlyIncreasing (words rows)
   unfolding RisesFrom
-  increasing low [] rises k h = absurd (omega (arith, h))
-  increasing low (row ∷ []) rises k h = absurd (omega (arith, h))
-  increasing low (row ∷ other ∷ rows) rises zero h = rises.1.0
-  increasing low (row ∷ other ∷ rows) rises (suc k) h =
-      increasing (suc row.word) (other ∷ rows) rises.1 k (omega (arith, h))
+  increasing low [] up k h = absurd (omega (arith, h))
+  increasing low (row ∷ []) up k h = absurd (omega (arith, h))
+  increasing low (row ∷ other ∷ rows) up zero h = up.1.0
+  increasing low (row ∷ other ∷ rows) up (suc k) h =
+      let e : suc k + 1 ≡ suc (k + 1) = omega arith in
+      let rest = increasing (suc row.word) (other ∷ rows) up.1 k (omega (arith, h)) in
+      subst (λ m. get_or (words (row ∷ other ∷ rows)) (suc k) 0 < get_or (words (row ∷ other ∷ rows)) m 0) (sym e) rest
 
   pub rising-apart : (rows : List Row) → IsStrictlyIncreasing (words rows) → IsStrictlyIncreasing (words (large_rows l rows))
   rising-apart rows rising =

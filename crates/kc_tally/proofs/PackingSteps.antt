@@ -1,9 +1,10 @@
 -- Rows that are packed one by one, and parts of them.
 use Rattle.std.proofs.Common.{◌≡◌, ◌∙◌, ℕ, ◌+◌, ◌-◌, ◌*◌, ◌^◌, ◌<◌, ◌≤◌, Bool, true, false, cond, List, [], ◌∷◌, ◌++◌}
-use Rattle.std.proofs.Common.{map, length, get_or, take, drop, min, max, filter, All, refl, sym, ap, subst, arith, pow_mono}
+use Rattle.std.proofs.Common.{map, length, get_or, take, drop, min, max, All, refl, sym, ap, subst, arith, pow_mono, ⊎_elim}
 use Rattle.std.specs.List.{flat_map}
-use Rattle.std.proofs.lemmas.Bool.{cond-true, cond-false}
-use Rattle.std.proofs.lemmas.List.{length-append, get_or_append_left, get_or-append-add, map_more, take-append-drop, take_all}
+use Rattle.std.proofs.lemmas.Bool.{cases_Bool, cond-true, cond-false}
+use Rattle.std.proofs.lemmas.List.{length-append, length-drop, get_or_append_left, get_or-append-add, map_more, take-append-drop}
+use Rattle.std.proofs.lemmas.List.{take_all}
 use Rattle.std.proofs.lemmas.List.{append-nil, append_assoc, reverse-append}
 use Rattle.std.proofs.lemmas.List.Elements.{All-nil, All-more, All-weaker, All-take, filter_more, filter-append}
 use Rattle.std.proofs.lemmas.List.Filters.{length-filter_more}
@@ -41,9 +42,10 @@ within-more rows i row {least} {greatest} {lesser} {greater} h read below within
 
 pub within-all : (rows : List Row) (i least greatest : ℕ) → length rows ≤ i → IsWithin rows i least greatest
     → All (λ row. least ≤ row.word) rows × All (λ row. row.word ≤ greatest) rows
-within-all rows i least greatest all within =
-    (subst (All (λ (row : Row). least ≤ row.word)) (take_all i rows all) within.lower,
-    subst (All (λ (row : Row). row.word ≤ greatest)) (take_all i rows all) within.upper)
+within-all rows i least greatest all within = (
+  subst (All (λ (row : Row). least ≤ row.word)) (take_all i rows all) within.lower,
+  subst (All (λ (row : Row). row.word ≤ greatest)) (take_all i rows all) within.upper,
+)
 
 -- ---- rows of a layout
 
@@ -85,6 +87,19 @@ module _ (l : LayoutSeen) where
       let front = large-front rows (i + 1) in
       omega (arith, next, front)
 
+  pub large-long : (rows : List Row) → length (large_rows l rows) ≤ length rows
+  large-long [] = omega arith
+  large-long (row ∷ rows) =
+      let rest = large-long rows in
+      ⊎_elim
+      (λ e. let is = ap length (cond-true (is_large l row) (row ∷ large_rows l rows) (large_rows l rows) e) in omega (arith, is, rest))
+      (λ e. let is = ap length (cond-false (is_large l row) (row ∷ large_rows l rows) (large_rows l rows) e) in omega (arith, is, rest))
+      (cases_Bool (is_large l row))
+
+  -- there are no more large rows than rows
+  pub large-few : (rows : List Row) (i : ℕ) → length (large_rows l (take i rows)) ≤ length rows
+  large-few rows i = let front = large-front rows i in let all = large-long rows in omega (arith, front, all)
+
   pub large-counted : (rows : List Row) (i : ℕ) (row : Row) → i < length rows → row ≡ get_or rows i row
       → length (large_rows l (take (i + 1) rows)) ≡ length (large_rows l (take i rows)) + cond (is_large l row) 1 0
   large-counted rows i row h read =
@@ -108,9 +123,14 @@ pub All-parts : (P : Row → Type 0) (parts front : List Part) (part : Part) →
     → All P (joined parts) → All P (joined front) × All P part.items
 All-parts P parts front part split all =
     let whole : joined parts ≡ joined front ++ part.items = ap joined split ∙ parts-push (λ (p : Part). p.items) front part in
-    let both = subst (All P) whole all in
-    (All-middle P [] (joined front) part.items both,
-    All-middle P (joined front) part.items [] (subst (λ rows. All P (joined front ++ rows)) (sym (append-nil part.items)) both))
+    let both = subst (All P) whole all in (
+      All-middle P [] (joined front) part.items both,
+      All-middle P (joined front) part.items [] (subst (λ rows. All P (joined front ++ rows)) (sym (append-nil part.items)) both),
+    )
+
+-- the rows from a place on, as a slice has them
+pub rest : (rows : List Row) (at : ℕ) → take (length rows - at) (drop at rows) ≡ drop at rows
+rest rows at = let long = length-drop at rows in take_all (length rows - at) (drop at rows) (omega (arith, long))
 
 -- the rows from a place on are packed in front of the others
 pub record IsPackedFrom (rows before after : List Row) (packed : List (List Row)) : Type 0 where

@@ -53,6 +53,7 @@ packed_rows rows =
     × (rows_of (record { least = 5; low = 2 }) (1 ∷ 7 ∷ 8 ∷ 400 ∷ []) (row_of 7 4 ∷ row_of 105 70_000 ∷ []) ≡ rows)
 
 worked_rows : packed_rows (row_of 5 1 ∷ row_of 6 3 ∷ row_of 7 4 ∷ row_of 105 70_000 ∷ [])
+unfolding packed_rows
 worked_rows = (refl, refl, refl)
 
 -- These are the packed rows and the large rows of what they are seen as, and each row has a count.

@@ -131,7 +131,11 @@ pub(crate) fn packed_parts(
 }
 
 // Packs the rows in front of those that are packed, whose last part comes first.
-fn pack_rows(alloc: Global, packed: &mut Vec<PackedRows>, mut rows: Vec<Row>) -> Result<(), AllocError>
+fn pack_rows(
+    alloc: Global,
+    packed: &mut Vec<PackedRows>,
+    mut rows: Vec<Row>,
+) -> Result<(), AllocError>
     requires words { All (λ row. row.word < 2 ^ 62) rows.items }
     requires present { All (λ row. 1 ≤ row.count) rows.items }
     ensures same { OnOk result (rows_from_last packed.new.items ≡ rows.items ++ rows_from_last packed.old.items) }
@@ -196,7 +200,9 @@ fn large_count(layout: Layout, rows: &[Row]) -> usize
 {
     let mut count = 0;
     for row in rows {
-        count += layout.is_large(*row) as usize;
+        if layout.is_large(*row) {
+            count += 1;
+        }
     }
     count
 }

@@ -1,10 +1,9 @@
-use Rattle.std.proofs.Common.{◌≡◌, ◌∙◌, [], ◌∷◌, drop, ap, sym, subst}
-use Rattle.kc_tally.specs.Packing.{rows_of}
+use Rattle.std.proofs.Common.{◌≡◌, ◌∙◌, ◌∷◌, drop, sym, subst}
 use Rattle.kc_tally.proofs.PackingLemmas.{begun, ended}
 use Rattle.kc_tally.proofs.part_rows.PartRows.first.Goals as goal
 
-pub returns-in-None-clause-none : goal.returns-in-None-clause-none
-returns-in-None-clause-none c = sym c.self.view_is ∙ ended c.self.inside.layout c.self.inside.packed.now c.self.inside.large.now c.in-None.ensures.cases
+pub returns-in_default-clause-none : goal.returns-in_default-clause-none
+returns-in_default-clause-none c = sym c.self.view_is ∙ ended c.self.inside.layout c.self.inside.packed.now c.self.inside.large.now c.in_default.ensures.cases
 
 pub returns-clause-some : goal.returns-clause-some
 returns-clause-some c =
