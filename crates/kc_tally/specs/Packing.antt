@@ -1,7 +1,7 @@
 -- How rows stand in words of 64 bits.
 -- Source: this project's own.
 use Rattle.std.specs.Prelude.{◌≡◌, refl, ℕ, ◌+◌, ◌-◌, ◌*◌, ◌/◌, ◌%◌, ◌^◌, ◌≤◌, ◌==◌, Bool, nat_le, List, [], ◌∷◌}
-use Rattle.std.specs.Prelude.{map, drop, filter, flat_map, reverse, All, slice_index, if◌then◌else◌}
+use Rattle.std.specs.Prelude.{◌<◌, length, map, drop, filter, flat_map, reverse, All, slice_index, if◌then◌else◌}
 use Rattle.kc_tally.specs.declared.row.Row.{Row}
 use Rattle.kc_tally.specs.Tally.{row_of}
 
@@ -65,3 +65,10 @@ pub record ArePacked (layout : LayoutSeen) (packed : List ℕ) (large : List Row
 -- the rows of parts of which the last stands first
 abbrev pub rows_from_last : List (List Row) → List Row
 rows_from_last parts = flat_map (λ part. part) (reverse parts)
+
+-- the packed parts of rows that grow, and those behind them
+pub record AreGrowing (packed : List (List Row)) (rows : List Row) : Type 0 where
+  pub parts : All (λ part. 1 ≤ length part) packed
+  pub words : All (λ row. row.word < 2 ^ 62) rows
+  pub present : All (λ row. 1 ≤ row.count) rows
+  pub behind : rows ≡ [] → packed ≡ []

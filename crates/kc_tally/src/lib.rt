@@ -19,6 +19,7 @@
 //! ```
 #![tactic(auto)]
 
+mod growing_rows;
 mod histogram;
 mod layout;
 mod packed_rows;
@@ -31,6 +32,7 @@ mod sums;
 mod tally;
 pub mod tally_laws;
 
+pub use growing_rows::GrowingRows;
 pub use histogram::Histogram;
 pub use row::Row;
 pub use rows::Rows;

@@ -14,8 +14,8 @@ use crate::search::count_in;
 use std::alloc::{AllocError, Global};
 use std::marker::Model;
 
-// A part has at most so many rows. The fewer they are, the nearer are their words, and so more counts fit beside them.
-const PART_ROWS: usize = 1 << 16;
+/// A part has at most so many rows. The fewer they are, the nearer are their words, and so more counts fit beside them.
+pub(crate) const PART_ROWS: usize = 1 << 16;
 
 /// The rows of one part, each in one word of 64 bits. A count that does not fit there stands with its row in a second
 /// list, in the order of the rows.

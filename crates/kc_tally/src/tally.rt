@@ -80,6 +80,29 @@ impl Tally {
         })
     }
 
+    /// The tally of packed rows, part by part. Condition: all rows together are such as `of_rows` takes, and no part is
+    /// empty.
+    pub(crate) fn of_packed(
+        alloc: Global,
+        k: K,
+        both: bool,
+        parts: Vec<PackedRows>,
+    ) -> Result<Tally, AllocError>
+        requires rows { AreRows k both (flat_map (λ part. part) parts.items) }
+        requires some { All (λ part. 1 ≤ length part) parts.items }
+        ensures { IfOk result (λ tally. tally
+            ≡ record { k = k; both = both; rows = flat_map (λ part. part) parts.items }) }
+    {
+        let (histogram, total) = Histogram::of_packed(alloc, &parts)?;
+        Ok(Tally {
+            k,
+            both,
+            parts,
+            histogram,
+            total,
+        })
+    }
+
     /// The sum of two tallies: each word that has a row in either, with both counts together. Conditions: the words
     /// have the same length, both tallies count both strands or neither does, and the totals are together at most
     /// 2^62.
@@ -173,7 +196,7 @@ fn as_one_part(alloc: Global, rows: Vec<Row>) -> Result<Vec<Vec<Row>>, AllocErro
 }
 
 // How many rows the parts have.
-fn row_count(parts: &[PackedRows]) -> u64
+pub(crate) fn row_count(parts: &[PackedRows]) -> u64
     requires { length (flat_map (λ part. part) parts.now) ≤ 2 ^ 62 }
     ensures { result ≡ length (flat_map (λ part. part) parts.now) }
 {
