@@ -1,5 +1,5 @@
-//! How rows stand in words of 64 bits: a row's own word in the high bits, and its count in those that are left, where it
-//! fits.
+//! How rows stand in words of 64 bits: a row's own word in the high bits, and its count in those that are left, where
+//! it fits.
 ghost use Rattle.std.specs.Prelude.{◌≡◌, ◌+◌, ◌-◌, ◌%◌, ◌^◌, ◌<◌, ◌≤◌, max, if◌then◌else◌};
 ghost use Rattle.kc_tally.specs.Packing.{is_large, is_apart, packed_row, word_in, first_count, unpacked};
 
@@ -7,8 +7,8 @@ use crate::row::Row;
 use std::marker::Model;
 
 /// What packed rows have in common: the least of their words, and how many low bits of 64 their counts have. The other
-/// bits say how far a row's word is above the least one. So the rows of one part, whose words are near each other, leave
-/// more bits to their counts than the length of the words does.
+/// bits say how far a row's word is above the least one. So the rows of one part, whose words are near each other,
+/// leave more bits to their counts than the length of the words does.
 #[derive(Clone, Copy)]
 pub(crate) struct Layout {
     least: u64,
