@@ -2,33 +2,49 @@
 use Rattle.std.proofs.Common.{◌≡◌, ◌∙◌, ℕ, ◌+◌, ◌-◌, ◌*◌, ◌^◌, ◌<◌, ◌≤◌, Bool, true, false, cond, List, [], ◌∷◌, ◌++◌}
 use Rattle.std.proofs.Common.{map, length, get_or, take, drop, min, max, All, refl, sym, ap, subst, arith, pow_mono, ⊎_elim}
 use Rattle.std.specs.List.{flat_map}
-use Rattle.std.proofs.lemmas.Bool.{cases_Bool, cond-true, cond-false}
+use Rattle.std.proofs.lemmas.Bool.{cases_Bool, cases_lt, cond-true, cond-false}
 use Rattle.std.proofs.lemmas.List.{length-append, length-drop, get_or_append_left, get_or-append-add, map_more, take-append-drop}
-use Rattle.std.proofs.lemmas.List.{take_all}
+use Rattle.std.proofs.lemmas.List.{take_all, get_or_default}
 use Rattle.std.proofs.lemmas.List.{append-nil, append_assoc, reverse-append}
 use Rattle.std.proofs.lemmas.List.Elements.{All-nil, All-more, All-weaker, All-take, filter_more, filter-append}
 use Rattle.std.proofs.lemmas.List.Filters.{length-filter_more}
 use Rattle.kc_kmer.proofs.Letters.{pow-four}
 use Rattle.kc_tally.specs.declared.row.Row.{Row}
-use Rattle.kc_tally.specs.Packing.{LayoutSeen, is_large, packed_row, large_rows, rows_from_last}
+use Rattle.kc_tally.specs.Tally.{row_of}
+use Rattle.kc_tally.specs.Packing.{LayoutSeen, is_large, packed_row, large_rows, IsTight, rows_from_last}
 use Rattle.kc_tally.proofs.Parts.{Part, joined, parts-push}
 
 -- ---- the least and the greatest word
+
+-- a row's word is this one, of so many rows
+abbrev IsThere : List Row → ℕ → ℕ → Type 0
+IsThere rows i word = (k : ℕ) × (k < i) × ((get_or rows k (row_of 0 0)).word ≡ word)
 
 -- so many rows were looked at, whose words are within these
 pub record IsWithin (rows : List Row) (i least greatest : ℕ) : Type 0 where
   pub lower : All (λ row. least ≤ row.word) (take i rows)
   pub upper : All (λ row. row.word ≤ greatest) (take i rows)
   pub small : greatest < 2 ^ 62
+  pub first : 1 ≤ i → IsThere rows i least
+  pub last : 1 ≤ i → IsThere rows i greatest
+  pub none : i ≡ 0 → (least ≡ 2 ^ 62 - 1) × (greatest ≡ 0)
 
-pub within-none : (rows : List Row) (least : ℕ) → IsWithin rows 0 least 0
-within-none rows least = record { lower = All-nil _; upper = All-nil _; small = omega arith }
+pub within-none : (rows : List Row) → IsWithin rows 0 (2 ^ 62 - 1) 0
+within-none rows = record {
+  lower = All-nil _;
+  upper = All-nil _;
+  small = omega arith;
+  first = λ some. absurd (omega (arith, some));
+  last = λ some. absurd (omega (arith, some));
+  none = λ _. (refl, refl);
+}
 
 pub within-more : (rows : List Row) (i : ℕ) (row : Row) {least greatest lesser greater : ℕ} → i < length rows
     → row ≡ get_or rows i row → All (λ row. row.word < 2 ^ 62) rows → IsWithin rows i least greatest
     → lesser ≡ min row.word least → greater ≡ max row.word greatest → IsWithin rows (i + 1) lesser greater
 within-more rows i row {least} {greatest} {lesser} {greater} h read below within is_least is_greatest =
     let word : row.word ≡ (get_or rows i row).word = ap (λ (r : Row). r.word) read in
+    let value = ap (λ (r : Row). r.word) (get_or_default rows i (row_of 0 0) row h) in
     let here = below i row h in
     record {
       lower = All-more (λ (r : Row). lesser ≤ r.word) rows i row h
@@ -38,6 +54,49 @@ within-more rows i row {least} {greatest} {lesser} {greater} h read below within
           (All-weaker (λ (r : Row). r.word ≤ greatest) (λ (r : Row). r.word ≤ greater) (λ r le. omega (arith, le, is_greatest)) (take i rows) within.upper)
           (omega (arith, word, is_greatest));
       small = let small = within.small in omega (arith, word, here, small, is_greatest);
+      first = λ _. ⊎_elim
+          (λ (more : least < row.word).
+          let some : 1 ≤ i = ⊎_elim (λ (l : 0 < i). omega (arith, l)) (λ (l : i ≤ 0).
+          let none = (within.none (omega (arith, l))).0 in absurd (omega (arith, none, more, here, word))) (cases_lt 0 i) in
+          let at = within.first some in
+          let before = at.1 in
+          (at.0, omega (arith, before), let is = at.2 in omega (arith, is, more, is_least)))
+          (λ (le : row.word ≤ least). (i, omega arith, omega (arith, value, word, le, is_least)))
+          (cases_lt least row.word);
+      last = λ _. ⊎_elim
+          (λ (less : row.word < greatest).
+          let some : 1 ≤ i = ⊎_elim (λ (l : 0 < i). omega (arith, l)) (λ (l : i ≤ 0).
+          let none = (within.none (omega (arith, l))).1 in absurd (omega (arith, none, less))) (cases_lt 0 i) in
+          let at = within.last some in
+          let before = at.1 in
+          (at.0, omega (arith, before), let is = at.2 in omega (arith, is, less, is_greatest)))
+          (λ (ge : greatest ≤ row.word). (i, omega arith, omega (arith, value, word, ge, is_greatest)))
+          (cases_lt row.word greatest);
+      none = λ e. absurd (omega (arith, e));
+    }
+
+-- the layout between the least and the greatest word is tight
+pub within-tight : (rows : List Row) (i least greatest : ℕ) (layout : LayoutSeen) → 1 ≤ length rows → i ≤ length rows → length rows ≤ i
+    → IsWithin rows i least greatest → layout.least ≡ min least greatest
+    → 2 ^ (63 - layout.low) ≤ max (greatest - min least greatest) 1 → IsTight rows layout
+within-tight rows i least greatest layout some fits all within is high =
+    let ones : 1 ≤ i = omega (arith, some, all) in
+    let first = within.first ones in
+    let last = within.last ones in
+    let before = first.1 in
+    let behind = last.1 in
+    let lower = subst (All (λ (row : Row). least ≤ row.word)) (take_all i rows all) within.lower in
+    let h : last.0 < length rows = omega (arith, behind, fits) in
+    let le = lower last.0 (row_of 0 0) h in
+    let least_is = first.2 in
+    let greatest_is = last.2 in
+    let g : first.0 < length rows = omega (arith, before, fits) in
+    let order : least ≤ greatest = omega (arith, le, greatest_is) in
+    record {
+      least = (first.0, get_or rows first.0 (row_of 0 0), g, get_or_default rows first.0 (get_or rows first.0 (row_of 0 0)) (row_of 0 0) g,
+          omega (arith, least_is, is, order));
+      highest = (last.0, get_or rows last.0 (row_of 0 0), h, get_or_default rows last.0 (get_or rows last.0 (row_of 0 0)) (row_of 0 0) h,
+          omega (arith, greatest_is, is, order, high));
     }
 
 pub within-all : (rows : List Row) (i least greatest : ℕ) → length rows ≤ i → IsWithin rows i least greatest

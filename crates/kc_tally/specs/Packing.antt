@@ -62,6 +62,11 @@ pub record ArePacked (layout : LayoutSeen) (packed : List ℕ) (large : List Row
   pub apart : large ≡ large_rows layout (rows_of layout packed large)
   pub present : All (λ row. 1 ≤ row.count) (rows_of layout packed large)
 
+-- No bit is wasted: some row's word is the least one, and some row's word needs the highest bit that counts don't have.
+pub record IsTight (rows : List Row) (layout : LayoutSeen) : Type 0 where
+  pub least : Any (λ row. row.word ≡ layout.least) rows
+  pub highest : Any (λ row. 2 ^ (63 - layout.low) ≤ max (row.word - layout.least) 1) rows
+
 -- the rows of parts of which the last stands first
 abbrev pub rows_from_last : List (List Row) → List Row
 rows_from_last parts = flat_map (λ part. part) (reverse parts)

@@ -5,7 +5,7 @@ ghost use Rattle.std.specs.List.Sorted.{IsStrictlyIncreasing};
 ghost use Rattle.std.specs.Vec.{vec_capacity};
 ghost use Rattle.kc_tally.specs.Tally.{count_of};
 ghost use Rattle.kc_tally.specs.Searching.{last_word};
-ghost use Rattle.kc_tally.specs.Packing.{packed_row, large_rows, rows_from_last};
+ghost use Rattle.kc_tally.specs.Packing.{packed_row, large_rows, IsTight, rows_from_last};
 
 use crate::layout::Layout;
 use crate::part_rows::PartRows;
@@ -156,6 +156,7 @@ fn layout_for(rows: &[Row]) -> Layout
     requires { All (λ row. row.word < 2 ^ 62) rows.now }
     ensures least { All (λ row. result.least ≤ row.word) rows.now }
     ensures room { All (λ row. row.word < result.least + 2 ^ (64 - result.low)) rows.now }
+    ensures tight { 1 ≤ length rows.now → IsTight rows.now result }
 {
     let mut least = (1u64 << 62) - 1;
     let mut greatest = 0u64;
