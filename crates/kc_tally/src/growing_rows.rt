@@ -13,6 +13,7 @@ use std::marker::Model;
 /// of rows.
 #[derive(Drop)]
 pub struct GrowingRows {
+    alloc: Global,
     packed: Vec<PackedRows>,
     // those behind the packed ones, at most as many as a part has, and some where any row is packed
     rows: Vec<Row>,
@@ -37,6 +38,7 @@ impl GrowingRows {
         ensures { result ≡ [] }
     {
         GrowingRows {
+            alloc,
             packed: Vec::new(alloc),
             rows: Vec::new(alloc),
         }
@@ -44,7 +46,7 @@ impl GrowingRows {
 
     /// Puts a row behind the others. Where memory is refused they stay as they are. Conditions: its word is below 2^62,
     /// and its count at least 1.
-    pub fn push(&mut self, alloc: Global, row: Row) -> Result<(), AllocError>
+    pub fn push(&mut self, row: Row) -> Result<(), AllocError>
         requires word { row.word < 2 ^ 62 }
         requires present { 1 ≤ row.count }
         ensures more { OnOk result (self.new ≡ self.old ++ row ∷ []) }
@@ -53,8 +55,8 @@ impl GrowingRows {
         if self.rows.len() < PART_ROWS {
             return self.rows.push(row);
         }
-        let mut rows = Vec::with_capacity(alloc, PART_ROWS)?;
-        let part = PackedRows::of_rows(alloc, &self.rows)?;
+        let mut rows = Vec::with_capacity(self.alloc, PART_ROWS)?;
+        let part = PackedRows::of_rows(self.alloc, &self.rows)?;
         self.packed.push(part)?;
         rows.push_reserved(row);
         self.rows = rows;
@@ -81,11 +83,15 @@ impl GrowingRows {
     }
 
     /// The tally of these rows. Condition: they are such as `Tally::of_rows` takes.
-    pub fn into_tally(self, alloc: Global, k: K, both: bool) -> Result<Tally, AllocError>
+    pub fn into_tally(self, k: K, both: bool) -> Result<Tally, AllocError>
         requires { AreRows k both self }
         ensures { IfOk result (λ tally. tally ≡ record { k = k; both = both; rows = self }) }
     {
-        let GrowingRows { mut packed, rows } = self;
+        let GrowingRows {
+            alloc,
+            mut packed,
+            rows,
+        } = self;
         if !rows.is_empty() {
             packed.push(PackedRows::of_rows(alloc, &rows)?)?;
         }

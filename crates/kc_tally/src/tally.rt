@@ -112,8 +112,7 @@ impl Tally {
         requires small { total_of first.now.rows + total_of second.now.rows ≤ 2 ^ 62 }
         ensures { IfOk result (IsSumOf first.now second.now) }
     {
-        let rows = summed_rows(alloc, first, second)?;
-        Tally::of_rows(alloc, first.k, first.both, rows)
+        summed_rows(alloc, first, second)?.into_tally(first.k, first.both)
     }
 
     /// The length of the words.
