@@ -1,7 +1,9 @@
 -- A command line that passes names a command of kcount, and not `help`, which `clap` adds.
 use Rattle.std.proofs.Common.{◌≡◌, ◌∙◌, ◌&&◌, ◌||◌, ℕ, Bool, true, false, not, cond, refl, sym, ap, ap₂, subst, List}
 use Rattle.std.proofs.Common.{[], ◌∷◌, ◌++◌, inl, inr, Option, Some, None, is_some, codes, option_map, fold}
-use Rattle.std.specs.Prelude.{IfSome, find, if◌then◌else◌}
+use Rattle.std.specs.Prelude.{IfSome, IsOkAnd, find, if◌then◌else◌}
+use Rattle.std.proofs.Common.{Result, Ok, Err, IfOk}
+use Rattle.std.specs.declared.alloc.AllocError.{AllocError}
 use Rattle.std.specs.Str.{bytes_eq}
 use Rattle.std.proofs.lemmas.Slice.Eq.{bytes_eq-Decides}
 use Rattle.clap.specs.Walk.{Held, Names, Outcome, Rule, Row, Step, Text, Waiting, Walk, after_flag, after_step}
@@ -10,7 +12,7 @@ use Rattle.clap.specs.Walk.{long_or_other, next, nothing_held, option, plain, pl
 use Rattle.clap.specs.Walk.{settled, short_or_plain, stop_after, subcommand, subcommand_met, subcommand_or_other}
 use Rattle.clap.specs.Walk.{to_positional, trailing, value, waits, walk, walk_from, walked, walked_from}
 use Rattle.clap.specs.Lexer.{long_of, short_of}
-use Rattle.clap.specs.Built.{AddsArg, AddsSubcommand}
+use Rattle.clap.specs.Built.{AddsArg, AddsInTurn, AddsSubcommand}
 use Rattle.clap.specs.declared.builder.arg.Arg.{Arg}
 use Rattle.clap.specs.declared.builder.command.Command.{Command}
 use Rattle.clap.specs.Words.{App, app_of, rule_of, shape_of, with_rule, with_subcommand}
@@ -29,6 +31,21 @@ pub added : {old new : Command} {argument : Arg} {app : App} {rule : Rule} → A
     → app_of new ≡ with_rule app rule
 added adds own is before = adds.shape own ∙ ap₂ with_rule before is
 
+-- arguments that have these rules, each of its own command alone
+abbrev pub HaveRules : List Arg → List Rule → Type 0
+HaveRules [] [] = Unit
+HaveRules (argument ∷ arguments) (rule ∷ rules) = (argument.global ≡ false) × (rule_of argument ≡ rule) × HaveRules arguments rules
+HaveRules _ _ = ⊥
+
+-- a command with these arguments more
+pub all_added : (old new : Command) (app : App) (arguments : List Arg) (rules : List Rule) → AddsInTurn AddsArg old arguments new
+    → HaveRules arguments rules → app_of old ≡ app → app_of new ≡ fold with_rule app rules
+all_added old new app [] [] same have before = ap app_of (sym same) ∙ before
+all_added old new app [] (rule ∷ rules) same have before = absurd have
+all_added old new app (argument ∷ arguments) [] adds have before = absurd have
+all_added old new app (argument ∷ arguments) (rule ∷ rules) (between, adds, rest) have before =
+    all_added between new (with_rule app rule) arguments rules rest have.2 (added adds have.0 have.1 before)
+
 plain_is_local : (a b c rest : Bool) → (a && (b && (not c && rest))) ≡ true → c ≡ false
 plain_is_local true true false rest e = refl
 plain_is_local true true true rest e = cc
@@ -41,6 +58,16 @@ pub joined : {old sub new : Command} {app : App} {shape : Shape} → AddsSubcomm
     → app_of new ≡ with_subcommand app shape
 joined adds local is before =
     adds.shape (plain_is_local _ _ _ _ (ap (λ (s : Shape). s.is_plain) is ∙ local)) ∙ ap₂ with_subcommand before is
+
+-- a command with one command more, where there was memory for both
+pub with_one : (command more both : Result Command AllocError) (app : App) (shape : Shape) → IfOk command (λ c. app_of c ≡ app)
+    → IfOk more (λ c. shape_of c ≡ shape) → shape.is_plain ≡ true
+    → IfOk both (λ c. IsOkAnd command (λ one. IsOkAnd more (λ sub. AddsSubcommand one sub c)))
+    → IfOk both (λ c. app_of c ≡ with_subcommand app shape)
+with_one command more (Err error) app shape before is local adds = tt
+with_one (Err error) more (Ok both) app shape before is local adds = absurd adds
+with_one (Ok command) (Err error) (Ok both) app shape before is local adds = absurd adds
+with_one (Ok command) (Ok more) (Ok both) app shape before is local adds = joined adds local is before
 
 -- where no command was met, or another one than `help`
 abbrev NotHelp : Option (Text × List Text) → Type 0

@@ -1,6 +1,6 @@
 //! The command line, as `clap` reads it.
-ghost use Rattle.std.specs.Prelude.{◌≡◌, IfOk};
-ghost use Rattle.clap.specs.Words.{app_of, new_app, shape_of};
+ghost use Rattle.std.specs.Prelude.{◌≡◌, IfOk, IsOkAnd};
+ghost use Rattle.clap.specs.Words.{AddsSubcommand, app_of, new_app, shape_of};
 ghost use Rattle.kc_command.specs.Command.{
   bare_app,
   count_shape,
@@ -47,14 +47,24 @@ pub const SELECT: &str = "select";
 pub fn command<'a>(alloc: Global) -> Result<Command<'a>, AllocError>
     ensures { IfOk result (λ command. app_of command ≡ kcount_app) }
 {
-    without_commands(alloc)
-        .subcommand(count_command(alloc)?)?
-        .subcommand(dump_command(alloc)?)?
-        .subcommand(histo_command(alloc)?)?
-        .subcommand(stats_command(alloc)?)?
-        .subcommand(query_command(alloc)?)?
-        .subcommand(merge_command(alloc)?)?
-        .subcommand(select_command(alloc)?)
+    let command = with_command(Ok(without_commands(alloc)), count_command(alloc));
+    let command = with_command(command, dump_command(alloc));
+    let command = with_command(command, histo_command(alloc));
+    let command = with_command(command, stats_command(alloc));
+    let command = with_command(command, query_command(alloc));
+    let command = with_command(command, merge_command(alloc));
+    with_command(command, select_command(alloc))
+}
+
+// The command with one more command, where there was memory for both.
+fn with_command<'a>(
+    command: Result<Command<'a>, AllocError>,
+    more: Result<Command<'a>, AllocError>,
+) -> Result<Command<'a>, AllocError>
+    ensures { IfOk result (λ both. IsOkAnd command.entry (λ one. IsOkAnd more.entry (λ sub.
+        AddsSubcommand one sub both))) }
+{
+    command?.subcommand(more?)
 }
 
 // `kcount` before it has commands, of which it wants one.
@@ -70,90 +80,89 @@ fn without_commands<'a>(alloc: Global) -> Command<'a>
 fn count_command<'a>(alloc: Global) -> Result<Command<'a>, AllocError>
     ensures { IfOk result (λ command. shape_of command ≡ count_shape) }
 {
-    described(alloc, COUNT, help::COUNT, help::AFTER_COUNT)
-        .arg(mer_len(alloc))?
-        .arg(size(alloc))?
-        .arg(threads(alloc))?
-        .arg(canonical(alloc))?
-        .arg(output(alloc))?
-        .arg(min_qual_char(alloc))?
-        .arg(stripes(alloc))?
-        .arg(batch(alloc))?
-        .arg(print(alloc))?
-        .arg(column(alloc))?
-        .arg(tab(alloc))?
-        .arg(lower_count(alloc))?
-        .arg(upper_count(alloc))?
-        .arg(high(alloc))?
-        .arg(only(alloc))?
-        .arg(files(alloc))
+    let arguments = vec![in alloc;
+        mer_len(alloc),
+        size(alloc),
+        threads(alloc),
+        canonical(alloc),
+        output(alloc),
+        min_qual_char(alloc),
+        stripes(alloc),
+        batch(alloc),
+        print(alloc),
+        column(alloc),
+        tab(alloc),
+        lower_count(alloc),
+        upper_count(alloc),
+        high(alloc),
+        only(alloc),
+        files(alloc),
+    ]?;
+    described(alloc, COUNT, help::COUNT, help::AFTER_COUNT).args(arguments)
 }
 
 // The command that writes the words of a table.
 fn dump_command<'a>(alloc: Global) -> Result<Command<'a>, AllocError>
     ensures { IfOk result (λ command. shape_of command ≡ dump_shape) }
 {
-    described(alloc, DUMP, help::DUMP, help::AFTER_DUMP)
-        .arg(with_short(column(alloc), 'c'))?
-        .arg(with_short(tab(alloc), 't'))?
-        .arg(with_short(lower_count(alloc), 'L'))?
-        .arg(with_short(upper_count(alloc), 'U'))?
-        .arg(output(alloc))?
-        .arg(file(alloc))
+    let arguments = vec![in alloc;
+        with_short(column(alloc), 'c'),
+        with_short(tab(alloc), 't'),
+        with_short(lower_count(alloc), 'L'),
+        with_short(upper_count(alloc), 'U'),
+        output(alloc),
+        file(alloc),
+    ]?;
+    described(alloc, DUMP, help::DUMP, help::AFTER_DUMP).args(arguments)
 }
 
 // The command that writes how many words of a table have which count.
 fn histo_command<'a>(alloc: Global) -> Result<Command<'a>, AllocError>
     ensures { IfOk result (λ command. shape_of command ≡ histo_shape) }
 {
-    described(alloc, HISTO, help::HISTO, help::AFTER_HISTO)
-        .arg(high(alloc))?
-        .arg(output(alloc))?
-        .arg(file(alloc))
+    let arguments = vec![in alloc; high(alloc), output(alloc), file(alloc)]?;
+    described(alloc, HISTO, help::HISTO, help::AFTER_HISTO).args(arguments)
 }
 
 // The command that writes four numbers about the words of a table.
 fn stats_command<'a>(alloc: Global) -> Result<Command<'a>, AllocError>
     ensures { IfOk result (λ command. shape_of command ≡ stats_shape) }
 {
-    described(alloc, STATS, help::STATS, help::AFTER_STATS)
-        .arg(output(alloc))?
-        .arg(file(alloc))
+    let arguments = vec![in alloc; output(alloc), file(alloc)]?;
+    described(alloc, STATS, help::STATS, help::AFTER_STATS).args(arguments)
 }
 
 // The command that looks words up in a table.
 fn query_command<'a>(alloc: Global) -> Result<Command<'a>, AllocError>
     ensures { IfOk result (λ command. shape_of command ≡ query_shape) }
 {
-    described(alloc, QUERY, help::QUERY, help::AFTER_QUERY)
-        .arg(output(alloc))?
-        .arg(table(alloc))?
-        .arg(words(alloc))
+    let arguments = vec![in alloc; output(alloc), table(alloc), words(alloc)]?;
+    described(alloc, QUERY, help::QUERY, help::AFTER_QUERY).args(arguments)
 }
 
 // The command that writes the sum of two tables.
 fn merge_command<'a>(alloc: Global) -> Result<Command<'a>, AllocError>
     ensures { IfOk result (λ command. shape_of command ≡ merge_shape) }
 {
-    described(alloc, MERGE, help::MERGE, help::AFTER_MERGE)
-        .arg(output(alloc))?
-        .arg(first(alloc))?
-        .arg(second(alloc))
+    let arguments = vec![in alloc; output(alloc), first(alloc), second(alloc)]?;
+    described(alloc, MERGE, help::MERGE, help::AFTER_MERGE).args(arguments)
 }
 
 // The command that writes the reads that a table selects.
 fn select_command<'a>(alloc: Global) -> Result<Command<'a>, AllocError>
     ensures { IfOk result (λ command. shape_of command ≡ select_shape) }
 {
-    described(alloc, SELECT, help::SELECT, help::AFTER_SELECT)
-        .arg(min_count(alloc))?
-        .arg(min_share(alloc))?
-        .arg(min_qual_char(alloc))?
-        .arg(invert(alloc))?
-        .arg(stats(alloc))?
-        .arg(output(alloc))?
-        .arg(counted(alloc))?
-        .arg(files(alloc))
+    let arguments = vec![in alloc;
+        min_count(alloc),
+        min_share(alloc),
+        min_qual_char(alloc),
+        invert(alloc),
+        stats(alloc),
+        output(alloc),
+        counted(alloc),
+        files(alloc),
+    ]?;
+    described(alloc, SELECT, help::SELECT, help::AFTER_SELECT).args(arguments)
 }
 
 // A command without arguments, with the text that stands at the top of its help and the one at the end.

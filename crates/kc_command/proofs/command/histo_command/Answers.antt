@@ -1,13 +1,27 @@
-use Rattle.std.proofs.Common.{ap}
+use Rattle.std.proofs.Common.{ap, sym, subst}
 use Rattle.std.proofs.lemmas.Result.{IfOk-weaker}
 use Rattle.clap.specs.Words.{App}
-use Rattle.kc_command.proofs.CommandLemmas.{added}
+use Rattle.kc_command.specs.Command.{histo_shape}
+use Rattle.kc_command.proofs.CommandLemmas.{HaveRules, all_added}
 use Rattle.kc_command.proofs.command.histo_command.Goals as goal
 
 pub returns : goal.returns
 returns c =
-    let with_high = added c.in_ok-arg.ensures c.high.ensures.own c.high.ensures.rule c.described.ensures in
-    let with_output = added c.in_ok-arg-2.ensures c.output.ensures.own c.output.ensures.rule with_high in
-    let top = λ (a : App). a.top in
-    IfOk-weaker c.arg-3.result _ _
-    (λ command adds. ap top (added adds c.file.ensures.own c.file.ensures.rule with_output)) c.arg-3.ensures
+    let have : HaveRules c.in_ok-arguments.arguments.items histo_shape.rules =
+    subst (λ arguments. HaveRules arguments histo_shape.rules) (sym c.in_ok-arguments.ensures.items)
+    ((
+      c.high.ensures.own,
+      c.high.ensures.rule,
+      (
+        c.output.ensures.own,
+        c.output.ensures.rule,
+        (
+          c.file.ensures.own,
+          c.file.ensures.rule,
+          tt,
+        ),
+      ),
+    )
+    ) in
+    IfOk-weaker c.args-2.result _ _
+    (λ command adds. ap (λ (a : App). a.top) (all_added c.described.result command _ c.in_ok-arguments.arguments.items histo_shape.rules adds have c.described.ensures)) c.args-2.ensures

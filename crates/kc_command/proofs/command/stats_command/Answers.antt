@@ -1,12 +1,23 @@
-use Rattle.std.proofs.Common.{ap}
+use Rattle.std.proofs.Common.{ap, sym, subst}
 use Rattle.std.proofs.lemmas.Result.{IfOk-weaker}
 use Rattle.clap.specs.Words.{App}
-use Rattle.kc_command.proofs.CommandLemmas.{added}
+use Rattle.kc_command.specs.Command.{stats_shape}
+use Rattle.kc_command.proofs.CommandLemmas.{HaveRules, all_added}
 use Rattle.kc_command.proofs.command.stats_command.Goals as goal
 
 pub returns : goal.returns
 returns c =
-    let with_output = added c.in_ok-arg.ensures c.output.ensures.own c.output.ensures.rule c.described.ensures in
-    let top = λ (a : App). a.top in
-    IfOk-weaker c.arg-2.result _ _
-    (λ command adds. ap top (added adds c.file.ensures.own c.file.ensures.rule with_output)) c.arg-2.ensures
+    let have : HaveRules c.in_ok-arguments.arguments.items stats_shape.rules =
+    subst (λ arguments. HaveRules arguments stats_shape.rules) (sym c.in_ok-arguments.ensures.items)
+    ((
+      c.output.ensures.own,
+      c.output.ensures.rule,
+      (
+        c.file.ensures.own,
+        c.file.ensures.rule,
+        tt,
+      ),
+    )
+    ) in
+    IfOk-weaker c.args-2.result _ _
+    (λ command adds. ap (λ (a : App). a.top) (all_added c.described.result command _ c.in_ok-arguments.arguments.items stats_shape.rules adds have c.described.ensures)) c.args-2.ensures
