@@ -356,6 +356,36 @@ unlike '62: sums too large' "$many_reads" "$acg"
 unlike '61: tables do not match' "$most" "${acg/3 s/3 c}"
 unlike '61: tables do not match' "$many_reads" "${acg/33/34}"
 
+# A row takes one word of 64 bits, and a count that does not fit beside its word stands apart. Beside a word of 31 bases
+# some counts of a thousand don't.
+repeated() { printf "$1%.0s" $(seq "$2"); }
+runs=$'>t\n'$(repeated T 1100)$'\n>c\n'$(repeated C 1053)$'\n>a\n'$(repeated A 60)$'\n>ta\n'$(repeated T 30)$'A\n'
+dumped=$(repeated A 31)$' 30\n'$(repeated C 31)$' 1023\n'$(repeated T 30)$'A 1\n'$(repeated T 31)$' 1070\n'
+for options in '--stripes 1' '--stripes 4 -t 3' '--stripes 64 -t 2 --batch 100'; do
+    read -r -a asking <<< "$options"
+    wants 0 "$dumped" '' "$runs" kcount count -m 31 --print dump --column "${asking[@]}"
+done
+
+# Tables of more rows than are packed together, a few of them with counts beyond 2^50.
+rows_of() {
+    awk -v times="$1" 'BEGIN {
+        for (i = 0; i < 70000; i++) {
+            word = ""
+            for (n = i; length(word) < 9; n = int(n / 4)) word = substr("ACGT", n % 4 + 1, 1) word
+            printf "%s %.0f\n", word, times * (i % 11003 == 0 ? 1125899906842625 + i : 1 + i % 5)
+        }
+    }'
+}
+table_of() {
+    printf 'KCT 1 9 s\n'
+    cat
+    printf 'END 70000 %s\n' "$1"
+}
+total=$(rows_of 1 | awk '{ small += $2 < 100 ? $2 : 0; large += $2 < 100 ? 0 : $2 } END { printf "%.0f", small + large }')
+rows_of 1 | table_of "$total" > many.kct
+wants 0 "$(rows_of 1)"$'\n' '' '' kcount dump --column many.kct
+wants 0 "$(rows_of 2 | table_of "$((2 * total))")"$'\n' '' '' kcount merge many.kct many.kct
+
 # The reads that a table selects are written whole and in order, with their titles, FASTA as FASTA and FASTQ as FASTQ. In
 # the table ACG and CGT occur twice, and GTA and TAC once.
 selects() {

@@ -118,7 +118,7 @@ static int rise(void) {
     int64_t last = -1;
     for (int at = 0; at < PARTS; at++)
         for (size_t i = 0; i < columns_of_parts[at].length; i++) {
-            int64_t word = columns_of_parts[at].pairs[i].word;
+            int64_t word = (uint64_t)at << (BITS - 8) | columns_of_parts[at].rows[i] >> COUNT_BITS;
             if (word <= last) return 0;
             last = word;
         }
@@ -164,7 +164,11 @@ int main(int argc, char **argv) {
     for (int at = 0; at < PARTS; at++) {
         const Part *part = &columns_of_parts[at];
         length += part->length;
-        for (size_t i = 0; i < part->length; i++) total += part->pairs[i].count, once += part->pairs[i].count == 1;
+        for (size_t i = 0, large = 0; i < part->length; i++) {
+            uint64_t count = part->rows[i] & ((UINT64_C(1) << COUNT_BITS) - 1);
+            if (!count) count = part->large[large++].count;
+            total += count, once += count == 1;
+        }
     }
     uint64_t end = nanoseconds();
 

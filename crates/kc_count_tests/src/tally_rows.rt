@@ -1,12 +1,12 @@
 //! Worked rows of tallies and histograms.
-ghost use Rattle.std.specs.Prelude.{◌≡◌, IfOk};
+ghost use Rattle.std.specs.Prelude.{◌≡◌, ◌<◌, ◌≤◌, ◌^◌, All, IfOk};
 ghost use Rattle.std.specs.List.{flat_map};
 
 use crate::count_assertions::assert_same;
 use kc_fastx::SeqRead;
 use kc_kmer::slow_count::base_count;
 use kc_kmer::{K, Rule};
-use kc_tally::{Histogram, Row, Tally, slow_tally, tally_laws};
+use kc_tally::{Histogram, PackedRows, Row, Tally, slow_tally, tally_laws};
 use std::alloc::{AllocError, Global};
 use std::process::Abort;
 use std::test::Fail;
@@ -262,17 +262,19 @@ fn memory_or_the_tally(rt: HostRuntime) -> Result<(), Fail> {
 }
 
 // The rows in parts that end at these places, and a last one. An end comes no earlier than the one before it.
-fn in_parts(alloc: Global, rows: &[Row], ends: &[usize]) -> Result<Vec<Vec<Row>>, AllocError>
-    ensures { IfOk result (λ parts. flat_map (λ part. part.items) parts.items ≡ rows.now) }
+fn in_parts(alloc: Global, rows: &[Row], ends: &[usize]) -> Result<Vec<PackedRows>, AllocError>
+    requires words { All (λ row. row.word < 2 ^ 62) rows.now }
+    requires present { All (λ row. 1 ≤ row.count) rows.now }
+    ensures { IfOk result (λ parts. flat_map (λ part. part) parts.items ≡ rows.now) }
 {
     let mut parts = Vec::new(alloc);
     let mut at = 0;
     for end in ends {
         let end = at.max(*end).min(rows.len());
-        parts.push(Vec::from_slice(alloc, &rows[at..end])?)?;
+        parts.push(PackedRows::of_rows(alloc, &rows[at..end])?)?;
         at = end;
     }
-    parts.push(Vec::from_slice(alloc, &rows[at..])?)?;
+    parts.push(PackedRows::of_rows(alloc, &rows[at..])?)?;
     Ok(parts)
 }
 
@@ -289,7 +291,7 @@ fn parted_tally(alloc: Global, k: K, ends: &[usize]) -> Result<Tally, AllocError
         },
         Row { word: 15, count: 1 },
     ];
-    Tally::of_parts(alloc, k, false, in_parts(alloc, &rows, ends)?)
+    Tally::of_packed(alloc, k, false, in_parts(alloc, &rows, ends)?)
 }
 
 // The same tally, with its length of words.
@@ -365,5 +367,101 @@ fn assert_sum<H: Abort + AllocGlobal>(rt: &H, one: &Tally, ends: &[usize]) -> Re
     let other = made_parted(rt.alloc(), ends)?;
     let sum = sum_of(rt, one, &other)?;
     assert_tally_rows(rt, &sum, DOUBLED);
+    Ok(())
+}
+
+// The tally of words of 31 bases from the first to the last one, beside which two bits are left for a count.
+fn spread_tally(alloc: Global, k: K, ends: &[usize]) -> Result<Tally, AllocError>
+    requires { k ≡ 31 }
+{
+    let rows = [
+        Row { word: 0, count: 3 },
+        Row { word: 1, count: 4 },
+        Row {
+            word: 6,
+            count: 1 << 40,
+        },
+        Row { word: 7, count: 1 },
+        Row {
+            word: 1 << 61,
+            count: 5,
+        },
+        Row {
+            word: (1 << 62) - 1,
+            count: 2,
+        },
+    ];
+    Tally::of_packed(alloc, k, false, in_parts(alloc, &rows, ends)?)
+}
+
+// The rows of that tally.
+const SPREAD: &[(u64, u64)] = &[
+    (0, 3),
+    (1, 4),
+    (6, 1 << 40),
+    (7, 1),
+    (1 << 61, 5),
+    ((1 << 62) - 1, 2),
+];
+
+// Words that have no row there.
+const ABSENT: &[u64] = &[2, 5, 8, (1 << 61) + 1, (1 << 62) - 2, 1 << 62];
+
+// Asserts that the tally has these words with these counts, by going over them and by looking them up.
+fn assert_looked_up<H: Abort>(rt: &H, tally: &Tally, want: &[(u64, u64)], absent: &[u64]) {
+    assert_tally_rows(rt, tally, want);
+    for (word, count) in want {
+        assert_same(rt, *word, &tally.count_of(*word), count);
+    }
+    for word in absent {
+        assert_same(rt, *word, &tally.count_of(*word), &0);
+    }
+}
+
+// Ends of parts of the spread tally. Most parts leave more bits for a count.
+const SPREAD_PARTINGS: &[&[usize]] = &[&[], &[2], &[1, 3, 4], &[4, 5], &[0, 1, 2, 3, 4, 5]];
+
+#[test]
+fn counts_beside_long_words(rt: HostRuntime) -> Result<(), Fail> {
+    for ends in SPREAD_PARTINGS {
+        let tally = spread_tally(rt.alloc(), k_of(31)?, *ends)?;
+        assert_looked_up(&rt, &tally, SPREAD, ABSENT);
+    }
+    Ok(())
+}
+
+// The tally of words of 21 bases, beside which 22 bits are left for a count.
+fn middling_tally(alloc: Global, k: K) -> Result<Tally, AllocError>
+    requires { k ≡ 21 }
+{
+    let rows = [
+        Row {
+            word: 0,
+            count: (1 << 22) - 1,
+        },
+        Row {
+            word: 9,
+            count: 1 << 22,
+        },
+        Row {
+            word: (1 << 42) - 1,
+            count: 1,
+        },
+    ];
+    Tally::of_rows(alloc, k, false, Vec::from_slice(alloc, &rows)?)
+}
+
+#[test]
+fn counts_beside_middling_words(rt: HostRuntime) -> Result<(), Fail> {
+    let tally = middling_tally(rt.alloc(), k_of(21)?)?;
+    let want = &[(0, (1 << 22) - 1), (9, 1 << 22), ((1 << 42) - 1, 1)];
+    assert_looked_up(&rt, &tally, want, &[1, 8, 10, 1 << 42]);
+    Ok(())
+}
+
+#[test]
+fn no_rows(rt: HostRuntime) -> Result<(), Fail> {
+    let tally = tally_in(rt.alloc(), &[], k_of(1)?)?;
+    assert_looked_up(&rt, &tally, &[], &[0, 1, 4]);
     Ok(())
 }

@@ -2,6 +2,7 @@ pub mod Journals
 pub mod Rows
 pub mod PartLemmas
 pub mod PileLemmas
+pub mod Ranges
 pub mod Stripes
 pub mod Tallies
 pub mod LawLemmas

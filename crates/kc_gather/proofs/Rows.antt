@@ -22,7 +22,8 @@ use Rattle.kc_tally.specs.declared.row.Row.{Row}
 use Rattle.kc_tally.specs.Tally.{count_of}
 use Rattle.kc_booking.specs.Setup.{StripeSetup, word_count, stripe_count, stripe_of}
 use Rattle.kc_booking.specs.Stripe.{StripeState, numbers_of, word_occurrences, AreStripeRows}
-use Rattle.kc_gather.specs.Parts.{ArePartsOf, column_rows}
+use Rattle.kc_tally.specs.Packing.{LooseSeen}
+use Rattle.kc_gather.specs.Parts.{ArePartsOf, part_rows}
 use Rattle.kc_gather.specs.declared.placed.Placed.{Placed}
 use Rattle.kc_gather.specs.Gathering.{IsWhole, IsWholeThere, AreRowsFrom, HasRowsOf, HaveRowsOf}
 use Rattle.kc_gather.proofs.Journals.{weighs_whole}
@@ -168,10 +169,10 @@ rows-whole setup batches i stripe rows distinct whole are =
 -- ---- the rows of each stripe
 
 -- the rows of all stripes, one stripe after the other
-abbrev pub taken_rows : List (Vec (Vec Row Global) Global) → List Row
-taken_rows taken = flat_map column_rows taken
+abbrev pub taken_rows : List (Vec LooseSeen Global) → List Row
+taken_rows taken = flat_map part_rows taken
 
-pub AreRowsFrom-taken : {C : Type 0} (setup : StripeSetup) (batches : List NumberedPieces) (n : ℕ) (stripes : List (StripeState C)) (taken : List (Vec (Vec Row Global) Global))
+pub AreRowsFrom-taken : {C : Type 0} (setup : StripeSetup) (batches : List NumberedPieces) (n : ℕ) (stripes : List (StripeState C)) (taken : List (Vec LooseSeen Global))
     → n + length stripes ≡ stripe_count setup → HaveRowsOf stripes taken
     → ((i : ℕ) (stripe : StripeState C) → i < length stripes → IsWhole setup batches (n + i) (get_or stripes i stripe)) → AreRowsFrom setup batches n (taken_rows taken)
 AreRowsFrom-taken setup batches n [] [] all have whole = AreRowsFrom-none setup batches n (omega (arith, all))
@@ -183,9 +184,9 @@ AreRowsFrom-taken {C} setup batches n (stripe ∷ stripes) (parts ∷ taken) all
     (λ i s within. subst (λ k. IsWhole setup batches k (get_or stripes i s)) (plus i) (whole (suc i) s (omega (arith, within)))) in
     let own = have.each 0 stripe parts (omega arith) in
     let first = subst (λ k. IsWhole setup batches k stripe) zero_more (whole 0 stripe (omega arith)) in
-    AreRowsFrom-permuted setup batches n (taken_rows taken ++ own.rows) (column_rows parts ++ taken_rows taken)
-    (IsPermutation-trans (taken_rows taken ++ own.rows) (own.rows ++ taken_rows taken) (column_rows parts ++ taken_rows taken)
-    (IsPermutation-append_comm (taken_rows taken) own.rows) (IsPermutation-append_left (taken_rows taken) own.rows (column_rows parts) own.same))
+    AreRowsFrom-permuted setup batches n (taken_rows taken ++ own.rows) (part_rows parts ++ taken_rows taken)
+    (IsPermutation-trans (taken_rows taken ++ own.rows) (own.rows ++ taken_rows taken) (part_rows parts ++ taken_rows taken)
+    (IsPermutation-append_comm (taken_rows taken) own.rows) (IsPermutation-append_left (taken_rows taken) own.rows (part_rows parts) own.same))
     (AreRowsFrom-more setup batches n (taken_rows taken) own.rows later (rows-whole setup batches n stripe own.rows own.numbers_differ first own.rows_are))
   where
     plus : (i : ℕ) → n + suc i ≡ n + 1 + i
@@ -198,10 +199,10 @@ AreRowsFrom-taken {C} setup batches n (stripe ∷ stripes) (parts ∷ taken) all
 pub row-words : {setup : StripeSetup} {number : ℕ} {journal : List NumberedPieces} {rows : List Row} → AreStripeRows setup number journal rows → All (λ row. row.word < 4 ^ setup.rule.k) rows
 row-words are k d within = (are.words k d within).0
 
-pub HaveRowsOf-none : {C : Type 0} → HaveRowsOf {C = C} {Y = Global} {Z = Global} [] []
+pub HaveRowsOf-none : {C : Type 0} → HaveRowsOf {C = C} {Z = Global} [] []
 HaveRowsOf-none {C} = record { all = refl; each = λ i stripe parts none. absurd (omega (arith, none)) }
 
-pub HaveRowsOf-append : {C : Type 0} (stripes more : List (StripeState C)) (taken others : List (Vec (Vec Row Global) Global)) → HaveRowsOf stripes taken → HaveRowsOf more others
+pub HaveRowsOf-append : {C : Type 0} (stripes more : List (StripeState C)) (taken others : List (Vec LooseSeen Global)) → HaveRowsOf stripes taken → HaveRowsOf more others
     → HaveRowsOf (stripes ++ more) (taken ++ others)
 HaveRowsOf-append {C} stripes more taken others first second = record {
   all = let long = first.all in let rest = second.all in omega (arith, long, rest, length-append stripes more, length-append taken others);
@@ -219,22 +220,22 @@ HaveRowsOf-append {C} stripes more taken others first second = record {
       (cases_lt i (length stripes));
 }
 
-pub HaveRowsOf-push : {C : Type 0} (stripes : List (StripeState C)) (stripe : StripeState C) (taken : List (Vec (Vec Row Global) Global)) (parts : Vec (Vec Row Global) Global)
+pub HaveRowsOf-push : {C : Type 0} (stripes : List (StripeState C)) (stripe : StripeState C) (taken : List (Vec LooseSeen Global)) (parts : Vec LooseSeen Global)
     → HaveRowsOf stripes taken → HasRowsOf stripe parts → HaveRowsOf (stripes ++ stripe ∷ []) (taken ++ parts ∷ [])
 HaveRowsOf-push {C} stripes stripe taken parts have has = HaveRowsOf-append stripes (stripe ∷ []) taken (parts ∷ []) have (record { all = refl; each = one })
   where
-    one : (i : ℕ) (s : StripeState C) (p : Vec (Vec Row Global) Global) → i < 1 → HasRowsOf (get_or (stripe ∷ []) i s) (get_or (parts ∷ []) i p)
+    one : (i : ℕ) (s : StripeState C) (p : Vec LooseSeen Global) → i < 1 → HasRowsOf (get_or (stripe ∷ []) i s) (get_or (parts ∷ []) i p)
     one zero s p within = has
     one (suc i) s p within = absurd (omega (arith, within))
 
 -- what was taken of stripes at their places: each is whole, and these are its rows
-abbrev pub AreTaken : {C : Type 0} → StripeSetup → List NumberedPieces → List (Placed C) → List (Vec (Vec Row Global) Global) → Type 0
+abbrev pub AreTaken : {C : Type 0} → StripeSetup → List NumberedPieces → List (Placed C) → List (Vec LooseSeen Global) → Type 0
 AreTaken setup batches placed taken = All (IsWholeThere setup batches) placed × HaveRowsOf (map (λ there. there.stripe) placed) taken
 
 pub AreTaken-none : {C : Type 0} (setup : StripeSetup) (batches : List NumberedPieces) → AreTaken {C = C} setup batches [] []
 AreTaken-none {C} setup batches = (All-nil (IsWholeThere setup batches), HaveRowsOf-none)
 
-pub AreTaken-append : {C : Type 0} (setup : StripeSetup) (batches : List NumberedPieces) (placed more : List (Placed C)) (taken others : List (Vec (Vec Row Global) Global))
+pub AreTaken-append : {C : Type 0} (setup : StripeSetup) (batches : List NumberedPieces) (placed more : List (Placed C)) (taken others : List (Vec LooseSeen Global))
     → AreTaken setup batches placed taken → AreTaken setup batches more others → AreTaken setup batches (placed ++ more) (taken ++ others)
 AreTaken-append {C} setup batches placed more taken others first second =
     let stripe = λ (there : Placed C). there.stripe in (
@@ -242,8 +243,8 @@ AreTaken-append {C} setup batches placed more taken others first second =
       subst (λ stripes. HaveRowsOf stripes (taken ++ others)) (sym (map-append stripe placed more)) (HaveRowsOf-append (map stripe placed) (map stripe more) taken others first.1 second.1),
     )
 
-pub AreTaken-push : {C : Type 0} (setup : StripeSetup) (batches : List NumberedPieces) (placed : List (Placed C)) (there : Placed C) (taken : List (Vec (Vec Row Global) Global))
-    (parts : Vec (Vec Row Global) Global) → AreTaken setup batches placed taken → IsWholeThere setup batches there → HasRowsOf there.stripe parts
+pub AreTaken-push : {C : Type 0} (setup : StripeSetup) (batches : List NumberedPieces) (placed : List (Placed C)) (there : Placed C) (taken : List (Vec LooseSeen Global))
+    (parts : Vec LooseSeen Global) → AreTaken setup batches placed taken → IsWholeThere setup batches there → HasRowsOf there.stripe parts
     → AreTaken setup batches (placed ++ there ∷ []) (taken ++ parts ∷ [])
 AreTaken-push {C} setup batches placed there taken parts before whole has =
     let stripe = λ (one : Placed C). one.stripe in (
@@ -252,9 +253,9 @@ AreTaken-push {C} setup batches placed there taken parts before whole has =
     )
 
 -- of stripes of one setup they are parts of its words
-pub parts-all : {C : Type 0} (setup : StripeSetup) (stripes : List (StripeState C)) (taken : List (Vec (Vec Row Global) Global)) → All (λ stripe. stripe.setup ≡ setup) stripes
-    → HaveRowsOf stripes taken → All (λ parts. ArePartsOf setup.rule.k (map (λ part. part.items) parts.items)) taken
+pub parts-all : {C : Type 0} (setup : StripeSetup) (stripes : List (StripeState C)) (taken : List (Vec LooseSeen Global)) → All (λ stripe. stripe.setup ≡ setup) stripes
+    → HaveRowsOf stripes taken → All (λ parts. ArePartsOf setup.rule.k parts.items) taken
 parts-all {C} setup [] taken same have i parts within = absurd (let long = have.all in omega (arith, within, long))
 parts-all {C} setup (stripe ∷ stripes) taken same have i parts within =
     let inside : i < length (stripe ∷ stripes) = let long = have.all in omega (arith, within, long) in
-    subst (λ (s : StripeSetup). ArePartsOf s.rule.k (map (λ part. part.items) (get_or taken i parts).items)) (same i stripe inside) (have.each i stripe parts inside).parts_are
+    subst (λ (s : StripeSetup). ArePartsOf s.rule.k (get_or taken i parts).items) (same i stripe inside) (have.each i stripe parts inside).parts_are

@@ -23,10 +23,11 @@ use Rattle.kc_tally.specs.Tally.{TallySeen, row_of, AreRows, IsTally, IsTallyOf}
 use Rattle.kc_tally.proofs.Tallies.{tally_total}
 use Rattle.kc_booking.specs.Setup.{StripeSetup, word_count, stripe_count, stripe_of}
 use Rattle.kc_booking.specs.Stripe.{StripeState, reads_in}
-use Rattle.kc_gather.specs.Parts.{ArePartsOf, AreSorted, column_rows, part_shift}
+use Rattle.kc_tally.specs.Packing.{LooseSeen, ListsSeen}
+use Rattle.kc_gather.specs.Parts.{ArePartsOf, AreColumnsOf, AreSorted, part_rows, part_shift}
 use Rattle.kc_gather.specs.declared.placed.Placed.{Placed}
 use Rattle.kc_gather.specs.Gathering.{AreRowsFrom, AreAtPlaces, HaveRowsOf, IsWhole, IsWholeThere, position_sum}
-use Rattle.kc_gather.proofs.PartLemmas.{Part, AreSorted-permutation, AreSorted-rise}
+use Rattle.kc_gather.proofs.PartLemmas.{in_column, AreSorted-permutation, AreSorted-rise}
 use Rattle.kc_gather.proofs.Rows.{words_in_rows, weight_of, count_of-sum, distinct-permuted, AreRowsFrom-taken, parts-all}
 use Rattle.kc_gather.proofs.Stripes.{whole-at_places, setups-same}
 
@@ -112,38 +113,38 @@ record AreGathered (setup : StripeSetup) (batches : List NumberedPieces) (sorted
 -- what was done of it: the stripes at their places are whole, their rows were taken and brought into columns, and these were sorted
 pub record IsGathering {C : Type 0} (setup : StripeSetup) (batches : List NumberedPieces) (stripes : List (StripeState C)) (sorted : List Row) : Type 0 where
   pub placed : List (Placed C)
-  pub taken : List (Vec (Vec Row Global) Global)
-  pub columns : List (Vec (Vec Row Global) Global)
+  pub taken : List (Vec LooseSeen Global)
+  pub columns : List ListsSeen
   pub k : ℕ
   pub one_each : length stripes ≡ stripe_count setup
   pub at : AreAtPlaces stripes placed
   pub whole : All (IsWholeThere setup batches) placed
   pub have : HaveRowsOf (map (λ there. there.stripe) placed) taken
   pub same_k : k ≡ setup.rule.k
-  pub parted : ArePartsOf k (map column_rows columns)
-  pub same : IsPermutation (flat_map column_rows taken) (flat_map column_rows columns)
-  pub sorted_are : AreSorted column_rows columns sorted
+  pub parted : AreColumnsOf k columns
+  pub same : IsPermutation (flat_map part_rows taken) (flat_map in_column columns)
+  pub sorted_are : AreSorted in_column columns sorted
 
 are_gathered : {C : Type 0} (setup : StripeSetup) (batches : List NumberedPieces) (stripes : List (StripeState C)) (sorted : List Row) → IsGathering setup batches stripes sorted → AreGathered setup batches sorted
 are_gathered {C} setup batches stripes sorted of = record {
-  rows = flat_map column_rows of.taken;
+  rows = flat_map part_rows of.taken;
   from = AreRowsFrom-taken setup batches 0 stripes of.taken (let all = of.one_each in omega (arith, all)) (subst (λ xs. HaveRowsOf xs of.taken) of.at.stripes_are of.have) (λ i stripe within.
       let (found, there, whole) = whole-at_places stripes of.placed of.at of.whole i within in
       subst (λ n. IsWhole setup batches n (get_or stripes i stripe)) (from_zero i)
       (subst (IsWhole setup batches i) (sym (get_or_from_slice_get stripes i found stripe there)) whole));
-  same = IsPermutation-trans (flat_map column_rows of.taken) (flat_map column_rows of.columns) sorted of.same (AreSorted-permutation column_rows of.columns sorted of.sorted_are);
-  up = AreSorted-rise column_rows (part_shift of.k) of.columns sorted of.parted.parted of.sorted_are;
+  same = IsPermutation-trans (flat_map part_rows of.taken) (flat_map in_column of.columns) sorted of.same (AreSorted-permutation in_column of.columns sorted of.sorted_are);
+  up = AreSorted-rise in_column (part_shift of.k) of.columns sorted of.parted.parted of.sorted_are;
 }
   where
     from_zero : (i : ℕ) → i ≡ 0 + i
     from_zero i = omega arith
 
 -- the rows that were taken of whole stripes are in parts
-pub parts-taken : {C : Type 0} (setup : StripeSetup) (batches : List NumberedPieces) (stripes : List (StripeState C)) (placed : List (Placed C)) (taken : List (Vec (Vec Row Global) Global)) (k : ℕ)
+pub parts-taken : {C : Type 0} (setup : StripeSetup) (batches : List NumberedPieces) (stripes : List (StripeState C)) (placed : List (Placed C)) (taken : List (Vec LooseSeen Global)) (k : ℕ)
     → AreAtPlaces stripes placed → All (IsWholeThere setup batches) placed → HaveRowsOf (map (λ there. there.stripe) placed) taken → k ≡ setup.rule.k
-    → All (λ parts. ArePartsOf k (map (λ part. part.items) parts.items)) taken
+    → All (λ parts. ArePartsOf k parts.items) taken
 parts-taken {C} setup batches stripes placed taken k at whole have same =
-    subst (λ n. All (λ parts. ArePartsOf n (map (λ (part : Part). part.items) parts.items)) taken) (sym same)
+    subst (λ n. All (λ parts. ArePartsOf n parts.items) taken) (sym same)
     (parts-all setup stripes taken (setups-same stripes (whole-at_places stripes placed at whole)) (subst (λ xs. HaveRowsOf xs taken) at.stripes_are have))
 
 -- what was gathered is one that a `Tally` may be, and is the tally

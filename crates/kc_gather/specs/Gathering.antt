@@ -9,7 +9,8 @@ use Rattle.kc_tally.specs.declared.row.Row.{Row}
 use Rattle.kc_tally.specs.Tally.{count_of}
 use Rattle.kc_booking.specs.Setup.{StripeSetup, word_count, stripe_of}
 use Rattle.kc_booking.specs.Stripe.{StripeState, IsBooked, AreStripeRows, numbers_of, word_occurrences}
-use Rattle.kc_gather.specs.Parts.{ArePartsOf, column_rows}
+use Rattle.kc_tally.specs.Packing.{LooseSeen}
+use Rattle.kc_gather.specs.Parts.{ArePartsOf, part_rows}
 use Rattle.kc_gather.specs.declared.gather_fault.GatherFault.{GatherFault}
 use Rattle.kc_gather.specs.declared.gather_fault.GatherFault.TheVariants.{Foreign, Missing, Memory}
 use Rattle.kc_gather.specs.declared.placed.Placed.{Placed}
@@ -103,16 +104,15 @@ pub record AreRowsFrom (setup : StripeSetup) (batches : List NumberedPieces) (n 
       → count_of rows word ≡ word_occurrences setup batches word
 
 -- the parts have the rows of a stripe whose journal names no batch twice
-pub record HasRowsOf {C Y Z : Type 0} (stripe : StripeState C) (parts : Vec (Vec Row Y) Z) : Type 0 where
+pub record HasRowsOf {C Z : Type 0} (stripe : StripeState C) (parts : Vec LooseSeen Z) : Type 0 where
   pub numbers_differ : IsDistinct nat_eq (numbers_of stripe.journal)
-  pub parts_are : ArePartsOf stripe.setup.rule.k (map (λ part. part.items) parts.items)
+  pub parts_are : ArePartsOf stripe.setup.rule.k parts.items
   pub rows : List Row
   pub rows_are : AreStripeRows stripe.setup stripe.number stripe.journal rows
-  pub same : IsPermutation rows (column_rows parts)
+  pub same : IsPermutation rows (part_rows parts)
 
 -- each of the lists has the rows of the stripe at its index, and there is one for each stripe
-pub record HaveRowsOf {C Y Z : Type 0} (stripes : List (StripeState C)) (taken : List (Vec (Vec Row Y) Z))
-    : Type 0 where
+pub record HaveRowsOf {C Z : Type 0} (stripes : List (StripeState C)) (taken : List (Vec LooseSeen Z)) : Type 0 where
   pub all : length taken ≡ length stripes
-  pub each : (i : ℕ) (stripe : StripeState C) (parts : Vec (Vec Row Y) Z) → i < length stripes
+  pub each : (i : ℕ) (stripe : StripeState C) (parts : Vec LooseSeen Z) → i < length stripes
       → HasRowsOf (slice_index_or stripes i stripe) (slice_index_or taken i parts)

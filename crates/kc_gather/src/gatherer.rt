@@ -4,7 +4,7 @@ ghost use Rattle.kc_word.specs.Shared.{values};
 ghost use Rattle.kc_tally.specs.Tally.{AreRows, IsTallyOf};
 ghost use Rattle.kc_booking.specs.Setup.{stripe_count};
 ghost use Rattle.kc_booking.specs.Stripe.{reads_in};
-ghost use Rattle.kc_gather.specs.Parts.{column_rows};
+ghost use Rattle.kc_gather.specs.Parts.{list_rows};
 ghost use Rattle.kc_gather.specs.Gathering.{position_sum, AreWholeBefore};
 ghost use Rattle.kc_gather.specs.Gathering.{IsRefusal, StandsThere};
 
@@ -14,7 +14,7 @@ use crate::placed::at_places;
 use crate::taken_rows::{taken_in_parallel, taken_of_each};
 use kc_booking::{Setup, Stripe};
 use kc_table::Counts;
-use kc_tally::{Row, Tally};
+use kc_tally::{PackedRows, Tally};
 use kc_word::Batch;
 use std::alloc::{AllocError, Global};
 use std::sync::Arc;
@@ -74,11 +74,11 @@ pub fn gather_in_parallel<C: Counts + Drop + Send, H: Threads + Sync>(
 }
 
 // The tally of the rows of these parts, which are sorted.
-fn tally_of(alloc: Global, parts: Vec<Vec<Row>>, setup: &Setup) -> Result<Tally, AllocError>
-    requires { AreRows setup.now.rule.k setup.now.rule.both (column_rows parts) }
+fn tally_of(alloc: Global, parts: Vec<PackedRows>, setup: &Setup) -> Result<Tally, AllocError>
+    requires { AreRows setup.now.rule.k setup.now.rule.both (list_rows parts) }
     ensures { IfOk result (λ tally.
-        tally ≡ record { k = setup.now.rule.k; both = setup.now.rule.both; rows = column_rows parts }) }
+        tally ≡ record { k = setup.now.rule.k; both = setup.now.rule.both; rows = list_rows parts }) }
 {
     let rule = setup.rule();
-    Tally::of_parts(alloc, rule.k(), rule.both(), parts)
+    Tally::of_packed(alloc, rule.k(), rule.both(), parts)
 }

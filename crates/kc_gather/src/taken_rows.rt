@@ -13,7 +13,7 @@ use crate::placed::Placed;
 use kc_booking::{Setup, Stripe};
 use kc_lemmas::room_for_each;
 use kc_table::Counts;
-use kc_tally::Row;
+use kc_tally::{LooseRows, Row};
 use kc_word::Batch;
 use std::alloc::{AllocError, Global};
 use std::sync::Arc;
@@ -27,7 +27,7 @@ pub(crate) fn taken_of_each<C: Counts + Drop>(
     stripes: Vec<Placed<C>>,
     batches: &[Arc<Batch>],
     setup: &Setup,
-) -> Result<Vec<Vec<Vec<Row>>>, GatherFault>
+) -> Result<Vec<Vec<LooseRows>>, GatherFault>
     ensures whole { OnOk result (All (IsWholeThere setup.now (values batches.now)) stripes.items) }
     ensures rows { IfOk result (λ taken. HaveRowsOf (map (λ there. there.stripe) stripes.items) taken.items) }
     ensures refused { IfErr result (λ fault. fault ≢ Memory
@@ -49,7 +49,7 @@ fn taken_of<C: Counts + Drop>(
     placed: Placed<C>,
     batches: &[Arc<Batch>],
     setup: &Setup,
-) -> Result<Vec<Vec<Row>>, GatherFault>
+) -> Result<Vec<LooseRows>, GatherFault>
     ensures whole { OnOk result (IsWholeThere setup.now (values batches.now) placed) }
     ensures rows { IfOk result (HasRowsOf placed.stripe) }
     ensures refused { IfErr result (IsStripeRefusal setup.now (values batches.now) placed.index placed.stripe) }
@@ -71,7 +71,7 @@ pub(crate) fn taken_in_parallel<C: Counts + Drop + Send, H: Threads + Sync>(
     stripes: Vec<Placed<C>>,
     batches: &[Arc<Batch>],
     setup: &Setup,
-) -> Result<Vec<Vec<Vec<Row>>>, GatherFault>
+) -> Result<Vec<Vec<LooseRows>>, GatherFault>
     requires { 1 ≤ threads }
     ensures whole { OnOk result (All (IsWholeThere setup.now (values batches.now)) stripes.items) }
     ensures rows { IfOk result (λ taken. HaveRowsOf (map (λ there. there.stripe) stripes.items) taken.items) }
@@ -82,7 +82,7 @@ pub(crate) fn taken_in_parallel<C: Counts + Drop + Send, H: Threads + Sync>(
     let answers = thread::map_vec(
         rt,
         piles,
-        &|pile: Vec<Placed<C>>| -> Result<Vec<Vec<Vec<Row>>>, GatherFault>
+        &|pile: Vec<Placed<C>>| -> Result<Vec<Vec<LooseRows>>, GatherFault>
             ensures whole { OnOk result (All (IsWholeThere setup.entry.now (values batches.entry.now)) pile.items) }
             ensures rows { IfOk result (λ taken. HaveRowsOf (map (λ there. there.stripe) pile.items) taken.items) }
             ensures refused { IfErr result (λ fault. fault ≢ Memory
@@ -96,7 +96,7 @@ pub(crate) fn taken_in_parallel<C: Counts + Drop + Send, H: Threads + Sync>(
 }
 
 // The words of a stripe with their counts, in parts by the highest bits of the words. The stripe is freed.
-fn rows_of<C: Counts + Drop>(alloc: Global, stripe: Stripe<C>) -> Result<Vec<Vec<Row>>, AllocError>
+fn rows_of<C: Counts + Drop>(alloc: Global, stripe: Stripe<C>) -> Result<Vec<LooseRows>, AllocError>
     ensures { IfOk result (λ parts. HasRowsOf stripe parts) }
 {
     // what is known of the journal

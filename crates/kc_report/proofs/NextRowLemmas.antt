@@ -1,11 +1,12 @@
 -- Whether a row may come next.
-use Rattle.std.proofs.Common.{◌≡◌, ℕ, ◌-◌, ◌^◌, ◌<◌, ◌≤◌, Bool, false, List, ◌++◌, take, drop, sym}
+use Rattle.std.proofs.Common.{◌≡◌, ℕ, ◌-◌, ◌^◌, ◌<◌, ◌≤◌, Bool, false, List, [], ◌∷◌, ◌++◌, take, drop, sym}
 use Rattle.std.proofs.Common.{◌∙◌, ap, subst, arith}
 use Rattle.std.proofs.lemmas.List.{take-append-drop}
 use Rattle.std.specs.Prelude.{IsTrue}
 use Rattle.kc_kmer.specs.Word.{text, form}
 use Rattle.kc_tally.specs.declared.row.Row.{Row}
 use Rattle.kc_tally.specs.Tally.{AreRows, TallySeen, total_of}
+use Rattle.kc_tally.proofs.PackingSteps.{word-small}
 use Rattle.kc_report.specs.Dumping.{row_in_columns}
 use Rattle.kc_report.specs.TableReading.{BeginsWith, MayFollow}
 use Rattle.kc_report.specs.TableRows.{RisesTo}
@@ -83,3 +84,10 @@ may_come {t} {u} {row} {total} {formed} view tested_ below rises some fits =
           }),
       λ follows. tested.from (AreRows-last u.k u.both u.rows row follows).formed,
     )
+
+-- a row that may come next is one that may be packed
+pub may-pack : (k : ℕ) (both : Bool) (rows : List Row) (row : Row) → k ≤ 31 → AreRows k both (rows ++ row ∷ [])
+    → (row.word < 2 ^ 62) × (1 ≤ row.count)
+may-pack k both rows row most are =
+    let last = AreRows-last k both rows row are in
+    (word-small k row.word most last.word, last.count)

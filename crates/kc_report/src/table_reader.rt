@@ -58,7 +58,7 @@ pub fn read_table<R: Source>(
             if !is_last(reader, intake, count)? || !is_end {
                 return Err(ReportFault::BadEnd);
             }
-            return Ok((rows.into_tally(alloc)?, origin));
+            return Ok((rows.into_tally()?, origin));
         }
         let Some((row, size)) = rows.next_row(line) else {
             intake.skip_rest(reader)?;

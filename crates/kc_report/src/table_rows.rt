@@ -14,7 +14,7 @@ use crate::letters::turned_four;
 use crate::table::push_end;
 use kc_io::Block;
 use kc_kmer::{K, Word, canonical};
-use kc_tally::{Row, Tally};
+use kc_tally::{GrowingRows, Row, Tally};
 use std::alloc::{AllocError, Global};
 use std::marker::Model;
 
@@ -23,7 +23,7 @@ use std::marker::Model;
 pub(crate) struct TableRows {
     k: K,
     both: bool,
-    rows: Vec<Row>,
+    rows: GrowingRows,
     total: u64,
 }
 
@@ -33,9 +33,9 @@ impl Model for TableRows {
 
     ghost Value = { TallySeen };
 
-    ghost view = { λ t. record { k = t.k; both = t.both; rows = t.rows.items } };
+    ghost view = { λ t. record { k = t.k; both = t.both; rows = t.rows } };
 
-    ghost invariant = { λ t. AreRows t.k t.both t.rows.items × (t.total ≡ total_of t.rows.items) };
+    ghost invariant = { λ t. AreRows t.k t.both t.rows × (t.total ≡ total_of t.rows) };
 }
 
 impl TableRows {
@@ -46,7 +46,7 @@ impl TableRows {
         TableRows {
             k,
             both,
-            rows: Vec::new(alloc),
+            rows: GrowingRows::new(alloc),
             total: 0,
         }
     }
@@ -55,7 +55,7 @@ impl TableRows {
     pub(crate) fn next_line_number(&self) -> u64
         ensures { result ≡ length self.now.rows + 2 }
     {
-        self.rows.len() as u64 + 2
+        self.rows.len() + 2
     }
 
     // The row in front of the bytes, where it may come next, and how many bytes it has.
@@ -105,6 +105,8 @@ impl TableRows {
         requires { MayFollow self.old row }
         ensures { OnOk result (self.new ≡ record self.old { rows = self.old.rows ++ row ∷ [] }) }
     {
+        // words of k bases are below 2^62
+        let _bases = self.k.get();
         self.rows.push(row)?;
         self.total += row.count;
         Ok(())
@@ -115,15 +117,15 @@ impl TableRows {
         ensures { IsTrue result ↔ (bytes.now ≡ end_text self.now.rows) }
     {
         scratch.clear();
-        push_end(scratch, self.rows.len() as u64, self.total);
+        push_end(scratch, self.rows.len(), self.total);
         is_same(scratch, bytes)
     }
 
     // The tally of the rows.
-    pub(crate) fn into_tally(self, alloc: Global) -> Result<Tally, AllocError>
+    pub(crate) fn into_tally(self) -> Result<Tally, AllocError>
         ensures { IfOk result (λ tally. tally ≡ self) }
     {
-        Tally::of_rows(alloc, self.k, self.both, self.rows)
+        self.rows.into_tally(self.k, self.both)
     }
 }
 

@@ -8,6 +8,7 @@ use Rattle.std.proofs.lemmas.List.Sums.{sum_by-cons, sum_by-append, count_by-le-
 use Rattle.kc_lemmas.proofs.Sums.{sum_by-map}
 use Rattle.kc_lemmas.proofs.Permutations.{WeighTheSame}
 use Rattle.kc_tally.specs.declared.row.Row.{Row}
+use Rattle.kc_tally.specs.Tally.{total_of}
 use Rattle.kc_tally.specs.Histogram.{last_bin, bin_of, bin_size, bins_of, bin_at, gained, lost, raised, counted_in, joined_bins, counts_of, bin_count}
 
 -- 1 where the bin is this one
@@ -437,3 +438,70 @@ bins_of-fit counts few = All-from_get_or (λ size. size < 2 ^ 64) (bins_of count
     let is = get_or-bins_of counts i (omega (arith, h, long)) in
     let most = bin_size-most counts (i + 1) in
     omega (arith, is, most, few))
+
+-- ---- rows that are left to be counted in
+
+count-left : (bins counts : List ℕ) (count : ℕ) → length bins ≡ last_bin
+    → joined_bins (counted_in bins count) (bins_of counts) ≡ joined_bins bins (bins_of (count ∷ counts))
+count-left bins counts count long =
+    let wide = length-counted_in bins count in
+    let same : length (counted_in bins count) ≡ length (bins_of counts) = wide ∙ long ∙ sym (length-bins_of counts) in
+    let also : length bins ≡ length (bins_of (count ∷ counts)) = long ∙ sym (length-bins_of (count ∷ counts)) in
+    let kept = length-joined_bins (counted_in bins count) (bins_of counts) same in
+    ext_get_or 0 (joined_bins (counted_in bins count) (bins_of counts)) (joined_bins bins (bins_of (count ∷ counts)))
+    (kept ∙ wide ∙ sym (length-joined_bins bins (bins_of (count ∷ counts)) also))
+    (λ i h.
+    let within : i < last_bin = omega (arith, h, kept, wide, long) in
+    let step = counted_in-at bins count i long in
+    let before = get_or-joined_bins (counted_in bins count) (bins_of counts) i same in
+    let after = get_or-joined_bins bins (bins_of (count ∷ counts)) i also in
+    let first = get_or-bins_of counts i within in
+    let second = get_or-bins_of (count ∷ counts) i within in
+    let more = bin_size-cons count counts (i + 1) in
+    omega (arith, step, before, after, first, second, more))
+
+-- these are left of all rows
+pub record AreLeft (all : List Row) (bins : List ℕ) (total : ℕ) (left : List Row) : Type 0 where
+  pub long : length bins ≡ last_bin
+  pub fits : All (λ size. size + length left < 2 ^ 64) bins
+  pub same : joined_bins bins (bins_of (counts_of left)) ≡ bins_of (counts_of all)
+  pub sum : total + total_of left ≡ total_of all
+
+pub all-left : (all : List Row) (bins : List ℕ) → bins ≡ bins_of [] → length all < 2 ^ 64 → AreLeft all bins 0 all
+all-left all bins none few = record {
+  long = ap length none ∙ length-bins_of [];
+  fits = room-for-all bins [] (length all) none (omega (arith, few));
+  same = ap (λ b. joined_bins b (bins_of (counts_of all))) none ∙ bins_of-append [] (counts_of all);
+  sum = omega arith;
+}
+
+pub one-left : (all : List Row) (bins : List ℕ) (total : ℕ) (row : Row) (left : List Row) → AreLeft all bins total (row ∷ left)
+    → AreLeft all (counted_in bins row.count) (total + row.count) left
+one-left all bins total row left are =
+    let wide = length-counted_in bins row.count in
+    let long : length bins ≡ last_bin = are.long in
+    record {
+      long = wide ∙ long;
+      fits = All-from_get_or (λ size. size + length left < 2 ^ 64) (counted_in bins row.count) 0 (λ i h.
+          let room = are.fits i 0 (omega (arith, h, wide)) in
+          let step = counted_in-at bins row.count i long in
+          let one = bin_size-cons row.count [] (i + 1) in
+          let most = bin_size-most (row.count ∷ []) (i + 1) in
+          omega (arith, room, step, one, most));
+      same = count-left bins (counts_of left) row.count long ∙ are.same;
+      sum = let first = sum_by-cons (λ (r : Row). r.count) row left in let sum = are.sum in omega (arith, first, sum);
+    }
+
+pub left-fits : (all : List Row) (bins : List ℕ) (total : ℕ) (row : Row) (left : List Row) → AreLeft all bins total (row ∷ left)
+    → total_of all < 2 ^ 64 → (bin_at bins (bin_of row.count) + 1 < 2 ^ 64) × (total + row.count < 2 ^ 64)
+left-fits all bins total row left are small =
+    let long : length bins ≡ last_bin = are.long in
+    let most = bin_of-most row.count in
+    let room = are.fits (bin_of row.count - 1) 0 (omega (arith, most, long)) in
+    let first = sum_by-cons (λ (r : Row). r.count) row left in
+    let sum = are.sum in
+    (omega (arith, room), omega (arith, first, sum, small))
+
+pub none-left : (all : List Row) (bins : List ℕ) (total : ℕ) → AreLeft all bins total []
+    → (bins ≡ bins_of (counts_of all)) × (total ≡ total_of all)
+none-left all bins total are = (joined-none bins are.long ∙ are.same, let sum = are.sum in omega (arith, sum))

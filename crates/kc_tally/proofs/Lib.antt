@@ -2,6 +2,9 @@ pub mod Bins
 pub mod MapCounts
 pub mod Parts
 pub mod Searches
+pub mod PackingLemmas
+pub mod PackingSteps
+pub mod SortedPacking
 pub mod StatisticsLemmas
 pub mod SumLemmas
 pub mod Tallies

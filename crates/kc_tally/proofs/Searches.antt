@@ -11,9 +11,9 @@ use Rattle.std.proofs.lemmas.List.Sorted.{IsNonDecreasingBy-from_default, IsPart
 use Rattle.kc_tally.specs.declared.row.Row.{Row}
 use Rattle.kc_tally.specs.Tally.{count_of, row_of}
 use Rattle.kc_tally.specs.Searching.{last_word}
-use Rattle.kc_tally.proofs.Parts.{Part, joined, joined-split, joined-next, length-front, length-next}
+use Rattle.kc_tally.proofs.Parts.{all_rows, parts-split, parts-next, long-front, long-next}
 
-count_at : (rows : List Row) (word i : ℕ) (d : Row) → i < length rows → (get_or rows i d).word ≡ word
+pub count_at : (rows : List Row) (word i : ℕ) (d : Row) → i < length rows → (get_or rows i d).word ≡ word
     → ((j : ℕ) → j < i → (get_or rows j d).word ≢ word) → count_of rows word ≡ (get_or rows i d).count
 count_at [] word i d below is before = absurd (omega (arith, below))
 count_at (row ∷ rows) word zero d below is before = cond-true (eqb row.word word) row.count (count_of rows word)
@@ -39,14 +39,14 @@ far xs rising i (suc n) h =
     let e : i + suc n + 1 ≡ i + n + 1 + 1 = omega arith in
     subst (λ m. get_or xs i 0 < get_or xs m 0) (sym e) (omega (arith, near, step))
 
-abbrev no_row : Row
+abbrev pub no_row : Row
 no_row = row_of 0 0
 
-word_at : (rows : List Row) (i : ℕ) → i < length rows
+pub word_at : (rows : List Row) (i : ℕ) → i < length rows
     → get_or (map (λ (row : Row). row.word) rows) i 0 ≡ (get_or rows i no_row).word
 word_at rows i h = get_or-map (λ (row : Row). row.word) rows i no_row 0 h
 
-rises : (rows : List Row) → IsStrictlyIncreasing (map (λ (row : Row). row.word) rows) → (i j : ℕ) → i < j
+pub rises : (rows : List Row) → IsStrictlyIncreasing (map (λ (row : Row). row.word) rows) → (i j : ℕ) → i < j
     → j < length rows → (get_or rows i no_row).word < (get_or rows j no_row).word
 rises rows rising i j less h =
     let long = length-map rows (λ (row : Row). row.word) in
@@ -87,15 +87,15 @@ searched rows word (Err i) rising within parted =
 
 -- ---- parts of rows
 
-abbrev words : List Row → List ℕ
+abbrev pub words : List Row → List ℕ
 words rows = map (λ (row : Row). row.word) rows
 
-climbs : (xs : List ℕ) → IsStrictlyIncreasing xs → (i j : ℕ) → i < j → j < length xs → get_or xs i 0 < get_or xs j 0
+pub climbs : (xs : List ℕ) → IsStrictlyIncreasing xs → (i j : ℕ) → i < j → j < length xs → get_or xs i 0 < get_or xs j 0
 climbs xs rising i j less h =
     let e : i + (j - i - 1) + 1 ≡ j = omega (arith, less) in
     subst (λ m. get_or xs i 0 < get_or xs m 0) e (far xs rising i (j - i - 1) (omega (arith, e, h)))
 
-ascends : (xs : List ℕ) → IsStrictlyIncreasing xs → (i j : ℕ) → i ≤ j → j < length xs → get_or xs i 0 ≤ get_or xs j 0
+pub ascends : (xs : List ℕ) → IsStrictlyIncreasing xs → (i j : ℕ) → i ≤ j → j < length xs → get_or xs i 0 ≤ get_or xs j 0
 ascends xs rising i j le h =
     ⊎_elim
     (λ (less : i < j). let up = climbs xs rising i j less h in omega (arith, up))
@@ -129,62 +129,62 @@ before front back m h =
     ap (λ xs. get_or xs m 0) (map-append word front back) ∙ get_or_append_left (words front) (words back) 0 m (omega (arith, h, long))
 
 -- the rows before a part, its own, and those behind it
-joined-around : (parts : List Part) (i : ℕ) (d : Part) → i < length parts
-    → joined parts ≡ (joined (take i parts) ++ (get_or parts i d).items) ++ joined (drop (i + 1) parts)
+joined-around : (parts : List (List Row)) (i : ℕ) (d : List Row) → i < length parts
+    → all_rows parts ≡ (all_rows (take i parts) ++ (get_or parts i d)) ++ all_rows (drop (i + 1) parts)
 joined-around parts i d h =
-    joined-split parts (i + 1) ∙ ap (λ rows. rows ++ joined (drop (i + 1) parts)) (joined-next parts i d h)
+    parts-split (λ (part : List Row). part) parts (i + 1) ∙ ap (λ rows. rows ++ all_rows (drop (i + 1) parts)) (parts-next (λ (part : List Row). part) parts i d h)
 
-part-words : (parts : List Part) (i : ℕ) (d : Part) → i < length parts → (m : ℕ) → m < length (get_or parts i d).items
-    → get_or (words (joined parts)) (length (joined (take i parts)) + m) 0 ≡ get_or (words (get_or parts i d).items) m 0
+part-words : (parts : List (List Row)) (i : ℕ) (d : List Row) → i < length parts → (m : ℕ) → m < length (get_or parts i d)
+    → get_or (words (all_rows parts)) (length (all_rows (take i parts)) + m) 0 ≡ get_or (words (get_or parts i d)) m 0
 part-words parts i d h m within =
-    ap (λ rows. get_or (words rows) (length (joined (take i parts)) + m) 0) (joined-around parts i d h)
-    ∙ at-part (joined (take i parts)) (get_or parts i d).items (joined (drop (i + 1) parts)) m within
+    ap (λ rows. get_or (words rows) (length (all_rows (take i parts)) + m) 0) (joined-around parts i d h)
+    ∙ at-part (all_rows (take i parts)) (get_or parts i d) (all_rows (drop (i + 1) parts)) m within
 
 -- parts that are searched: all their rows rise, and each has some
-pub record ArePartsThatRise (parts : List Part) : Type 0 where
-  pub rising : IsStrictlyIncreasing (map (λ (row : Row). row.word) (joined parts))
-  pub some : All (λ part. 1 ≤ length part.items) parts
+pub record ArePartsThatRise (parts : List (List Row)) : Type 0 where
+  pub rising : IsStrictlyIncreasing (map (λ (row : Row). row.word) (all_rows parts))
+  pub some : All (λ part. 1 ≤ length part) parts
 
 -- the rows of one part rise
-pub part-rises : (parts : List Part) (i : ℕ) (d : Part) → ArePartsThatRise parts → i < length parts
-    → IsStrictlyIncreasing (map (λ (row : Row). row.word) (get_or parts i d).items)
+pub part-rises : (parts : List (List Row)) (i : ℕ) (d : List Row) → ArePartsThatRise parts → i < length parts
+    → IsStrictlyIncreasing (map (λ (row : Row). row.word) (get_or parts i d))
 part-rises parts i d are h k within =
-    let items = (get_or parts i d).items in
-    let at = length (joined (take i parts)) in
+    let items = get_or parts i d in
+    let at = length (all_rows (take i parts)) in
     let short = length-map items (λ (row : Row). row.word) in
-    let long = length-map (joined parts) (λ (row : Row). row.word) in
-    let next = length-next parts i d h in
-    let front = length-front parts (i + 1) in
+    let long = length-map (all_rows parts) (λ (row : Row). row.word) in
+    let next = long-next (λ (part : List Row). part) parts i d h in
+    let front = long-front (λ (part : List Row). part) parts (i + 1) in
     let first = part-words parts i d h k (omega (arith, within, short)) in
     let second = part-words parts i d h (k + 1) (omega (arith, within, short)) in
-    let step = climbs (words (joined parts)) are.rising (at + k) (at + (k + 1)) (omega arith) (omega (arith, within, short, long, next, front)) in
+    let step = climbs (words (all_rows parts)) are.rising (at + k) (at + (k + 1)) (omega arith) (omega (arith, within, short, long, next, front)) in
     omega (arith, first, second, step)
 
 -- where the last row of a part stands
-last_place : (parts : List Part) (i : ℕ) (d : Part) → ArePartsThatRise parts → i < length parts
-    → get_or (words (joined parts)) (length (joined (take (i + 1) parts)) - 1) 0 ≡ last_word (get_or parts i d).items
+last_place : (parts : List (List Row)) (i : ℕ) (d : List Row) → ArePartsThatRise parts → i < length parts
+    → get_or (words (all_rows parts)) (length (all_rows (take (i + 1) parts)) - 1) 0 ≡ last_word (get_or parts i d)
 last_place parts i d are h =
     let some = are.some i d h in
-    let next = length-next parts i d h in
-    let e : length (joined (take (i + 1) parts)) - 1 ≡ length (joined (take i parts)) + (length (get_or parts i d).items - 1) = omega (arith, some, next) in
-    ap (λ m. get_or (words (joined parts)) m 0) e ∙ part-words parts i d h (length (get_or parts i d).items - 1) (omega (arith, some))
+    let next = long-next (λ (part : List Row). part) parts i d h in
+    let e : length (all_rows (take (i + 1) parts)) - 1 ≡ length (all_rows (take i parts)) + (length (get_or parts i d) - 1) = omega (arith, some, next) in
+    ap (λ m. get_or (words (all_rows parts)) m 0) e ∙ part-words parts i d h (length (get_or parts i d) - 1) (omega (arith, some))
 
-front-grows : (parts : List Part) (i j : ℕ) → i ≤ j → length (joined (take i parts)) ≤ length (joined (take j parts))
+front-grows : (parts : List (List Row)) (i j : ℕ) → i ≤ j → length (all_rows (take i parts)) ≤ length (all_rows (take j parts))
 front-grows parts i j le =
-    let less = length-front (take j parts) i in
-    let same = ap (λ ps. length (joined ps)) (take-take i j parts le) in
+    let less = long-front (λ (part : List Row). part) (take j parts) i in
+    let same = ap (λ ps. length (all_rows ps)) (take-take i j parts le) in
     omega (arith, less, same)
 
-pub lasts-ascend : (parts : List Part) → ArePartsThatRise parts → IsNonDecreasingBy (λ (part : Part). last_word part.items) parts
+pub lasts-ascend : (parts : List (List Row)) → ArePartsThatRise parts → IsNonDecreasingBy (λ (part : List Row). last_word part) parts
 lasts-ascend parts are i j d le h =
-    let long = length-map (joined parts) (λ (row : Row). row.word) in
+    let long = length-map (all_rows parts) (λ (row : Row). row.word) in
     let first = last_place parts i d are (omega (arith, le, h)) in
     let second = last_place parts j d are h in
     let grows = front-grows parts (i + 1) (j + 1) (omega (arith, le)) in
-    let front = length-front parts (j + 1) in
+    let front = long-front (λ (part : List Row). part) parts (j + 1) in
     let some = are.some j d h in
-    let next = length-next parts j d h in
-    let up = ascends (words (joined parts)) are.rising (length (joined (take (i + 1) parts)) - 1) (length (joined (take (j + 1) parts)) - 1)
+    let next = long-next (λ (part : List Row). part) parts j d h in
+    let up = ascends (words (all_rows parts)) are.rising (length (all_rows (take (i + 1) parts)) - 1) (length (all_rows (take (j + 1) parts)) - 1)
     (omega (arith, grows)) (omega (arith, front, some, next, long)) in
     omega (arith, first, second, up)
 
@@ -194,7 +194,7 @@ count-past (row ∷ xs) ys n none =
     cond-false (eqb row.word n) row.count (count_of (xs ++ ys) n) (ne_eqb row.word n (none 0 (omega arith)))
     ∙ count-past xs ys n (λ k h. none (suc k) (omega (arith, h)))
 
-count-none : (rows : List Row) (n : ℕ) → ((k : ℕ) → k < length rows → get_or (words rows) k 0 ≢ n) → count_of rows n ≡ 0
+pub count-none : (rows : List Row) (n : ℕ) → ((k : ℕ) → k < length rows → get_or (words rows) k 0 ≢ n) → count_of rows n ≡ 0
 count-none rows n none = ap (λ xs. count_of xs n) (sym (append-nil rows)) ∙ count-past rows [] n none
 
 count-front : (xs ys : List Row) (n : ℕ) → ((k : ℕ) → k < length ys → get_or (words ys) k 0 ≢ n) → count_of (xs ++ ys) n ≡ count_of xs n
@@ -202,60 +202,60 @@ count-front [] ys n none = count-none ys n none
 count-front (row ∷ xs) ys n none = ap (cond (eqb row.word n) row.count) (count-front xs ys n none)
 
 -- the first parts end below the word, and the others do not
-abbrev pub IsPartedAt : ℕ → List Part → ℕ → Type 0
+abbrev pub IsPartedAt : ℕ → List (List Row) → ℕ → Type 0
 IsPartedAt word parts i =
-    IsPartitionPoint (λ (part : Part). nat_lt (last_word part.items) word ≡ true) (λ (part : Part). nat_lt (last_word part.items) word ≡ false) parts i
+    IsPartitionPoint (λ (part : List Row). nat_lt (last_word part) word ≡ true) (λ (part : List Row). nat_lt (last_word part) word ≡ false) parts i
 
 -- all rows of the parts that end below the word are below it
-below-front : (parts : List Part) (word i : ℕ) → ArePartsThatRise parts → IsPartedAt word parts i → i ≤ length parts
-    → (k : ℕ) → k < length (joined (take i parts)) → get_or (words (joined parts)) k 0 < word
+below-front : (parts : List (List Row)) (word i : ℕ) → ArePartsThatRise parts → IsPartedAt word parts i → i ≤ length parts
+    → (k : ℕ) → k < length (all_rows (take i parts)) → get_or (words (all_rows parts)) k 0 < word
 below-front parts word zero are point within k h = absurd (omega (arith, h))
 below-front [] word (suc i) are point within k h = absurd (omega (arith, within))
 below-front (d ∷ others) word (suc i) are point within k h =
     let parts = d ∷ others in
     let e : suc i ≡ i + 1 = omega arith in
     let last = last_place parts i d are (omega (arith, within)) in
-    let under : last_word (get_or parts i d).items < word =
+    let under : last_word (get_or parts i d) < word =
     let ends = point.0 i d (omega arith) (omega arith) in grind (arith, nat_tests, ends) in
-    let long = length-map (joined parts) (λ (row : Row). row.word) in
-    let front = length-front parts (i + 1) in
-    let same = ap (λ n. length (joined (take n parts))) e in
-    let up = ascends (words (joined parts)) are.rising k (length (joined (take (i + 1) parts)) - 1) (omega (arith, h, same)) (omega (arith, h, same, front, long)) in
+    let long = length-map (all_rows parts) (λ (row : Row). row.word) in
+    let front = long-front (λ (part : List Row). part) parts (i + 1) in
+    let same = ap (λ n. length (all_rows (take n parts))) e in
+    let up = ascends (words (all_rows parts)) are.rising k (length (all_rows (take (i + 1) parts)) - 1) (omega (arith, h, same)) (omega (arith, h, same, front, long)) in
     omega (arith, last, under, up)
 
 -- the word can have a row in the part at the place alone
-pub count-in-part : (parts : List Part) (word i : ℕ) (d : Part) → ArePartsThatRise parts → IsPartedAt word parts i → i < length parts
-    → count_of (get_or parts i d).items word ≡ count_of (joined parts) word
+pub count-in-part : (parts : List (List Row)) (word i : ℕ) (d : List Row) → ArePartsThatRise parts → IsPartedAt word parts i → i < length parts
+    → count_of (get_or parts i d) word ≡ count_of (all_rows parts) word
 count-in-part parts word i d are point within =
-    let front = joined (take i parts) in
-    let items = (get_or parts i d).items in
-    let back = joined (drop (i + 1) parts) in
+    let front = all_rows (take i parts) in
+    let items = get_or parts i d in
+    let back = all_rows (drop (i + 1) parts) in
     let around = joined-around parts i d within in
-    let long = length-map (joined parts) (λ (row : Row). row.word) in
+    let long = length-map (all_rows parts) (λ (row : Row). row.word) in
     let whole = ap length around ∙ length-append (front ++ items) back in
     let both = length-append front items in
-    let next = length-next parts i d within in
+    let next = long-next (λ (part : List Row). part) parts i d within in
     let some = are.some i d within in
     let last = last_place parts i d are within in
     let least : word ≤ last_word items = let ends = point.1 i d (omega arith) within in grind (arith, nat_tests, ends) in
     sym (ap (λ rows. count_of rows word) around
     ∙ count-front (front ++ items) back word (λ k h same.
     let at = ap (λ rows. get_or (words rows) (length (front ++ items) + k) 0) around ∙ behind (front ++ items) back k in
-    let up = climbs (words (joined parts)) are.rising (length (joined (take (i + 1) parts)) - 1) (length (front ++ items) + k)
+    let up = climbs (words (all_rows parts)) are.rising (length (all_rows (take (i + 1) parts)) - 1) (length (front ++ items) + k)
     (omega (arith, both, next, some)) (omega (arith, h, whole, long)) in
     omega (arith, at, up, last, least, same))
     ∙ count-past front items word (λ k h same.
-    let at = ap (λ rows. get_or (words rows) k 0) (joined-split parts i) ∙ before front (joined (drop i parts)) k h in
+    let at = ap (λ rows. get_or (words rows) k 0) (parts-split (λ (part : List Row). part) parts i) ∙ before front (all_rows (drop i parts)) k h in
     let low = below-front parts word i are point (omega (arith, within)) k h in
     omega (arith, at, low, same)))
 
 -- or it has none
-pub count-in-none : (parts : List Part) (word i : ℕ) → ArePartsThatRise parts → IsPartedAt word parts i → i ≤ length parts
-    → length parts ≤ i → 0 ≡ count_of (joined parts) word
+pub count-in-none : (parts : List (List Row)) (word i : ℕ) → ArePartsThatRise parts → IsPartedAt word parts i → i ≤ length parts
+    → length parts ≤ i → 0 ≡ count_of (all_rows parts) word
 count-in-none parts word i are point within over =
-    let all : joined (take i parts) ≡ joined parts = ap joined (take_all i parts over) in
-    sym (count-none (joined parts) word (λ k h same.
+    let all : all_rows (take i parts) ≡ all_rows parts = ap all_rows (take_all i parts over) in
+    sym (count-none (all_rows parts) word (λ k h same.
     let low = below-front parts word i are point within k (let e = ap length all in omega (arith, e, h)) in omega (arith, low, same)))
 
-pub parted-at : (parts : List Part) (word : ℕ) → ArePartsThatRise parts → IsPartitionedBy (λ (part : Part). nat_lt (last_word part.items) word) parts
-parted-at parts word are = IsPartitionedBy-ltb (λ (part : Part). last_word part.items) parts word (lasts-ascend parts are)
+pub parted-at : (parts : List (List Row)) (word : ℕ) → ArePartsThatRise parts → IsPartitionedBy (λ (part : List Row). nat_lt (last_word part) word) parts
+parted-at parts word are = IsPartitionedBy-ltb (λ (part : List Row). last_word part) parts word (lasts-ascend parts are)

@@ -319,6 +319,16 @@ merged-sum {k} {both} {rows} {others} {sums} {later} {laters} {after} {afters} {
     subst (λ count. IsMerged k both rows others (sums ++ row_of row.word count ∷ []) after afters) (sym t.whole)
     (merged-more m s.0 s.1)
 
+-- the row is one that may be packed
+pub merged-next : {k : ℕ} {both : Bool} {rows others sums later laters after afters : List Row} {row : Row}
+    → IsMerged k both rows others sums later laters → TakesSum later after laters afters row
+    → (row.word < 4 ^ k) × (1 ≤ row.count)
+merged-next m t =
+    let s = taken-sum m t in
+    let some = s.1.some in
+    let whole = t.whole in
+    (s.1.below, omega (arith, some, whole))
+
 -- ---- two rows, of which the one with the lesser word is taken, or both
 
 not-other : {word : ℕ} (row : Row) (rows : List Row) → (row.word ≡ word → ⊥) → first_word (row ∷ rows) ≢ Some word

@@ -30,7 +30,7 @@ unfoldable pub RisesFrom : ℕ → List Row → Type 0
 RisesFrom low [] = Unit {0}
 RisesFrom low (row ∷ rows) = (low ≤ row.word) × RisesFrom (suc row.word) rows
 
-rises-from : (low : ℕ) (rows : List Row) → IsStrictlyIncreasing (map (λ row. row.word) rows) → (0 < length rows → low ≤ get_or (map (λ row. row.word) rows) 0 0) → RisesFrom low rows
+pub rises-from : (low : ℕ) (rows : List Row) → IsStrictlyIncreasing (map (λ row. row.word) rows) → (0 < length rows → low ≤ get_or (map (λ row. row.word) rows) 0 0) → RisesFrom low rows
 unfolding RisesFrom
 rises-from low [] rising first = tt
 rises-from low (row ∷ rows) rising first =
@@ -57,10 +57,10 @@ count_of-low low (row ∷ rows) n rises h =
     let apart : row.word ≡ n → ⊥ = λ e. let least = rises.0 in omega (arith, e, h, least) in
     cond-false (eqb row.word n) row.count (count_of rows n) (ne_eqb row.word n apart) ∙ count_of-low (suc row.word) rows n rises.1 (let least = rises.0 in omega (arith, h, least))
 
-count_of-here : (row : Row) (rows : List Row) (n : ℕ) → row.word ≡ n → count_of (row ∷ rows) n ≡ row.count
+pub count_of-here : (row : Row) (rows : List Row) (n : ℕ) → row.word ≡ n → count_of (row ∷ rows) n ≡ row.count
 count_of-here row rows n e = cond-true (eqb row.word n) row.count (count_of rows n) (eq-eqb row.word n e)
 
-count_of-past : (row : Row) (rows : List Row) (n : ℕ) → (row.word ≡ n → ⊥) → count_of (row ∷ rows) n ≡ count_of rows n
+pub count_of-past : (row : Row) (rows : List Row) (n : ℕ) → (row.word ≡ n → ⊥) → count_of (row ∷ rows) n ≡ count_of rows n
 count_of-past row rows n ne = cond-false (eqb row.word n) row.count (count_of rows n) (ne_eqb row.word n ne)
 
 -- two lists of rows, of which the first begins with the lesser number

@@ -4,3 +4,4 @@ pub mod Statistics
 pub mod Sum
 pub mod Laws
 pub mod Searching
+pub mod Packing

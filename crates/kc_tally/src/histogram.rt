@@ -5,7 +5,9 @@ ghost use Rattle.kc_tally.specs.Histogram.{last_bin, bin_of, bins_of, bin_at, ga
 ghost use Rattle.kc_tally.specs.Histogram.{joined_bins, counts_of};
 ghost use Rattle.kc_tally.specs.Tally.{total_of};
 
+use crate::packed_rows::PackedRows;
 use crate::row::Row;
+use crate::rows::Rows;
 use kc_lemmas::zeros;
 use std::alloc::{AllocError, Global};
 use std::marker::Model;
@@ -49,21 +51,22 @@ impl Histogram {
         Ok(histogram)
     }
 
-    /// The histogram of the counts of the rows of all parts, and the sum of these counts. Each row is read once.
-    /// Conditions: the number of rows fits, and so does the sum.
-    pub(crate) fn of_parts(
+    /// The histogram of the counts of the rows of all packed parts, and the sum of these counts. Conditions: the number
+    /// of rows fits, and so does the sum.
+    pub(crate) fn of_packed(
         alloc: Global,
-        parts: &[Vec<Row>],
+        parts: &[PackedRows],
     ) -> Result<(Histogram, u64), AllocError>
-        requires rows { length (flat_map (λ part. part.items) parts.now) < 2 ^ 64 }
-        requires total { total_of (flat_map (λ part. part.items) parts.now) < 2 ^ 64 }
-        ensures bins { IfOk result (λ pair. pair.0 ≡ bins_of (counts_of (flat_map (λ part. part.items) parts.now))) }
-        ensures total { IfOk result (λ pair. pair.1 ≡ total_of (flat_map (λ part. part.items) parts.now)) }
+        requires rows { length (flat_map (λ part. part) parts.now) < 2 ^ 64 }
+        requires total { total_of (flat_map (λ part. part) parts.now) < 2 ^ 64 }
+        ensures bins { IfOk result (λ pair. pair.0 ≡ bins_of (counts_of (flat_map (λ part. part) parts.now))) }
+        ensures total { IfOk result (λ pair. pair.1 ≡ total_of (flat_map (λ part. part) parts.now)) }
     {
         let mut histogram = Histogram::new(alloc)?;
         let mut total = 0;
-        for part in parts {
-            total += histogram.count_all(part);
+        for row in Rows::new(parts) {
+            total += row.count;
+            histogram.count_in(row.count);
         }
         Ok((histogram, total))
     }

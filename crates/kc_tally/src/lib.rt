@@ -2,11 +2,11 @@
 //! their total.
 //!
 //! A `Tally` is made of its rows, a `Row` for each word that occurs, in rising order of the words. They may come in
-//! parts, which it keeps. `bin`, `total` and `count_of` are then functions of the rows. A `Histogram` stands alone
-//! where words are still counted: it moves with each count that is raised, and histograms of parts add up. `Statistics`
-//! are four numbers about a tally, which need no rows where its histogram is known.
-//! `slow_tally::tally` counts small examples straight from the definitions, and `tally_laws` says what holds of every
-//! tally.
+//! parts. It keeps nearly every row in one word of 64 bits. `bin`, `total` and `count_of` are then functions of the
+//! rows. A `Histogram` stands alone where words are still counted: it moves with each count that is raised, and
+//! histograms of parts add up. `Statistics` are four numbers about a tally, which need no rows where its histogram is
+//! known. `slow_tally::tally` counts small examples straight from the definitions, and `tally_laws` says what holds of
+//! every tally.
 //!
 //! ```ignore
 //! let rows = [
@@ -21,7 +21,12 @@
 //! ```
 #![tactic(auto)]
 
+mod growing_rows;
 mod histogram;
+mod layout;
+mod loose_rows;
+mod packed_rows;
+mod part_rows;
 mod row;
 mod rows;
 mod search;
@@ -31,7 +36,10 @@ mod tally;
 pub mod tally_laws;
 mod tally_statistics;
 
+pub use growing_rows::GrowingRows;
 pub use histogram::Histogram;
+pub use loose_rows::{LooseLists, LooseRows};
+pub use packed_rows::PackedRows;
 pub use row::Row;
 pub use rows::Rows;
 pub use tally::Tally;

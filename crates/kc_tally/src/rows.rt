@@ -1,17 +1,19 @@
 //! The rows of a tally, one after another, without memory.
-ghost use Rattle.std.specs.Prelude.{◌≡◌, ◌+◌, ◌<◌, ◌≤◌, ◌^◌, IfSome, IfNone, if◌then◌else◌, length, drop};
+ghost use Rattle.std.specs.Prelude.{◌≡◌, ◌+◌, ◌<◌, ◌≤◌, ◌^◌, IfSome, IfNone};
 ghost use Rattle.std.specs.List.{flat_map};
 ghost use Rattle.kc_tally.specs.Tally.{row_of, total_of};
 ghost use Rattle.kc_tally.specs.Sum.{TakesSum};
 
+use crate::packed_rows::PackedRows;
+use crate::part_rows::PartRows;
 use crate::row::Row;
 use std::marker::Model;
 
 /// An iterator over the rows of a tally, seen as the list of those still to come.
 #[derive(Drop)]
 pub struct Rows<'a> {
-    part: &'a [Row],
-    later: &'a [Vec<Row>],
+    part: PartRows<'a>,
+    later: &'a [PackedRows],
 }
 
 impl<'a> Model for Rows<'a> {
@@ -21,16 +23,16 @@ impl<'a> Model for Rows<'a> {
 
     ghost Value = { List Row };
 
-    ghost view = { λ r. r.part.now ++ flat_map (λ part. part.items) r.later.now };
+    ghost view = { λ r. r.part ++ flat_map (λ part. part) r.later.now };
 }
 
 impl<'a> Rows<'a> {
     /// The rows of all parts, one part after another.
-    pub(crate) fn new(parts: &'a [Vec<Row>]) -> Rows<'a>
-        ensures { result ≡ flat_map (λ part. part.items) parts.now }
+    pub(crate) fn new(parts: &'a [PackedRows]) -> Rows<'a>
+        ensures { result ≡ flat_map (λ part. part) parts.now }
     {
         Rows {
-            part: &[],
+            part: PartRows::none(),
             later: parts,
         }
     }
@@ -41,7 +43,7 @@ impl<'a> Rows<'a> {
         ensures { result ≡ self.now }
     {
         Rows {
-            part: self.part,
+            part: self.part.ahead(),
             later: self.later,
         }
     }
@@ -55,16 +57,16 @@ impl<'a> Rows<'a> {
         ensures some { IfSome result (TakesSum self.old self.new other.old other.new) }
         ensures none { IfNone result ((self.new ≡ self.old) × (other.new ≡ other.old)) }
     {
-        let Some((first, _)) = self.part.split_first() else {
+        let Some(first) = self.part.first() else {
             return None;
         };
-        let Some((second, _)) = other.part.split_first() else {
+        let Some(second) = other.part.first() else {
             return None;
         };
-        let row = joined_row(*first, *second);
+        let row = joined_row(first, second);
         let (takes_first, takes_second) = (first.word <= second.word, second.word <= first.word);
-        self.part = without_taken(self.part, takes_first);
-        other.part = without_taken(other.part, takes_second);
+        self.part.pass(takes_first);
+        other.part.pass(takes_second);
         Some(row)
     }
 }
@@ -90,15 +92,6 @@ fn joined_row(first: Row, second: Row) -> Row
     }
 }
 
-// The rows behind the first, where that is taken: how many are left out is computed, so that no branch depends on it.
-#[inline(always)]
-fn without_taken(rows: &[Row], taken: bool) -> &[Row]
-    requires { 1 ≤ length rows.now }
-    ensures { result.now ≡ (if taken then drop 1 rows.now else rows.now) }
-{
-    &rows[taken as usize..]
-}
-
 impl<'a> Iterator for Rows<'a> {
     type Item = Row;
 
@@ -111,14 +104,13 @@ impl<'a> Iterator for Rows<'a> {
     #[inline(always)]
     fn next(&mut self) -> Option<Row> {
         loop {
-            if let Some((row, rest)) = self.part.split_first() {
-                self.part = rest;
-                return Some(*row);
+            if let Some(row) = self.part.take() {
+                return Some(row);
             }
             match self.later.split_first() {
                 None => return None,
                 Some((part, later)) => {
-                    self.part = part;
+                    self.part = part.rows();
                     self.later = later;
                 }
             }

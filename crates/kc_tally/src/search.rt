@@ -2,19 +2,8 @@
 ghost use Rattle.std.specs.Prelude.{◌≡◌, map};
 ghost use Rattle.std.specs.List.Sorted.{IsStrictlyIncreasing};
 ghost use Rattle.kc_tally.specs.Tally.{count_of};
-ghost use Rattle.kc_tally.specs.Searching.{last_word};
 
 use crate::row::Row;
-
-// The word of the last row, 0 where there is none.
-pub(crate) fn last_word(rows: &[Row]) -> u64
-    ensures { result ≡ last_word rows.now }
-{
-    match rows.last() {
-        Some(row) => row.word,
-        None => 0,
-    }
-}
 
 // The count of a word in rows that rise, 0 where it has no row.
 pub(crate) fn count_in(rows: &[Row], word: u64) -> u64

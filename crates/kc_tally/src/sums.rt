@@ -1,33 +1,33 @@
 //! The rows of the sum of two tallies.
 ghost use Rattle.std.specs.Prelude.{◌≡◌, ◌+◌, ◌≤◌, ◌^◌, IfOk, IfSome, IfNone, None, length};
-ghost use Rattle.std.specs.Vec.{vec_capacity};
 ghost use Rattle.kc_tally.specs.Tally.{AreRows, total_of};
 ghost use Rattle.kc_tally.specs.Sum.{IsSum, TakesCount, TakesSum};
 ghost use Rattle.kc_tally.specs.Sum as summing;
 
+use crate::growing_rows::GrowingRows;
 use crate::row::Row;
 use crate::rows::Rows;
 use crate::tally::Tally;
 use std::alloc::{AllocError, Global};
 
-// The rows of the sum, in room for at most the rows of both. Both tallies are gone over once, in the order of words.
+// The rows of the sum. Both tallies are gone over once, in the order of words.
 pub(crate) fn summed_rows(
     alloc: Global,
     first: &Tally,
     second: &Tally,
-) -> Result<Vec<Row>, AllocError>
+) -> Result<GrowingRows, AllocError>
     requires k { first.now.k ≡ second.now.k }
     requires both { first.now.both ≡ second.now.both }
     requires small { total_of first.now.rows + total_of second.now.rows ≤ 2 ^ 62 }
-    ensures sum { IfOk result (λ sums. IsSum first.now.k first.now.rows second.now.rows sums.items) }
-    ensures lawful { IfOk result (λ sums. AreRows first.now.k first.now.both sums.items) }
-    ensures bounded { IfOk result (λ sums. vec_capacity sums ≤ length first.now.rows + length second.now.rows) }
+    ensures sum { IfOk result (λ sums. IsSum first.now.k first.now.rows second.now.rows sums) }
+    ensures lawful { IfOk result (λ sums. AreRows first.now.k first.now.both sums) }
 {
-    let room = first.row_count() + second.row_count();
-    let mut sums = Vec::with_capacity(alloc, room as usize)?;
+    // words of k bases are below 2^62
+    let _bases = first.k().get();
+    let mut sums = GrowingRows::new(alloc);
     let (mut firsts, mut seconds) = (first.rows(), second.rows());
     'words: while let Some(row) = take_sum(&mut firsts, &mut seconds) {
-        sums.push_reserved(row);
+        sums.push(row)?;
     }
     Ok(sums)
 }

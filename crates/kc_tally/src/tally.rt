@@ -1,15 +1,14 @@
 //! A tally: the words that occur, in rising order, each with its count.
 ghost use Rattle.std.specs.Prelude.{◌≡◌, ◌+◌, ◌≤◌, ◌^◌, All, IfOk, length};
 ghost use Rattle.std.specs.List.{flat_map};
-ghost use Rattle.std.specs.Vec.{vec_capacity};
 ghost use Rattle.kc_tally.specs.Tally.{AreRows, count_of, total_of};
 ghost use Rattle.kc_tally.specs.Histogram.{last_bin, bin_count, bins_of, counts_of};
 ghost use Rattle.kc_tally.specs.Sum.{IsSumOf};
 
 use crate::histogram::Histogram;
+use crate::packed_rows::{PackedRows, packed_parts};
 use crate::row::Row;
 use crate::rows::Rows;
-use crate::search::{count_in, last_word};
 use crate::sums::summed_rows;
 use kc_kmer::K;
 use std::alloc::{AllocError, Global};
@@ -22,7 +21,7 @@ pub struct Tally {
     k: K,
     both: bool,
     // the rows, one part after another: no part is empty
-    parts: Vec<Vec<Row>>,
+    parts: Vec<PackedRows>,
     histogram: Histogram,
     total: u64,
 }
@@ -37,37 +36,41 @@ impl Model for Tally {
     ghost use Rattle.kc_tally.specs.Tally.{AreRows, total_of};
     ghost use Rattle.kc_tally.specs.Histogram.{bins_of, counts_of};
 
-    ghost view = { λ t. record { k = t.k; both = t.both; rows = flat_map (λ part. part.items) t.parts.items } };
+    ghost view = { λ t. record { k = t.k; both = t.both; rows = flat_map (λ part. part) t.parts.items } };
 
-    ghost invariant = { λ t. AreRows t.k t.both (flat_map (λ part. part.items) t.parts.items)
-        × (t.histogram ≡ bins_of (counts_of (flat_map (λ part. part.items) t.parts.items)))
-        × (t.total ≡ total_of (flat_map (λ part. part.items) t.parts.items))
-        × All (λ part. 1 ≤ length part.items) t.parts.items };
+    ghost invariant = { λ t. AreRows t.k t.both (flat_map (λ part. part) t.parts.items)
+        × (t.histogram ≡ bins_of (counts_of (flat_map (λ part. part) t.parts.items)))
+        × (t.total ≡ total_of (flat_map (λ part. part) t.parts.items))
+        × All (λ part. 1 ≤ length part) t.parts.items };
 }
 
 impl Tally {
     /// The tally of these rows. Condition: they rise by their words, each word is below 4^k and, where both strands
-    /// count, its own canonical form, each count is at least 1, and the counts are together at most 2^62.
+    /// count, its own canonical form, each count is at least 1, and the counts are together at most 2^62. The rows take
+    /// half the memory here, or little more where counts are large, and the given ones are freed bit by bit.
     pub fn of_rows(alloc: Global, k: K, both: bool, rows: Vec<Row>) -> Result<Tally, AllocError>
         requires { AreRows k both rows.items }
         ensures { IfOk result (λ tally. tally ≡ record { k = k; both = both; rows = rows.items }) }
     {
-        Tally::of_parts(alloc, k, both, as_one_part(alloc, rows)?)
+        // words of k bases are below 2^62
+        let _bases = k.get();
+        let parts = packed_parts(alloc, rows)?;
+        Tally::of_packed(alloc, k, both, parts)
     }
 
-    /// The tally of the rows of all parts, one part after another, which may be empty. No row is copied. Condition: all
-    /// rows together are such as `of_rows` takes.
-    pub fn of_parts(
+    /// The tally of the rows of all packed parts, one part after another, which may be empty. No row is copied.
+    /// Condition: all rows together are such as `of_rows` takes.
+    pub fn of_packed(
         alloc: Global,
         k: K,
         both: bool,
-        parts: Vec<Vec<Row>>,
+        parts: Vec<PackedRows>,
     ) -> Result<Tally, AllocError>
-        requires { AreRows k both (flat_map (λ part. part.items) parts.items) }
+        requires { AreRows k both (flat_map (λ part. part) parts.items) }
         ensures { IfOk result (λ tally. tally
-            ≡ record { k = k; both = both; rows = flat_map (λ part. part.items) parts.items }) }
+            ≡ record { k = k; both = both; rows = flat_map (λ part. part) parts.items }) }
     {
-        let (histogram, total) = Histogram::of_parts(alloc, &parts)?;
+        let (histogram, total) = Histogram::of_packed(alloc, &parts)?;
         Ok(Tally {
             k,
             both,
@@ -86,8 +89,7 @@ impl Tally {
         requires small { total_of first.now.rows + total_of second.now.rows ≤ 2 ^ 62 }
         ensures { IfOk result (IsSumOf first.now second.now) }
     {
-        let rows = summed_rows(alloc, first, second)?;
-        Tally::of_rows(alloc, first.k, first.both, rows)
+        summed_rows(alloc, first, second)?.into_tally(first.k, first.both)
     }
 
     /// The length of the words.
@@ -125,9 +127,9 @@ impl Tally {
         ensures { result ≡ count_of self.now.rows word }
     {
         // the first part that does not end below the word
-        let index = self.parts.partition_point(|part| last_word(part) < word);
+        let index = self.parts.partition_point(|part| part.last_word() < word);
         if index < self.parts.len() {
-            count_in(&self.parts[index], word)
+            self.parts[index].count_of(word)
         } else {
             0
         }
@@ -159,29 +161,19 @@ impl Tally {
     }
 }
 
-// The rows as the only part, in room for that alone.
-fn as_one_part(alloc: Global, rows: Vec<Row>) -> Result<Vec<Vec<Row>>, AllocError>
-    ensures same { IfOk result (λ parts. flat_map (λ part. part.items) parts.items ≡ rows.items) }
-    ensures bounded { IfOk result (λ parts. vec_capacity parts ≤ 1) }
-{
-    let mut parts = Vec::with_capacity(alloc, 1)?;
-    parts.push_reserved(rows);
-    Ok(parts)
-}
-
 // The parts that have rows.
-fn without_empty(mut parts: Vec<Vec<Row>>) -> Vec<Vec<Row>>
-    ensures same { flat_map (λ part. part.items) result.items ≡ flat_map (λ part. part.items) parts.items }
-    ensures some { All (λ part. 1 ≤ length part.items) result.items }
+fn without_empty(mut parts: Vec<PackedRows>) -> Vec<PackedRows>
+    ensures same { flat_map (λ part. part) result.items ≡ flat_map (λ part. part) parts.items }
+    ensures some { All (λ part. 1 ≤ length part) result.items }
 {
-    parts.retain(|part| !part.is_empty());
+    parts.retain(|part| part.len() > 0);
     parts
 }
 
 // How many rows the parts have.
-fn row_count(parts: &[Vec<Row>]) -> u64
-    requires { length (flat_map (λ part. part.items) parts.now) ≤ 2 ^ 62 }
-    ensures { result ≡ length (flat_map (λ part. part.items) parts.now) }
+pub(crate) fn row_count(parts: &[PackedRows]) -> u64
+    requires { length (flat_map (λ part. part) parts.now) ≤ 2 ^ 62 }
+    ensures { result ≡ length (flat_map (λ part. part) parts.now) }
 {
     let mut count = 0;
     for part in parts {

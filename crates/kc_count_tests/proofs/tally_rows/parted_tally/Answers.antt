@@ -15,6 +15,6 @@ lawful = record {
   small = search rules;
 }
 
-pub of_parts-requires : goal.of_parts-requires
+pub of_packed-requires : goal.of_packed-requires
 unfolding rows
-of_parts-requires c = rw (c.requires, c.in_ok-in_parts.ensures) lawful
+of_packed-requires c = rw (c.requires, c.in_ok-in_parts.ensures) lawful

@@ -4,7 +4,7 @@ use Rattle.std.proofs.lemmas.Result.{err_from_is_err_and}
 use Rattle.kc_kmer.specs.Rule.{CountingRule}
 use Rattle.kc_word.specs.Shared.{values}
 use Rattle.kc_gather.specs.declared.gather_fault.GatherFault.TheVariants.{Missing}
-use Rattle.kc_gather.specs.Parts.{column_rows}
+use Rattle.kc_gather.specs.Parts.{list_rows}
 use Rattle.kc_gather.proofs.Stripes.{whole-at_places, refusal-at_places, counted-at_places}
 use Rattle.kc_gather.proofs.Tallies.{IsGathering, parts-taken, AreRows-gathered, IsTallyOf-gathered}
 use Rattle.kc_gather.proofs.gatherer.gather.Goals as goal
@@ -15,7 +15,7 @@ columns_of-requires g c =
     c.in_ok-taken.ensures.whole c.in_ok-taken.ensures.rows (c.k.ensures ∙ ap (λ (rule : CountingRule). rule.k) c.rule.ensures)
 
 -- the rows that were gathered
-gathered : (g : _) (c : goal.In_ok-parts g) → IsGathering c.args.setup.now (values c.args.batches.now) c.args.stripes.items (column_rows c.in_ok-parts.parts)
+gathered : (g : _) (c : goal.In_ok-parts g) → IsGathering c.args.setup.now (values c.args.batches.now) c.args.stripes.items (list_rows c.in_ok-parts.parts)
 gathered g c = record {
   placed = c.in_ok-placed.placed.items;
   taken = c.in_ok-taken.taken.items;
@@ -31,7 +31,7 @@ gathered g c = record {
   sorted_are = c.in_ok-parts.ensures;
 }
 
-gathered_whole : (g : _) (c : goal.In_ok-tally_of g) → IsGathering c.args.setup.now (values c.args.batches.now) c.args.stripes.items (column_rows c.in_ok-parts.parts)
+gathered_whole : (g : _) (c : goal.In_ok-tally_of g) → IsGathering c.args.setup.now (values c.args.batches.now) c.args.stripes.items (list_rows c.in_ok-parts.parts)
 gathered_whole g c = record {
   placed = c.in_ok-placed.placed.items;
   taken = c.in_ok-taken.taken.items;
@@ -48,14 +48,14 @@ gathered_whole g c = record {
 }
 
 pub tally_of-requires : goal.tally_of-requires
-tally_of-requires g c = AreRows-gathered c.args.setup.now (values c.args.batches.now) c.args.stripes.items (column_rows c.in_ok-parts.parts) c.requires.few (gathered g c)
+tally_of-requires g c = AreRows-gathered c.args.setup.now (values c.args.batches.now) c.args.stripes.items (list_rows c.in_ok-parts.parts) c.requires.few (gathered g c)
 
 pub returns-clause-whole : goal.returns-clause-whole
 returns-clause-whole g c = whole-at_places c.args.stripes.items c.in_ok-placed.placed.items c.in_ok-placed.ensures c.in_ok-taken.ensures.whole
 
 pub returns-clause-tally : goal.returns-clause-tally
 returns-clause-tally g c =
-    IsTallyOf-gathered c.args.setup.now (values c.args.batches.now) c.args.stripes.items (column_rows c.in_ok-parts.parts) c.in_ok-tally_of.field-0 c.in_ok-tally_of.ensures (gathered_whole g c)
+    IsTallyOf-gathered c.args.setup.now (values c.args.batches.now) c.args.stripes.items (list_rows c.in_ok-parts.parts) c.in_ok-tally_of.field-0 c.in_ok-tally_of.ensures (gathered_whole g c)
 
 pub returns-in_err-taken-clause-refused : goal.returns-in_err-taken-clause-refused
 returns-in_err-taken-clause-refused g c =

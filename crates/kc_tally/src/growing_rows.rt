@@ -1,0 +1,100 @@
+//! Rows of a tally that come one by one, in the order of their words, and are packed meanwhile.
+ghost use Rattle.std.specs.Prelude.{◌≡◌, ◌-◌, ◌^◌, ◌<◌, ◌≤◌, ◌++◌, [], ◌∷◌, IfOk, OnOk, OnErr, length, slice_get};
+ghost use Rattle.kc_tally.specs.Tally.{AreRows};
+
+use crate::packed_rows::{PART_ROWS, PackedRows};
+use crate::row::Row;
+use crate::tally::{Tally, row_count};
+use kc_kmer::K;
+use std::alloc::{AllocError, Global};
+use std::marker::Model;
+
+/// Rows that grow at their end, seen as their list. All but the last ones are packed, so that they take half the memory
+/// of rows.
+#[derive(Drop)]
+pub struct GrowingRows {
+    alloc: Global,
+    packed: Vec<PackedRows>,
+    // those behind the packed ones, at most as many as a part has, and some where any row is packed
+    rows: Vec<Row>,
+}
+
+impl Model for GrowingRows {
+    ghost use Rattle.std.specs.Prelude.{List, ◌++◌};
+    ghost use Rattle.std.specs.List.{flat_map};
+    ghost use Rattle.kc_tally.specs.Packing.{AreGrowing};
+    ghost use Rattle.kc_tally.specs.declared.row.Row.{Row};
+
+    ghost Value = { List Row };
+
+    ghost view = { λ g. flat_map (λ part. part) g.packed.items ++ g.rows.items };
+
+    ghost invariant = { λ g. AreGrowing g.packed.items g.rows.items };
+}
+
+impl GrowingRows {
+    /// No rows yet.
+    pub fn new(alloc: Global) -> GrowingRows
+        ensures { result ≡ [] }
+    {
+        GrowingRows {
+            alloc,
+            packed: Vec::new(alloc),
+            rows: Vec::new(alloc),
+        }
+    }
+
+    /// Puts a row behind the others. Where memory is refused they stay as they are. Conditions: its word is below 2^62,
+    /// and its count at least 1.
+    pub fn push(&mut self, row: Row) -> Result<(), AllocError>
+        requires word { row.word < 2 ^ 62 }
+        requires present { 1 ≤ row.count }
+        ensures more { OnOk result (self.new ≡ self.old ++ row ∷ []) }
+        ensures kept { OnErr result (self.new ≡ self.old) }
+    {
+        if self.rows.len() < PART_ROWS {
+            self.rows.push(row)?;
+            return Ok(());
+        }
+        let mut rows = Vec::with_capacity(self.alloc, PART_ROWS)?;
+        let part = PackedRows::of_rows(self.alloc, &self.rows)?;
+        self.packed.push(part)?;
+        rows.push_reserved(row);
+        self.rows = rows;
+        Ok(())
+    }
+
+    /// The last row.
+    #[inline(always)]
+    pub fn last(&self) -> Option<Row>
+        ensures { result ≡ slice_get self.now (length self.now - 1) }
+    {
+        match self.rows.last() {
+            Some(row) => Some(*row),
+            None => None,
+        }
+    }
+
+    /// How many rows there are. Condition: at most 2^62.
+    pub fn len(&self) -> u64
+        requires { length self.now ≤ 2 ^ 62 }
+        ensures { result ≡ length self.now }
+    {
+        row_count(&self.packed) + self.rows.len() as u64
+    }
+
+    /// The tally of these rows. Condition: they are such as `Tally::of_rows` takes.
+    pub fn into_tally(self, k: K, both: bool) -> Result<Tally, AllocError>
+        requires { AreRows k both self }
+        ensures { IfOk result (λ tally. tally ≡ record { k = k; both = both; rows = self }) }
+    {
+        let GrowingRows {
+            alloc,
+            mut packed,
+            rows,
+        } = self;
+        packed.push(PackedRows::of_rows(alloc, &rows)?)?;
+        drop(rows);
+        Tally::of_packed(alloc, k, both, packed)
+    }
+}

@@ -1,0 +1,112 @@
+//! The rows of one part of a tally, one after another, without memory.
+ghost use Rattle.std.specs.Prelude.{◌≡◌, [], ◌∷◌, IfSome, IfNone, if◌then◌else◌, drop};
+ghost use Rattle.kc_tally.specs.Packing.{rows_of};
+
+use crate::layout::Layout;
+use crate::row::Row;
+use std::marker::Model;
+
+/// The rows of a part that are still to come, seen as their list.
+#[derive(Drop)]
+pub(crate) struct PartRows<'a> {
+    layout: Layout,
+    packed: &'a [u64],
+    large: &'a [Row],
+}
+
+impl<'a> Model for PartRows<'a> {
+    ghost use Rattle.std.specs.Prelude.{List};
+    ghost use Rattle.kc_tally.specs.Packing.{rows_of};
+    ghost use Rattle.kc_tally.specs.declared.row.Row.{Row};
+
+    ghost Value = { List Row };
+
+    ghost view = { λ r. rows_of r.layout r.packed.now r.large.now };
+}
+
+impl<'a> PartRows<'a> {
+    /// No rows.
+    pub(crate) fn none() -> PartRows<'a>
+        ensures { result ≡ [] }
+    {
+        PartRows {
+            layout: Layout::between(0, 0),
+            packed: &[],
+            large: &[],
+        }
+    }
+
+    /// The rows that stand in these words, and the large ones among them.
+    #[inline(always)]
+    pub(crate) fn new(layout: Layout, packed: &'a [u64], large: &'a [Row]) -> PartRows<'a>
+        ensures { result ≡ rows_of layout packed.now large.now }
+    {
+        PartRows {
+            layout,
+            packed,
+            large,
+        }
+    }
+
+    /// The same rows, so that one may look at those to come.
+    #[inline(always)]
+    pub(crate) fn ahead(&self) -> PartRows<'a>
+        ensures { result ≡ self.now }
+    {
+        PartRows {
+            layout: self.layout,
+            packed: self.packed,
+            large: self.large,
+        }
+    }
+
+    /// The first row, which stays.
+    #[inline(always)]
+    pub(crate) fn first(&self) -> Option<Row>
+        ensures some { IfSome result (λ row. self.now ≡ row ∷ drop 1 self.now) }
+        ensures none { IfNone result (self.now ≡ []) }
+    {
+        let Some((first, _)) = self.packed.split_first() else {
+            return None;
+        };
+        Some(self.layout.row(*first, self.large))
+    }
+
+    /// The first row, which is used up.
+    #[inline(always)]
+    pub(crate) fn take(&mut self) -> Option<Row>
+        ensures some { IfSome result (λ row. self.old ≡ row ∷ self.new) }
+        ensures none { IfNone result ((self.old ≡ []) × (self.new ≡ [])) }
+    {
+        let Some((first, rest)) = self.packed.split_first() else {
+            return None;
+        };
+        let row = self.layout.row(*first, self.large);
+        self.large = without_first(self.large, self.layout.is_apart(*first));
+        self.packed = rest;
+        Some(row)
+    }
+
+    /// Leaves the first row out, where that is asked: how many are left out is computed, so that no branch depends on
+    /// it.
+    #[inline(always)]
+    pub(crate) fn pass(&mut self, passed: bool)
+        ensures { self.new ≡ (if passed then drop 1 self.old else self.old) }
+    {
+        let Some((first, _)) = self.packed.split_first() else {
+            return;
+        };
+        let apart = self.layout.is_apart(*first);
+        self.large = without_first(self.large, passed & apart);
+        self.packed = without_first(self.packed, passed);
+    }
+}
+
+// The items behind the first, where that is asked and there is one.
+#[inline(always)]
+fn without_first<T>(items: &[T], asked: bool) -> &[T]
+    ensures { result.now ≡ (if asked then drop 1 items.now else items.now) }
+{
+    let skipped = (asked as usize).min(items.len());
+    &items[skipped..]
+}
