@@ -23,13 +23,18 @@ minutes() {
 }
 
 # While the toolchain tries the wrong bodies of a crate, it keeps what it proved in a folder that it removes afterwards. The other edits are tried over
-# the same, so its files are linked before that; what is missed is only proved once more.
+# the same, so its proofs are linked before that; what is missed is only proved once more. The other files are copied: a check writes into them, and
+# the toolchain tries the wrong bodies from nothing where a file of its own was changed.
 link_what_is_kept() {
     while sleep 2; do
         for folder in "$work"/tmp/rt-edits-*/; do
             # (some versions of the toolchain keep it one folder below)
             [ ! -d "${folder}seed" ] || folder=${folder}seed/
-            cp -alf "$folder." "$work/kept/" 2> /dev/null || true
+            (
+                cd "$folder" || exit 0
+                find . -name '*.oantt' -exec cp -lf --parents -t "$work/kept" {} +
+                find . -type f ! -name '*.oantt' -exec cp -au --parents -t "$work/kept" {} +
+            ) 2> /dev/null || true
         done
     done
 }

@@ -309,13 +309,14 @@ def kept_files(crate, kept):
 
 @contextmanager
 def copied(crate, kept):
-    """Gives a folder with links to what that folder has of the crate. (The checker makes a file anew where it writes it.)"""
+    """Gives a folder with links to the proofs that that folder has of the crate, and copies of its other files. (The checker makes a proof's file anew
+    where it writes it, and writes into the others.)"""
     with tempfile.TemporaryDirectory(prefix="kept-", dir=os.path.dirname(kept)) as room:
         for it in kept_files(crate, kept):
             os.makedirs(os.path.dirname(f"{room}/{it}"), exist_ok=True)
             # (what a check of another crate is about to write may be gone)
             with suppress(FileNotFoundError):
-                os.link(f"{kept}/{it}", f"{room}/{it}")
+                (os.link if it.endswith(".oantt") else shutil.copyfile)(f"{kept}/{it}", f"{room}/{it}")
         yield room
 
 
@@ -446,7 +447,8 @@ def try_beside(rt, crates, kept, path):
     """Tries the edits of these crates as `try_crates` does, each crate's as soon as the toolchain's gate is done with it. Until that has ended half
     of the processors are used at the most."""
     os.nice(19)
-    left, running, tried = [*crates], set(), {}
+    # (the most edits take longest, so they begin first)
+    left, running, tried = sorted(crates, key=lambda it: -len(names_in(it.folder)[0])), set(), {}
     with ThreadPoolExecutor(rt.processors()) as pool:
         while left or running:
             log = text_of(*os.path.split(path))
