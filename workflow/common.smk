@@ -75,9 +75,9 @@ def megabytes(bytes, attempt):
 
 
 def memory_of_count(wildcards, attempt):
-    """7 bytes for each base, of which short reads take 0.4, and 36 for each different k-mer, at most one a base."""
+    """10 bytes for each base, of which short reads take 0.4, and 28 for each different k-mer, at most one a base."""
     bases = next(part["bases"] for part in parts_of(wildcards.file) if part["part"] == wildcards.part)
-    return megabytes(bases * (7 + 36 * config["different_in_a_base"]), attempt)
+    return megabytes(bases * (10 + 28 * config["different_in_a_base"]), attempt)
 
 
 def rows_of(tables):
@@ -86,10 +86,10 @@ def rows_of(tables):
 
 
 def memory_of_merge(wildcards, input, attempt):
-    """16 bytes for each row of each table and of their sum."""
-    return megabytes(32 * rows_of(input), attempt)
+    """9 bytes for each row of each table and of their sum."""
+    return megabytes(18 * rows_of(input), attempt)
 
 
 def memory_of_report(wildcards, input, attempt):
-    """16 bytes for each row."""
-    return megabytes(16 * rows_of(input), attempt)
+    """9 bytes for each row."""
+    return megabytes(9 * rows_of(input), attempt)
