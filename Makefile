@@ -49,14 +49,14 @@ examples: build ## runs the examples of README.md, docs/USING.md and docs/TUTORI
 workflow: build ## runs the Snakemake workflow over the examples, also killed and with a part that is refused
 	tests/workflow.sh
 
-workflow-slurm: build ## the same on a SLURM of one node, as root; no part of the gate
+workflow-slurm: build ## the same on a SLURM of one node, as root; no part of the full test
 	tests/workflow_slurm.sh
 
 documents: ## compares what the documents name with what is there
 	tests/documents.py
 
-test: ## the gate: all proofs from nothing, the tests, the stored run, the edits that must fail; then memory, files, options, program, examples, workflow
-	tests/gate.sh
+test: ## everything: all proofs from nothing, the tests, the stored run, the edits that must fail; then memory, files, options, program, examples, workflow
+	tests/full.sh
 
 bench: build ## runs the benchmarks and prints the tables of docs/BENCHMARKS.md
 	bench/all.sh

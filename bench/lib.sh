@@ -48,7 +48,7 @@ lay_out() {
 }
 
 # rattle_program NAME DEP..: proves and builds the program of bench/NAME over these crates, and names it $rattle. Its sources
-# end in `.in`, since the gate wants every source of this repository in a listed crate.
+# end in `.in`, since `rt ci` wants every source of this repository in a listed crate.
 rattle_program() {
     local name=$1 crate=$work/crates/$1_bench file
     shift

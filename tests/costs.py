@@ -1,7 +1,7 @@
 #!/usr/bin/env python3
-"""Tells what processor time each crate takes of the gate:
+"""Tells what processor time each crate takes of the full test:
     tests/costs.py MARK
-It looks once a second at the checker's processes that have GATE=MARK in their environment, until it is sent SIGTERM, and then prints a row a
+It looks once a second at the checker's processes that have FULL_TEST=MARK in their environment, until it is sent SIGTERM, and then prints a row a
 crate with minutes of processor time: its proof, that of its tests, that with its wrong bodies in must-fail, and that with its other edits.
 What a process takes after the last look at it is not counted, a second at the most.
 """
@@ -38,13 +38,13 @@ def seconds_of(process):
 
 
 def look(mark, taken):
-    """Notes the processor time of each of the gate's checks, by process."""
+    """Notes the processor time of each of the full test's checks, by process."""
     for pid in filter(str.isdigit, os.listdir("/proc")):
         process = f"/proc/{pid}"
         try:
             words = text_of(f"{process}/cmdline").split("\0")
             named = re.search(r"--crate-name\0(\w+)", "\0".join(words))
-            if not named or f"GATE={mark}\0" not in text_of(f"{process}/environ"):
+            if not named or f"FULL_TEST={mark}\0" not in text_of(f"{process}/environ"):
                 continue
             incremental = words[words.index("--incremental") + 1] if "--incremental" in words else ""
             taken[pid, named[1], kind_of(words, incremental)] = seconds_of(process)

@@ -1,8 +1,8 @@
 #!/usr/bin/env python3
 """Tries the edits that the prover must refuse, many by one check:
     tools/edits.py [--kept FOLDER [--beside LOG]] [CRATE..]
-The crates are proved first, from what earlier runs kept. With --kept they are taken as the gate has proved and built them, and the folder has what
-checks of them kept, as far as it was saved. With --beside the toolchain's gate still runs and writes LOG: the edits of a crate are tried, at the
+The crates are proved first, from what earlier runs kept. With --kept they are taken as the full test has proved and built them, and the folder has what
+checks of them kept, as far as it was saved. With --beside `rt ci` still runs and writes LOG: the edits of a crate are tried, at the
 lowest priority, as soon as that has tried the crate's wrong bodies, so that no processor is idle while it goes through the longest chain of crates.
 
 An edit is a file crates/NAME/edits/WHAT_IS_WRONG.edit. Besides the lines of a must-fail edit of the toolchain (`file:`, `old:`, `new:`) it
@@ -419,12 +419,12 @@ def try_crates(rt, crates, kept):
 
 
 def has_ended(log):
-    """Returns whether the toolchain's gate, which writes this log, has come to its last line."""
+    """Returns whether `rt ci`, which writes this log, has come to its last line."""
     return bool(re.search(r"(?m)^\d+ passed, \d+ failed$", log))
 
 
 def is_tried(crate, log):
-    """Returns whether the toolchain's gate is done with the crate: it has proved it and tried its wrong bodies, if there are any."""
+    """Returns whether `rt ci` is done with the crate: it has proved it and tried its wrong bodies, if there are any."""
     if has_ended(log):
         return True
     if not os.path.isdir(f"{crate.folder}/must-fail"):
@@ -444,7 +444,7 @@ def is_being_tried(name):
 
 
 def try_beside(rt, crates, kept, path):
-    """Tries the edits of these crates as `try_crates` does, each crate's as soon as the toolchain's gate is done with it. Until that has ended half
+    """Tries the edits of these crates as `try_crates` does, each crate's as soon as `rt ci` is done with it. Until that has ended half
     of the processors are used at the most."""
     os.nice(19)
     # (the most edits take longest, so they begin first)

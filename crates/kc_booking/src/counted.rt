@@ -175,8 +175,8 @@ impl<C: Counts> CountedTable<C> {
         }
     }
 
-    // The same for a block of keys: they are counted in the table, and then in the histogram, so that the loop over the
-    // table does nothing else while it waits for memory.
+    // Counts a block of keys: first in the table, and then in the histogram, so that the loop over the table does
+    // nothing else while it waits for memory.
     fn add_block(&mut self, keys: &[u64], places: &[u64])
         requires short { length keys.now ≤ block_len }
         requires in_range { All (λ key. key < 2 ^ C.bits self.old.table) keys.now }

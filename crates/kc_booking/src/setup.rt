@@ -69,8 +69,8 @@ impl Setup {
         })
     }
 
-    /// The same, where no word counts that is not in the list: Some where the words of the list are as long as those of
-    /// the count, and in the forms under which these count.
+    /// This setup with a list, so that no word counts that is not in it: Some where the words of the list are as long
+    /// as those of the count, and in the forms under which these count.
     pub fn listed(self, list: Arc<Only>) -> Option<Setup>
         ensures some { IsSome result ↔ ((list.value.k ≡ self.rule.k) × (list.value.both ≡ self.rule.both)) }
         ensures rule { IfSome result (λ setup. setup.rule ≡ with_list self.rule list.value.words) }

@@ -431,7 +431,8 @@ fn enter(
     Ok(())
 }
 
-// The same for several batches, in their order.
+// Puts several batches behind those of the journal, in order, and their numbers to those that are booked, or none of
+// them. Condition: what is booked are the numbers in the journal.
 fn enter_all(
     journal: &mut Vec<Arc<Batch>>,
     booked: &mut HashSet<u64>,

@@ -13,7 +13,8 @@ pub(crate) fn number_between(text: &[u8], least: u64, most: u64) -> Option<u64>
     between(number(text)?, least, most)
 }
 
-/// The same, of a text that may have `k`, `M` or `G` (10^3, 10^6 or 10^9) behind its digits.
+/// The number that a text of digits is which may have `k`, `M` or `G` (10^3, 10^6 or 10^9) behind them, where it stands
+/// between the bounds.
 pub(crate) fn scaled_between(text: &[u8], least: u64, most: u64) -> Option<u64>
     ensures value { result ≡ scaled_between least most text.now }
     ensures limits { IfSome result (λ number. (least ≤ number) × (number ≤ most)) }

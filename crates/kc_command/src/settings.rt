@@ -130,7 +130,7 @@ impl Options {
         }
     }
 
-    /// The same, with tables that begin with `size` slots, over all stripes. Condition: it is 1 to 2^40.
+    /// These settings, with hash tables that begin with `size` slots, over all stripes. Condition: it is 1 to 2^40.
     pub fn with_size(self, size: u64) -> Options
         requires low { 1 ≤ size }
         requires high { size ≤ 2 ^ 40 }
@@ -140,7 +140,7 @@ impl Options {
         Options { size, ..options }
     }
 
-    /// The same, by `workers` threads. Condition: there are 1 to 64.
+    /// These settings, for a count by `workers` threads. Condition: there are 1 to 64.
     pub fn with_workers(self, workers: u32) -> Options
         requires low { 1 ≤ workers }
         requires high { workers ≤ 64 }
@@ -150,7 +150,7 @@ impl Options {
         Options { workers, ..options }
     }
 
-    /// The same, with a word counted under its canonical form where both strands count.
+    /// These settings, with a word counted under its canonical form where both strands count.
     pub fn with_both(self, both: bool) -> Options
         ensures { result ≡ record self { both = both } }
     {
@@ -158,7 +158,7 @@ impl Options {
         Options { both, ..options }
     }
 
-    /// The same, of bases whose quality byte is at least `floor`. Condition: it is 33 to 126.
+    /// These settings, for words of bases whose quality byte is at least `floor`. Condition: it is 33 to 126.
     pub fn with_floor(self, floor: u8) -> Options
         requires low { 33 ≤ floor }
         requires high { floor ≤ 126 }
@@ -168,8 +168,8 @@ impl Options {
         Options { floor, ..options }
     }
 
-    /// The same, with as many stripes, or with as many as there are words where these are fewer. Condition: `stripes`
-    /// is 1, 2, 4, 8, 16, 32 or 64.
+    /// These settings, with as many stripes, or with as many as there are words where these are fewer. Condition:
+    /// `stripes` is 1, 2, 4, 8, 16, 32 or 64.
     pub fn with_stripes(self, stripes: u32) -> Options
         requires { AreStripes stripes }
         ensures { result ≡ record self { stripes = lowered self.k stripes } }
@@ -181,7 +181,7 @@ impl Options {
         }
     }
 
-    /// The same, in batches of `batch` positions. Condition: it is 1 to 2^36.
+    /// These settings, with batches of `batch` positions. Condition: it is 1 to 2^36.
     pub fn with_batch(self, batch: u64) -> Options
         requires low { 1 ≤ batch }
         requires high { batch ≤ 2 ^ 36 }
@@ -191,7 +191,7 @@ impl Options {
         Options { batch, ..options }
     }
 
-    /// The same, with this report.
+    /// These settings, with this report.
     pub fn with_print(self, print: Print) -> Options
         ensures { result ≡ record self { print = print } }
     {
@@ -199,7 +199,7 @@ impl Options {
         Options { print, ..options }
     }
 
-    /// The same, with a dump, where one is printed, laid out so. Condition: its bounds are at most 2^62.
+    /// These settings, with a dump, where one is printed, laid out so. Condition: its bounds are at most 2^62.
     pub fn with_dump(self, dump: Dump) -> Options
         requires lower { dump.lower ≤ 2 ^ 62 }
         requires upper { dump.upper ≤ 2 ^ 62 }
@@ -209,8 +209,8 @@ impl Options {
         Options { dump, ..options }
     }
 
-    /// The same, with a histogram, where one is printed, whose last line but one is that of `high`. Condition: it is 1
-    /// to 10,000,000.
+    /// These settings, with a histogram, where one is printed, whose last line but one is that of `high`. Condition: it
+    /// is 1 to 10,000,000.
     pub fn with_high(self, high: u64) -> Options
         requires low { 1 ≤ high }
         requires most { high ≤ 10000000 }

@@ -6,6 +6,8 @@ mod count_assertions;
 #[cfg(test)]
 mod counting_tables;
 #[cfg(test)]
+mod growing_tallies;
+#[cfg(test)]
 mod hashes;
 #[cfg(test)]
 mod histograms_of_bins;
@@ -19,3 +21,5 @@ mod report_rows;
 mod selected_reads;
 #[cfg(test)]
 mod tally_rows;
+#[cfg(test)]
+mod unsorted_rows;

@@ -145,7 +145,7 @@ fn tally_of(alloc: Global, reads: &[SeqRead], k: K) -> Result<Tally, Fail> {
 }
 
 // The length of a word.
-fn k_of(k: u32) -> Result<K, Fail>
+pub(crate) fn k_of(k: u32) -> Result<K, Fail>
     ensures { IfOk result (λ made. made ≡ k) }
 {
     match K::new(k) {
@@ -314,7 +314,7 @@ fn parted_count(word: u64) -> u64 {
 }
 
 // Asserts that this is the parted tally.
-fn assert_parted<H: Abort>(rt: &H, tally: &Tally) {
+pub(crate) fn assert_parted<H: Abort>(rt: &H, tally: &Tally) {
     assert_same(rt, "total", &tally.total(), &70_004);
     assert_tally_bins(rt, tally, &[(1, 2), (2, 1), (3, 0), (10_001, 1)]);
     assert_tally_rows(rt, tally, PARTED);

@@ -61,9 +61,9 @@ fn taken_of<C: Counts + Drop>(
     Ok(rows_of(alloc, stripe)?)
 }
 
-/// The same with at most so many threads, each of which looks at the stripes that it takes. A single one is started
-/// too: the C library lets threads use again what the threads before them freed, and so rows come to lie where tables
-/// were. Condition: one at the least.
+/// The rows of all stripes, taken as by `taken`, by at most so many threads, each of which looks at the stripes that it
+/// takes. A single one is started too: the C library lets threads use again what the threads before them freed, and so
+/// rows come to lie where tables were. Condition: one at the least.
 pub(crate) fn taken_in_parallel<C: Counts + Drop + Send, H: Threads + Sync>(
     rt: &H,
     alloc: Global,

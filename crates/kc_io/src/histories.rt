@@ -27,14 +27,14 @@ impl Heard {
         Heard {}
     }
 
-    /// The same, and then this answer of a read into the slice, or of a write from it.
+    /// What was answered so far, and then this answer of a read into the slice, or of a write from it.
     pub fn and(&self, answer: &Result<usize, Failed>, slice: &[u8]) -> Heard
         ensures { result.history ≡ after self.now.history answer.now slice.now }
     {
         Heard {}
     }
 
-    /// The same, and then this answer of a flush.
+    /// What was answered so far, and then this answer of a flush.
     pub fn and_flush(&self, answer: &Result<(), Failed>) -> Heard
         ensures { result.history ≡ after_flush self.now.history answer.now }
     {
@@ -62,14 +62,14 @@ impl Asked {
         Asked {}
     }
 
-    /// The same, and then a call that was interrupted.
+    /// What was answered so far, and then a call that was interrupted.
     pub fn and_interruption(&self) -> Asked
         ensures { result.calls ≡ and_interruption self.now.calls }
     {
         Asked {}
     }
 
-    /// The same, and then a call that was answered otherwise.
+    /// What was answered so far, and then a call that was answered otherwise.
     pub fn and_answer(&self) -> Asked
         ensures { result.calls ≡ and_answer self.now.calls }
     {

@@ -50,7 +50,7 @@ impl Dump {
         }
     }
 
-    /// The same dump of the rows with a count from `lower` to `upper`, both of which count.
+    /// This dump, of the rows with a count from `lower` to `upper`, both of which count.
     pub fn between(self, lower: u64, upper: u64) -> Dump
         ensures { result ≡ record self { lower = lower; upper = upper } }
     {

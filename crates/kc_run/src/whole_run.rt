@@ -158,7 +158,8 @@ fn counted<H: Threads + Wait + Sync, C: Counts + Drop + Send, G: Gate + Sync>(
     counted_by_name::<H, C, G, Brand>(rt, alloc, count, tables, sheet)
 }
 
-// The same with a sheet of shares. Every sheet has a type of its own, N, so that no share of another gets in.
+// The stripes in which all batches were booked, with this sheet of shares. Every sheet has a type of its own, N, so
+// that no share of another gets in.
 fn counted_by_name<
     H: Threads + Wait + Sync,
     C: Counts + Drop + Send,

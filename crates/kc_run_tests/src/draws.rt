@@ -131,7 +131,7 @@ fn draw_at(tickets: &Tickets, seats: &mut Vec<Seat>, index: usize) -> Option<u64
     tickets.draw(&mut seats[index])
 }
 
-// The same, and whether the seat is done then.
+// What the seat at this index draws next, and whether it is done then.
 fn turn_at(tickets: &Tickets, seats: &mut Vec<Seat>, index: usize) -> (Option<u64>, bool)
     requires own { All (IsSeatOf tickets.now) seats.old.items }
     requires index { index < vec_len seats.old }

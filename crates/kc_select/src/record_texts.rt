@@ -25,7 +25,7 @@ pub(crate) fn put_record<W: Sink>(
     }
 }
 
-// The same of a record of FASTA.
+// Puts a record of FASTA behind the block: a line with its title, and one with its bases.
 fn put_fasta<W: Sink>(
     writer: &mut W,
     block: &mut Block,
@@ -41,7 +41,7 @@ fn put_fasta<W: Sink>(
     put_line(writer, block, b"", bases)
 }
 
-// The same of a record of FASTQ.
+// Puts a record of FASTQ behind the block, in four lines.
 fn put_fastq<W: Sink>(
     writer: &mut W,
     block: &mut Block,
@@ -90,7 +90,7 @@ fn put<W: Sink>(writer: &mut W, block: &mut Block, bytes: &[u8]) -> Result<(), F
     Ok(())
 }
 
-// The same of bytes for which a block has no room: they go to the writer behind the block.
+// Writes the block and then bytes for which a block has no room.
 fn put_long<W: Sink>(writer: &mut W, block: &mut Block, bytes: &[u8]) -> Result<(), Failed>
     ensures ok { OnOk result (Drains (W.seen writer.old) (W.seen writer.new) (block.old ++ bytes.now) block.new) }
     ensures err { OnErr result (HasBegun (W.seen writer.old) (W.seen writer.new) (block.old ++ bytes.now)) }

@@ -44,7 +44,7 @@ impl Selection {
         }
     }
 
-    /// The same, of bases whose quality byte is at least `floor`. Condition: it is 33 to 126.
+    /// This selection, by words of bases whose quality byte is at least `floor`. Condition: it is 33 to 126.
     pub fn with_floor(self, floor: u8) -> Selection
         requires low { 33 ≤ floor }
         requires high { floor ≤ 126 }
@@ -54,7 +54,7 @@ impl Selection {
         Selection { floor, ..selection }
     }
 
-    /// The same, with the reads that are not solid selected instead where it is inverted.
+    /// This selection or, where it is inverted, that of the reads that are not solid.
     pub fn with_inverted(self, inverted: bool) -> Selection
         ensures { result ≡ record self { inverted = inverted } }
     {

@@ -418,7 +418,7 @@ fn long_fasta(alloc: Global, width: usize) -> Result<Vec<u8>, AllocError> {
     Ok(text)
 }
 
-// The same with qualities, and a short read behind it.
+// A read of FASTQ whose bases and qualities are wrapped, and a short read behind it.
 fn long_fastq(alloc: Global, width: usize) -> Result<Vec<u8>, AllocError> {
     let mut text = b"@q\n".to_vec(alloc)?;
     push_parts(&mut text, &wrapped(alloc, b'A', width)?, b"+\n")?;

@@ -186,7 +186,7 @@ fn quotient_stripe_by(alloc: Global, setup: &Setup) -> Result<Box<Stripe<Quotien
     Ok(Box::new(alloc, Stripe::new(alloc, setup, 0, table)?)?)
 }
 
-// The same over a `BTreeMap`.
+// An empty stripe of words of three bases over a `BTreeMap`.
 pub(crate) fn map_stripe(alloc: Global) -> Result<Box<Stripe<PlainCounts>>, Fail> {
     let setup = made_setup(3, 1)?;
     plain_stripe(alloc, &setup, 0)

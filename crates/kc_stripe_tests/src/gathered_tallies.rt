@@ -89,7 +89,7 @@ fn add_pairs(pairs: &mut Vec<(u64, u64)>, rows: &[Row]) -> Result<(), AllocError
     Ok(())
 }
 
-// The same of a stripe's rows.
+// Puts the words and counts of a stripe's rows behind the pairs.
 fn add_rows<C: Counts>(
     alloc: Global,
     pairs: &mut Vec<(u64, u64)>,

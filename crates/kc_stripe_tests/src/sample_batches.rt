@@ -18,12 +18,12 @@ pub(crate) fn setup_with(k: u32, both: bool, stripes: u32) -> Option<Setup> {
     Setup::new(Rule::new(k, both, b'!'), hash, stripes)
 }
 
-// The same on one strand.
+// A setup for words on one strand.
 pub(crate) fn setup_of(k: u32, stripes: u32) -> Option<Setup> {
     setup_with(k, false, stripes)
 }
 
-// The same, where there is such a setup.
+// A setup for words on one strand, or a failed test where there is none.
 pub(crate) fn made_setup(k: u32, stripes: u32) -> Result<Setup, Fail> {
     match setup_of(k, stripes) {
         Some(setup) => Ok(setup),

@@ -145,7 +145,7 @@ impl Slots {
         }
     }
 
-    /// The same map in a table of 2^log slots, or None where a key's places are all taken there.
+    /// What is counted here, in a table of 2^log slots, or None where a key's places are all taken there.
     pub fn resized(&self, alloc: Global, log: u32) -> Result<Option<Slots>, AllocError>
         requires few_slots { log ≤ most_log }
         requires no_wider { log ≤ self.now.bits }

@@ -40,6 +40,7 @@ pub use growing_rows::GrowingRows;
 pub use histogram::Histogram;
 pub use loose_rows::{LooseLists, LooseRows};
 pub use packed_rows::PackedRows;
+pub use part_rows::PartRows;
 pub use row::Row;
 pub use rows::Rows;
 pub use tally::Tally;

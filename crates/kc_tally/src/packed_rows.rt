@@ -76,7 +76,7 @@ impl PackedRows {
 
     /// The rows, one after another.
     #[inline(always)]
-    pub(crate) fn rows(&self) -> PartRows<'_>
+    pub fn rows(&self) -> PartRows<'_>
         ensures { result ≡ self.now }
     {
         PartRows::new(self.layout, &self.packed, &self.large)

@@ -8,7 +8,7 @@ use std::marker::Model;
 
 /// The rows of a part that are still to come, seen as their list.
 #[derive(Drop)]
-pub(crate) struct PartRows<'a> {
+pub struct PartRows<'a> {
     layout: Layout,
     packed: &'a [u64],
     large: &'a [Row],
@@ -48,7 +48,7 @@ impl<'a> PartRows<'a> {
         }
     }
 
-    /// The same rows, so that one may look at those to come.
+    /// A second walk over these rows, to look at those to come.
     #[inline(always)]
     pub(crate) fn ahead(&self) -> PartRows<'a>
         ensures { result ≡ self.now }
@@ -74,7 +74,7 @@ impl<'a> PartRows<'a> {
 
     /// The first row, which is used up.
     #[inline(always)]
-    pub(crate) fn take(&mut self) -> Option<Row>
+    pub fn take(&mut self) -> Option<Row>
         ensures some { IfSome result (λ row. self.old ≡ row ∷ self.new) }
         ensures none { IfNone result ((self.old ≡ []) × (self.new ≡ [])) }
     {

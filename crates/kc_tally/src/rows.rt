@@ -37,7 +37,7 @@ impl<'a> Rows<'a> {
         }
     }
 
-    /// The same rows, so that one may look at those to come.
+    /// A second walk over these rows, to look at those to come.
     #[inline(always)]
     pub(crate) fn ahead(&self) -> Rows<'a>
         ensures { result ≡ self.now }

@@ -47,7 +47,7 @@ fn take_sum(firsts: &mut Rows<'_>, seconds: &mut Rows<'_>) -> Option<Row>
     }
 }
 
-// The same, where parts may have to be begun, or no rows are left.
+// The row of the lesser of the next words, where a part has to be begun first, or no row is left.
 #[inline(always)]
 fn take_counts(firsts: &mut Rows<'_>, seconds: &mut Rows<'_>) -> Option<Row>
     requires { total_of firsts.old + total_of seconds.old ≤ 2 ^ 62 }

@@ -55,7 +55,7 @@ fn run_divided<H: Files + Threads + Wait + Sync + AllocGlobal>(
     })
 }
 
-// The same, with words that are divided by blanks.
+// Runs a command line whose arguments are divided by blanks.
 fn run<H: Files + Threads + Wait + Sync + AllocGlobal>(
     rt: &H,
     line: &str,

@@ -143,7 +143,7 @@ const LINES: &[(u64, Told, &str)] = &[
     (3_700_000, Told::Ends, ""),
 ];
 
-// The same of a count that is over soon.
+// What is told of a count that is over soon, and the line that is shown then.
 const NO_LINES: &[(u64, Told, &str)] = &[
     (0, Told::Read(1_000_000), ""),
     (100, Told::Begins(1), ""),

@@ -22,8 +22,8 @@ use Rattle.kc_tool.specs.Files.{files_named, given_back, openings, output_of, re
 use Rattle.kc_tool.specs.Commands.{DoesByTally, IsAboutTally, Stage}
 use Rattle.kc_tool.specs.Selections.{Told}
 use Rattle.kc_tool.specs.Commands.{Answers, Does, HasFilesFor, HasNoTallyFor, IsTallyFor, TellNoSum, TellNoTable, behind_list, given_of, most_table_bytes, sources_from, sources_in}
-use Rattle.kc_tool.specs.Commands.{AsksForTask, DoesCommand, DoesTask, DoesTaskInto, DoesTaskTo, EndsSo, IsRefused, IsRefusedOption, KeepsInput, LacksOutput}
-use Rattle.kc_tool.specs.Commands.{Surroundings, files_of, first_refused, stage_after}
+use Rattle.kc_tool.specs.Commands.{AsksForTask, DoesTaskInto, EndsSo, IsRefused, IsRefusedOption, KeepsInput, LacksOutput}
+use Rattle.kc_tool.specs.Commands.{Surroundings, files_of, first_refused, stage_after, stage_before}
 use Rattle.kc_tool.specs.declared.named_sources.NamedSource.{NamedSource}
 use Rattle.kc_tool.specs.declared.tool_faults.ToolFault.{ToolFault}
 use Rattle.kc_tool.specs.declared.tool_faults.ToolFault.TheVariants.{Fastx, BadHeader, BadRow, BadEnd, TableTooLong, TableRead, Memory, BadOption, BadWord, Write, Run, OpenFailed, Unlike, TooLarge}
@@ -33,6 +33,33 @@ use Rattle.kc_tool.specs.declared.commands.Verb.{Verb}
 use Rattle.kc_tool.specs.declared.commands.Verb.TheVariants as verb
 use Rattle.kc_tool.proofs.FilesLemmas.{PairedTo, unread_back}
 use Rattle.kc_tool.proofs.SourcesLemmas.{not_counted}
+
+-- a task is done with sources that were opened, and they are given back
+pub record DoesTask (sources : List (NamedSource Seen)) (task : Task) (old new : Surroundings)
+    (outcome : Result Told ToolFault) : Type 0 where
+  pub files : List FileRead
+  pub are : AreOf sources files
+  pub input : KeepsInput (sources_in task (map (λ file. file.before) files)) old.input new.input
+  pub log : new.asked ≡ old.asked ++ returned files
+  pub done : Does task (stage_before task old.input files old.output) (stage_after task new.input files new.output) outcome
+
+-- a task is done with sources that were opened, and writes to the given output; or, where a file is named for the
+-- output, to that one, if it can be created, and the given output is as it was
+abbrev pub DoesTaskTo : Option Text → List (NamedSource Seen) → Task → Surroundings → Surroundings
+    → Result Told ToolFault → Type 0
+DoesTaskTo None sources task old new outcome = DoesTask sources task old new outcome
+DoesTaskTo (Some name) sources task old new outcome = (new.output ≡ old.output)
+    × (DoesTaskInto name sources task old.input new.input old.asked new.asked outcome
+    ⊎ LacksOutput name sources old.input new.input old.asked new.asked outcome)
+
+-- files of these names are opened, and a task is done with them and the output of this name, where one is given; or not
+-- all could be opened, and nothing was read or written
+abbrev pub OpensAndDoes : List Text → Option Text → Task → Surroundings → Surroundings → Result Told ToolFault → Type 0
+OpensAndDoes names output task old new outcome =
+    ((opened : List FileEvent) × (sources : List (NamedSource Seen)) × OpensAll names old.asked opened sources
+    × DoesTaskTo output sources task (record { input = old.input; output = old.output; asked = opened }) new outcome)
+    ⊎ ((fault : ToolFault) × (outcome ≡ Err fault) × FailsToOpen names old.asked new.asked fault
+    × (new.input ≡ old.input) × (new.output ≡ old.output))
 
 -- The texts that were found.
 pub texts_found : {found : Option (List Text)} {texts : List Text} → Some texts ≡ found → texts ≡ unwrap_or found []
@@ -237,6 +264,11 @@ about_no_tally (Query words) old new fault about done = done
 about_no_tally Merge old new fault about done = done
 about_no_tally (Select rule tells) old new fault about done = absurd about
 
+-- Sources that were lent are given back as they were left.
+pub back_as_left : (asked : List FileEvent) {asked_after : List FileEvent} {lent left : List (NamedSource Seen)} → asked_after ≡ asked ++ given_back lent → lent ≡ left
+    → asked_after ≡ asked ++ given_back left
+back_as_left asked back same = back ∙ ap (λ v. asked ++ given_back v) same
+
 -- The files of a task were read, and are given back.
 pub task_done : {sources later : List (NamedSource Seen)} {task : Task} {old new : Surroundings} {outcome : Result Told ToolFault} (files : List FileRead)
     → PairedTo sources later files → KeepsInput (sources_in task (seen_of (λ seen. seen) sources)) old.input new.input → new.asked ≡ old.asked ++ given_back later
@@ -416,7 +448,7 @@ module _ (command : Verb) (rows : List Row) where
   -- The task of a command was done, or not all its files could be opened.
   pub command_ends : {old new : Surroundings} (task : Task) {names : List Text} {output : Option Text} {outcome : Result Told ToolFault}
       → AsksForTask command rows task → first_refused command rows ≡ None → names ≡ files_of command rows → output_of rows ≡ output
-      → DoesCommand names output task old new outcome → EndsSo command rows old new outcome
+      → OpensAndDoes names output task old new outcome → EndsSo command rows old new outcome
   command_ends {old} {new} task {names} {output} {outcome} asks lawful named same (inl does) =
       done_to task asks (subst (λ v. OpensAll v old.asked does.0 does.1) named does.2) output same lawful does.3
   command_ends {old} {new} task {names} {output} {outcome} asks lawful named same (inr fails) =

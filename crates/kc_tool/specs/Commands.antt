@@ -21,7 +21,7 @@ use Rattle.kc_command.specs.declared.option_name.OptionName.{OptionName}
 use Rattle.kc_command.specs.declared.settings.Print.TheVariants as print
 use Rattle.kc_tool.specs.Faults.{report_fault}
 use Rattle.kc_tool.specs.FileEvents.{FileEvent, created, not_created, wrote}
-use Rattle.kc_tool.specs.Files.{AreOf, AreOpened, FailsToOpen, FileRead, FileWritten, IsCreated, LacksFile, OpensAll}
+use Rattle.kc_tool.specs.Files.{AreOf, AreOpened, FileRead, FileWritten, IsCreated, LacksFile}
 use Rattle.kc_tool.specs.Files.{TellsName}
 use Rattle.kc_tool.specs.Files.{files_named, given_back, log_with_output, log_without_output, output_of, returned}
 use Rattle.kc_tool.specs.Files.{words_asked}
@@ -308,16 +308,8 @@ pub record Surroundings : Type 0 where
   pub output : Written
   pub asked : List FileEvent
 
--- a task is done with sources that were opened, and they are given back
-pub record DoesTask (sources : List (NamedSource Seen)) (task : Task) (old new : Surroundings)
-    (outcome : Result Told ToolFault) : Type 0 where
-  pub files : List FileRead
-  pub are : AreOf sources files
-  pub input : KeepsInput (sources_in task (map (λ file. file.before) files)) old.input new.input
-  pub log : new.asked ≡ old.asked ++ returned files
-  pub done : Does task (stage_before task old.input files old.output) (stage_after task new.input files new.output) outcome
-
--- the same, and it writes to a file of this name, which is created before and given back too
+-- a task is done with sources that were opened, and it writes to a file of this name, which is created before; all are
+-- given back
 pub record DoesTaskInto (name : Text) (sources : List (NamedSource Seen)) (task : Task) (input input_after : Seen)
     (asked asked_after : List FileEvent) (outcome : Result Told ToolFault) : Type 0 where
   pub files : List FileRead
@@ -336,24 +328,6 @@ pub record LacksOutput (name : Text) (sources : List (NamedSource Seen)) (input 
   pub told : TellsName name fault
   pub unread : input_after ≡ input
   pub log : asked_after ≡ asked ++ not_created name ∷ given_back sources
-
--- a task is done with sources that were opened, and writes to the given output; or, where a file is named for the
--- output, to that one, if it can be created, and the given output is as it was
-abbrev pub DoesTaskTo : Option Text → List (NamedSource Seen) → Task → Surroundings → Surroundings
-    → Result Told ToolFault → Type 0
-DoesTaskTo None sources task old new outcome = DoesTask sources task old new outcome
-DoesTaskTo (Some name) sources task old new outcome = (new.output ≡ old.output)
-    × (DoesTaskInto name sources task old.input new.input old.asked new.asked outcome
-    ⊎ LacksOutput name sources old.input new.input old.asked new.asked outcome)
-
--- files of these names are opened, and a task is done with them and the output of this name, where one is given; or not
--- all could be opened, and nothing was read or written
-abbrev pub DoesCommand : List Text → Option Text → Task → Surroundings → Surroundings → Result Told ToolFault → Type 0
-DoesCommand names output task old new outcome =
-    ((opened : List FileEvent) × (sources : List (NamedSource Seen)) × OpensAll names old.asked opened sources
-    × DoesTaskTo output sources task (record { input = old.input; output = old.output; asked = opened }) new outcome)
-    ⊎ ((fault : ToolFault) × (outcome ≡ Err fault) × FailsToOpen names old.asked new.asked fault
-    × (new.input ≡ old.input) × (new.output ≡ old.output))
 
 -- a task is done with these files, which were opened for it, or with the given input where there are none. It writes to
 -- the given output; or, where a file is named for the output, to that file, which was created behind the opening, and

@@ -1,5 +1,5 @@
 //! The command line: what its arguments ask for is carried out, over streams that the caller keeps.
-ghost use Rattle.std.specs.Prelude.{◌≡◌, IfErr, IfOk, map, string_bytes};
+ghost use Rattle.std.specs.Prelude.{◌≡◌, ◌≤◌, IfErr, IfOk, map, string_bytes};
 ghost use Rattle.clap.specs.Faults.{fault_of};
 ghost use Rattle.clap.specs.Kinds.{HasKind};
 ghost use Rattle.kc_command.specs.Command.{kcount_app};
@@ -9,7 +9,7 @@ ghost use Rattle.kc_tool.specs.CommandLine.{
   ShowsSo,
   status_of,
 };
-ghost use Rattle.kc_tool.specs.Process.{Ends};
+ghost use Rattle.kc_tool.specs.Process.{Ends, EndsUnread, TellsUnread};
 ghost use Rattle.kc_tool.specs.declared.tool_faults.ToolFault.TheVariants.{Memory, Write};
 ghost use Rattle.kc_tool.specs.declared.command_line.Ending.TheVariants.{Fault};
 
@@ -25,6 +25,7 @@ use kc_command::command::command;
 use kc_io::{Failed, Sink, Source, write_out};
 use kc_select::SelectionCounts;
 use std::alloc::{AllocError, AllocFailed, Global};
+use std::io;
 use std::rt::Files;
 use std::sync::Wait;
 use std::thread::Threads;
@@ -32,9 +33,12 @@ use std::thread::Threads;
 /// The exit status where all went well.
 const DONE: u8 = 0;
 /// The exit status of a fault.
-pub(crate) const FAULT: u8 = 1;
+const FAULT: u8 = 1;
 /// The exit status of a command line that is refused.
-pub(crate) const REFUSED: u8 = 2;
+const REFUSED: u8 = 2;
+
+// The line that is told of an argument that is no text.
+const NOT_TEXT: &[u8] = b"kcount: an argument is not UTF-8\n";
 
 /// Carries out the command line `arguments`, which begins with the program's name, and answers the exit status. Files
 /// are opened and created by their names, and how far a count has come is told to `progress`: the end before the report
@@ -46,21 +50,34 @@ pub(crate) const REFUSED: u8 = 2;
 /// answer where writing failed, or the selected reads before the fault. Status 2: the output is as it was, and why the
 /// arguments are refused went to the errors. The input is read where a command reads no file, and else it is as it was;
 /// and nothing is asked of files but what the command asks for.
+///
+/// The arguments are as std gives them. If one of them is not UTF-8, that refuses the command line: status 2, nothing
+/// was read or written, and a line that says so went to the errors. If they can't be had otherwise, there was no memory
+/// for them: status 1, and the line of `Memory`.
 pub fn run<H: Threads + Wait + Sync, S: Files, R: Source, W: Sink, E: Sink, P: Progress + Sync>(
     rt: &H,
     alloc: Global,
-    arguments: &[String],
+    arguments: &io::Result<Vec<String>>,
     files: &mut NamedFiles<'_, S>,
     input: &mut R,
     output: &mut W,
     errors: &mut E,
     progress: &P,
 ) -> u8
-    ensures { Ends (map string_bytes arguments.now)
+    ensures within { result ≤ 2 }
+    ensures texts { IfOk arguments.now (λ texts. Ends (map string_bytes texts.items)
         (record { input = R.seen input.old; output = W.seen output.old; asked = files.old })
         (record { input = R.seen input.new; output = W.seen output.new; asked = files.new })
-        (E.seen errors.old) (E.seen errors.new) result }
+        (E.seen errors.old) (E.seen errors.new) result) }
+    ensures unread { IfErr arguments.now (λ error. EndsUnread error
+        (record { input = R.seen input.old; output = W.seen output.old; asked = files.old })
+        (record { input = R.seen input.new; output = W.seen output.new; asked = files.new })
+        (E.seen errors.old) (E.seen errors.new) result) }
 {
+    let arguments = match arguments {
+        Ok(arguments) => arguments,
+        Err(error) => return tell_unread(error, errors),
+    };
     match run_arguments(rt, alloc, arguments, files, input, output, progress) {
         Ok(None) => DONE,
         Ok(Some(counts)) => {
@@ -76,6 +93,19 @@ pub fn run<H: Threads + Wait + Sync, S: Files, R: Source, W: Sink, E: Sink, P: P
             REFUSED
         }
     }
+}
+
+// Tells why there are no arguments: the exit status.
+fn tell_unread<E: Sink>(error: &io::Error, errors: &mut E) -> u8
+    ensures { TellsUnread error.now (E.seen errors.old) (E.seen errors.new) result }
+{
+    if error.kind() == io::ErrorKind::InvalidData {
+        // as with any refusal, failing to say so changes no status
+        let _ = write_out(errors, NOT_TEXT);
+        return REFUSED;
+    }
+    let _ = write_fault(errors, &ToolFault::Memory);
+    FAULT
 }
 
 // Why a command was not carried out.

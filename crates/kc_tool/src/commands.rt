@@ -9,8 +9,6 @@ ghost use Rattle.kc_tool.specs.Commands.{
   Answers,
   AsksForTask,
   Does,
-  DoesCommand,
-  DoesTask,
   DoesTaskInto,
   EndsSo,
   HasFilesFor,
@@ -140,10 +138,15 @@ pub(crate) fn run_command<
 {
     let task = task_of(alloc, verb, matches)?;
     let names = file_names(alloc, verb, matches)?;
-    let name = output_name(matches);
-    do_command(
-        rt, alloc, &task, &names, name, files, input, output, progress,
-    )
+    let mut sources = open_files(alloc, files, &names)?;
+    match output_name(matches) {
+        None => {
+            let outcome = answer(rt, alloc, &task, &mut sources, input, output, progress);
+            take_sources(files, sources);
+            outcome
+        }
+        Some(name) => answer_into(rt, alloc, &task, files, sources, input, name, progress),
+    }
 }
 
 // The name of the file that is written, where `--output` names one.
@@ -153,59 +156,10 @@ fn output_name<'a>(matches: &ArgMatches<'a>) -> Option<&'a str>
     text_of(matches, "output")
 }
 
-// Opens the files of these names, and does a task with them. It writes to the given output or, where one is named, to
-// the file of this name. Conditions: the task has such files as it is to have, and a histogram is for counts up to 1 to
-// 10,000,000.
-fn do_command<H: Threads + Wait + Sync, S: Files, R: Source, W: Sink, P: Progress + Sync>(
-    rt: &H,
-    alloc: Global,
-    task: &Task,
-    names: &[&str],
-    name: Option<&str>,
-    files: &mut NamedFiles<'_, S>,
-    input: &mut R,
-    output: &mut W,
-    progress: &P,
-) -> Result<Option<SelectionCounts>, ToolFault>
-    requires files { HasFilesFor task.now names.now }
-    requires writable { HasWritableReport task.now }
-    ensures { DoesCommand (map (λ name. name.now) names.now) (option_map (λ name. name.now) name.entry) task.now
-        (record { input = R.seen input.old; output = W.seen output.old; asked = files.old })
-        (record { input = R.seen input.new; output = W.seen output.new; asked = files.new }) result }
-{
-    let sources = open_files(alloc, files, names)?;
-    match name {
-        None => do_task(rt, alloc, task, files, sources, input, output, progress),
-        Some(name) => do_task_into(rt, alloc, task, files, sources, input, name, progress),
-    }
-}
-
 // Does a task with files that were opened, and with the given input where no source is a file, and gives the files back.
-// Conditions: the task has such files as it is to have, and a histogram is for counts up to 1 to 10,000,000.
-fn do_task<H: Threads + Wait + Sync, S: Files, R: Source, W: Sink, P: Progress + Sync>(
-    rt: &H,
-    alloc: Global,
-    task: &Task,
-    files: &mut NamedFiles<'_, S>,
-    sources: Vec<NamedSource<'_, FileSource<S::File>>>,
-    input: &mut R,
-    output: &mut W,
-    progress: &P,
-) -> Result<Option<SelectionCounts>, ToolFault>
-    requires files { HasFilesFor task.now (seen_of (λ s. s) sources.items) }
-    requires writable { HasWritableReport task.now }
-    ensures { DoesTask sources.entry.items task.now
-        (record { input = R.seen input.old; output = W.seen output.old; asked = files.old })
-        (record { input = R.seen input.new; output = W.seen output.new; asked = files.new }) result }
-{
-    let mut sources = sources;
-    let outcome = answer(rt, alloc, task, &mut sources, input, output, progress);
-    take_sources(files, sources);
-    outcome
-}
-
-// The same, where a file is named for the output: it is created before anything is read, and given back at the end.
-fn do_task_into<H: Threads + Wait + Sync, S: Files, R: Source, P: Progress + Sync>(
+// It writes to the file of this name, which is created before anything is read, and given back at the end. Conditions:
+// the task has such files as it is to have, and a histogram is for counts up to 1 to 10,000,000.
+fn answer_into<H: Threads + Wait + Sync, S: Files, R: Source, P: Progress + Sync>(
     rt: &H,
     alloc: Global,
     task: &Task,
@@ -220,20 +174,14 @@ fn do_task_into<H: Threads + Wait + Sync, S: Files, R: Source, P: Progress + Syn
     ensures { DoesTaskInto name.now sources.entry.items task.now (R.seen input.old) (R.seen input.new) files.old files.new result
         ⊎ LacksOutput name.now sources.entry.items (R.seen input.old) (R.seen input.new) files.old files.new result }
 {
+    let mut sources = sources;
     let Some(mut file) = files.create(name) else {
         take_sources(files, sources);
         return Err(open_failed(alloc, name));
     };
-    let outcome = do_task(
-        rt,
-        alloc,
-        task,
-        files,
-        sources,
-        input,
-        &mut file.sink,
-        progress,
-    );
+    let sink = &mut file.sink;
+    let outcome = answer(rt, alloc, task, &mut sources, input, sink, progress);
+    take_sources(files, sources);
     files.take_sink(file);
     outcome
 }

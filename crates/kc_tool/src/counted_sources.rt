@@ -10,6 +10,7 @@ ghost use Rattle.kc_booking.specs.Setup.{stripe_count};
 ghost use Rattle.kc_booking.specs.Stripe.{reads_in};
 ghost use Rattle.kc_gather.specs.Gathering.{position_sum};
 ghost use Rattle.kc_tool.specs.CountedTallies.{IsEnoughFor, KnowsOne};
+ghost use Rattle.kc_tool.specs.Commands.{KeepsInput, sources_from};
 ghost use Rattle.kc_tool.specs.NamedSources.{names_of, seen_of};
 ghost use Rattle.kc_tool.specs.Reports.{report_of};
 ghost use Rattle.kc_fastx.specs.Reads.{Read};
@@ -123,28 +124,34 @@ pub(crate) fn count_sources<H: Threads + Wait + Sync, R: Source, P: Progress + S
     Ok((counted, Some(origin_of(&settings, count, is_listed))))
 }
 
-/// The same of the reads of one source, the input. The rest is as with a list of sources.
+/// What `count_sources` answers, of the reads of these files or, where there are none, of the given input. The input is
+/// as it was where there is a file.
 ///
 /// # Errors
-/// As with a list of this source alone.
-pub(crate) fn count_input<H: Threads + Wait + Sync, R: Source, P: Progress + Sync>(
+/// Those of `count_sources` over the files, or over the input alone.
+pub(crate) fn count_given<H: Threads + Wait + Sync, R: Source, F: Source, P: Progress + Sync>(
     rt: &H,
     alloc: Global,
     list: Option<Only>,
-    input: &mut R,
     options: &Options,
+    files: &mut [NamedSource<'_, F>],
+    input: &mut R,
     progress: &P,
 ) -> Result<(CountedTally, Option<Origin>), ToolFault>
-    requires list { IfSome list (IsListUnder (rule_of options.now)) }
-    ensures tally { let Tallies = TalliesSources (R.seen input.old ∷ []) (R.seen input.new ∷ []) options.now in
-        IfOk result (λ table. KnowsOne table.0 (λ tally. Tallies (words_of list) (tally, table.1))) }
+    requires { IfSome list (IsListUnder (rule_of options.now)) }
+    ensures tally { let Tallies = TalliesSources (sources_from (R.seen input.old) (seen_of F.seen files.old))
+        (sources_from (R.seen input.new) (seen_of F.seen files.new)) options.now (words_of list) in
+        IfOk result (λ table. KnowsOne table.0 (λ tally. Tallies (tally, table.1))) }
     ensures enough { IfOk result (λ table. IsEnoughFor table.0 (report_of options.now)) }
     ensures origin { IfOk result (λ table. MaySay table.1) }
-    ensures fault { IfErr result (RefusesSources (R.seen input.old ∷ []) (R.seen input.new ∷ [])) }
+    ensures fault { let Refuses = RefusesSources (sources_from (R.seen input.old) (seen_of F.seen files.old)) in
+        IfErr result (Refuses (sources_from (R.seen input.new) (seen_of F.seen files.new))) }
+    ensures input { KeepsInput (seen_of F.seen files.old) (R.seen input.old) (R.seen input.new) }
+    ensures names { names_of files.new ≡ names_of files.old }
 {
     let is_listed = list.is_some();
     let settings = batches_for(options, &list);
-    let (cutting, count) = cut_input(alloc, input, &settings, progress)?;
+    let (cutting, count) = cut_given(alloc, files, input, &settings, progress)?;
     let counted = count_cutting(rt, alloc, cutting, list, &settings, progress)?;
     Ok((counted, Some(origin_of(&settings, count, is_listed))))
 }
@@ -264,6 +271,28 @@ fn cut_sources<R: Source, P: Progress>(
         cut.take(alloc, &mut source.source, &rule, progress)?;
     }
     Ok((cut.cutting, cut.reads))
+}
+
+// The cutting of the reads of these files or, where there are none, of the given input, and how many they are.
+fn cut_given<R: Source, F: Source, P: Progress>(
+    alloc: Global,
+    files: &mut [NamedSource<'_, F>],
+    input: &mut R,
+    options: &Options,
+    progress: &P,
+) -> Result<(Cutting, u64), ToolFault>
+    ensures cut { let Cuts = CutsSources (sources_from (R.seen input.old) (seen_of F.seen files.old))
+        (sources_from (R.seen input.new) (seen_of F.seen files.new)) in
+        IfOk result (λ cut. Cuts (rule_of options.now) options.now.batch cut.0 cut.1) }
+    ensures fault { let Refuses = RefusesSources (sources_from (R.seen input.old) (seen_of F.seen files.old)) in
+        IfErr result (Refuses (sources_from (R.seen input.new) (seen_of F.seen files.new))) }
+    ensures input { KeepsInput (seen_of F.seen files.old) (R.seen input.old) (R.seen input.new) }
+    ensures names { names_of files.new ≡ names_of files.old }
+{
+    if files.is_empty() {
+        return cut_input(alloc, input, options, progress);
+    }
+    cut_sources(alloc, files, options, progress)
 }
 
 // The cutting of the reads of one source, the input, and how many they are.

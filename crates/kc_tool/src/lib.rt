@@ -52,6 +52,6 @@ pub use kc_report::{
 pub use kc_run::RunFault;
 pub use kc_tally::{Row, Tally};
 pub use kc_word::K;
-pub use process::{program, program_showing, run_given};
+pub use process::{program, program_showing};
 pub use reports::count_reads;
 pub use tool_faults::ToolFault;

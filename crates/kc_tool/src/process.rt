@@ -1,13 +1,11 @@
 //! The program as a process runs it: with the arguments as std gives them, and over standard streams by value.
 ghost use Rattle.std.specs.Prelude.{◌≡◌, ◌≤◌, IfErr, IfOk, map, string_bytes};
-ghost use Rattle.kc_tool.specs.Process.{Ends, EndsOver, EndsUnread, EndsUnreadOver, TellsUnread, at_first, unwritten};
+ghost use Rattle.kc_tool.specs.Process.{EndsOver, EndsUnreadOver, at_first, unwritten};
 
-use crate::command_line::{FAULT, REFUSED, run};
+use crate::command_line::run;
 use crate::count_progress::{NoProgress, Progress};
-use crate::fault_lines::write_fault;
 use crate::files::NamedFiles;
-use crate::tool_faults::ToolFault;
-use kc_io::{FromRead, Sink, Source, ToWrite, write_out};
+use kc_io::{FromRead, ToWrite};
 use std::alloc::Global;
 use std::io;
 use std::rt::Files;
@@ -58,68 +56,14 @@ pub fn program_showing<
     let mut errors = ToWrite::new(errors);
     let mut input = FromRead::new(input);
     let mut files = NamedFiles::new(rt);
-    run_given(
+    run(
         rt,
         alloc,
-        arguments,
+        &arguments,
         &mut files,
         &mut input,
         &mut output,
         &mut errors,
         progress,
     )
-}
-
-// The line that is told of an argument that is no text.
-const NOT_TEXT: &[u8] = b"kcount: an argument is not UTF-8\n";
-
-/// What `run` does with the arguments as std gives them. If one of them is not UTF-8, that refuses the command line:
-/// status 2, nothing was read or written, and a line that says so went to the errors. If they can't be had otherwise, there
-/// was no memory for them: status 1, and the line of `Memory`.
-pub fn run_given<
-    H: Threads + Wait + Sync,
-    S: Files,
-    R: Source,
-    W: Sink,
-    E: Sink,
-    P: Progress + Sync,
->(
-    rt: &H,
-    alloc: Global,
-    arguments: io::Result<Vec<String>>,
-    files: &mut NamedFiles<'_, S>,
-    input: &mut R,
-    output: &mut W,
-    errors: &mut E,
-    progress: &P,
-) -> u8
-    ensures within { result ≤ 2 }
-    ensures texts { IfOk arguments (λ texts. Ends (map string_bytes texts.items)
-        (record { input = R.seen input.old; output = W.seen output.old; asked = files.old })
-        (record { input = R.seen input.new; output = W.seen output.new; asked = files.new })
-        (E.seen errors.old) (E.seen errors.new) result) }
-    ensures unread { IfErr arguments (λ error. EndsUnread error
-        (record { input = R.seen input.old; output = W.seen output.old; asked = files.old })
-        (record { input = R.seen input.new; output = W.seen output.new; asked = files.new })
-        (E.seen errors.old) (E.seen errors.new) result) }
-{
-    match arguments {
-        Ok(arguments) => run(
-            rt, alloc, &arguments, files, input, output, errors, progress,
-        ),
-        Err(error) => tell_unread(&error, errors),
-    }
-}
-
-// Tells why there are no arguments: the exit status.
-fn tell_unread<E: Sink>(error: &io::Error, errors: &mut E) -> u8
-    ensures { TellsUnread error.now (E.seen errors.old) (E.seen errors.new) result }
-{
-    if error.kind() == io::ErrorKind::InvalidData {
-        // as with any refusal, failing to say so changes no status
-        let _ = write_out(errors, NOT_TEXT);
-        return REFUSED;
-    }
-    let _ = write_fault(errors, &ToolFault::Memory);
-    FAULT
 }

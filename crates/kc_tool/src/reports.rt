@@ -38,15 +38,16 @@ pub(crate) struct Report {
     pub high: u64,
 }
 
-/// Reads all sources in order, counts their words, and writes the report that the options ask for. Where `only` is given,
-/// it is read before the sources, and no word counts that does not occur in its reads, under the rule of the options.
-/// Nothing is written before all was read and counted. The sources have at most 2^36 bytes together, and `only` as many.
+/// Reads all sources in order, counts their words, and writes the report that the options ask for. Where `only` is
+/// given, it is read before the sources, and no word counts that does not occur in its reads, under the rule of the
+/// options. Nothing is written before all was read and counted. The sources have at most 2^36 bytes together, and
+/// `only` as many.
 ///
 /// # Errors
-/// `Fastx` with the fault of `only`, and number 0; the sources are as they were. Else with the fault of the first source
-/// that has one, and its number from 1. So it is also where a growth was refused while one of them was read. `Run` where
-/// the counting was refused, and `Memory` where a growth was refused elsewhere. After all these nothing was written.
-/// `Write` where the writer failed or took no byte; a beginning of the report was written.
+/// `Fastx` with the fault of `only`, and number 0; the sources are as they were. Else with the fault of the first
+/// source that has one, and its number from 1. So it is also where a growth was refused while one of them was read.
+/// `Run` where the counting was refused, and `Memory` where a growth was refused elsewhere. After all these nothing was
+/// written. `Write` where the writer failed or took no byte; a beginning of the report was written.
 pub fn count_reads<H: Threads + Wait + Sync, Q: Source + Drop, R: Source + Drop, W: Sink>(
     rt: &H,
     alloc: Global,
@@ -131,10 +132,10 @@ pub(crate) fn report_of(options: &Options) -> Report
     }
 }
 
-/// Writes a report on a tally of which enough is known. The rest is as with a whole tally.
+/// Writes a report on a tally of which enough is known, as `write_report` does on a whole one.
 ///
 /// # Errors
-/// As with a whole tally.
+/// Those of `write_report`.
 pub(crate) fn write_counted<W: Sink>(
     alloc: Global,
     writer: &mut W,
@@ -156,8 +157,8 @@ pub(crate) fn write_counted<W: Sink>(
     }
 }
 
-/// Writes a report on a tally; a table says what it was counted from, where that is told. Conditions: a histogram is for
-/// counts up to 1 to 10,000,000, and the origin is one that a header can say.
+/// Writes a report on a tally; a table says what it was counted from, where that is told. Conditions: a histogram is
+/// for counts up to 1 to 10,000,000, and the origin is one that a header can say.
 ///
 /// # Errors
 /// `Write` where the writer failed or took no byte; a beginning of the text was written. `Memory` where a growth was

@@ -44,7 +44,7 @@ pub(crate) fn select_files<R: Source, F: Source, W: Sink>(
     select_sources(alloc, files, &selector, writer)
 }
 
-// The same of sources, of which there is one at the least.
+// Writes the reads of the sources that the selection keeps, in order, and counts all. Condition: there is a source.
 fn select_sources<R: Source, W: Sink>(
     alloc: Global,
     sources: &mut [NamedSource<'_, R>],
@@ -72,7 +72,7 @@ fn select_sources<R: Source, W: Sink>(
     Ok(counts)
 }
 
-// The same of one source, the input.
+// Writes the reads of the one source, the input, that the selection keeps, and counts all.
 fn select_input<R: Source, W: Sink>(
     alloc: Global,
     input: &mut R,
@@ -86,8 +86,8 @@ fn select_input<R: Source, W: Sink>(
     Ok(selected.counts)
 }
 
-// The same of the source of this number. It answers how many bytes the source gave too. Condition: the limit is at most
-// 2^36.
+// Writes the reads of the source of this number that the selection keeps. It counts all, and tells how many bytes the
+// source gave. Condition: the limit is at most 2^36.
 fn select_next<R: Source, W: Sink>(
     alloc: Global,
     source: &mut R,

@@ -1,13 +1,12 @@
 //! The tally that a task is about: that of reads that are counted, of a table that is read, or of two tables together.
-ghost use Rattle.std.specs.Prelude.{◌≡◌, ◌≤◌, IfErr, IfOk, IfSome, Ok, drop, length};
+ghost use Rattle.std.specs.Prelude.{◌≡◌, ◌≤◌, IfErr, IfOk, Ok, drop, length};
 ghost use Rattle.kc_report.specs.Table.{MaySay};
 ghost use Rattle.kc_report.specs.Merging.{Merges};
 ghost use Rattle.kc_report.specs.TableReading.{GivesTable};
-ghost use Rattle.kc_command.specs.Settings.{rule_of};
 ghost use Rattle.kc_tool.specs.CountedTallies.{IsEnoughFor, KnowsOne};
 ghost use Rattle.kc_tool.specs.NamedSources.{names_of, seen_of};
 ghost use Rattle.kc_tool.specs.Reports.{report_of};
-ghost use Rattle.kc_tool.specs.Tallies.{Counts, IsListUnder, RefusesCount, RefusesSources, TalliesSources, words_of};
+ghost use Rattle.kc_tool.specs.Tallies.{Counts, RefusesCount};
 ghost use Rattle.kc_tool.specs.Commands.{
   HasFilesFor,
   HasNoTallyFor,
@@ -30,7 +29,7 @@ ghost use Rattle.kc_tool.specs.Commands.{
 
 use crate::commands::Task;
 use crate::count_progress::Progress;
-use crate::counted_sources::{count_input, count_sources, read_list};
+use crate::counted_sources::{count_given, read_list};
 use crate::counted_tally::CountedTally;
 use crate::named_sources::NamedSource;
 use crate::tool_faults::ToolFault;
@@ -38,7 +37,6 @@ use kc_command::Options;
 use kc_io::Source;
 use kc_report::{Origin, merge, read_table};
 use kc_tally::Tally;
-use kc_word::Only;
 use std::alloc::Global;
 use std::sync::Wait;
 use std::thread::Threads;
@@ -73,7 +71,7 @@ pub(crate) fn tally_for<H: Threads + Wait + Sync, R: Source, F: Source, P: Progr
     ensures names { names_of files.new ≡ names_of files.old }
 {
     let counted = match task {
-        Task::Count(options) => count_of(rt, alloc, None, options, files, input, progress),
+        Task::Count(options) => count_given(rt, alloc, None, options, files, input, progress),
         Task::CountListed(options) => count_listed(rt, alloc, options, files, input, progress),
         Task::Merge => return Ok(known(sum_of(alloc, files)?)),
         Task::Report(_) | Task::Query(_) => return Ok(known(table_of(alloc, files, input)?)),
@@ -116,36 +114,7 @@ fn count_listed<H: Threads + Wait + Sync, R: Source, F: Source, P: Progress + Sy
 {
     let list = read_list(alloc, &mut files[0].source, &options.rule(), progress)?;
     let sources = &mut files[1..];
-    count_of(rt, alloc, Some(list), options, sources, input, progress)
-}
-
-// What the report that is set is about of the tally of the reads of the files, or where there are none, of those of the
-// given input, of the words of the list alone where one is given. Condition: the list is one under the rule of the
-// options.
-fn count_of<H: Threads + Wait + Sync, R: Source, F: Source, P: Progress + Sync>(
-    rt: &H,
-    alloc: Global,
-    list: Option<Only>,
-    options: &Options,
-    files: &mut [NamedSource<'_, F>],
-    input: &mut R,
-    progress: &P,
-) -> Result<(CountedTally, Option<Origin>), ToolFault>
-    requires { IfSome list (IsListUnder (rule_of options.now)) }
-    ensures tally { let Tallies = TalliesSources (sources_from (R.seen input.old) (seen_of F.seen files.old))
-        (sources_from (R.seen input.new) (seen_of F.seen files.new)) options.now (words_of list) in
-        IfOk result (λ table. KnowsOne table.0 (λ tally. Tallies (tally, table.1))) }
-    ensures enough { IfOk result (λ table. IsEnoughFor table.0 (report_of options.now)) }
-    ensures origin { IfOk result (λ table. MaySay table.1) }
-    ensures fault { let Refuses = RefusesSources (sources_from (R.seen input.old) (seen_of F.seen files.old)) in
-        IfErr result (Refuses (sources_from (R.seen input.new) (seen_of F.seen files.new))) }
-    ensures input { KeepsInput (seen_of F.seen files.old) (R.seen input.old) (R.seen input.new) }
-    ensures names { names_of files.new ≡ names_of files.old }
-{
-    if files.is_empty() {
-        return count_input(rt, alloc, list, input, options, progress);
-    }
-    count_sources(rt, alloc, list, files, options, progress)
+    count_given(rt, alloc, Some(list), options, sources, input, progress)
 }
 
 // The tables of two files, put together. The first is read whole before a byte of the second is. Condition: there are

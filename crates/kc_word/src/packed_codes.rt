@@ -140,7 +140,7 @@ impl Packed {
         self.len += count;
     }
 
-    /// The same codes, with the spare room of the vector given back.
+    /// These codes, without the spare room of the vector.
     pub(crate) fn fitted(self) -> Packed
         ensures { result ≡ self }
     {

@@ -84,7 +84,7 @@ impl Piece {
         k.positions(self.len() as usize)
     }
 
-    /// The same, and behind it the bytes of another piece from `from` to before `to`. Conditions: these are in order,
+    /// This piece, and behind it the bytes of another one from `from` to before `to`. Conditions: these are in order,
     /// and at most the other's length. Where the bytes would be 2^64 or more, which no memory holds, it is refused.
     pub(crate) fn and_part(
         self,
@@ -120,7 +120,7 @@ impl Piece {
         Piece::new(alloc).and_part(alloc, self, from, to)
     }
 
-    /// The same piece, with the spare room of its vectors given back.
+    /// This piece, without the spare room of its vectors.
     pub(crate) fn fitted(self) -> Piece
         ensures { result ≡ self }
     {

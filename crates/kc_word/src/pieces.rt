@@ -76,8 +76,8 @@ impl Pieces {
         count
     }
 
-    /// The same, and behind them the bytes of a piece from `from` to before `to`. Conditions: these are in order, and
-    /// at most the piece's length.
+    /// These pieces, and behind them, as one more, the bytes of a piece from `from` to before `to`. Conditions: these
+    /// are in order, and at most the piece's length.
     pub(crate) fn and_part(
         self,
         alloc: Global,
@@ -95,7 +95,7 @@ impl Pieces {
         Ok(Pieces { bytes, ends })
     }
 
-    /// The same pieces, with the spare room of their vectors given back.
+    /// These pieces, without the spare room of their vectors.
     pub(crate) fn fitted(self) -> Pieces
         ensures { result ≡ self }
     {

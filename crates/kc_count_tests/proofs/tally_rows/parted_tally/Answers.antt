@@ -1,20 +1,6 @@
-use Rattle.std.proofs.Common.{rules, false, List, [], ◌∷◌, refl}
-use Rattle.kc_kmer.specs.Word.{form}
-use Rattle.kc_tally.specs.declared.row.Row.{Row}
-use Rattle.kc_tally.specs.Tally.{AreRows, row_of}
+use Rattle.kc_count_tests.proofs.WorkedRows.{parted, parted_are_rows}
 use Rattle.kc_count_tests.proofs.tally_rows.parted_tally.Goals as goal
 
-rows : List Row
-rows = row_of 1 2 ∷ row_of 6 1 ∷ row_of 11 70_000 ∷ row_of 15 1 ∷ []
-
-lawful : AreRows 2 false rows
-unfolding rows form
-lawful = record {
-  ordered = record { rising = search rules; words = search rules; present = search rules };
-  forms = λ k d below. refl;
-  small = search rules;
-}
-
 pub of_packed-requires : goal.of_packed-requires
-unfolding rows
-of_packed-requires c = rw (c.requires, c.in_ok-in_parts.ensures) lawful
+unfolding parted
+of_packed-requires c = rw (c.requires, c.in_ok-in_parts.ensures) parted_are_rows

@@ -1,31 +1,53 @@
-use Rattle.std.proofs.Common.{◌∙◌, map, sym, ap, Bor, List, ℕ, Err}
+use Rattle.std.proofs.Common.{◌∙◌, map, sym, ap, inl, inr, refl, Bor, List, ℕ, Err, None, Some}
 use Rattle.std.proofs.lemmas.List.{length-map}
 use Rattle.std.proofs.lemmas.Result.{err_from_is_err_and}
 use Rattle.clap.specs.Words.{found_of, rows_of}
-use Rattle.kc_tool.proofs.CommandsLemmas.{as_many, command_ends, has_files, option_left}
-use Rattle.kc_tool.specs.declared.tool_faults.ToolFault.TheVariants.{Memory}
+use Rattle.kc_tool.proofs.CommandsLemmas.{as_many, as_named, back_as_left, command_ends, has_files, task_done}
+use Rattle.kc_tool.proofs.FilesLemmas.{lent_back, paired}
 use Rattle.kc_tool.proofs.commands.run_command.Goals as goal
 
-pub returns-in_err-task : goal.returns-in_err-task
-returns-in_err-task g c =
-    let p = err_from_is_err_and c.from_residual.result c.from_residual.ensures.1 in
-    option_left c.args.verb (rows_of (found_of c.args.matches.now)) c.in_err-task.field-0.0 (p.1 ∙ ap Err p.2) c.in_err-task.ensures.refused
+pub returns-in_err-sources : goal.returns-in_err-sources
+returns-in_err-sources g c =
+    let p = err_from_is_err_and c.from_residual-in_err-sources.result c.from_residual-in_err-sources.ensures.1 in
+    let named = ap (map (λ (name : Bor (List ℕ)). name.now)) c.deref.ensures.value ∙ c.in_ok-names.ensures in
+    command_ends c.args.verb (rows_of (found_of c.args.matches.now)) c.in_ok-task.task c.in_ok-task.ensures.asked c.in_ok-task.ensures.lawful named refl
+    (inr (c.in_err-sources.field-0.0, p.1 ∙ ap Err p.2, c.in_err-sources.ensures.fault, refl, refl))
 
-pub returns-in_err-names : goal.returns-in_err-names
-returns-in_err-names g c =
-    let p = err_from_is_err_and c.from_residual-in_err-names.result c.from_residual-in_err-names.ensures.1 in
-    option_left c.args.verb (rows_of (found_of c.args.matches.now)) Memory (p.1 ∙ ap Err p.2) tt
+pub answer-outcome-requires-clause-files : goal.answer-outcome-requires-clause-files
+answer-outcome-requires-clause-files g c κs within =
+    let rows = rows_of (found_of c.args.matches.now) in
+    let task = c.in_ok-task.task in
+    let names = c.deref.result.now in
+    let named = ap (map (λ (name : Bor (List ℕ)). name.now)) c.deref.ensures.value ∙ c.in_ok-names.ensures in
+    let wanted = as_many task (map (λ (name : Bor (List ℕ)). name.now) names) names (length-map names (λ name. name.now))
+    (has_files rows c.args.verb task _ c.in_ok-task.ensures.asked named) in
+    rw c.deref_mut.ensures.value (as_named task names c.in_ok-sources.sources.items c.in_ok-sources.ensures.opened.named wanted)
+
+pub returns-in-None : goal.returns-in-None
+returns-in-None g c =
+    let named = ap (map (λ (name : Bor (List ℕ)). name.now)) c.deref.ensures.value ∙ c.in_ok-names.ensures in
+    let unnamed = rw c.in-None.is at c.output_name.ensures in
+    let answer = rw c.deref_mut.ensures.value at c.answer-outcome.ensures in
+    let sources = c.in_ok-sources.sources in
+    let whole = lent_back c.answer-outcome.new.files sources.items sources.len answer.names sources.ok.0 in
+    let pairs = paired sources.items c.answer-outcome.new.files answer.names in
+    let done = task_done pairs.0 pairs.1 answer.input (back_as_left _ c.take_sources.ensures whole) answer.done in
+    command_ends c.args.verb (rows_of (found_of c.args.matches.now)) c.in_ok-task.task {output = None} c.in_ok-task.ensures.asked c.in_ok-task.ensures.lawful named (sym unnamed)
+    (inl (_, sources.items, c.in_ok-sources.ensures.opened, done))
+
+pub answer_into-requires-clause-files : goal.answer_into-requires-clause-files
+answer_into-requires-clause-files g c κs within =
+    let rows = rows_of (found_of c.args.matches.now) in
+    let task = c.in_ok-task.task in
+    let names = c.deref.result.now in
+    let named = ap (map (λ (name : Bor (List ℕ)). name.now)) c.deref.ensures.value ∙ c.in_ok-names.ensures in
+    let wanted = as_many task (map (λ (name : Bor (List ℕ)). name.now) names) names (length-map names (λ name. name.now))
+    (has_files rows c.args.verb task _ c.in_ok-task.ensures.asked named) in
+    as_named task names c.in_ok-sources.sources.items c.in_ok-sources.ensures.opened.named wanted
 
 pub returns : goal.returns
 returns g c =
     let named = ap (map (λ (name : Bor (List ℕ)). name.now)) c.deref.ensures.value ∙ c.in_ok-names.ensures in
-    command_ends c.args.verb (rows_of (found_of c.args.matches.now)) c.in_ok-task.task c.in_ok-task.ensures.asked
-    c.in_ok-task.ensures.lawful named (sym c.output_name-name.ensures) c.do_command.ensures
-
-pub do_command-requires-clause-files : goal.do_command-requires-clause-files
-do_command-requires-clause-files g c κs within =
-    let rows = rows_of (found_of c.args.matches.now) in
-    let named = ap (map (λ (name : Bor (List ℕ)). name.now)) c.deref.ensures.value ∙ c.in_ok-names.ensures in
-    let names = c.deref.result.now in
-    as_many c.in_ok-task.task (map (λ (name : Bor (List ℕ)). name.now) names) names (length-map names (λ name. name.now))
-    (has_files rows c.args.verb c.in_ok-task.task _ c.in_ok-task.ensures.asked named)
+    let output = rw c.in-Some.is at c.output_name.ensures in
+    command_ends c.args.verb (rows_of (found_of c.args.matches.now)) c.in_ok-task.task {output = Some c.in-Some.name.now} c.in_ok-task.ensures.asked c.in_ok-task.ensures.lawful named (sym output)
+    (inl (_, c.in_ok-sources.sources.items, c.in_ok-sources.ensures.opened, (refl, c.answer_into.ensures)))

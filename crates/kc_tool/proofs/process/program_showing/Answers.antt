@@ -7,7 +7,7 @@ returns-clause-texts g c =
       new = _;
       errors_after = _;
       ends = rw (c.new-input.ensures, c.new-output.ensures, c.new-errors.ensures, c.new-files.ensures) at h;
-    }) c.run_given.ensures.texts
+    }) c.run.ensures.texts
 
 pub returns-clause-unread : goal.returns-clause-unread
 returns-clause-unread g c =
@@ -15,4 +15,4 @@ returns-clause-unread g c =
       new = _;
       errors_after = _;
       ends = rw (c.new-input.ensures, c.new-output.ensures, c.new-errors.ensures, c.new-files.ensures) at h;
-    }) c.run_given.ensures.unread
+    }) c.run.ensures.unread

@@ -12,12 +12,12 @@ returns-clause-tally g c =
     let gives = rw c.rule.ensures at c.in_ok-list.ensures.list in
     let list = c.in_ok-list.list in
     let counted = sources_counted (Some list.words) (Some _) (Some (seen c.read_list.new.source)) _ _ c.args.options.now (list, gives, refl) in
-    listed_done seen (g.R.Source.seen c.args.input.now) (g.R.Source.seen c.count_of.new.input) c.args.files.now c.requires c.index-files-0.result
-    c.read_list.new.source c.count_of.new.files (λ old new. IfOk c.count_of.result (λ table. KnowsOne table.0 (λ tally. Counts old new c.args.options.now (tally, table.1))))
-    (IfOk-weaker c.count_of.result _ _ (λ table h. record { tally = h.tally; knows = h.knows; holds = counted (h.tally, table.1) h.holds }) c.count_of.ensures.tally)
+    listed_done seen (g.R.Source.seen c.args.input.now) (g.R.Source.seen c.count_given.new.input) c.args.files.now c.requires c.index-files-0.result
+    c.read_list.new.source c.count_given.new.files (λ old new. IfOk c.count_given.result (λ table. KnowsOne table.0 (λ tally. Counts old new c.args.options.now (tally, table.1))))
+    (IfOk-weaker c.count_given.result _ _ (λ table h. record { tally = h.tally; knows = h.knows; holds = counted (h.tally, table.1) h.holds }) c.count_given.ensures.tally)
 
 pub returns-clause-enough : goal.returns-clause-enough
-returns-clause-enough g c = c.count_of.ensures.enough
+returns-clause-enough g c = c.count_given.ensures.enough
 
 pub returns-clause-fault : goal.returns-clause-fault
 returns-clause-fault g c =
@@ -25,21 +25,21 @@ returns-clause-fault g c =
     let gives = rw c.rule.ensures at c.in_ok-list.ensures.list in
     let list = c.in_ok-list.list in
     let refused = sources_refused (Some list.words) (Some _) (Some (seen c.read_list.new.source)) _ _ c.args.options.now (list, gives, refl) in
-    listed_done seen (g.R.Source.seen c.args.input.now) (g.R.Source.seen c.count_of.new.input) c.args.files.now c.requires c.index-files-0.result
-    c.read_list.new.source c.count_of.new.files (λ old new. IfErr c.count_of.result (RefusesCount old new c.args.options.now))
-    (IfErr-weaker c.count_of.result _ _ refused c.count_of.ensures.fault)
+    listed_done seen (g.R.Source.seen c.args.input.now) (g.R.Source.seen c.count_given.new.input) c.args.files.now c.requires c.index-files-0.result
+    c.read_list.new.source c.count_given.new.files (λ old new. IfErr c.count_given.result (RefusesCount old new c.args.options.now))
+    (IfErr-weaker c.count_given.result _ _ refused c.count_given.ensures.fault)
 
 pub returns-clause-origin : goal.returns-clause-origin
-returns-clause-origin g c = c.count_of.ensures.origin
+returns-clause-origin g c = c.count_given.ensures.origin
 
 pub returns-clause-input : goal.returns-clause-input
 returns-clause-input g c =
-    listed_kept g.F.Source.seen _ _ c.args.files.now c.requires c.index-files-0.result c.read_list.new.source c.count_of.ensures.input
+    listed_kept g.F.Source.seen _ _ c.args.files.now c.requires c.index-files-0.result c.read_list.new.source c.count_given.ensures.input
 
 pub returns-clause-names : goal.returns-clause-names
 returns-clause-names g c =
-    listed_named g.F.Source.seen c.args.files.now c.requires c.index-files-0.result c.read_list.new.source c.count_of.new.files
-    c.count_of.ensures.names
+    listed_named g.F.Source.seen c.args.files.now c.requires c.index-files-0.result c.read_list.new.source c.count_given.new.files
+    c.count_given.ensures.names
 
 pub returns-in_err-list-clause-fault : goal.returns-in_err-list-clause-fault
 returns-in_err-list-clause-fault g c =

@@ -1,11 +1,10 @@
 #!/bin/bash
-# The toolchain's gate, and what it can't do, over the libraries, the program and the tests that it has built:
-#   tests/gate.sh
-# What the documents name is there. All other edits have to be refused, each by the function that it names: they are tried beside the toolchain's
-# gate, each crate's once that is done with the crate. Then each growth of memory is
-# refused, files are missing or directories, the man page and the completions are compared with the help, the program's texts, streams and
-# statuses with what they should be, and the examples of the documents and the workflow over them are run. Where all of it passed, the last line is
-# `N passed, 0 failed`, N counting proofs and edits.
+# The full test: `rt ci`, the toolchain's own, and what that can't do, over the libraries, the program and the tests that it has built:
+#   tests/full.sh
+# What the documents name is there. All other edits have to be refused, each by the function that it names: they are tried beside `rt ci`, each
+# crate's once that is done with the crate. Then each growth of memory is refused, files are missing or directories, the man page and the
+# completions are compared with the help, the program's texts, streams and statuses with what they should be, and the examples of the documents
+# and the workflow over them are run. Where all of it passed, the last line is `N passed, 0 failed`, N counting proofs and edits.
 set -euo pipefail
 cd "$(dirname "$0")/.."
 work=$(mktemp -d)
@@ -15,11 +14,11 @@ chmod 755 "$work"
 mkdir -m 1777 "$work/tmp"
 mkdir "$work/kept"
 begun=$SECONDS
-GATE=$work tests/costs.py "$work" > "$work/costs" &
+FULL_TEST=$work tests/costs.py "$work" > "$work/costs" &
 costs=$!
-export GATE=$work
+export FULL_TEST=$work
 minutes() {
-    echo "gate: $1 after $(((SECONDS - begun + 30) / 60)) minutes"
+    echo "full test: $1 after $(((SECONDS - begun + 30) / 60)) minutes"
 }
 
 # While the toolchain tries the wrong bodies of a crate, it keeps what it proved in a folder that it removes afterwards. The other edits are tried over
@@ -38,6 +37,19 @@ link_what_is_kept() {
         done
     done
 }
+# Runs these tests beside one another, and shows what each printed, in this order.
+side_by_side() {
+    local it
+    local -A running
+    for it in "$@"; do
+        "tests/$it.sh" > "$work/said-$it" 2>&1 &
+        running[$it]=$!
+    done
+    for it in "$@"; do
+        wait "${running[$it]}" || { cat "$work/said-$it"; echo "full test: tests/$it.sh failed"; exit 1; }
+        cat "$work/said-$it"
+    done
+}
 tests/documents.py
 link_what_is_kept &
 linking=$!
@@ -48,19 +60,13 @@ TMPDIR=$work/tmp rt ci | tee "$work/ci"
 kill "$linking"
 minutes "proofs, tests and the wrong bodies in must-fail"
 install -D crates/kcount/out/kcount bin/kcount
-tests/edits.sh
-tests/memory.sh
-tests/files.sh
-tests/options.sh
-tests/program.sh
-tests/examples.sh
-tests/workflow.sh
+side_by_side edits memory files options program examples workflow
 wait "$edits" || { cat "$work/edits"; exit 1; }
 cat "$work/edits"
 kill "$costs"
 wait "$costs"
 minutes "all"
-echo "gate: minutes of processor time of the checks, crate by crate"
+echo "full test: minutes of processor time of the checks, crate by crate"
 cat "$work/costs"
 passed=$(tail -n 1 "$work/ci" | sed -n 's/^\([0-9]*\) passed, 0 failed$/\1/p')
 refused=$(tail -n 1 "$work/edits" | sed -n 's/^\([0-9]*\) refused, 0 failed$/\1/p')

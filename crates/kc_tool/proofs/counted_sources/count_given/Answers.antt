@@ -2,7 +2,7 @@ use Rattle.std.proofs.Common.{◌∙◌, ap, Bool, Some}
 use Rattle.std.proofs.lemmas.Result.{err_from_is_err_and}
 use Rattle.kc_tool.specs.Tallies.{words_of}
 use Rattle.kc_tool.proofs.SourcesLemmas.{enough_as, known_as, listed_or_not, tally_known, uncounted}
-use Rattle.kc_tool.proofs.counted_sources.count_input.Goals as goal
+use Rattle.kc_tool.proofs.counted_sources.count_given.Goals as goal
 
 pub returns-clause-tally : goal.returns-clause-tally
 returns-clause-tally g c =

@@ -1,0 +1,2 @@
+-- Facts about the rows of worked tallies.
+pub mod WorkedRows
