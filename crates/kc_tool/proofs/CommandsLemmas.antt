@@ -80,7 +80,7 @@ module _ (rows : List Row) where
   has_list name files names are = omega (arith, ap length are)
 
   -- A command has the files that its task wants.
-  pub has_files : (command : Verb) (task : Task) (names : List Text) → AsksForTask command rows task
+  has_files : (command : Verb) (task : Task) (names : List Text) → AsksForTask command rows task
       → names ≡ files_of command rows → HasFilesFor task names
   has_files verb.Count (Count settings) names asks are = tt
   has_files verb.Count (CountListed settings) names asks are =
@@ -127,7 +127,7 @@ module _ (rows : List Row) where
   has_files verb.Select (Select rule tells) names asks are = has_list _ (files_named rows) names are
 
 -- As many others are such files too.
-pub as_many : {X Y : Type 0} (task : Task) (files : List X) (others : List Y) → length files ≡ length others
+as_many : {X Y : Type 0} (task : Task) (files : List X) (others : List Y) → length files ≡ length others
     → HasFilesFor task files → HasFilesFor task others
 as_many (Count settings) files others same h = tt
 as_many (CountListed settings) files others same h = rw same at h
@@ -137,13 +137,22 @@ as_many Merge files others same h = rw same at h
 as_many (Select rule tells) files others same h = rw same at h
 
 -- So are the files of these names.
-pub as_named : (task : Task) (names : List (Bor Text)) (sources : List (NamedSource Seen))
+as_named : (task : Task) (names : List (Bor Text)) (sources : List (NamedSource Seen))
     → names_of sources ≡ map (λ name. name.now) names → HasFilesFor task names → HasFilesFor task (seen_of (λ seen. seen) sources)
 as_named task names sources are h =
     let asked = length-map names (λ (name : Bor Text). name.now) in
     let named = length-map sources (λ (source : NamedSource Seen). source.name.now) in
     let seen = length-map sources (λ (source : NamedSource Seen). source.source) in
     as_many task names (seen_of (λ seen. seen) sources) (omega (arith, ap length are, asked, named, seen)) h
+
+-- The files that a command opens are such as its task wants.
+pub has_opened : (command : Verb) (rows : List Row) (task : Task) (names : List (Bor Text)) {asked mid : List FileEvent} {sources : List (NamedSource Seen)}
+    → AsksForTask command rows task → map (λ name. name.now) names ≡ files_of command rows → OpensAll (map (λ name. name.now) names) asked mid sources
+    → HasFilesFor task (seen_of (λ seen. seen) sources)
+has_opened command rows task names {sources = sources} asks named opens =
+    let many = length-map names (λ (name : Bor Text). name.now) in
+    as_named task names sources opens.named
+    (as_many task (map (λ (name : Bor Text). name.now) names) names many (has_files rows command task _ asks named))
 
 -- No table is refused since a writer failed.
 no_write : (why : ReportFault) (source later : Seen) → RefusesTable source later most_table_bytes why → Write ≡ report_fault why → ⊥

@@ -1,8 +1,7 @@
 use Rattle.std.proofs.Common.{◌∙◌, map, sym, ap, inl, inr, refl, Bor, List, ℕ, Err, None, Some}
-use Rattle.std.proofs.lemmas.List.{length-map}
 use Rattle.std.proofs.lemmas.Result.{err_from_is_err_and}
 use Rattle.clap.specs.Words.{found_of, rows_of}
-use Rattle.kc_tool.proofs.CommandsLemmas.{as_many, as_named, back_as_left, command_ends, has_files, task_done}
+use Rattle.kc_tool.proofs.CommandsLemmas.{back_as_left, command_ends, has_opened, task_done}
 use Rattle.kc_tool.proofs.FilesLemmas.{lent_back, paired}
 use Rattle.kc_tool.proofs.commands.run_command.Goals as goal
 
@@ -15,13 +14,10 @@ returns-in_err-sources g c =
 
 pub answer-outcome-requires-clause-files : goal.answer-outcome-requires-clause-files
 answer-outcome-requires-clause-files g c κs within =
-    let rows = rows_of (found_of c.args.matches.now) in
-    let task = c.in_ok-task.task in
-    let names = c.deref.result.now in
     let named = ap (map (λ (name : Bor (List ℕ)). name.now)) c.deref.ensures.value ∙ c.in_ok-names.ensures in
-    let wanted = as_many task (map (λ (name : Bor (List ℕ)). name.now) names) names (length-map names (λ name. name.now))
-    (has_files rows c.args.verb task _ c.in_ok-task.ensures.asked named) in
-    rw c.deref_mut.ensures.value (as_named task names c.in_ok-sources.sources.items c.in_ok-sources.ensures.opened.named wanted)
+    rw c.deref_mut.ensures.value
+    (has_opened c.args.verb (rows_of (found_of c.args.matches.now)) c.in_ok-task.task c.deref.result.now c.in_ok-task.ensures.asked named
+    c.in_ok-sources.ensures.opened)
 
 pub returns-in-None : goal.returns-in-None
 returns-in-None g c =
@@ -37,13 +33,9 @@ returns-in-None g c =
 
 pub answer_into-requires-clause-files : goal.answer_into-requires-clause-files
 answer_into-requires-clause-files g c κs within =
-    let rows = rows_of (found_of c.args.matches.now) in
-    let task = c.in_ok-task.task in
-    let names = c.deref.result.now in
     let named = ap (map (λ (name : Bor (List ℕ)). name.now)) c.deref.ensures.value ∙ c.in_ok-names.ensures in
-    let wanted = as_many task (map (λ (name : Bor (List ℕ)). name.now) names) names (length-map names (λ name. name.now))
-    (has_files rows c.args.verb task _ c.in_ok-task.ensures.asked named) in
-    as_named task names c.in_ok-sources.sources.items c.in_ok-sources.ensures.opened.named wanted
+    has_opened c.args.verb (rows_of (found_of c.args.matches.now)) c.in_ok-task.task c.deref.result.now c.in_ok-task.ensures.asked named
+    c.in_ok-sources.ensures.opened
 
 pub returns : goal.returns
 returns g c =
