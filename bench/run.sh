@@ -53,7 +53,7 @@ for stripes in 16 64; do
         row "$key-run" "$batches batches counted by $workers in $stripes stripes" ms
         row "$key-processor" "its processor time" ms
         row "$key-memory" "its peak memory" MB
-        for step in cut wait book gather rows sort; do row "$key-$step" "of which: $step" ms; done
+        for step in cut wait book gather rows sort; do row "$key-$step" "of which: ${step/#cut/cut up}" ms; done
     done
     ratio "4-$stripes-run" "1-$stripes-run" "four workers as a ratio to one, $stripes stripes"
 done

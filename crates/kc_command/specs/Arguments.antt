@@ -25,7 +25,7 @@ or_default default value (Some text) = value text
 abbrev pub mer_len_of : List Row → Option ℕ
 mer_len_of rows = option_and_then (number_between 1 31) (first_of (codes "mer-len") rows)
 
--- `--size`, the slots that the tables begin with, 1 to 2^40, with a suffix or without one; 1000000
+-- `--size`, the slots that the hash tables begin with, 1 to 2^40, with a suffix or without one; 1000000
 abbrev pub size_of : List Row → Option ℕ
 size_of rows = or_default 1000000 (scaled_between 1 (2 ^ 40)) (first_of (codes "size") rows)
 

@@ -5,9 +5,9 @@ use Rattle.kc_report.specs.declared.dump.Dump.{Dump}
 use Rattle.kc_command.specs.declared.settings.Print.{Print}
 use Rattle.kc_command.specs.declared.settings.Print.TheVariants.{Table}
 
--- the length of the words; the slots that the tables begin with, over all stripes; the threads; whether both strands
--- count; the least quality byte that counts; the stripes; the positions of a batch; which report is written; how a dump
--- is; and the greatest count that has a line of its own in a histogram
+-- the length of the words; the slots that the hash tables begin with, over all stripes; the threads; whether both
+-- strands count; the least quality byte that counts; the stripes; the positions of a batch; which report is written; how
+-- a dump is; and the greatest count that has a line of its own in a histogram
 pub record Settings : Type 0 where
   pub k : ℕ
   pub size : ℕ

@@ -53,7 +53,7 @@ pub(crate) fn size<'a>(alloc: Global) -> Arg<'a>
     ensures rule { rule_of result ≡ size_option }
     ensures own { result.global ≡ false }
 {
-    let help = "Slots that the tables begin with, one for each different k-mer, 1 to 2^40,{n}\
+    let help = "Slots that the hash tables begin with, one for each different k-mer, 1 to 2^40,{n}\
         as 500, 20k or 2G [default: 1M]";
     with_short(value_option(alloc, "size", "N", help), 's')
 }
@@ -100,7 +100,7 @@ pub(crate) fn stripes<'a>(alloc: Global) -> Arg<'a>
     ensures rule { rule_of result ≡ stripes_option }
     ensures own { result.global ≡ false }
 {
-    let help = "Tables that are locked each on its own: 1, 2, 4, 8, 16, 32 or 64,{n}\
+    let help = "Hash tables, each with a lock of its own: 1, 2, 4, 8, 16, 32 or 64,{n}\
         lowered to 4^K where that is less [default: 16]";
     value_option(alloc, "stripes", "N", help)
 }

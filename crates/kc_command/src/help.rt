@@ -58,7 +58,7 @@ Writes how many k-mers of a table have which count.";
 /// At the end of the help of `histo`.
 pub(crate) const AFTER_HISTO: &str = "\
 The lines are `COUNT NUMBER`, in rising order. Counts that no k-mer has are left out. All k-mers with a
-count above --high have one line together, that of the count behind it.
+count above --high share one line, that of --high + 1.
 
 Exit status: 0; 1 for a fault, whose line goes to standard error; 2 for a command line that is refused.
 
@@ -120,9 +120,9 @@ Writes the reads whose k-mers a table counts often enough.";
 
 /// At the end of the help of `select`.
 pub(crate) const AFTER_SELECT: &str = "\
-A k-mer is solid where the table counts it at least --min-count times, and a read is written where at
-least --min-share of a hundred of its k-mers are; a read without k-mers is. Reads are written whole and
-in order, FASTA as FASTA and FASTQ as FASTQ, with sequence and quality in one line each. Those before a
+A k-mer is solid where the table counts it at least --min-count times. A read is written where at least
+--min-share percent of its k-mers are solid, and where it has no k-mer. Reads are written whole and in
+order, FASTA as FASTA and FASTQ as FASTQ, with sequence and quality in one line each. Those before a
 fault are written. --stats tells how many reads there were and how many were written, and how many k-mers
 there were and how many of these are solid.
 

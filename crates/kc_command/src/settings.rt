@@ -18,7 +18,7 @@ pub(crate) const MOST_STRIPES: u32 = 64;
 /// The greatest number of positions of a batch.
 pub(crate) const GREATEST_BATCH: u64 = 1 << 36;
 
-/// The slots that the tables begin with where nothing else is asked for.
+/// The slots that the hash tables begin with where nothing else is asked for.
 pub(crate) const USUAL_SIZE: u64 = 1_000_000;
 
 /// The threads where nothing else is asked for.
@@ -111,8 +111,8 @@ impl Model for Options {
 
 impl Options {
     /// To count the words of length `k` on one strand, of bases of every quality, by one thread, and write their table.
-    /// The tables begin with 1,000,000 slots in 16 stripes, or in as many as there are words where these are fewer. A
-    /// batch has 65,536 positions. A dump would show all rows in lines, a histogram go to 10,000.
+    /// The hash tables begin with 1,000,000 slots in 16 stripes, or in as many as there are words where these are
+    /// fewer. A batch has 65,536 positions. A dump would show all rows in lines, a histogram go to 10,000.
     pub fn new(k: K) -> Options
         ensures { result ≡ defaults k }
     {
@@ -227,7 +227,7 @@ impl Options {
         Rule::new(self.k, self.both, self.floor)
     }
 
-    /// How many slots the tables begin with, over all stripes.
+    /// How many slots the hash tables begin with, over all stripes.
     pub fn size(&self) -> u64
         ensures value { result ≡ self.now.size }
         ensures some { 1 ≤ self.now.size }

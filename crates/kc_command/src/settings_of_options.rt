@@ -160,7 +160,7 @@ fn length(text: &str) -> Option<K>
     K::new(number as u32)
 }
 
-// The slots that the tables begin with.
+// The slots that the hash tables begin with.
 fn size(matches: &ArgMatches<'_>) -> Result<u64, OptionName>
     ensures value { IsValueOf OptionName.Size (size_of (rows_of (found_of matches.now))) result }
     ensures limits { IfOk result (λ size. (1 ≤ size) × (size ≤ 2 ^ 40)) }

@@ -18,7 +18,7 @@ use crate::round::round_len;
 use crate::run_fault::RunFault;
 use crate::worker::{Job, Worker};
 use kc_gather::{gather_histogram, gather_in_parallel, gather_statistics};
-use kc_share::{Books, Plan, Share, Sheet};
+use kc_share::{Books, Plan, Sheet};
 use kc_stripe::{Setup, Stripe, Stripes};
 use kc_table::Counts;
 use kc_tally::{Histogram, Statistics, Tally};
@@ -158,8 +158,8 @@ fn counted<H: Threads + Wait + Sync, C: Counts + Drop + Send, G: Gate + Sync>(
     counted_by_name::<H, C, G, Brand>(rt, alloc, count, tables, sheet)
 }
 
-// The stripes in which all batches were booked, with this sheet of shares. Every sheet has a type of its own, N, so
-// that no share of another gets in.
+// The stripes in which the workers booked all batches, with this sheet of shares. Every sheet has a type of its own, N,
+// so that no share of another gets in.
 fn counted_by_name<
     H: Threads + Wait + Sync,
     C: Counts + Drop + Send,
@@ -184,64 +184,32 @@ fn counted_by_name<
         (λ stripes. HaveCounted count.now.setup.now (length count.now.batches.now) stripes.items) }
     ensures refused { IfErr result (IsRunFault count.now.workers (stripe_count count.now.setup.now)) }
 {
-    let (tickets, seats) = Tickets::new(alloc, count.batches.len() as u64, count.workers)?;
-    let (stripes, share) = Stripes::<C, N>::new(alloc, count.setup, tables, sheet)?;
-    let ready = workers_of(alloc, &stripes, seats, share)?;
-    let share = worked(rt, alloc, count, &stripes, tickets, ready)?;
-    let (stripes, _) = stripes.into_stripes(alloc, share)?;
-    Ok(stripes)
-}
-
-// Lets the workers book all batches: the shares of all, joined, with which as many batches were booked into each stripe
-// as there are.
-fn worked<
-    H: Threads + Wait + Sync,
-    C: Counts + Drop + Send,
-    G: Gate + Sync,
-    N: Books + Send + Sync,
->(
-    rt: &H,
-    alloc: Global,
-    count: &Count<G>,
-    stripes: &Stripes<C, N>,
-    tickets: Tickets,
-    ready: Vec<Worker<N>>,
-) -> Result<Share<N>, RunFault>
-    requires workers { (1 ≤ count.now.workers) × (count.now.workers ≤ 64) }
-    requires all { vec_len ready ≡ count.now.workers }
-    requires setup { stripes.now.setup ≡ count.now.setup.now }
-    requires limit { tickets.limit ≡ length count.now.batches.now }
-    requires seats { tickets.seats ≡ count.now.workers }
-    requires ready { All (λ worker. IsReady tickets (plan_of (stripe_count count.now.setup.now) count.now.workers)
-        worker.seat worker.share) ready.items }
-    ensures whole { IfOk result (λ share. share.parts ≡ share.plan.parts) }
-    ensures booked { IfOk result (λ share. (stripe : ℕ) → stripe < stripe_count count.now.setup.now
-        → entry_total_in stripe share.booked ≡ length count.now.batches.now) }
-    ensures refused { IfErr result (IsRunFault count.now.workers (stripe_count count.now.setup.now)) }
-{
     let Count {
         batches,
         setup,
         workers,
         gate,
     } = *count;
-    let plan = Plan {
-        stripes: u64::from(setup.stripes()),
-        parts: u64::from(workers),
-    };
+    let (tickets, seats) = Tickets::new(alloc, batches.len() as u64, workers)?;
+    let (stripes, share) = Stripes::<C, N>::new(alloc, setup, tables, sheet)?;
+    let ready = workers_of(alloc, &stripes, seats, share)?;
     let job = Job {
         batches,
-        stripes,
-        plan,
+        stripes: &stripes,
+        plan: Plan {
+            stripes: u64::from(setup.stripes()),
+            parts: u64::from(workers),
+        },
         tickets: &tickets,
         gate,
         round_len: round_len(batches, setup, workers),
         stripes_apart: (setup.stripes() / workers).max(1),
     };
     let ended = work_all(rt, alloc, &job, ready)?;
-    let (seats, share) = joined(alloc, stripes, ended)?;
+    let (seats, share) = joined(alloc, &stripes, ended)?;
     tickets.close(seats);
-    Ok(share)
+    let (stripes, _) = stripes.into_stripes(alloc, share)?;
+    Ok(stripes)
 }
 
 // The tally that is gathered from the stripes. None lacks a batch, since each journal has as many entries as there are

@@ -56,7 +56,9 @@ impl<N: Books> Worker<N> {
     {
         let first = first_stripe(job.stripes.setup().stripes(), job.stripes_apart, number);
         while let Some(drawn) = self.draw(job.tickets) {
-            let round = self.draw_round(alloc, job, drawn)?;
+            let batches = self.draw_batches(alloc, job, drawn)?;
+            let cuts = cut_up_all(alloc, job.stripes.setup(), &batches)?;
+            let round = Round { batches, cuts };
             tell_before(job.gate, number, &round.batches);
             book_round(rt, job.stripes, &round, first, &mut self.share)?;
             tell_after(job.gate, number, &round.batches);
@@ -80,31 +82,6 @@ impl<N: Books> Worker<N> {
             return None;
         }
         tickets.draw(&mut self.seat)
-    }
-
-    // The batches of a round, cut up: that of a number that was drawn, and those of as many more as a round has, or as
-    // there are.
-    fn draw_round<C: Counts, G: Gate>(
-        &mut self,
-        alloc: Global,
-        job: &Job<'_, C, N, G>,
-        drawn: u64,
-    ) -> Result<Round, AllocError>
-        requires own { IsSeatOf job.now.tickets.now self.old.seat }
-        requires limit { job.now.tickets.now.limit ≡ length job.now.batches.now }
-        requires drawn { drawn < length job.now.batches.now }
-        ensures own { IsSeatOf job.now.tickets.now self.new.seat }
-        ensures share { self.new.share ≡ self.old.share }
-        ensures answered { IfOk result (λ round. length (answers_of self.new.seat) + 1
-            ≡ length (answers_of self.old.seat) + length round.batches.items) }
-        ensures some { IfOk result (λ round. 1 ≤ length round.batches.items) }
-        ensures few { IfOk result (λ round.
-            (length round.batches.items ≡ 1) ⊎ (length round.batches.items ≤ job.now.round_len)) }
-        ensures cut_up { IfOk result (IsCutUp job.now.stripes.now.setup) }
-    {
-        let batches = self.draw_batches(alloc, job, drawn)?;
-        let cuts = cut_up_all(alloc, job.stripes.setup(), &batches)?;
-        Ok(Round { batches, cuts })
     }
 
     // The batch of a number that was drawn, and those of as many more as a round has, or as there are.

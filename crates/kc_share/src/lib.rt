@@ -7,7 +7,7 @@
 //! ```ignore
 //! let (sheet, mut opening) = sheet.open::<N>();
 //! let mut locks = Vec::new(alloc);
-//! while opening.is_open() {
+//! for _ in 0..2u32 {
 //!     locks.push(Mutex::new(Locked::new(sheet.next_keeper(&mut opening))))?;
 //! }
 //! let share = sheet.first_share(opening);

@@ -1,5 +1,5 @@
 //! Sheets, and how their keepers and their first share are made.
-ghost use Rattle.std.specs.Prelude.{◌≡◌, ◌+◌, ◌<◌, ◌≤◌, [], IfOk, MatchBool};
+ghost use Rattle.std.specs.Prelude.{◌≡◌, ◌+◌, ◌<◌, ◌≤◌, [], IfOk};
 ghost use Rattle.kc_share.specs.Share.{share_of, kept_stripe};
 ghost use Rattle.kc_share.specs.Sheet.{plan_of, opening_of};
 
@@ -100,15 +100,6 @@ impl<N: Books> Model for Opening<N> {
         × (o.next ≤ o.plan.stripes)
         × (o.plan.stripes ≤ 64)
         × (0 < o.plan.parts) };
-}
-
-impl<N: Books> Opening<N> {
-    /// Whether there is a stripe that has no keeper yet.
-    pub fn is_open(&self) -> bool
-        ensures { MatchBool result (self.now.next < self.now.plan.stripes) (self.now.next ≡ self.now.plan.stripes) }
-    {
-        u64::from(self.next) < self.plan.stripes
-    }
 }
 
 /// A sheet under its name: what the steps of its shares and keepers go over. Threads share it by reference. What a

@@ -110,17 +110,18 @@ fn book_all<N: Books, R: Wait>(
     share
 }
 
-// A lock for each stripe, and the first share.
+// A lock for each of two stripes, and the first share.
 fn locks_of<N: Books>(
     alloc: Global,
     sheet: Sheet,
 ) -> Result<(OpenSheet<N>, Vec<Mutex<Locked<N>>>, Share<N>), AllocError>
-    requires { sheet.table ≡ N.table }
+    requires name { sheet.table ≡ N.table }
+    requires plan { sheet.plan.stripes ≡ 2 }
     ensures { IfOk result (λ made. made.2 ≡ share_of sheet.plan sheet.plan.parts []) }
 {
     let (sheet, mut opening) = sheet.open::<N>();
     let mut locks = Vec::new(alloc);
-    while opening.is_open() {
+    for _ in 0..2u32 {
         locks.push(Mutex::new(Locked::new(sheet.next_keeper(&mut opening))))?;
     }
     let share = sheet.first_share(opening);
