@@ -42,7 +42,7 @@ impl<C: Counts + Drop> CountedTable<C> {
         ensures counted { IfOk result (λ counted.
             IsCounted (C.bits counted.table) (C.counts counted.table) counted.bins counted.total) }
     {
-        // what is known of the table's keys
+        // for the proof: what is known of the table's keys
         let _bits = table.key_bits();
         let histogram = Histogram::new(alloc)?;
         Ok(CountedTable {
@@ -166,7 +166,7 @@ impl<C: Counts> CountedTable<C> {
         ensures total { self.new.total ≡ self.old.total + length keys.now }
         ensures counted { IsCounted (C.bits self.new.table) (C.counts self.new.table) self.new.bins self.new.total }
     {
-        // what is known of an empty list of keys
+        // for the proof: what is known of an empty list of keys
         let _total = self.total();
         for block in 0..keys.len().div_ceil(BLOCK) {
             let begin = block * BLOCK;

@@ -16,7 +16,7 @@ use std::alloc::{AllocError, Global};
 use std::marker::Model;
 use std::sync::Arc;
 
-/// A batch, and the keys of its words in one stripe.
+/// A cut: what one batch means to one stripe, the keys of its words that are counted there.
 #[derive(Drop)]
 pub struct Cut {
     setup: Setup,
@@ -105,7 +105,7 @@ pub(crate) fn hashed_words(
 ) -> Result<Vec<u64>, AllocError>
     ensures { IfOk result (λ codes. codes.items ≡ batch_codes setup.now batch.now) }
 {
-    // what is known of the hash's bits
+    // for the proof: what is known of the hash's bits
     let _bits = setup.stripe_bits();
     let mut codes = counted_words(alloc, setup, batch)?;
     hash_all(&setup.hash().forward_tables(), &mut codes);

@@ -16,7 +16,7 @@ use std::collections::HashSet;
 use std::marker::Model;
 use std::sync::Arc;
 
-/// Several batches, and the keys of their words in one stripe.
+/// The cuts of several batches for one stripe, together: the batches, and the keys of their words there.
 #[derive(Drop)]
 pub struct Cuts {
     setup: Setup,
@@ -86,8 +86,8 @@ impl Cuts {
     }
 }
 
-/// The words of several batches divided among the stripes: for each stripe, in order, all that fall in it, also where
-/// none does.
+/// The words of several batches divided among the stripes: one `Cuts` for each stripe, in order, also where no word
+/// falls in it.
 pub fn cut_up_all(
     alloc: Global,
     setup: &Setup,
@@ -166,7 +166,7 @@ fn add_codes(
     Ok(part_sizes(&hashed, setup.stripe_bits()))
 }
 
-// The numbers that stand at one place of the rows.
+// One column of the rows: how many keys each batch has in one stripe.
 fn column(alloc: Global, rows: &[[usize; 64]], place: usize) -> Result<Vec<usize>, AllocError>
     requires { place < 64 }
     ensures { IfOk result (λ column. column.items ≡ map (λ row. slice_index row place) rows.now) }

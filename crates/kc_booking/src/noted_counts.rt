@@ -29,8 +29,8 @@ pub(crate) fn count_keys<C: Counts>(table: &mut C, keys: &[u64], places: &[u64],
     }
 }
 
-/// Moves a word for each of these counts, which it has now, from the bin of one less. Condition: the bins are such that
-/// this can be done, one after another.
+/// For each of these new counts, in order, moves one word from the bin of the count before into that of the new one.
+/// Condition: each time the one bin has a word and the other has room.
 pub(crate) fn raise_all(histogram: &mut Histogram, counts: &[u64])
     requires { CanRaise histogram.old counts.now }
     ensures { histogram.new ≡ all_raised histogram.old counts.now }

@@ -14,8 +14,8 @@ use std::alloc::AllocError;
 use std::marker::Model;
 use std::sync::Arc;
 
-/// The rule of a count, the list of the words that it counts, where one is given, the hash of its words, and the number
-/// of stripes among which they are divided.
+/// The setup of a count: how its words are divided among stripes. It has the rule of the count, the list of the words
+/// that it counts, where one is given, the hash of its words, and the number of stripes.
 ///
 /// A word's code is its hashed number. The low bits of the code, as many as tell the stripes apart, are the
 /// word's stripe; the rest is its key. No call but `clone` takes memory. It has about 1 KB: lend it where it is not
@@ -44,8 +44,8 @@ impl Setup {
     /// The most stripes.
     pub const MOST_STRIPES: u32 = 64;
 
-    /// Counting by this rule, in so many stripes, with words hashed so: where the hash has two bits for each base
-    /// of a word, and `stripes` is a power of two, at most 64 and at most 4^k.
+    /// The setup of a count by this rule, hash and number of stripes: Some exactly where the hash has two bits for each
+    /// base of a word, and `stripes` is a power of two, at most 64 and at most 4^k.
     pub fn new(rule: Rule, hash: Hash, stripes: u32) -> Option<Setup>
         ensures some { IsSome result ↔ IsSetup rule hash stripes }
         ensures rule { IfSome result (λ setup. setup.rule ≡ rule) }
@@ -163,7 +163,7 @@ impl Setup {
         ensures letters { text self.now.rule.k result.0 ≡ form_text self.now word.0 }
         ensures below { result.0 < word_count self.now }
     {
-        // what is known of the numbers of words
+        // for the proof: what is known of the numbers of words
         word_laws::number_of_text();
         if self.rule.both() {
             canonical(word, self.rule.k())

@@ -10,10 +10,10 @@ use crate::setup::Setup;
 use kc_table::{PlainCounts, QuotientTable};
 use std::alloc::{AllocError, Global};
 
-// A quotient table has at most 2 to this many slots.
+// The greatest log of a table: it has at most 2^40 slots.
 const MOST_LOG: u32 = 40;
 
-// And at least 2 to this many, if there are so many keys.
+// The least log of a table, unless there are fewer keys than slots.
 const LEAST_LOG: u32 = 4;
 
 /// An empty `PlainCounts` for each stripe, for keys of the setup's `key_bits`.
@@ -31,8 +31,8 @@ pub fn plain_tables(alloc: Global, setup: &Setup) -> Result<Vec<PlainCounts>, Al
 }
 
 /// An empty `QuotientTable` for each stripe, for keys of the setup's `key_bits`. Each may grow as far as its type
-/// allows. The tables begin with the fewest slots, a power of two each, that are together at least `size`, as far as
-/// the type allows so few or so many.
+/// allows. The tables begin with the fewest slots, a power of two each, that are together at least `size`, within the
+/// sizes that `QuotientTable::new` takes.
 pub fn quotient_tables(
     alloc: Global,
     setup: &Setup,

@@ -78,7 +78,7 @@ impl<C: Counts + Drop> Stripe<C> {
         ensures journal { IfOk result (λ stripe. stripe.journal ≡ []) }
         ensures table { IfOk result (λ stripe. stripe.table ≡ table) }
     {
-        // what is known of the words and their keys
+        // for the proof: what is known of the words and their keys
         setup.divides_words();
         let setup = setup.clone()?;
         Ok(Stripe {
@@ -92,7 +92,7 @@ impl<C: Counts + Drop> Stripe<C> {
 }
 
 impl<C: Counts> Stripe<C> {
-    /// A law: the stripe is lawful.
+    /// A law: the stripe holds exactly the counts of its journal's batches.
     pub fn is_lawful(&self)
         ensures { IsLawful self.now.setup self.now.number self.now.journal
             (C.counts self.now.table) self.now.bins self.now.total }
@@ -153,13 +153,13 @@ impl<C: Counts> Stripe<C> {
         self.counted.histogram()
     }
 
-    /// How often the word of the stripe occurs in the journal's batches that occurs most, and 0 where none does. It
-    /// looks at each key once and takes no memory.
+    /// The greatest count of a word of the stripe in the journal's batches, 0 where none occurs. It looks at each key
+    /// once and takes no memory.
     pub fn greatest(&self) -> u64
         ensures { result ≡ greatest_of (stripe_occurrences self.now.setup self.now.number self.now.journal) }
     {
         let table = self.counted.table();
-        // what is known of the keys
+        // for the proof: what is known of the keys
         let _bits = table.key_bits();
         table.greatest()
     }
@@ -182,7 +182,7 @@ impl<C: Counts> Stripe<C> {
     pub fn rows(&self, alloc: Global) -> Result<Vec<Row>, AllocError>
         ensures { IfOk result (λ rows. AreStripeRows self.now.setup self.now.number self.now.journal rows.items) }
     {
-        // what is known of the words and their keys
+        // for the proof: what is known of the words and their keys
         self.setup.divides_words();
         let _bits = self.setup.stripe_bits();
         let counted = self.counted.table().rows(alloc)?;
@@ -229,7 +229,7 @@ impl<C: Counts> Stripe<C> {
             → SomeMayBeFull (C.may_be_full self.old.table) (C.counts self.old.table) (keys_of cut.now) }
         ensures limits { KeepsLimits C.bits C.may_be_full self.old.table self.new.table }
     {
-        // what is known of the words of batches
+        // for the proof: what is known of the words of batches
         word_laws::words_of_reads();
         word_laws::counted_words();
         word_laws::joined_occurrences();
@@ -268,9 +268,9 @@ impl<C: Counts> Stripe<C> {
     /// Books several batches, all or none: their words that fall in this stripe are counted, and the journal names
     /// them in their order. No batch is booked where there is none.
     ///
-    /// It is refused as the first cut is that `book` would refuse, those before it being booked; a number that stands
-    /// twice is told before a stripe that is full. The keys are stored in the order of the table's parts, so that a
-    /// full table may refuse another one of them than `book` would find.
+    /// The refusal is that of the first cut that `book` would refuse, cut by cut; but a number that stands twice is
+    /// told before a full stripe. The keys are stored in the order of the table's parts, so a full table may refuse
+    /// another key than `book` would meet first.
     pub fn book_all(&mut self, cuts: &Cuts) -> Result<(), BookFault>
         ensures setup { self.new.setup ≡ self.old.setup }
         ensures number { self.new.number ≡ self.old.number }
@@ -313,7 +313,7 @@ impl<C: Counts> Stripe<C> {
             (C.counts self.old.table) (all_keys_of cuts.now) }
         ensures limits { KeepsLimits C.bits C.may_be_full self.old.table self.new.table }
     {
-        // what is known of the words of batches
+        // for the proof: what is known of the words of batches
         word_laws::words_of_reads();
         word_laws::counted_words();
         word_laws::joined_occurrences();
@@ -363,7 +363,7 @@ impl<C: Counts> Stripe<C> {
         self.booked.contains(&batches[0].number())
     }
 
-    // Whether words that are divided so and fall in the stripe of this number are those of this one.
+    // Whether cuts by this setup for the stripe of this number are this stripe's.
     fn is_own(&self, setup: &Setup, number: u32) -> bool
         ensures { MatchBool result ((setup.now ≡ self.now.setup) × (number ≡ self.now.number))
             (¬ ((setup.now ≡ self.now.setup) × (number ≡ self.now.number))) }
@@ -466,7 +466,7 @@ fn remember(booked: &mut HashSet<u64>, batches: &[Arc<Batch>])
 // The greatest total.
 const MOST_WORDS: u64 = 1 << 62;
 
-// Makes room for one more item, where there is none for as many more as there are and one.
+// Makes room for one more item. A full vector gets room for twice its items and one.
 fn make_room<T>(items: &mut Vec<T>) -> Result<(), AllocError>
     ensures same { items.new.items ≡ items.old.items }
     ensures room { OnOk result (vec_len items.new < vec_capacity items.new) }

@@ -246,7 +246,8 @@ pub record SelectsReads : Type 0 where
   pub alone : fault_of kcount_app (select_with (codes "t.kct" ∷ [])) ≡ []
   pub usual_least : min_count_of (options_of (select_with (codes "t.kct" ∷ []))) ≡ Some 2
   pub usual_share : min_share_of (options_of (select_with (codes "t.kct" ∷ []))) ≡ Some 100
-  pub told : one_of (codes "stats") (options_of (select_with (codes "--stats" ∷ codes "t.kct" ∷ []))) ≡ Some (codes "true")
+  pub told : one_of (codes "stats") (options_of (select_with (codes "--stats" ∷ codes "t.kct" ∷ [])))
+      ≡ Some (codes "true")
   pub no_file : all_of (codes "file") (options_of (select_with (codes "t.kct" ∷ []))) ≡ None
   pub no_table : fault_of kcount_app (select_with []) ≡ MissingRequiredArgument ∷ []
   pub share_above : first_bad_of_select (options_of (select_with (codes "--min-share=101" ∷ codes "t.kct" ∷ [])))

@@ -6,8 +6,8 @@ use Rattle.kc_command.specs.declared.settings.Print.{Print}
 use Rattle.kc_command.specs.declared.settings.Print.TheVariants.{Table}
 
 -- the length of the words; the slots that the hash tables begin with, over all stripes; the threads; whether both
--- strands count; the least quality byte that counts; the stripes; the positions of a batch; which report is written; how
--- a dump is; and the greatest count that has a line of its own in a histogram
+-- strands count; the least quality byte that counts; the stripes; the positions of a batch; which report is written;
+-- how a dump is; and the greatest count that has a line of its own in a histogram
 pub record Settings : Type 0 where
   pub k : ℕ
   pub size : ℕ

@@ -112,7 +112,7 @@ impl Model for Options {
 impl Options {
     /// To count the words of length `k` on one strand, of bases of every quality, by one thread, and write their table.
     /// The hash tables begin with 1,000,000 slots in 16 stripes, or in as many as there are words where these are
-    /// fewer. A batch has 65,536 positions. A dump would show all rows in lines, a histogram go to 10,000.
+    /// fewer. A batch has 65,536 positions. A dump would show all rows in lines, a histogram would go up to 10,000.
     pub fn new(k: K) -> Options
         ensures { result ≡ defaults k }
     {

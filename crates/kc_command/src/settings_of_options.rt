@@ -47,14 +47,14 @@ use std::alloc::Global;
 /// The least count of a solid word where nothing else is asked for.
 const USUAL_LEAST: u64 = 2;
 
-/// All of a hundred words, which have to be solid where nothing else is asked for.
+/// How many of a hundred words have to be solid where nothing else is asked for: all.
 const WHOLE_SHARE: u64 = 100;
 
 /// What the options of `count` ask for.
 ///
 /// # Errors
 /// The first option, in the order of the help, whose value is outside its limits, whether it acts or not. An absent
-/// `--mer-len` is so.
+/// `--mer-len` counts as such.
 pub fn options(_alloc: Global, matches: &ArgMatches<'_>) -> Result<Options, OptionName>
     ensures first_bad { MatchResult result (λ o. first_bad (rows_of (found_of matches.now)) ≡ None)
         (λ name. first_bad (rows_of (found_of matches.now)) ≡ Some name) }
@@ -121,7 +121,7 @@ pub fn high_of(matches: &ArgMatches<'_>) -> Result<u64, OptionName>
     high.ok_or(OptionName::High)
 }
 
-// What those options of `count` ask for that don't tell of its report, which is as it is usual.
+// What the options of `count` ask for, with the report left at its default.
 fn counting(matches: &ArgMatches<'_>) -> Result<Options, OptionName>
     ensures first_bad { MatchResult result (λ o. first_bad_of_counting (rows_of (found_of matches.now)) ≡ None)
         (λ name. first_bad_of_counting (rows_of (found_of matches.now)) ≡ Some name) }

@@ -3,7 +3,8 @@
 use Rattle.std.specs.Prelude.{◌≡◌, ℕ, ◌+◌, ◌<◌, true, false, List, [], ◌∷◌, ◌++◌, length, take, Some, ◌⊎◌}
 use Rattle.std.specs.List.{concat, list_all}
 use Rattle.kc_fastx.specs.declared.read_faults.FastxFault.{FastxFault}
-use Rattle.kc_fastx.specs.declared.read_faults.FastxFault.TheVariants.{BadStart, BadBase, BadQuality, LongQuality, Truncated}
+use Rattle.kc_fastx.specs.declared.read_faults.FastxFault.TheVariants.{BadStart, BadBase, BadQuality}
+use Rattle.kc_fastx.specs.declared.read_faults.FastxFault.TheVariants.{LongQuality, Truncated}
 use Rattle.kc_fastx.specs.Reads.{Read, is_quality_byte}
 use Rattle.kc_fastx.specs.Lines.{Line, begins_with, skip_blanks}
 use Rattle.kc_fastx.specs.Records.{BeginsWithSequence, SequenceFails, IsLineNumber}

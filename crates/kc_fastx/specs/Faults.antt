@@ -3,7 +3,8 @@ use Rattle.std.specs.Prelude.{ℕ, Bool, true, false, ⊤, Option, None, Some}
 use Rattle.kc_io.specs.declared.intakes.TakeFault.{TakeFault}
 use Rattle.kc_io.specs.declared.intakes.TakeFault.TheVariants as taking
 use Rattle.kc_fastx.specs.declared.read_faults.FastxFault.{FastxFault}
-use Rattle.kc_fastx.specs.declared.read_faults.FastxFault.TheVariants.{BadStart, BadBase, BadQuality, LongQuality, Truncated}
+use Rattle.kc_fastx.specs.declared.read_faults.FastxFault.TheVariants.{BadStart, BadBase, BadQuality}
+use Rattle.kc_fastx.specs.declared.read_faults.FastxFault.TheVariants.{LongQuality, Truncated}
 use Rattle.kc_fastx.specs.declared.read_faults.FastxFault.TheVariants.{TooLong, Read, Memory}
 
 abbrev pub fault_number : FastxFault → ℕ

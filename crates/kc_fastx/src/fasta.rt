@@ -28,7 +28,7 @@ pub(crate) fn parse_fasta(
     Ok(reads)
 }
 
-// Takes the next record, where a line is left, which begins with `>`.
+// The next record, None where no line is left. Condition: a line that is left begins with `>`.
 pub(crate) fn next_fasta(
     alloc: Global,
     lines: &mut LineCursor<'_>,

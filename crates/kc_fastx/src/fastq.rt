@@ -34,7 +34,7 @@ pub(crate) fn parse_fastq(
     Ok(reads)
 }
 
-// Takes the next record, where a line is left, which isn't blank.
+// The next record, None where no line is left. Condition: a line that is left isn't blank.
 pub(crate) fn next_fastq(
     alloc: Global,
     lines: &mut LineCursor<'_>,
@@ -93,7 +93,7 @@ fn take_quality(
     Ok(quals)
 }
 
-// Takes the next line, which is quality of no more than `most` bytes. Condition: that is some.
+// Takes the next line, which is quality of no more than `most` bytes. Condition: `most` is at least 1.
 fn quality_line<'a>(lines: &mut LineCursor<'a>, most: usize) -> Result<&'a [u8], FastxFault>
     requires { 0 < most }
     ensures left { IfOk result (λ line. lines.old.left ≡ line.now ∷ lines.new.left) }

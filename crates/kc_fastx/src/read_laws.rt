@@ -1,4 +1,4 @@
-//! What the definitions promise of themselves, each as the contract of a function that does nothing.
+//! Laws of reads. Each is the contract of a function that does nothing.
 ghost use Rattle.std.specs.Prelude.{◌≡◌, ℕ, List, [], ◌∷◌, Some, None, Result, codes};
 ghost use Rattle.kc_fastx.specs.declared.read_faults.FastxFault.{FastxFault};
 ghost use Rattle.kc_fastx.specs.declared.read_faults.FastxFault.TheVariants.{BadStart, BadBase, BadQuality};

@@ -58,8 +58,9 @@ impl<S: Source + Drop> Reads<S> {
     /// The first fault of all bytes, with its line, where the lines that were taken tell it already. `TooLong` where
     /// the source gave more bytes than the limit, and `Read` where it failed, while more were taken for the next read.
     /// `Memory` where a growth was refused. The reader keeps its fault: from then on it answers the same, takes nothing
-    /// of the source and stays as it is. `Memory` for the text of a record is the one that it doesn't keep: it gave the
-    /// same reads still, and may be asked again. `Memory` for bytes that the source had given already is kept.
+    /// of the source and stays as it is. One fault is not kept: `Memory` for the text of a record. The reader has given
+    /// the same reads still, and may be asked again. `Memory` for bytes that the source had given already is kept,
+    /// since these bytes are lost.
     pub fn next_read(&mut self) -> Result<Option<SeqRead>, FastxFault>
         ensures given { (start : Seen) (limit : ℕ) (reads : List Read)
             → HasGiven start self.old.source limit reads self.old.stand

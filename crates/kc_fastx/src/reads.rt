@@ -108,7 +108,7 @@ pub(crate) fn are_sequence_bytes(bytes: &[u8]) -> bool
     all
 }
 
-// Whether all these bytes are qualities, in a loop of the same form.
+// Whether all these bytes are qualities. Each is looked at, so that the loop has no exit inside.
 pub(crate) fn are_quality_bytes(bytes: &[u8]) -> bool
     ensures { result ≡ list_all is_quality_byte bytes.now }
 {

@@ -93,8 +93,9 @@ impl Reading {
     /// The first fault of all bytes, with its line, where the lines that were taken tell it already. `TooLong` where
     /// the source gave more bytes than the limit, and `Read` where it failed, before the next record was whole.
     /// `Memory` where a growth was refused. The reader keeps its fault: from then on it answers the same, takes nothing
-    /// of the source and stays as it is. `Memory` for the text of a record is the one that it doesn't keep: it gave the
-    /// same reads still, and may be asked again. `Memory` for bytes that the source had given already is kept.
+    /// of the source and stays as it is. One fault is not kept: `Memory` for the text of a record. The reader has given
+    /// the same reads still, and may be asked again. `Memory` for bytes that the source had given already is kept,
+    /// since these bytes are lost.
     pub fn next_read<S: Source>(
         &mut self,
         alloc: Global,
@@ -217,7 +218,7 @@ impl Reading {
         }
     }
 
-    // Keeps the fault of a record. Memory may be there when it is asked for again.
+    // Keeps the fault of a record, unless it is `Memory`, which may be there at the next call.
     fn keep(&mut self, fault: FastxFault)
         requires { self.old.failed ≡ None }
         ensures { self.new ≡ record self.old { failed = kept_fault fault } }

@@ -10,7 +10,8 @@ use memchr::memchr;
 use std::alloc::{AllocError, Global};
 use std::marker::Model;
 
-// Seen as the number of the lines that were taken, the lines that are left, and the bytes that are left.
+// A reader of lines, seen as the number of the lines that were taken, the lines that are left, and the bytes that are
+// left.
 #[derive(Drop)]
 pub struct LineCursor<'a> {
     left: &'a [u8],

@@ -15,8 +15,8 @@ use kc_word::Batch;
 use std::alloc::Global;
 use std::sync::Arc;
 
-/// The histogram of the tally of the batches, which `gather` answers, from the histograms that the stripes keep: no row
-/// is taken, so that it costs neither time nor memory for them. It is refused where `gather` is.
+/// The histogram of the tally of the batches, which `gather` answers, from the histograms that the stripes keep,
+/// without taking a row. It is refused where `gather` is.
 ///
 /// Condition: as many stripes as the setup says.
 pub fn gather_histogram<C: Counts + Drop>(
@@ -32,7 +32,7 @@ pub fn gather_histogram<C: Counts + Drop>(
     ensures counted { (index batch : ℕ) → result ≡ Err (GatherFault.Missing index batch)
         → StandsThere stripes.items index (λ stripe. length stripe.journal ≢ length batches.now) }
 {
-    // what is known of the length of words
+    // for the proof: what is known of the length of words
     let _bases = setup.rule().k().get();
     let all = stripes.as_slice();
     check_all(alloc, all, batches, setup)?;

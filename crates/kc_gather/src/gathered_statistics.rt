@@ -33,7 +33,7 @@ pub fn gather_statistics<C: Counts + Drop>(
     ensures counted { (index batch : ℕ) → result ≡ Err (GatherFault.Missing index batch)
         → StandsThere stripes.items index (λ stripe. length stripe.journal ≢ length batches.now) }
 {
-    // what is known of the length of words
+    // for the proof: what is known of the length of words
     let _bases = setup.rule().k().get();
     let all = stripes.as_slice();
     check_all(alloc, all, batches, setup)?;

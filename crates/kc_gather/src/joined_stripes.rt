@@ -32,10 +32,10 @@ pub(crate) fn check_all<C: Counts>(
     ensures counted { (index batch : ℕ) → result ≡ Err (GatherFault.Missing index batch)
         → StandsThere stripes.now index (λ stripe. length stripe.journal ≢ length batches.now) }
 {
-    // what is known of the number of stripes
+    // for the proof: what is known of the number of stripes
     setup.stripes();
     for (i, stripe) in stripes.iter().enumerate() {
-        // what is known of the journal
+        // for the proof: what is known of the journal
         stripe.is_lawful();
         check_stripe(alloc, i as u32, stripe, batches, setup)?;
     }
@@ -52,7 +52,7 @@ pub(crate) fn joined_histogram<C: Counts>(
 {
     let mut histogram = Histogram::new(alloc)?;
     for stripe in stripes {
-        // what is known of the bins
+        // for the proof: what is known of the bins
         stripe.is_lawful();
         histogram.add(stripe.histogram());
     }
@@ -71,7 +71,7 @@ pub(crate) fn joined_total<C: Counts>(stripes: &[Stripe<C>]) -> u64
     total
 }
 
-/// How often the word of all stripes occurs that occurs most, 0 where none does.
+/// The greatest count of a word of all stripes, 0 where none occurs.
 pub(crate) fn joined_greatest<C: Counts>(stripes: &[Stripe<C>]) -> u64
     ensures { result ≡ greatest_of (joined_occurrences stripes.now) }
 {

@@ -58,7 +58,7 @@ fn first_missing<C: Counts>(
         length stripe.now.journal ≢ length (values batches.now))) }
     ensures none { IfOk result (λ answer. IfNone answer (HasAllNumbers (values batches.now) stripe.now.journal)) }
 {
-    // what is known of the journal
+    // for the proof: what is known of the journal
     stripe.is_lawful();
     let marks = booked_marks(alloc, stripe.journal(), batches)?;
     Ok(first_unset(&marks))

@@ -10,7 +10,7 @@ use std::mem::replace;
 
 /// How much work an item is beside others. How long the threads take depends on it, and nothing else.
 pub(crate) trait Weighed {
-    /// How much work the item is, in a unit that all items share.
+    /// How much work the item is, in a unit that all items have in common.
     fn weight(&self) -> usize;
 }
 
@@ -41,7 +41,7 @@ pub(crate) fn dealt<T: Weighed + Drop>(
     Ok(piles)
 }
 
-// The piles, and this one behind them.
+// The piles, with one more at the end.
 fn with_last<T: Drop>(mut piles: Vec<Vec<T>>, pile: Vec<T>) -> Result<Vec<Vec<T>>, AllocError>
     ensures { IfOk result (λ all. all.items ≡ piles.items ++ pile ∷ []) }
 {

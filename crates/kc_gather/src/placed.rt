@@ -33,7 +33,7 @@ pub(crate) fn at_places<C: Counts + Drop>(
     requires { length stripes.items ≡ stripe_count setup.now }
     ensures { IfOk result (λ placed. AreAtPlaces stripes.items placed.items) }
 {
-    // what is known of the number of stripes
+    // for the proof: what is known of the number of stripes
     setup.stripes();
     let mut placed = room_for_each(alloc, &stripes)?;
     for stripe in stripes {

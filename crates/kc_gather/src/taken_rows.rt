@@ -61,9 +61,9 @@ fn taken_of<C: Counts + Drop>(
     Ok(rows_of(alloc, stripe)?)
 }
 
-/// The rows of all stripes, taken as by `taken`, by at most so many threads, each of which looks at the stripes that it
-/// takes. A single one is started too: the C library lets threads use again what the threads before them freed, and so
-/// rows come to lie where tables were. Condition: one at the least.
+/// The rows of all stripes, taken as `taken_of_each` takes them, by at most so many threads, each of which looks at the
+/// stripes that it takes. A single one is started too: the C library lets threads use again what the threads before
+/// them freed, and so rows come to lie where tables were. Condition: one at the least.
 pub(crate) fn taken_in_parallel<C: Counts + Drop + Send, H: Threads + Sync>(
     rt: &H,
     alloc: Global,
@@ -99,7 +99,7 @@ pub(crate) fn taken_in_parallel<C: Counts + Drop + Send, H: Threads + Sync>(
 fn rows_of<C: Counts + Drop>(alloc: Global, stripe: Stripe<C>) -> Result<Vec<LooseRows>, AllocError>
     ensures { IfOk result (λ parts. HasRowsOf stripe parts) }
 {
-    // what is known of the journal
+    // for the proof: what is known of the journal
     stripe.is_lawful();
     let k = stripe.setup().rule().k();
     let rows = unparted_rows(alloc, stripe)?;

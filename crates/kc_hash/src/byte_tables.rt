@@ -27,7 +27,7 @@ impl Model for MatrixTables {
 }
 
 impl Matrix {
-    /// The matrix in tables.
+    /// The matrix as eight tables, by which a number is multiplied byte by byte.
     pub fn tables(&self) -> MatrixTables
         ensures { result ≡ self.now }
     {
@@ -57,7 +57,7 @@ impl Matrix {
     }
 }
 
-/// Puts the first `width` entries once more behind themselves, with the column added to each.
+/// Writes behind the first `width` entries a copy of each, with the column added to it.
 fn add_column(table: &mut [u64; 256], width: usize, column: u64)
     requires { width ≤ 128 }
     ensures lower { (i : ℕ) → i < width → slice_index table.new i ≡ slice_index table.old i }

@@ -9,7 +9,7 @@ ghost use Rattle.kc_hash.specs.Product.{Undoes, AreInverse, IsInKernel, IsNonsin
 
 use crate::matrix::Matrix;
 
-/// What there is to undo a matrix.
+/// The answer of an inversion: the inverse, or why there is none.
 #[derive(Clone, Copy, Debug, PartialEq, Eq)]
 pub enum Inverse {
     /// The inverse of the matrix.

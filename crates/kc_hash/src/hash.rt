@@ -100,7 +100,7 @@ impl Hash {
         let _matrix = &self.matrix;
     }
 
-    /// A law: no two numbers have one hashed number.
+    /// A law: different numbers have different hashed numbers.
     pub fn is_one_to_one(&self)
         ensures { IsOneToOne self.now }
     {
@@ -133,14 +133,14 @@ impl Hash {
         self.inverse.apply(y)
     }
 
-    /// The matrix in tables, which hash as `forward` does.
+    /// The matrix as eight tables, which hash as `forward` does.
     pub fn forward_tables(&self) -> MatrixTables
         ensures { result ≡ self.now }
     {
         self.matrix.tables()
     }
 
-    /// The inverse in tables, which give numbers back as `back` does.
+    /// The inverse as eight tables, which give numbers back as `back` does.
     pub fn back_tables(&self) -> MatrixTables
         ensures { AreInverse self.now result }
     {

@@ -2,7 +2,7 @@
 //! number has a hashed number of its own, from which it is got back.
 //!
 //! [`Hash`] is such a matrix with its inverse, made from a seed or from a given [`Matrix`]. [`MatrixTables`] is a
-//! matrix as eight tables of 256, for loops over many numbers. [`Inverse`] is what is found to undo a matrix.
+//! matrix as eight tables of 256, for loops over many numbers. [`Inverse`] is the answer of an inversion.
 //!
 //! ```ignore
 //! let y = hash.forward(x);    // for x below 2^bits

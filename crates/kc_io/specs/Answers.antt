@@ -1,4 +1,4 @@
--- What the calls of a reader or a writer of std come to: source, the documentation of std's `io::ErrorKind::Interrupted`
+-- What calls of a reader or a writer of std come to: source, the documentation of std's `io::ErrorKind::Interrupted`
 -- ("interrupted operations can typically be retried").
 use Rattle.std.specs.Prelude.{◌≡◌, ◌⊎◌, ℕ, ◌+◌, ◌-◌, ◌<◌, ◌^◌, ◌&&◌, Bool, true, false, nat_lt, Option, None, Some}
 use Rattle.std.specs.Prelude.{Result, Ok, Err, IsErr, if◌then◌else◌}

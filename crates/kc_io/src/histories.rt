@@ -7,7 +7,7 @@ use crate::failures::Failed;
 use std::marker::Model;
 
 /// What a source or a sink has answered so far. Proofs alone see it: it takes no bytes, and its counts have no bound.
-/// Who implements `Source` or `Sink` keeps one, and adds each answer to it.
+/// Whoever implements `Source` or `Sink` keeps one, and adds each answer to it.
 #[derive(Drop)]
 pub struct Heard {
     pub ghost history: { History },
@@ -42,7 +42,8 @@ impl Heard {
     }
 }
 
-/// How a stream of std answered the calls of an adapter. Proofs alone see it. Who calls the stream adds each answer.
+/// How a stream of std answered the calls of an adapter. Proofs alone see it. Whoever calls the stream adds each
+/// answer.
 #[derive(Drop)]
 pub struct Asked {
     pub ghost calls: { Calls },

@@ -85,7 +85,7 @@ impl Intake {
         &self.bytes[self.used..]
     }
 
-    /// Uses the first `count` bytes, which are forgotten. Condition: there are so many.
+    /// Uses the first `count` bytes, which are forgotten. Condition: at least `count` bytes are there.
     pub fn use_up(&mut self, count: usize)
         requires { count ≤ length self.old.bytes }
         ensures { self.new ≡ record self.old { bytes = drop count self.old.bytes } }
@@ -155,7 +155,7 @@ fn forget_front(bytes: &mut Vec<u8>, count: usize)
 }
 
 // Forgets the first bytes, as many as were used, and puts more behind the others. After a refusal only the others are
-// there. Condition: there are so many.
+// there. Condition: at least `used` bytes are there.
 fn put_behind(bytes: &mut Vec<u8>, used: usize, more: &[u8]) -> Result<(), AllocError>
     requires { used ≤ length bytes.old.items }
     ensures put { OnOk result (bytes.new.items ≡ drop used bytes.old.items ++ more.now) }

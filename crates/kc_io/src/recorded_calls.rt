@@ -113,7 +113,7 @@ impl<W: Write> Recorded<W> {
     }
 }
 
-// What an answer of std's came to, where so many more interruptions are borne. It is counted.
+// Settles one answer of std, and counts it: None where it is an interruption and `tries` allows one more.
 fn settle<T>(asked: &mut Asked, tries: &mut u64, answer: io::Result<T>) -> Option<Result<T, Failed>>
     ensures settled { result ≡ settled answer tries.old }
     ensures counted { asked.new.calls ≡ after_call asked.old.calls answer }

@@ -11,7 +11,7 @@ use crate::recorded_calls::Recorded;
 use std::io::Write;
 use std::marker::Model;
 
-/// A place that takes bytes. Proofs see the bytes written to it, where it tells them, and the history of its calls.
+/// Whatever takes bytes. Proofs see the bytes written to it, where it tells them, and the history of its calls.
 pub trait Sink {
     ghost seen: { Self → Written };
 
@@ -51,7 +51,7 @@ impl Model for ToVec {
 }
 
 impl ToVec {
-    /// A sink behind these bytes.
+    /// A sink that appends to these bytes.
     pub fn new(bytes: Vec<u8>) -> ToVec
         ensures { result ≡ record { bytes = Some bytes.items; history = no_history } }
     {
@@ -157,7 +157,8 @@ impl<W: Write> Sink for ToWrite<W> {
     /// Writes until a write isn't interrupted.
     ///
     /// # Errors
-    /// `Failed` where the write failed or took no byte of some, or 2^64 of them were interrupted.
+    /// `Failed` where the write failed, or took no byte though there were some, or 2^64 writes in a row were
+    /// interrupted.
     fn write(&mut self, bytes: &[u8]) -> Result<usize, Failed>
         ensures within { IfOk result (λ n. n ≤ length bytes.now) }
         ensures appends { WriteAppends self.old.seen.bytes self.new.seen.bytes result bytes.now }
@@ -171,7 +172,7 @@ impl<W: Write> Sink for ToWrite<W> {
     /// Flushes until a flush isn't interrupted.
     ///
     /// # Errors
-    /// `Failed` where the flush failed, or 2^64 of them were interrupted.
+    /// `Failed` where the flush failed, or 2^64 flushes in a row were interrupted.
     fn flush(&mut self) -> Result<(), Failed>
         ensures keeps { Keeps self.old.seen.bytes self.new.seen.bytes }
         ensures history { self.new.seen.history ≡ after_flush self.old.seen.history result }

@@ -124,7 +124,7 @@ impl<R: Read> Source for FromRead<R> {
     /// Reads until a read isn't interrupted.
     ///
     /// # Errors
-    /// `Failed` where the read failed, or 2^64 of them were interrupted.
+    /// `Failed` where the read failed, or 2^64 reads in a row were interrupted.
     fn read(&mut self, buffer: &mut [u8]) -> Result<usize, Failed>
         ensures bound { IfOk result (λ n. n ≤ length buffer.new) }
         ensures bytes { ReadConsumes self.old.seen.left self.new.seen.left result buffer.new }

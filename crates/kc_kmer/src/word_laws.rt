@@ -68,7 +68,8 @@ pub fn worked_rows()
     ensures broken { words_in (counting_all 3 false) (read_of (codes "ACNGT") None) ≡ [] }
     ensures low_quality { words_in (unlisted_rule 2 false 35)
         (read_of (codes "ACGT") (Some (codes "II!I"))) ≡ 1 ∷ [] }
-    ensures one_listed { words_in (with_list (counting_all 3 false) (27 ∷ [])) (read_of (codes "ACGTA") None) ≡ 27 ∷ [] }
+    ensures one_listed { words_in (with_list (counting_all 3 false) (27 ∷ [])) (read_of (codes "ACGTA") None)
+        ≡ 27 ∷ [] }
     ensures listed_form { words_in (with_list (counting_all 3 true) (6 ∷ [])) (read_of (codes "ACGTA") None)
         ≡ 6 ∷ 6 ∷ [] }
     ensures none_listed { words_in (with_list (counting_all 3 false) []) (read_of (codes "ACGTA") None) ≡ [] }

@@ -1,4 +1,4 @@
-//! What the crates above have in common: a counter that only contracts see, vectors whose room is bounded, and lemmas on
+//! What crates above have in common: a counter that only contracts see, vectors whose room is bounded, and lemmas on
 //! lists in `proofs/`.
 #![tactic(auto)]
 

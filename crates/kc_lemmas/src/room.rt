@@ -12,7 +12,7 @@ pub fn room_for_each<S, T>(alloc: Global, items: &[S]) -> Result<Vec<T>, AllocEr
     Vec::with_capacity(alloc, items.len())
 }
 
-/// So many numbers, each of them 0, in room for these alone.
+/// `count` zeros, in room for these alone.
 pub fn zeros(alloc: Global, count: usize) -> Result<Vec<u64>, AllocError>
     ensures zeros { IfOk result (λ numbers. numbers.items ≡ replicate count 0) }
     ensures bounded { IfOk result (λ numbers. vec_capacity numbers ≤ count) }

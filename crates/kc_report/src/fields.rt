@@ -59,7 +59,7 @@ pub(crate) fn word_of(letters: &[u8], k: K) -> Option<u64>
     Some(number)
 }
 
-// The number of the letters, but for up to three behind the last four.
+// The number of the whole groups of four letters.
 #[inline(always)]
 fn number_of_fours(letters: &[u8]) -> Option<u64>
     requires { length letters.now ≤ 31 }
@@ -103,7 +103,7 @@ fn number_of_rest(letters: &[u8], from: usize, number: u64) -> Option<u64>
 // The most digits of a count: the greatest one, 2^62, has so many.
 const MOST_DIGITS: usize = 19;
 
-/// The count that stands in front of bytes, behind a blank and before a line end, and how many bytes they are together.
+/// Reads a blank, a count and a line feed at the front of the bytes: the count, and how many bytes these are.
 #[inline(always)]
 pub(crate) fn count_of(fields: &[u8]) -> Option<(u64, usize)>
     ensures within { IfSome result (λ found. found.1 ≤ length fields.now) }
@@ -119,7 +119,7 @@ pub(crate) fn count_of(fields: &[u8]) -> Option<(u64, usize)>
     }
 }
 
-// The count that stands so in front of bytes, where it has one digit.
+// The count that stands so at the front of the bytes, if it has one digit.
 #[inline(always)]
 fn digit_of(fields: &[u8]) -> Option<u64>
     ensures within { IfSome result (λ digit. 3 ≤ length fields.now) }
@@ -136,7 +136,7 @@ fn digit_of(fields: &[u8]) -> Option<u64>
     Some(digit as u64)
 }
 
-// The count that stands so in front of bytes, of however many digits.
+// The count that stands so at the front of the bytes, of any length, and how many bytes these are.
 #[inline(always)]
 fn long_count_of(fields: &[u8]) -> Option<(u64, usize)>
     ensures within { IfSome result (λ found. found.1 ≤ length fields.now) }
@@ -158,7 +158,8 @@ fn long_count_of(fields: &[u8]) -> Option<(u64, usize)>
     Some((count, many + 2))
 }
 
-// The number that the digits in front of bytes write, and how many they are. Where they are many the number is wrong.
+// The number that the digits in front of bytes write, and how many they are. With 20 digits or more the number may have
+// wrapped.
 #[inline(always)]
 pub(crate) fn digits_of(bytes: &[u8]) -> (u64, usize)
     ensures { HasDigits bytes.now result.0 result.1 }

@@ -33,7 +33,7 @@ pub fn write_histo<W: Sink>(
     requires most { high ≤ GREATEST_HIGH }
     ensures { WritesUnlessMemory (W.seen writer.old) (W.seen writer.new) result (histo_text high tally.now.rows) }
 {
-    // what is known of the number of rows
+    // for the proof: what is known of the number of rows
     let _rows = tally.row_count();
     if high < LAST_BIN {
         return write_histo_of_bins(writer, tally.histogram(), high);

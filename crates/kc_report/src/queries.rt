@@ -10,14 +10,12 @@ use kc_io::{BLOCK_SIZE, Block, Failed, Sink, write_out};
 use kc_kmer::{K, Word, canonical, pack};
 use kc_tally::{Row, Tally};
 
-/// Writes for each asked word, in their order, a line with the word and its count: `WORD COUNT`, in upper case,
-/// its canonical
-/// form where both strands were counted, and 0 where it does not occur. It takes no memory.
+/// Writes the counts of the asked words, a line `WORD COUNT` for each, in the order asked: the word in upper case, in
+/// its canonical form where both strands were counted, and 0 where it does not occur. It takes no memory.
 ///
 /// # Errors
-/// `BadWord` with the number of the first word, from 1, that isn't k bases of `ACGTacgt`; then nothing was
-/// written. `Write`
-/// where the writer failed or took no byte. It took a beginning of the text.
+/// `BadWord` with the number of the first word, from 1, that isn't k bases of `ACGTacgt`; then nothing was written.
+/// `Write` where the writer failed or took no byte. It took a beginning of the text.
 pub fn query<W: Sink>(writer: &mut W, tally: &Tally, words: &[String]) -> Result<(), ReportFault>
     ensures { Answers (W.seen writer.old) (W.seen writer.new) tally.now (map string_bytes words.now) result }
 {

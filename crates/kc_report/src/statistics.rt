@@ -10,8 +10,8 @@ use crate::report_faults::ReportFault;
 use kc_io::{Block, Sink, write_out};
 use kc_tally::{Statistics, Tally};
 
-/// Writes the statistics of a tally: how many words occur once, how many occur, how often all of them together, and how
-/// often the one that occurs most. It takes no memory.
+/// Writes the statistics of a tally: how many words occur once, how many occur, the sum of their counts, and the
+/// greatest count. It takes no memory.
 ///
 /// # Errors
 /// `Write` where the writer failed or took no byte. It took a beginning of the text.

@@ -25,8 +25,8 @@ use std::thread::{Promise, PromisedHandle, Scope, Threads};
 /// What a worker's thread answers.
 type Ended<N> = Result<Worker<N>, RunFault>;
 
-/// A worker that ends well has worked with these tickets and a sheet of this plan; one that doesn't names one of the
-/// plan's stripes, or was refused memory.
+/// What a worker's thread promises of its answer: a worker that ends well has worked with these tickets and a sheet of
+/// this plan; one that doesn't names one of the plan's stripes, or was refused memory.
 #[derive(Drop)]
 struct Working {
     tickets: Snapshot<Tickets>,

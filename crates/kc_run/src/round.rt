@@ -24,9 +24,9 @@ pub(crate) struct Round {
     pub cuts: Vec<Cuts>,
 }
 
-/// How many batches make a round, where all have as many positions as the first: some 4 million positions, and as many
-/// at least as the list has words, since each booking compares the lists; or fewer, so that each worker has four
-/// rounds; one at the least.
+/// How many batches make a round, where all are like the first: as many as have together 4 million positions or, where
+/// the list has more words than that, as many positions as words, since each booking compares the lists. Fewer where a
+/// worker would have less than four rounds; one at the least.
 pub(crate) fn round_len(batches: &[Arc<Batch>], setup: &Setup, workers: u32) -> u64
     requires { 1 ≤ workers }
     ensures some { 1 ≤ result }
@@ -45,7 +45,7 @@ pub(crate) fn round_len(batches: &[Arc<Batch>], setup: &Setup, workers: u32) -> 
     wanted.min(most).max(1)
 }
 
-/// The stripe with which the rounds of a worker begin, where those of two workers are so far apart.
+/// The stripe at which the rounds of a worker begin, where those of neighbouring workers begin so far apart.
 pub(crate) fn first_stripe(stripes: u32, apart: u32, number: u32) -> u32
     requires { 1 ≤ stripes }
     ensures value { result ≡ number * apart % 2 ^ 32 % stripes }

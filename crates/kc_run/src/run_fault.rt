@@ -27,7 +27,7 @@ pub enum RunFault {
 }
 
 impl RunFault {
-    /// What a worker ends with whose booking into the stripe of this number was refused.
+    /// The fault of a run in which the stripe of this number refused a booking.
     pub(crate) fn of_booking(stripe: u32, fault: BookFault) -> RunFault
         ensures { result ≡ booking_fault stripe fault }
     {
@@ -38,7 +38,7 @@ impl RunFault {
         }
     }
 
-    /// What a run ends with whose gathering was refused. No stripe lacks a batch.
+    /// The fault of a run in which gathering was refused. No stripe lacks a batch.
     pub(crate) fn of_gathering(fault: GatherFault) -> RunFault
         requires { (index batch : ℕ) → fault ≢ GatherFault.Missing index batch }
         ensures { IsOfGathering fault result }

@@ -16,7 +16,7 @@ use kc_word::Batch;
 use std::alloc::{AllocError, Global};
 use std::sync::{Arc, Wait};
 
-/// What the workers of a run share.
+/// What all workers of a run use.
 #[derive(Drop)]
 pub(crate) struct Job<'a, C: Counts, N: Books, G: Gate> {
     pub batches: &'a [Arc<Batch>],
@@ -39,8 +39,8 @@ pub(crate) struct Worker<N: Books> {
 }
 
 impl<N: Books> Worker<N> {
-    /// Draws numbers until there is none left, and books the batch of each into every stripe. The gate is told the
-    /// worker's number.
+    /// Works round by round until no number is left: draws numbers, and books the batch of each into every stripe. The
+    /// gate is told the worker's number.
     pub fn work<H: Wait, C: Counts, G: Gate>(
         mut self,
         rt: &H,

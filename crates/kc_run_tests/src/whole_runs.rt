@@ -57,7 +57,7 @@ pub(crate) fn batches_of(
     ensures few { IfOk result (λ batches. length batches.items ≤ 2 ^ 40) }
     ensures small { IfOk result (λ batches. position_sum setup.now.rule.k (values batches.items) ≤ 2 ^ 62) }
 {
-    // what is known of the positions
+    // for the proof: what is known of the positions
     cutting_laws::cutting_positions();
     cutting_laws::positions_within_bytes();
     cutting_laws::cleaned_length();

@@ -36,7 +36,7 @@ pub fn select<S: Source, W: Sink>(
         (record { source = S.seen source.old; sink = W.seen writer.old })
         (record { source = S.seen source.new; sink = W.seen writer.new }) result }
 {
-    // what is known of a length
+    // for the proof: what is known of a length
     let _bases = selector.k().get();
     let mut block = Block::new();
     let mut counts = SelectionCounts::none();

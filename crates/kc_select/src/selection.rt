@@ -6,8 +6,9 @@ use std::marker::Model;
 // The least quality byte, which every quality passes.
 const EVERY_QUALITY: u8 = 33;
 
-/// From which count on a word is solid, how many of a hundred words of a read have to be, at most 100, the least
-/// quality byte of a usable base, from 33 to 126, and whether the reads that are not solid are selected instead.
+/// What a selection of reads is told: from which count on a word is solid, how many of a hundred words of a read have
+/// to be, at most 100, the least quality byte of a usable base, from 33 to 126, and whether the reads that are not
+/// solid are selected instead.
 #[derive(Clone, Copy, PartialEq, Eq, Debug)]
 pub struct Selection {
     least: u64,
@@ -30,8 +31,8 @@ impl Model for Selection {
 }
 
 impl Selection {
-    /// To select solid reads, with this least count and this share, of bases of every quality. Condition: the share is
-    /// at most 100.
+    /// The selection of solid reads, with this least count and this share, of bases of every quality. Condition: the
+    /// share is at most 100.
     pub fn new(least: u64, share: u64) -> Selection
         requires { share ≤ 100 }
         ensures { result ≡ record { least = least; share = share; floor = 33; inverted = false } }

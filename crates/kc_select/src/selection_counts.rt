@@ -17,7 +17,7 @@ pub struct SelectionCounts {
 }
 
 impl SelectionCounts {
-    /// Of no reads.
+    /// The counts of no reads.
     pub fn none() -> SelectionCounts
         ensures { result ≡ no_counts }
     {
@@ -29,7 +29,7 @@ impl SelectionCounts {
         }
     }
 
-    /// Those of both together. Condition: no sum is 2^64 or more.
+    /// The sums of both. Condition: no sum is 2^64 or more.
     pub fn and(self, other: SelectionCounts) -> SelectionCounts
         requires reads { self.reads + other.reads < 2 ^ 64 }
         requires kept { self.kept + other.kept < 2 ^ 64 }

@@ -67,7 +67,7 @@ impl<'a> Selector<'a> {
         self.selection
     }
 
-    /// Whether the selection keeps the read: a solid one, or, where the selection is inverted, one that is not. It takes
+    /// Whether the selection keeps the read: a solid one or, where the selection is inverted, one that is not. It takes
     /// no memory.
     pub fn is_selected(&self, read: &SeqRead) -> bool
         ensures { result ≡ is_selected self.now.tally self.now.rule read.now }

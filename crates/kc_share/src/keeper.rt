@@ -7,8 +7,9 @@ use crate::books::Books;
 use crate::sheet_rule::Seat;
 use std::marker::{Model, PhantomData};
 
-/// The right to keep a stripe's journal, which belongs behind the stripe's lock. What a contract sees of it is the
-/// stripe's number, and the journal: all that was ever booked into the stripe. The journal has no bytes.
+/// A stripe's keeper: what the sheet knows of the stripe's journal. It belongs behind the stripe's lock. What a
+/// contract sees of it is the stripe's number, and the journal: all that was ever booked into the stripe. The journal
+/// has no bytes.
 #[derive(Drop)]
 pub struct Keeper<N: Books> {
     pub(crate) seat: Seat,

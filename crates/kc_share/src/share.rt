@@ -9,9 +9,9 @@ use std::marker::{Model, PhantomData};
 /// How many stripes there are at most.
 pub(crate) const MOST: usize = 64;
 
-/// The right to book, with a number of the sheet's parts, and how much was booked with it in each stripe. What a
-/// contract sees of it is a `ShareSeen`: the plan of its sheet, its parts, and the list of all that was booked with it.
-/// That list has no bytes.
+/// A share of the sheet: how much one worker has booked in each stripe, and how many of the sheet's parts it has. What
+/// a contract sees of it is a `ShareSeen`: the plan of its sheet, its parts, and the list of all that was booked with
+/// it. That list has no bytes.
 #[derive(Drop)]
 pub struct Share<N: Books> {
     pub(crate) seat: Seat,

@@ -13,7 +13,8 @@ pub fn same_in_some_order()
     ensures { SameInSomeOrder }
 {}
 
-/// Shows that entries which are among others stand there: so what was booked with a share stands in the journal.
+/// Shows that the entries of a list that is among another one are in that one: so what was booked with a share stands
+/// in the journal.
 pub fn among_is_there()
     ensures { AmongIsThere }
 {}

@@ -11,7 +11,8 @@ use crate::sheet_rule::{FirstKept, Seat, SheetTable};
 use std::alloc::{AllocError, Global};
 use std::marker::{Model, PhantomData};
 
-/// A sheet that has no name yet. What a contract sees of it is the table of its word, and its plan.
+/// The sheet of a run, the account that all shares keep together, before it has a name. What a contract sees of it is
+/// its atomic table, and its plan.
 #[derive(Drop)]
 pub struct Sheet {
     table: SheetTable,
@@ -102,7 +103,7 @@ impl<N: Books> Model for Opening<N> {
         × (0 < o.plan.parts) };
 }
 
-/// A sheet under its name: what the steps of its shares and keepers go over. Threads share it by reference. What a
+/// A sheet under its name, by which its shares and keepers take their steps. Threads share it by reference. What a
 /// contract sees of it is its plan.
 #[derive(Drop)]
 pub struct OpenSheet<N: Books> {

@@ -6,7 +6,7 @@ use atomic_table::{Join, Play, Split, Table, TableRule};
 use std::alloc::Global;
 use std::marker::{Brand, PhantomData};
 
-/// The rule of the word and of all views.
+/// The rule of the cell and of all views.
 pub(crate) struct SheetRule;
 
 impl TableRule<(), View, Plan> for SheetRule {
@@ -17,7 +17,7 @@ impl TableRule<(), View, Plan> for SheetRule {
     ghost first = { first_view };
 }
 
-/// One part goes.
+/// The split by which a share gives one part to a new share.
 pub(crate) struct OnePart;
 
 impl Split<View> for OnePart {
@@ -28,7 +28,7 @@ impl Split<View> for OnePart {
     ghost right = { part_view };
 }
 
-/// The first of the kept stripes goes.
+/// The split by which the first kept journal goes to a new keeper.
 pub(crate) struct FirstKept;
 
 impl Split<View> for FirstKept {
@@ -39,7 +39,7 @@ impl Split<View> for FirstKept {
     ghost right = { first_kept_view };
 }
 
-/// All goes.
+/// The split by which a view is given up whole, for one step.
 pub(crate) struct Whole;
 
 impl Split<View> for Whole {
@@ -50,7 +50,7 @@ impl Split<View> for Whole {
     ghost right = { λ view. view };
 }
 
-/// One view gets what both had.
+/// The join of two views: one gets what both had.
 pub(crate) struct Together;
 
 impl Join<View> for Together {
@@ -61,7 +61,7 @@ impl Join<View> for Together {
     ghost spent = { blank_view };
 }
 
-/// A load that tells what is known.
+/// A step that changes nothing and tells what follows from the rule.
 pub(crate) struct Look;
 
 impl Play<(), View> for Look {
@@ -83,7 +83,7 @@ impl Event for Brand {
     ghost entry = { record { batch = record { number = 0; pieces = [] }; words = 0 } };
 }
 
-/// A load at which an entry is booked.
+/// A step that notes one booking on both sides.
 pub(crate) struct Book<E: Event>(PhantomData<E>);
 
 impl<E: Event> Play<(), View> for Book<E> {

@@ -12,11 +12,12 @@ use crate::sheet_rule::{Book, Event, FirstKept, Look, OnePart, Seat, Together, W
 use kc_word::Batch;
 use std::marker::Brand;
 
-/// The word: how many parts there are.
+/// The cell: how many parts there are.
 const PARTS: usize = 0;
 
 impl<N: Books> OpenSheet<N> {
-    /// Splits one part off a share, which has two or more: a share that has booked nothing. Takes no memory.
+    /// Splits one part off a share that has two or more. Answers a share with that part, which has booked nothing.
+    /// Takes no memory.
     pub fn split(&self, share: &mut Share<N>) -> Share<N>
         requires { 2 ≤ share.old.parts }
         ensures share { share.new ≡ with_one_part_less share.old }
@@ -47,8 +48,8 @@ impl<N: Books> OpenSheet<N> {
         add_each(&mut share.entries, &entries);
     }
 
-    /// Books a batch into the stripe of a keeper: writes it into the keeper's journal and into the share, with how many
-    /// words it has there. Takes no memory.
+    /// Notes that a batch was booked into the stripe of a keeper: writes it into the keeper's journal and into the
+    /// share, with how many words it has there. Takes no memory.
     ///
     /// The words and the entries of the journal stay below 2^64.
     pub fn note(&self, share: &mut Share<N>, keeper: &mut Keeper<N>, batch: &Batch, words: u64)

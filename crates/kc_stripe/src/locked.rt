@@ -81,7 +81,7 @@ impl<C: Counts, N: Books> Locked<C, N> {
         ensures memory { result ≡ Err BookFault.Memory → self.old.total + length (keys_of cut.now) ≤ 2 ^ 62 }
     {
         self.stripe.book(cut)?;
-        // What is known of the sums, which stay small.
+        // For the proof: what is known of the sums, which stay small.
         let _total = self.stripe.total();
         let _length = self.stripe.journal().len();
         sheet.note(
@@ -116,7 +116,7 @@ impl<C: Counts, N: Books> Locked<C, N> {
             → self.old.total + length (all_keys_of cuts.now) ≤ 2 ^ 62 }
     {
         self.stripe.book_all(cuts)?;
-        // What is known of the sums, which stay small.
+        // For the proof: what is known of the sums, which stay small.
         let _total = self.stripe.total();
         let _length = self.stripe.journal().len();
         note_all(sheet, share, &mut self.keeper, cuts);

@@ -104,7 +104,8 @@ impl<C: Counts, N: Books> Stripes<C, N> {
         &self.setup
     }
 
-    /// Splits one part off a share, which has two or more: a share that has booked nothing. Takes no memory.
+    /// Splits one part off a share that has two or more. Answers a share with that part, which has booked nothing.
+    /// Takes no memory.
     pub fn split(&self, share: &mut Share<N>) -> Share<N>
         requires { 2 ≤ share.old.parts }
         ensures share { share.new ≡ with_one_part_less share.old }

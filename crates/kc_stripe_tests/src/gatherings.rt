@@ -108,7 +108,7 @@ pub(crate) fn batches_of(
 ) -> Result<Vec<Arc<Batch>>, Fail>
     ensures { IfOk result (λ batches. position_sum setup.now.rule.k (values batches.items) ≤ 2 ^ 62) }
 {
-    // what is known of the positions
+    // for the proof: what is known of the positions
     cutting_laws::cutting_positions();
     cutting_laws::positions_within_bytes();
     cutting_laws::cleaned_length();

@@ -31,6 +31,6 @@ pub use kc_lemmas::Counter as Steps;
 pub use limited_counts::LimitedCounts;
 pub use plain_counts::PlainCounts;
 pub use quotient_table::QuotientTable;
-/// So many parts has a table at most, by `Counts::part_of`.
+/// The most parts of a table, by `Counts::part_of`.
 pub use sizes::PARTS;
 pub use table_fault::TableFault;

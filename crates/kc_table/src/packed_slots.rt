@@ -1,4 +1,4 @@
-//! The slots of a table packed into one 64-bit word each, with the high bits of great counts beside them.
+//! The slots of a table packed into one number of 64 bits each, with the high bits of great counts beside them.
 ghost use Rattle.std.specs.Prelude.{◌≡◌, ◌≢◌, ℕ, ◌+◌, ◌*◌, ◌/◌, ◌%◌, ◌^◌, ◌<◌, ◌≤◌, max, length, replicate};
 ghost use Rattle.std.specs.Prelude.{IfOk, slice_set, slice_index_or, vec_capacity};
 ghost use Rattle.kc_table.specs.Sizes.{remainder_bits, count_bits};
@@ -9,9 +9,10 @@ use kc_lemmas::zeros;
 use std::alloc::{AllocError, Global};
 use std::marker::Model;
 
-/// A row of slots. A slot's word has the tag in its high bits, and below it the `low` low bits of the count. The high
-/// bits of the count stand in `high` at the slot's own index, and are 0 where `high` ends before it. The room of `high`
-/// is taken with the slots, but is memory only where a count outgrew its word; no later call takes any.
+/// The slots of a table, one behind another. A slot's number has the tag in its high bits, and below it the `low` low
+/// bits of the count. The high bits of the count stand in `high` at the slot's own index, and are 0 where `high` ends
+/// before it. The room of `high` is taken with the slots, but is memory only where a count outgrew its slot; no later
+/// call takes any.
 #[derive(Drop)]
 pub(crate) struct PackedSlots {
     low: u32,

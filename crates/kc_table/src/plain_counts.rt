@@ -155,7 +155,7 @@ fn greatest_value(map: &BTreeMap<u64, u64>) -> u64
     for value in map.values() {
         greatest = greatest.max(*value);
     }
-    // what is known of the order of the keys
+    // for the proof: what is known of the order of the keys
     let _count = map.len();
     greatest
 }

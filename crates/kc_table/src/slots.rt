@@ -17,7 +17,7 @@ use crate::tag::Tag;
 use kc_lemmas::Counter;
 use std::alloc::{AllocError, Global};
 
-/// A table of 2^log slots for keys of so many bits. The low bits of a count have what the tag leaves of a slot's word.
+/// A table of 2^log slots for keys of so many bits. The low bits of a count have what the tag leaves of a slot.
 #[derive(Drop)]
 pub(crate) struct Slots {
     pub bits: u32,
@@ -108,7 +108,7 @@ impl Slots {
         self.slots.add_one(place)
     }
 
-    /// The key in a slot, by its remainder and the home that has this slot for its number of reprobes.
+    /// The key in a slot: its remainder, and the home from which its number of reprobes leads to the slot.
     #[inline(always)]
     pub fn key_at(&self, index: usize, tag: Tag) -> u64
         requires tag { tag ≡ slot_tags self.now index }
@@ -125,7 +125,7 @@ impl Slots {
         (tag.remainder() << self.log) + home as u64
     }
 
-    /// Stores a key that is not stored yet, and tells whether it could: not where all its places are taken.
+    /// Stores a key that is not stored yet. Answers false, and stores nothing, where all its places are taken.
     #[inline(always)]
     pub fn take(&mut self, key: u64, count: u64) -> bool
         requires in_range { key < 2 ^ self.old.bits }
@@ -145,7 +145,7 @@ impl Slots {
         }
     }
 
-    /// What is counted here, in a table of 2^log slots, or None where a key's places are all taken there.
+    /// The same keys and counts in a table of 2^log slots; None where a key has no free place there.
     pub fn resized(&self, alloc: Global, log: u32) -> Result<Option<Slots>, AllocError>
         requires few_slots { log ≤ most_log }
         requires no_wider { log ≤ self.now.bits }

@@ -1,5 +1,5 @@
-//! How rows stand in words of 64 bits: a row's own word in the high bits, and its count in those that are left, where
-//! it fits.
+//! How rows stand in numbers of 64 bits: a row's word in the high bits, and its count in those that are left, where it
+//! fits.
 ghost use Rattle.std.specs.Prelude.{◌≡◌, ◌+◌, ◌-◌, ◌%◌, ◌^◌, ◌<◌, ◌≤◌, max, if◌then◌else◌};
 ghost use Rattle.kc_tally.specs.Packing.{is_large, is_apart, packed_row, word_in, first_count, unpacked};
 
@@ -44,8 +44,8 @@ impl Layout {
         }
     }
 
-    /// The layout for words from the least one on, as many as there are numbers of so many bits. Conditions: the width
-    /// is 1 to 62, and the words are below 2^63.
+    /// The layout for the 2^width words from the least one on. Conditions: the width is 1 to 62, and the words are
+    /// below 2^63.
     pub(crate) fn of_width(least: u64, width: u32) -> Layout
         requires some { 1 ≤ width }
         requires most { width ≤ 62 }
@@ -59,7 +59,8 @@ impl Layout {
         }
     }
 
-    /// The row in one word, with 0 in place of a count that does not fit. Condition: the layout has room for its word.
+    /// The row in one number, with 0 in place of a count that does not fit. Condition: the layout has room for its
+    /// word.
     #[inline(always)]
     pub(crate) fn packed(self, row: Row) -> u64
         requires least { self.least ≤ row.word }
@@ -110,7 +111,7 @@ impl Layout {
         self.count(packed) == 0
     }
 
-    /// The row of a packed one, where these are the large rows from it on.
+    /// The row that a packed number stands for. `large` has the large rows from this one on.
     #[inline(always)]
     pub(crate) fn row(self, packed: u64, large: &[Row]) -> Row
         ensures { result ≡ unpacked self packed large.now }

@@ -1,4 +1,4 @@
-//! The parts of a tally, with each row in one word of 64 bits.
+//! The parts of a tally, with each row in one number of 64 bits.
 ghost use Rattle.std.specs.Prelude.{◌≡◌, ◌+◌, ◌-◌, ◌^◌, ◌<◌, ◌≤◌, All, IfOk, length, map, slice_index};
 ghost use Rattle.std.specs.List.{flat_map};
 ghost use Rattle.std.specs.List.Sorted.{IsStrictlyIncreasing};
@@ -17,7 +17,7 @@ use std::marker::Model;
 /// A part has at most so many rows. The fewer they are, the nearer are their words, and so more counts fit beside them.
 pub(crate) const PART_ROWS: usize = 1 << 16;
 
-/// The rows of one part, each in one word of 64 bits. A count that does not fit there stands with its row in a second
+/// The rows of one part, each in one number of 64 bits. A count that does not fit there stands with its row in a second
 /// list, in the order of the rows.
 #[derive(Drop)]
 pub struct PackedRows {
@@ -55,7 +55,8 @@ impl PackedRows {
         })
     }
 
-    /// The rows that stand in these words, and the large ones among them. Condition: they are such.
+    /// The rows that stand in these numbers, and the large ones among them. Condition: `packed` has rows in this
+    /// layout, and `large` those of them whose counts don't fit, in order.
     pub(crate) fn of_words(layout: Layout, packed: Vec<u64>, large: Vec<Row>) -> PackedRows
         requires { ArePacked layout packed.items large.items }
         ensures { result ≡ rows_of layout packed.items large.items }

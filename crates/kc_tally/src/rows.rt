@@ -49,8 +49,8 @@ impl<'a> Rows<'a> {
     }
 
     /// The sum of the next rows of both, of which the one with the lesser word is used up, or both where the words are
-    /// the same. None where a part has to be begun first. Nobody can guess which word is the lesser one, so that is
-    /// said by what is moved, and as little as can be by branches.
+    /// the same. None where a part has to be begun first. Which word is the lesser one can't be predicted, so how far
+    /// each side moves is computed, with few branches.
     #[inline(always)]
     pub(crate) fn take_sum(&mut self, other: &mut Rows<'_>) -> Option<Row>
         requires { total_of self.old + total_of other.old ≤ 2 ^ 62 }

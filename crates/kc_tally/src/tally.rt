@@ -14,8 +14,8 @@ use kc_kmer::K;
 use std::alloc::{AllocError, Global};
 use std::marker::Model;
 
-/// The words that occur in some reads, in rising order, each with its count, and what follows from them: the
-/// histogram and the total of the counts.
+/// The tally of some reads: the words that occur in them, in rising order, each with its count, and what follows from
+/// them: the histogram and the total of the counts.
 #[derive(Drop)]
 pub struct Tally {
     k: K,

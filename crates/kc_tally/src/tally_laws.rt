@@ -8,19 +8,20 @@ ghost use Rattle.kc_tally.specs.Statistics.{statistics_of};
 ghost use Rattle.kc_tally.specs.Laws.{OneTally, OneValue, JoinedTally, SummedTally, OneSum};
 ghost use Rattle.kc_tally.specs.Laws.{TallyTotal, BoundedTally, RowsOfTally};
 
-/// The tally of given reads is one finite map, and one value.
+/// Given reads have exactly one tally, as a finite map and as a value.
 pub fn one_tally()
     ensures rows { OneTally }
     ensures value { OneValue }
 {}
 
-/// The tally of reads that are joined is the sum of the tallies of both parts, and this sum is that tally.
+/// The tally of joined reads is the sum of the tallies of both parts; conversely that sum is the tally of the joined
+/// reads.
 pub fn joined_tally()
     ensures joined { JoinedTally }
     ensures summed { SummedTally }
 {}
 
-/// The sum of two lists of rows is one finite map.
+/// Two lists of rows have exactly one sum, as a finite map.
 pub fn one_sum()
     ensures { OneSum }
 {}

@@ -9,6 +9,6 @@ pub struct Statistics {
     pub distinct: u64,
     /// How often all words occur together.
     pub total: u64,
-    /// How often the word occurs that occurs most, 0 where there is none.
+    /// The greatest count of a word, 0 where none occurs.
     pub greatest: u64,
 }

@@ -1,4 +1,4 @@
-//! What the definitions promise of themselves, each as the contract of a function that does nothing.
+//! Laws of tickets. Each is the contract of a function that does nothing.
 ghost use Rattle.std.specs.Prelude.{◌≡◌, [], ◌∷◌};
 ghost use Rattle.kc_tickets.specs.Tickets.{numbers_below};
 ghost use Rattle.kc_tickets.specs.Laws.{EachStandsOnce, NoneIsLeftOut, TwoKeepRule, seat_view};

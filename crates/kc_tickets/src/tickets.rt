@@ -88,9 +88,9 @@ impl Join<View> for Return {
 
 type Token = atomic_table::Seat<(), View>;
 
-/// The numbers from 0 on, which the seats that were made with them draw, each number once.
-/// A draw is answered its number where that is below the limit, and else `None`.
-/// Threads share it by reference. What a contract sees of it is a `Roll`.
+/// The tickets of a run: the numbers from 0 on, which the seats that were made with them draw, each number once. A draw
+/// is answered its number where that is below the limit, and else `None`. Threads share it by reference. What a
+/// contract sees of it is a `Roll`.
 #[derive(Drop)]
 pub struct Tickets {
     table: Table<(), View, Plan, WholeDraws, Global>,
@@ -111,8 +111,8 @@ impl Model for Tickets {
         (shared.table_id.words ≡ 3) × (shared.table_id.slots ≡ 0) × (1 ≤ shared.key.seats) };
 }
 
-/// The right to draw from some tickets. One thread has it at a time, and it may go to another.
-/// What a contract sees of it is a `Drawer`: its tickets, and all the numbers that it drew.
+/// A seat: the right to draw from these tickets. One thread has it at a time, and it may go to another. What a contract
+/// sees of it is a `Drawer`: its tickets, and all the numbers that it drew.
 #[derive(Drop)]
 pub struct Seat {
     token: Token,
@@ -135,8 +135,8 @@ impl Model for Seat {
 }
 
 impl Tickets {
-    /// Makes tickets whose numbers below `limit` are answered, and with them all the seats that ever draw from them,
-    /// `seats` many. They have drawn nothing yet.
+    /// Makes the tickets below `limit`, and with them all the seats that ever draw from them, `seats` many. They have
+    /// drawn nothing yet.
     ///
     /// The limit is at most 2^40, and there are 1 to 64 seats. Fails only where there is no memory.
     pub fn new(alloc: Global, limit: u64, seats: u32) -> Result<(Tickets, Vec<Seat>), AllocError>
@@ -241,7 +241,7 @@ impl Tickets {
         table.close_with(whole).free();
     }
 
-    // What stands for all the seats that `new` gave: they are joined, and what they drew with them.
+    // Joins all the seats that `new` gave, and the lists of what they drew.
     fn whole_of(&self, mut seats: Vec<Seat>) -> Token
         requires some { 1 ≤ vec_len seats }
         requires own { All (IsSeatOf self.now) seats.items }
@@ -263,7 +263,7 @@ impl Tickets {
     }
 }
 
-// What the draw of a number is answered.
+// What a draw answers that found this number: the number where it is below the limit, else None.
 fn answer_of(number: u64, limit: u64) -> Option<u64>
     ensures { IsAnswer limit number result }
 {

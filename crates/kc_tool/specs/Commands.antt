@@ -1,6 +1,7 @@
 -- What a command comes to: its task, its sources, and what is written.
 -- Source: the README ("The commands") and our formats page.
-use Rattle.std.specs.Prelude.{◌≡◌, ◌⊎◌, ◌^◌, ◌≤◌, ℕ, Bool, List, [], ◌∷◌, ◌++◌, Option, Some, None, All, map, length, take, drop}
+use Rattle.std.specs.Prelude.{◌≡◌, ◌⊎◌, ◌^◌, ◌≤◌, ℕ, Bool, List, [], ◌∷◌, ◌++◌, Option, Some, None, All}
+use Rattle.std.specs.Prelude.{map, length, take, drop}
 use Rattle.std.specs.Prelude.{Result, Ok, Err, if◌then◌else◌, codes, string_bytes, unwrap_or, ⊤}
 use Rattle.std.specs.Str.{bytes_eq}
 use Rattle.clap.specs.Words.{Row, Text, first_of}
@@ -318,7 +319,8 @@ pub record DoesTaskInto (name : Text) (sources : List (NamedSource Seen)) (task 
   pub file : FileWritten
   pub is_created : IsCreated name file
   pub log : asked_after ≡ asked ++ created name ∷ returned files ++ wrote name file.after.history ∷ []
-  pub done : Does task (stage_before task input files file.before) (stage_after task input_after files file.after) outcome
+  pub done : Does task (stage_before task input files file.before) (stage_after task input_after files file.after)
+      outcome
 
 -- the file of this name can't be created, which is told, and the sources are given back as they were
 pub record LacksOutput (name : Text) (sources : List (NamedSource Seen)) (input input_after : Seen)

@@ -176,7 +176,8 @@ pub record GivesWords (rule : CountingRule) (old new : Seen) (list : WordList) :
 -- the words of the list, where one is given
 abbrev pub GivesList : CountingRule → Option Seen → Option Seen → Option (List ℕ) → Type 0
 GivesList rule None None None = ⊤
-GivesList rule (Some old) (Some new) (Some words) = (list : WordList) × GivesWords rule old new list × (list.words ≡ words)
+GivesList rule (Some old) (Some new) (Some words) =
+    (list : WordList) × GivesWords rule old new list × (list.words ≡ words)
 GivesList rule _ _ _ = ⊥
 
 -- the same of a list, with a later state of its source

@@ -51,10 +51,10 @@ use std::rt::Files;
 use std::sync::Wait;
 use std::thread::Threads;
 
-/// The greatest count that would have a line of its own in a report that is no histogram.
+/// The greatest count with a line of its own of a report that is no histogram, where it does nothing.
 const USUAL_HIGH: u64 = 10_000;
 
-/// A command.
+/// The commands of `kcount`.
 #[derive(Clone, Copy, Debug, PartialEq, Eq)]
 pub(crate) enum Verb {
     /// Counts words.
@@ -156,7 +156,7 @@ fn output_name<'a>(matches: &ArgMatches<'a>) -> Option<&'a str>
     text_of(matches, "output")
 }
 
-// Does a task with files that were opened, and with the given input where no source is a file, and gives the files back.
+// Does a task with files that were opened, or with the given input where no source is a file, and gives the files back.
 // It writes to the file of this name, which is created before anything is read, and given back at the end. Conditions:
 // the task has such files as it is to have, and a histogram is for counts up to 1 to 10,000,000.
 fn answer_into<H: Threads + Wait + Sync, S: Files, R: Source, P: Progress + Sync>(
@@ -171,7 +171,8 @@ fn answer_into<H: Threads + Wait + Sync, S: Files, R: Source, P: Progress + Sync
 ) -> Result<Option<SelectionCounts>, ToolFault>
     requires files { HasFilesFor task.now (seen_of (λ s. s) sources.items) }
     requires writable { HasWritableReport task.now }
-    ensures { DoesTaskInto name.now sources.entry.items task.now (R.seen input.old) (R.seen input.new) files.old files.new result
+    ensures { DoesTaskInto name.now sources.entry.items task.now (R.seen input.old) (R.seen input.new) files.old files.new
+        result
         ⊎ LacksOutput name.now sources.entry.items (R.seen input.old) (R.seen input.new) files.old files.new result }
 {
     let mut sources = sources;

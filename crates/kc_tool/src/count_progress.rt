@@ -9,7 +9,7 @@ use std::io::{IsTerminal, Print};
 use std::sync::atomic::{AtomicBool, AtomicU64, Ordering};
 use std::time::{Clock, Duration, Instant};
 
-/// Is told how far a count has come. The workers of a count may tell it at the same time.
+/// Whoever is told how far a count has come. The workers of a count may tell it at the same time.
 pub trait Progress {
     /// So many more bytes of the sources were read.
     fn bytes_read(&self, count: u64);
@@ -63,7 +63,7 @@ impl<P: Progress> Gate for ToldGate<'_, P> {
 // The least time from one line to the next, in milliseconds. It leaves room for one line that comes before its time.
 const INTERVAL: u64 = 125;
 
-// When the next line is due where there is none.
+// When the next line is due where no further one is shown.
 const NEVER: u64 = u64::MAX;
 
 // Empties the line, from its beginning.
@@ -129,7 +129,7 @@ impl<'a, C: Clock, T: Print + IsTerminal> ProgressLine<'a, C, T> {
         let _ = self.terminal.write_all(line.as_slice());
     }
 
-    // The time since the count began, where the line is to be shown again: at most ten times a second.
+    // The time since the count began; None where there is nothing to show or the clock can't be read.
     fn passed(&self) -> Option<Duration> {
         match self.began {
             Some(began) => began.elapsed(self.clock).ok(),
@@ -199,7 +199,7 @@ fn push_progress(line: &mut Block, reached: &Reached)
     line.push(b" s\x1b[K");
 }
 
-// Puts at its end how many of the batches were counted, once it is known how many there are.
+// Puts at the end of the line how many of the batches were counted, once it is known how many there are.
 fn push_batches(line: &mut Block, reached: &Reached)
     requires room { length line.old ≤ 200 }
     ensures pushed { line.new ≡ line.old ++ batches_text reached.now }

@@ -1,8 +1,8 @@
 //! The tally of the reads of all sources: they are read, cleaned and cut into batches, and the words of the batches are
 //! counted by as many threads as are asked for, all of them or those of a list. Of the tally no more is gathered than
 //! the report is about.
-ghost use Rattle.std.specs.Prelude.{◌≡◌, ◌≤◌, ◌<◌, ◌+◌, ◌^◌, ℕ, List, [], ◌∷◌, IfOk, IfErr, IfSome, None, OnOk, length, max};
-ghost use Rattle.std.specs.Prelude.{option_map};
+ghost use Rattle.std.specs.Prelude.{◌≡◌, ◌≤◌, ◌<◌, ◌+◌, ◌^◌, ℕ, List, [], ◌∷◌, IfOk, IfErr, IfSome, None, OnOk};
+ghost use Rattle.std.specs.Prelude.{length, max, option_map};
 ghost use Rattle.kc_io.specs.Sources.{Seen};
 ghost use Rattle.kc_fastx.specs.Parsing.{most_bytes};
 ghost use Rattle.kc_fastx.specs.Reading.{MeetsFault};
@@ -57,13 +57,13 @@ use std::thread::Threads;
 /// The most bytes that the sources of one count may have together, and that its list may have.
 pub const MOST_BYTES: u64 = 1 << 36;
 
-/// A batch has so many positions at the least for each word of a list, up to `LISTED_POSITIONS`.
+/// A long list enlarges batches to this many positions for each of its words, up to `LISTED_POSITIONS`.
 const POSITIONS_A_WORD: u64 = 4;
 
-/// As many positions as make a round of a worker.
+/// The most positions to which a list enlarges a batch: as many as make a round of a worker.
 const LISTED_POSITIONS: u64 = 4_000_000;
 
-/// A histogram in which no greater count has a line of its own is known from the bins of the stripes.
+/// The greatest count with a bin of its own: a histogram up to it needs the bins of the stripes alone.
 const GREATEST_BIN: u64 = 10_000;
 
 /// The seed of the hash that divides the words among the stripes. No report depends on it.
@@ -92,10 +92,10 @@ pub(crate) fn read_list<R: Source, P: Progress>(
     }
 }
 
-/// What the report that is set is about of the tally of the reads of all sources, in order, counted as the options say,
-/// and what it was counted from. Where a list is given, its words alone are counted. How many bytes each read gave is
-/// told, how many batches there are, and each that was booked. The sources keep their names. Condition: the list is one
-/// under the rule of the options.
+/// Counts the words of the reads of all sources, in order, as the options say, or those of the list alone, and answers
+/// as much of their tally as the report needs, and its origin. How many bytes each read gave is told, how many batches
+/// there are, and each that was booked. The sources keep their names. Condition: the list is one under the rule of the
+/// options.
 ///
 /// # Errors
 /// `Fastx` with the fault of the first source that has one, and its number from 1; the sources behind it are as they
@@ -110,8 +110,8 @@ pub(crate) fn count_sources<H: Threads + Wait + Sync, R: Source, P: Progress + S
     progress: &P,
 ) -> Result<(CountedTally, Option<Origin>), ToolFault>
     requires list { IfSome list (IsListUnder (rule_of options.now)) }
-    ensures tally { let Tallies = TalliesSources (seen_of R.seen sources.old) (seen_of R.seen sources.new) options.now in
-        IfOk result (λ table. KnowsOne table.0 (λ tally. Tallies (words_of list) (tally, table.1))) }
+    ensures tally { let Tallies = TalliesSources (seen_of R.seen sources.old) (seen_of R.seen sources.new) options.now
+        in IfOk result (λ table. KnowsOne table.0 (λ tally. Tallies (words_of list) (tally, table.1))) }
     ensures enough { IfOk result (λ table. IsEnoughFor table.0 (report_of options.now)) }
     ensures origin { IfOk result (λ table. MaySay table.1) }
     ensures fault { IfErr result (RefusesSources (seen_of R.seen sources.old) (seen_of R.seen sources.new)) }
@@ -156,8 +156,8 @@ pub(crate) fn count_given<H: Threads + Wait + Sync, R: Source, F: Source, P: Pro
     Ok((counted, Some(origin_of(&settings, count, is_listed))))
 }
 
-// The same options, with larger batches where a list is long: each booking of a batch compares the lists, which is to
-// take little beside counting.
+// The same options, with larger batches where a list is long: each booking of a batch compares the lists, and so this
+// takes little time beside counting.
 fn batches_for(options: &Options, list: &Option<Only>) -> Options
     ensures others { result ≡ record options.now { batch = result.batch } }
     ensures at_least { options.now.batch ≤ result.batch }
@@ -185,8 +185,9 @@ fn origin_of(options: &Options, reads: u64, listed: bool) -> Origin
     }
 }
 
-// What the report that is set is about of the tally of the reads whose pieces were cut, of the words of the list alone
-// where one is given. Conditions: the cutting is that of some reads, and the list is one under the rule of the options.
+// Counts the words of the reads whose pieces were cut, or those of the list alone, and answers as much of their tally
+// as the report needs. Conditions: the cutting is that of some reads, and the list is one under the rule of the
+// options.
 fn count_cutting<H: Threads + Wait + Sync, P: Progress + Sync>(
     rt: &H,
     alloc: Global,
@@ -204,7 +205,7 @@ fn count_cutting<H: Threads + Wait + Sync, P: Progress + Sync>(
     ensures fault { IfErr result IsUncounted }
 {
     let rule = options.rule();
-    // what is known of a length, of the size of a batch, and of the tally of a cutting
+    // for the proof: what is known of a length, of the size of a batch, and of the tally of a cutting
     let _bases = rule.k().get();
     let _positions = options.batch();
     gather_laws::tally_of_cutting();
@@ -214,8 +215,8 @@ fn count_cutting<H: Threads + Wait + Sync, P: Progress + Sync>(
     count_batches(rt, alloc, &batches, &setup, options, progress)
 }
 
-// Counts the batches by as many threads as are asked for, and gathers of their tally what the report that is set is
-// about. Conditions: the batches have no more than 2^62 positions together, and are not more than 2^40.
+// Counts the batches by as many threads as are asked for, and gathers as much of their tally as the report needs.
+// Conditions: the batches have no more than 2^62 positions together, and are not more than 2^40.
 fn count_batches<H: Threads + Wait + Sync, P: Progress + Sync>(
     rt: &H,
     alloc: Global,
@@ -226,7 +227,8 @@ fn count_batches<H: Threads + Wait + Sync, P: Progress + Sync>(
 ) -> Result<CountedTally, ToolFault>
     requires few { length batches.now ≤ 2 ^ 40 }
     requires small { position_sum setup.now.rule.k (values batches.now) ≤ 2 ^ 62 }
-    ensures tally { IfOk result (λ counted. KnowsOne counted (IsTallyOf setup.now.rule (reads_in (values batches.now)))) }
+    ensures tally { IfOk result (λ counted.
+        KnowsOne counted (IsTallyOf setup.now.rule (reads_in (values batches.now)))) }
     ensures enough { IfOk result (λ counted. IsEnoughFor counted (report_of options.now)) }
     ensures fault { IfErr result IsUncounted }
 {
@@ -429,8 +431,8 @@ fn cut_read(
     cutting.push(alloc, &piece)
 }
 
-// What a source gave that was read to its end, with so many reads. Its last bytes are told of. Condition: the reading
-// has not failed.
+// What a source gave that was read to its end, with so many reads. Tells `progress` of its last bytes. Condition: the
+// reading has not failed.
 fn taken_of<P: Progress>(reading: &Reading, reads: u64, progress: &P, told: u64) -> Taken
     requires { reading.now.failed ≡ None }
     ensures bytes { result.bytes ≡ reading.now.used + length reading.now.unread.bytes }
@@ -440,8 +442,8 @@ fn taken_of<P: Progress>(reading: &Reading, reads: u64, progress: &P, told: u64)
     Taken { bytes, reads }
 }
 
-// The fault of the source of this number, where its reading met this fault. A fault of the lines is told where the rest
-// was read too.
+// The fault of the source of this number, where its reading met this fault. A fault of the lines is answered only after
+// the rest was read.
 fn fault_of<R: Source>(
     reading: Reading,
     source: &mut R,

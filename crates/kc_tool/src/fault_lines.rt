@@ -34,8 +34,8 @@ fn write_line<W: Sink>(writer: &mut W, fault: &ToolFault) -> Result<(), Failed>
     write_out(writer, line.as_slice())
 }
 
-// Puts a text of any length behind the block, and leaves room for a byte. Where there is no room for so many, they go
-// to the writer.
+// Puts a text of any length behind the block, and leaves room for a byte. If it doesn't fit, the block and then the
+// text go to the writer.
 fn put_text<W: Sink>(writer: &mut W, block: &mut Block, text: &[u8]) -> Result<(), Failed>
     requires { length block.old < BLOCK_SIZE }
     ensures ok { OnOk result (Drains (W.seen writer.old) (W.seen writer.new) (block.old ++ text.now) block.new) }
@@ -61,7 +61,7 @@ fn name_of(fault: &ToolFault) -> &str
     }
 }
 
-// Puts the refusal's number and words at the end of the line, but for the name of a file.
+// Puts the refusal's number and text at the end of the line, but for the name of a file.
 fn push_front(line: &mut Block, fault: &ToolFault)
     requires room { length line.old ≤ 100 }
     ensures pushed { line.new ≡ line.old ++ fault_front fault.now }

@@ -26,7 +26,7 @@ impl FileLog {
         FileLog {}
     }
 
-    /// What was asked so far, and then this of the file of this name, which has heard so much when it is given back.
+    /// The log, and behind it that `act` was done with the file `name`, whose history is `heard` when it is given back.
     pub fn and(&self, act: &FileAct, name: &[u8], heard: &Heard) -> FileLog
         ensures { result.events ≡ self.now.events ++ event act.now name.now heard.now.history ∷ [] }
     {

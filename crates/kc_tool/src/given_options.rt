@@ -24,7 +24,7 @@ use std::alloc::Global;
 ///
 /// # Errors
 /// `BadOption` with the first option, in the order of the help, whose value is outside its limits, whether it acts or
-/// not. An absent `--mer-len` is so.
+/// not. An absent `--mer-len` counts as such.
 pub fn options(alloc: Global, matches: &ArgMatches<'_>) -> Result<Options, ToolFault>
     ensures first_bad { MatchResult result (λ o. first_bad (rows_of (found_of matches.now)) ≡ None)
         (λ fault. (name : OptionName) × (first_bad (rows_of (found_of matches.now)) ≡ Some name)

@@ -4,8 +4,8 @@ use kc_io::Source;
 /// A source, and the name of the file that it reads; of a source that reads none, an empty name.
 #[derive(Drop)]
 pub(crate) struct NamedSource<'a, R: Source> {
-    /// The name.
+    /// The name of the file.
     pub name: &'a str,
-    /// The source.
+    /// The source that reads it.
     pub source: R,
 }

@@ -22,7 +22,7 @@ pub fn merged_reports(options: &Options)
     ensures together { ApartIsTogether options.now }
     ensures command { MergeWritesMerged }
 {
-    // what is known of a length and of a floor
+    // for the proof: what is known of a length and of a floor
     let rule = options.rule();
     let _bases = rule.k().get();
     let _floor = rule.floor();

@@ -69,8 +69,8 @@ pub fn count_reads<H: Threads + Wait + Sync, Q: Source + Drop, R: Source + Drop,
     write_counted(alloc, writer, &counted, origin, report_of(options))
 }
 
-// What the report that is set is about of the tally of the reads of all sources, of those words that occur in the reads
-// of `only` where it is given, and what it was counted from.
+// Counts the words of the reads of all sources, or those alone that occur in the reads of `only` where it is given, and
+// answers as much of their tally as the report needs, and its origin.
 fn tally_of<H: Threads + Wait + Sync, Q: Source + Drop, R: Source + Drop>(
     rt: &H,
     alloc: Global,

@@ -57,7 +57,7 @@ fn select_sources<R: Source, W: Sink>(
         (W.seen writer.old) (W.seen writer.new) result }
     ensures names { names_of sources.new ≡ names_of sources.old }
 {
-    // what is known of lengths
+    // for the proof: what is known of lengths
     let _bases = selector.k().get();
     let _fits = sources.len();
     let mut left = MOST_BYTES;

@@ -44,9 +44,9 @@ use std::thread::Threads;
 /// The most bytes that a table may have.
 const MOST_TABLE_BYTES: u64 = 1 << 42;
 
-/// What a task is about of its tally, and its origin where that is told: of the reads of the files or, where there are
-/// none, of the given input, whose counting is told; of a table; or of two tables together. The files keep their names.
-/// Condition: the task has such files as it is to have.
+/// The tally that a task needs, or as much of it as its report needs, and its origin where that is told: of the reads
+/// of the files or, where there are none, of the given input, whose counting is told; of a table; or of two tables
+/// together. The files keep their names. Condition: the task has such files as it is to have.
 ///
 /// # Errors
 /// The fault of the list, of the sources, of the run, of a table, or of two tables that can't be put together.
@@ -90,9 +90,8 @@ fn known(table: (Tally, Option<Origin>)) -> (CountedTally, Option<Origin>)
     (CountedTally::Rows(tally), origin)
 }
 
-// What the report that is set is about of the tally of the reads of the files behind the first, or where there are
-// none, of those of the given input, of those words that occur in the reads of the first file. Condition: there is a
-// first file.
+// Counts those words that occur in the reads of the first file, in the reads of the files behind it or, where there are
+// none, of the given input, and answers as much of their tally as the report needs. Condition: there is a first file.
 fn count_listed<H: Threads + Wait + Sync, R: Source, F: Source, P: Progress + Sync>(
     rt: &H,
     alloc: Global,
@@ -158,8 +157,8 @@ fn merged(
     )?)
 }
 
-// What the table text of the file says, or where there is none, that of the given input. Condition: there is one file or
-// none.
+// What the table text of the file says or, where there is none, that of the given input. Condition: there is one file
+// or none.
 fn table_of<R: Source, F: Source>(
     alloc: Global,
     files: &mut [NamedSource<'_, F>],

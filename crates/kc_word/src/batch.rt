@@ -9,7 +9,7 @@ use crate::walk::Walk;
 use kc_kmer::{K, Rule};
 use std::marker::Model;
 
-/// A batch: its number, and its pieces.
+/// A batch: a numbered part of the input, which is counted by itself. It has a number, and pieces.
 #[derive(Debug, Drop)]
 pub struct Batch {
     number: u64,

@@ -14,9 +14,10 @@ use std::alloc::{AllocError, Global};
 use std::marker::Model;
 use std::sync::Arc;
 
-/// Cuts pieces that come one at a time into batches, as `cut` does: the batches that are whole, and the one that is
-/// begun. It keeps the bytes of the pieces that it has taken, and not the pieces. The parts of the batch that is begun
-/// are packed one behind another only where it is whole, so that a refusal leaves them as they were.
+/// A cutting under way: pieces that come one at a time are divided into batches, as `cut` does. It has the batches that
+/// are whole, and the one that is begun. It keeps the bytes of the pieces that it has taken, and not the pieces. The
+/// parts of the batch that is begun are packed one behind another only where it is whole, so that a refusal leaves them
+/// as they were.
 ///
 /// Contracts say of it which pieces it `HasTaken`.
 #[derive(Drop)]
@@ -103,7 +104,8 @@ impl Cutting {
     }
 
     // Takes `left` positions of the piece from `position` on, or as many as the batch that is begun has room for, and
-    // answers how many. After a refusal the cutting is as it was. Conditions: there is one, and the piece has them.
+    // answers how many. After a refusal the cutting is as it was. Conditions: `left` is at least 1, and the piece has
+    // these positions.
     fn take(
         &mut self,
         alloc: Global,

@@ -42,7 +42,8 @@ impl Marks {
         Ok(Marks { bits, low_bits })
     }
 
-    /// Whether the word is marked: where it is not, it is not in the list. Condition: the marks tell of it.
+    /// Whether the word is marked: where it is not, it is not in the list. Condition: the word is below the limit of
+    /// the marks.
     #[inline(always)]
     pub(crate) fn may_be(&self, word: u64) -> bool
         requires { word < marked_below self.now }

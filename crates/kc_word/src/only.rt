@@ -13,13 +13,14 @@ use kc_kmer::{K, Rule, Word};
 use std::alloc::{AllocError, Global};
 use std::marker::Model;
 
-// As many words are gathered at least, before those that stand there again are left out.
+// How many words are collected at least before repeated ones are left out.
 const GATHERED: usize = 65_536;
 
-/// The words that occur in some reads: a count that is given them counts no other words.
+/// A list of words, in rising order, in which a word is looked up quickly: the words to which a count is kept, or the
+/// solid words of a table.
 ///
-/// It is seen as the length of the words, whether both strands count, and the numbers of the words in rising order.
-/// A word has some 18 bytes.
+/// It is seen as the length of the words, whether both strands count, and the numbers of the words in rising order. It
+/// takes some 18 bytes a word.
 #[derive(Debug, Drop)]
 pub struct Only {
     k: K,

@@ -1,4 +1,4 @@
-//! Codes of bases packed into words of 64 bits, 32 in each.
+//! Codes of bases packed into numbers of 64 bits, 32 in each.
 ghost use Rattle.std.specs.Prelude.{◌≡◌, ℕ, ◌+◌, ◌-◌, ◌%◌, ◌^◌, ◌<◌, ◌≤◌, ◌++◌, [], OnOk, length};
 ghost use Rattle.std.specs.Prelude.{slice_index, slice_range};
 ghost use Rattle.kc_word.specs.Packed.{code_in, codes_in};
@@ -6,11 +6,11 @@ ghost use Rattle.kc_word.specs.Packed.{code_in, codes_in};
 use std::alloc::{AllocError, Global};
 use std::marker::Model;
 
-/// How many bases a word has.
+/// How many bases stand in a number of 64 bits.
 pub(crate) const BASES: usize = 32;
 
-/// Codes of bases, seen as their list: two bits each, the first one in the highest bits of its word. The bits
-/// behind the last one are 0, so that equal lists have equal words.
+/// Codes of bases, seen as their list: two bits each, the first one in the highest bits of its number. The bits behind
+/// the last one are 0, so that equal lists have equal numbers.
 #[derive(Debug, Drop)]
 pub(crate) struct Packed {
     words: Vec<u64>,

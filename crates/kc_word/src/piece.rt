@@ -18,9 +18,9 @@ use std::marker::Model;
 /// What stands in a piece for a base that is not usable.
 const UNUSABLE: u8 = b'N';
 
-/// A read, or a part of one, made ready to be counted: upper-case bases, and `N` in place of each base
-/// that is not usable. It is kept as packed codes and a list of the runs of N. Under a run stand codes 0, so that
-/// equal pieces are kept alike.
+/// A piece: a read, or a part of one, made ready to be counted, with upper-case bases, and `N` in place of each base
+/// that is not usable. It is kept as packed codes and a list of the runs of N. Under a run stand codes 0, so that equal
+/// pieces are kept alike.
 #[derive(Debug, Drop)]
 pub struct Piece {
     bases: Packed,

@@ -160,8 +160,8 @@ pub(crate) fn free_of_runs(runs: &[Run], next: usize, at: usize, most: usize) ->
     most.min(start - at)
 }
 
-/// Whether the index `at` lies in a run, for one who asks of each index in turn: `next` is the number of the first
-/// run that ends behind the index before, and then of the first one that ends behind this one.
+/// Whether the index `at` lies in a run, for callers who ask index by index: `next` is the number of the first run that
+/// ends behind the index before, and then of the first one that ends behind this one.
 #[inline(always)]
 pub(crate) fn is_next_in_runs(runs: &[Run], next: &mut usize, at: usize) -> bool
     requires passed { ArePassed runs.now next.old at }

@@ -39,7 +39,7 @@ pub(crate) fn gather(read: &SeqRead, rule: &Rule, from: usize, count: usize) -> 
     }
 }
 
-/// Takes the bases that are not usable, of `count` ones from index `from` on, into the runs of those before.
+/// Adds the unusable ones of the `count` bases from index `from` on to the runs of those before.
 pub(crate) fn mark_gaps(
     read: &SeqRead,
     rule: &Rule,
