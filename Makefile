@@ -55,7 +55,7 @@ workflow-slurm: build ## the same on a SLURM of one node, as root; no part of th
 documents: ## compares what the documents name with what is there
 	tests/documents.py
 
-test: ## everything: all proofs from nothing, the tests, the stored run, the edits that must fail; then memory, files, options, program, examples, workflow
+test: ## everything: all proofs from nothing, the tests, the stored run, the edits that must fail; then memory, files, options, program, examples, workflow, documents
 	tests/full.sh
 
 bench: build ## runs the benchmarks and prints the tables of docs/BENCHMARKS.md
