@@ -39,7 +39,7 @@ ghost use Rattle.kc_command.specs.Command.{
 use clap::{Arg, ArgAction};
 use std::alloc::Global;
 
-/// `-m`, `--mer-len`
+/// `-m`, `--mer-len`: the length of the k-mers.
 pub(crate) fn mer_len<'a>(alloc: Global) -> Arg<'a>
     ensures rule { rule_of result ≡ mer_len_option }
     ensures own { result.global ≡ false }
@@ -48,7 +48,7 @@ pub(crate) fn mer_len<'a>(alloc: Global) -> Arg<'a>
     with_short(value_option(alloc, "mer-len", "K", help), 'm')
 }
 
-/// `-s`, `--size`
+/// `-s`, `--size`: the slots that the hash tables begin with.
 pub(crate) fn size<'a>(alloc: Global) -> Arg<'a>
     ensures rule { rule_of result ≡ size_option }
     ensures own { result.global ≡ false }
@@ -58,7 +58,7 @@ pub(crate) fn size<'a>(alloc: Global) -> Arg<'a>
     with_short(value_option(alloc, "size", "N", help), 's')
 }
 
-/// `-t`, `--threads`
+/// `-t`, `--threads`: how many threads count.
 pub(crate) fn threads<'a>(alloc: Global) -> Arg<'a>
     ensures rule { rule_of result ≡ threads_option }
     ensures own { result.global ≡ false }
@@ -67,7 +67,7 @@ pub(crate) fn threads<'a>(alloc: Global) -> Arg<'a>
     with_short(value_option(alloc, "threads", "N", help), 't')
 }
 
-/// `-C`, `--canonical`
+/// `-C`, `--canonical`: whether both strands count.
 pub(crate) fn canonical<'a>(alloc: Global) -> Arg<'a>
     ensures rule { rule_of result ≡ canonical_option }
     ensures own { result.global ≡ false }
@@ -76,7 +76,7 @@ pub(crate) fn canonical<'a>(alloc: Global) -> Arg<'a>
     with_short(flag_option(alloc, "canonical", help), 'C')
 }
 
-/// `-o`, `--output`
+/// `-o`, `--output`: the file to write to.
 pub(crate) fn output<'a>(alloc: Global) -> Arg<'a>
     ensures rule { rule_of result ≡ output_option }
     ensures own { result.global ≡ false }
@@ -85,7 +85,7 @@ pub(crate) fn output<'a>(alloc: Global) -> Arg<'a>
     with_short(value_option(alloc, "output", "FILE", help), 'o')
 }
 
-/// `--min-qual-char`
+/// `--min-qual-char`: the least quality of a base that counts.
 pub(crate) fn min_qual_char<'a>(alloc: Global) -> Arg<'a>
     ensures rule { rule_of result ≡ min_qual_char_option }
     ensures own { result.global ≡ false }
@@ -95,7 +95,7 @@ pub(crate) fn min_qual_char<'a>(alloc: Global) -> Arg<'a>
     value_option(alloc, "min-qual-char", "C", help)
 }
 
-/// `--stripes`
+/// `--stripes`: the number of hash tables with a lock each.
 pub(crate) fn stripes<'a>(alloc: Global) -> Arg<'a>
     ensures rule { rule_of result ≡ stripes_option }
     ensures own { result.global ≡ false }
@@ -105,7 +105,7 @@ pub(crate) fn stripes<'a>(alloc: Global) -> Arg<'a>
     value_option(alloc, "stripes", "N", help)
 }
 
-/// `--batch`
+/// `--batch`: the positions that a thread counts at a time.
 pub(crate) fn batch<'a>(alloc: Global) -> Arg<'a>
     ensures rule { rule_of result ≡ batch_option }
     ensures own { result.global ≡ false }
@@ -114,7 +114,7 @@ pub(crate) fn batch<'a>(alloc: Global) -> Arg<'a>
     value_option(alloc, "batch", "N", help)
 }
 
-/// `--print`
+/// `--print`: which report a count writes.
 pub(crate) fn print<'a>(alloc: Global) -> Arg<'a>
     ensures rule { rule_of result ≡ print_option }
     ensures own { result.global ≡ false }
@@ -123,7 +123,7 @@ pub(crate) fn print<'a>(alloc: Global) -> Arg<'a>
     value_option(alloc, "print", "WHAT", help)
 }
 
-/// `--column`
+/// `--column`: a k-mer and its count in one line.
 pub(crate) fn column<'a>(alloc: Global) -> Arg<'a>
     ensures rule { rule_of result ≡ column_option }
     ensures own { result.global ≡ false }
@@ -132,7 +132,7 @@ pub(crate) fn column<'a>(alloc: Global) -> Arg<'a>
     flag_option(alloc, "column", help)
 }
 
-/// `--tab`
+/// `--tab`: a tab between a k-mer and its count.
 pub(crate) fn tab<'a>(alloc: Global) -> Arg<'a>
     ensures rule { rule_of result ≡ tab_option }
     ensures own { result.global ≡ false }
@@ -141,7 +141,7 @@ pub(crate) fn tab<'a>(alloc: Global) -> Arg<'a>
     flag_option(alloc, "tab", help)
 }
 
-/// `--lower-count`
+/// `--lower-count`: the least count that a dump shows.
 pub(crate) fn lower_count<'a>(alloc: Global) -> Arg<'a>
     ensures rule { rule_of result ≡ lower_count_option }
     ensures own { result.global ≡ false }
@@ -150,7 +150,7 @@ pub(crate) fn lower_count<'a>(alloc: Global) -> Arg<'a>
     value_option(alloc, "lower-count", "N", help)
 }
 
-/// `--upper-count`
+/// `--upper-count`: the greatest count that a dump shows.
 pub(crate) fn upper_count<'a>(alloc: Global) -> Arg<'a>
     ensures rule { rule_of result ≡ upper_count_option }
     ensures own { result.global ≡ false }
@@ -159,7 +159,7 @@ pub(crate) fn upper_count<'a>(alloc: Global) -> Arg<'a>
     value_option(alloc, "upper-count", "N", help)
 }
 
-/// `--high`
+/// `--high`: the greatest count with a line of its own in a histogram.
 pub(crate) fn high<'a>(alloc: Global) -> Arg<'a>
     ensures rule { rule_of result ≡ high_option }
     ensures own { result.global ≡ false }
@@ -169,7 +169,7 @@ pub(crate) fn high<'a>(alloc: Global) -> Arg<'a>
     value_option(alloc, "high", "N", help)
 }
 
-/// `--only`
+/// `--only`: the file of the k-mers to which a count is kept.
 pub(crate) fn only<'a>(alloc: Global) -> Arg<'a>
     ensures rule { rule_of result ≡ only_option }
     ensures own { result.global ≡ false }
@@ -178,7 +178,7 @@ pub(crate) fn only<'a>(alloc: Global) -> Arg<'a>
     value_option(alloc, "only", "FILE", help)
 }
 
-/// `--min-count`
+/// `--min-count`: from which count on a k-mer is solid.
 pub(crate) fn min_count<'a>(alloc: Global) -> Arg<'a>
     ensures rule { rule_of result ≡ min_count_option }
     ensures own { result.global ≡ false }
@@ -187,7 +187,7 @@ pub(crate) fn min_count<'a>(alloc: Global) -> Arg<'a>
     value_option(alloc, "min-count", "N", help)
 }
 
-/// `--min-share`
+/// `--min-share`: how many percent of a read's k-mers have to be solid.
 pub(crate) fn min_share<'a>(alloc: Global) -> Arg<'a>
     ensures rule { rule_of result ≡ min_share_option }
     ensures own { result.global ≡ false }
@@ -197,7 +197,7 @@ pub(crate) fn min_share<'a>(alloc: Global) -> Arg<'a>
     value_option(alloc, "min-share", "P", help)
 }
 
-/// `--invert`
+/// `--invert`: the other reads instead.
 pub(crate) fn invert<'a>(alloc: Global) -> Arg<'a>
     ensures rule { rule_of result ≡ invert_option }
     ensures own { result.global ≡ false }
@@ -206,7 +206,7 @@ pub(crate) fn invert<'a>(alloc: Global) -> Arg<'a>
     flag_option(alloc, "invert", help)
 }
 
-/// `--stats`
+/// `--stats`: to tell how many reads and k-mers there were.
 pub(crate) fn stats<'a>(alloc: Global) -> Arg<'a>
     ensures rule { rule_of result ≡ stats_option }
     ensures own { result.global ≡ false }
@@ -215,7 +215,7 @@ pub(crate) fn stats<'a>(alloc: Global) -> Arg<'a>
     flag_option(alloc, "stats", help)
 }
 
-/// FILE, any number of them
+/// FILE, any number of them: the files of reads.
 pub(crate) fn files<'a>(alloc: Global) -> Arg<'a>
     ensures rule { rule_of result ≡ files_argument }
     ensures own { result.global ≡ false }
@@ -224,7 +224,7 @@ pub(crate) fn files<'a>(alloc: Global) -> Arg<'a>
     several_arguments(alloc, "file", "FILE", help)
 }
 
-/// FILE, one or none
+/// FILE, one or none: the table.
 pub(crate) fn file<'a>(alloc: Global) -> Arg<'a>
     ensures rule { rule_of result ≡ file_argument }
     ensures own { result.global ≡ false }
@@ -233,7 +233,7 @@ pub(crate) fn file<'a>(alloc: Global) -> Arg<'a>
     one_argument(alloc, "file", "FILE", help)
 }
 
-/// TABLE, a file that has to be given
+/// TABLE, which has to be given: the table that is asked.
 pub(crate) fn table<'a>(alloc: Global) -> Arg<'a>
     ensures rule { rule_of result ≡ table_argument }
     ensures own { result.global ≡ false }
@@ -242,7 +242,7 @@ pub(crate) fn table<'a>(alloc: Global) -> Arg<'a>
     required(one_argument(alloc, "file", "TABLE", help))
 }
 
-/// TABLE of a selection, a file that has to be given
+/// TABLE, which has to be given: the table of a selection.
 pub(crate) fn counted<'a>(alloc: Global) -> Arg<'a>
     ensures rule { rule_of result ≡ counted_argument }
     ensures own { result.global ≡ false }
@@ -251,7 +251,7 @@ pub(crate) fn counted<'a>(alloc: Global) -> Arg<'a>
     required(one_argument(alloc, "table", "TABLE", help))
 }
 
-/// FIRST, a file that has to be given
+/// FIRST, which has to be given: a table to add.
 pub(crate) fn first<'a>(alloc: Global) -> Arg<'a>
     ensures rule { rule_of result ≡ first_argument }
     ensures own { result.global ≡ false }
@@ -260,7 +260,7 @@ pub(crate) fn first<'a>(alloc: Global) -> Arg<'a>
     required(one_argument(alloc, "first", "FIRST", help))
 }
 
-/// SECOND, a file that has to be given
+/// SECOND, which has to be given: the other table to add.
 pub(crate) fn second<'a>(alloc: Global) -> Arg<'a>
     ensures rule { rule_of result ≡ second_argument }
     ensures own { result.global ≡ false }
@@ -269,7 +269,7 @@ pub(crate) fn second<'a>(alloc: Global) -> Arg<'a>
     required(one_argument(alloc, "second", "SECOND", help))
 }
 
-/// WORD, at least one
+/// WORD, at least one: the k-mers that are asked for.
 pub(crate) fn words<'a>(alloc: Global) -> Arg<'a>
     ensures rule { rule_of result ≡ words_argument }
     ensures own { result.global ≡ false }

@@ -1,4 +1,4 @@
-//! What the records of both formats share: their sequence lines.
+//! What the records of both formats have in common: their sequence lines.
 ghost use Rattle.std.specs.Prelude.{◌≡◌, ◌≤◌, true, [], length, vec_capacity, IfOk, IfErr, OnOk};
 ghost use Rattle.kc_fastx.specs.Lines.{line_count, ends_or_begins_with, Passes};
 ghost use Rattle.kc_fastx.specs.Records.{BeginsWithSequence, SequenceFails};

@@ -25,12 +25,12 @@ pub(crate) fn dealt<T: Weighed + Drop>(
     ensures few { IfOk result (λ piles. length piles.items ≤ most) }
     ensures all { IfOk result (λ piles. flat_map (λ pile. pile.items) piles.items ≡ items.items) }
 {
-    let share = total_weight(&items).div_ceil(most as usize);
+    let enough = total_weight(&items).div_ceil(most as usize);
     let mut piles = Vec::new(alloc);
     let mut pile = Vec::new(alloc);
     let mut weight = 0usize;
     for item in items {
-        if weight >= share && piles.len() + 1 < most as usize {
+        if weight >= enough && piles.len() + 1 < most as usize {
             piles.push(replace(&mut pile, Vec::new(alloc)))?;
             weight = 0;
         }

@@ -1,4 +1,4 @@
-//! The letters of words, four at a time: what the writing of a word and the reading of one share.
+//! The letters of words, four at a time: what the writing and the reading of a word have in common.
 ghost use Rattle.std.specs.Prelude.{◌≡◌, ℕ, ◌<◌};
 ghost use Rattle.kc_kmer.specs.Word.{number, text, reverse_complement};
 ghost use Rattle.kc_report.specs.TableRows.{four_letters};

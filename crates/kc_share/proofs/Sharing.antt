@@ -26,13 +26,13 @@ taken_in v w it empty is =
     let parts : v.parts + 0 ≡ v.parts = omega arith in
     ap (joined_view v) is ∙ (λ i. view_of v.plan (parts i) (append-nil v.booked i) (empty i ++ it ∷ []))
 
--- a share's seat that has taken in a keeper's
+-- a share's token that has taken in a keeper's
 pub record IsTaken {S : Type 0} (v w : View) (it : KeptStripe) (taken : Me S View) : Type 0 where
   pub share_keeps_none : v.kept ≡ []
   pub keeper_keeps : w ≡ keeper_view it
   pub took : taken ≡ (joined_view v w, [])
 
--- such a seat notes an entry; then the kept stripe is split off it again, and this is left
+-- such a token notes an entry; then the kept stripe is split off it again, and this is left
 pub record IsNoted {S : Type 0} (taken : Me S View) (entry : Entry) (booked left : Me S View) : Type 0 where
   pub book : (booked ≡ (noted_view entry taken.0, taken.1)) × Knowledge (noted_view entry taken.0)
   pub goes : left ≡ (view_without_first booked.0, [])
@@ -131,7 +131,7 @@ words_together stripe xs ys = ap word_total (entries_in-append stripe xs ys) ∙
 pub entries_together : (stripe : ℕ) (xs ys : List Booking) → entry_total_in stripe (xs ++ ys) ≡ entry_total_in stripe xs + entry_total_in stripe ys
 entries_together stripe xs ys = ap length (entries_in-append stripe xs ys) ∙ length-append (entries_in stripe xs) (entries_in stripe ys)
 
--- a share's seat that is joined with another's, and then looked through
+-- a share's token that is joined with another's, and then looked through
 pub record IsJoinedLook {S : Type 0} (v w : View) (taken : List (ℕ × S)) (both looked : Me S View) : Type 0 where
   pub empty : taken ≡ []
   pub joins : both ≡ (joined_view v w, taken)

@@ -4,7 +4,7 @@ ghost use Rattle.kc_share.specs.Share.{kept_stripe};
 ghost use Rattle.kc_share.specs.Rule.{keeper_view};
 
 use crate::books::Books;
-use crate::sheet_rule::Seat;
+use crate::sheet_rule::Token;
 use std::marker::{Model, PhantomData};
 
 /// A stripe's keeper: what the sheet knows of the stripe's journal. It belongs behind the stripe's lock. What a
@@ -12,7 +12,7 @@ use std::marker::{Model, PhantomData};
 /// has no bytes.
 #[derive(Drop)]
 pub struct Keeper<N: Books> {
-    pub(crate) seat: Seat,
+    pub(crate) token: Token,
     pub(crate) stripe: u32,
     name: PhantomData<N>,
 }
@@ -25,25 +25,25 @@ impl<N: Books> Model for Keeper<N> {
 
     ghost Value = { KeptStripe };
 
-    ghost view = { λ k. first_kept k.seat.me.0.kept };
+    ghost view = { λ k. first_kept k.token.me.0.kept };
 
     ghost invariant = { λ k.
-        (k.seat.table_id ≡ N.table)
-        × (k.seat.me ≡ (keeper_view (first_kept k.seat.me.0.kept), []))
-        × (k.stripe ≡ (first_kept k.seat.me.0.kept).stripe)
+        (k.token.table_id ≡ N.table)
+        × (k.token.me ≡ (keeper_view (first_kept k.token.me.0.kept), []))
+        × (k.stripe ≡ (first_kept k.token.me.0.kept).stripe)
         × (k.stripe < 64) };
 }
 
 impl<N: Books> Keeper<N> {
     // The keeper of a stripe in which nothing was booked.
-    pub(crate) fn of(seat: Seat, stripe: u32) -> Keeper<N>
-        requires table { seat.table_id ≡ N.table }
-        requires view { seat.me ≡ (keeper_view (kept_stripe stripe []), []) }
+    pub(crate) fn of(token: Token, stripe: u32) -> Keeper<N>
+        requires table { token.table_id ≡ N.table }
+        requires view { token.me ≡ (keeper_view (kept_stripe stripe []), []) }
         requires stripe { stripe < 64 }
         ensures { result ≡ kept_stripe stripe [] }
     {
         Keeper {
-            seat,
+            token,
             stripe,
             name: PhantomData,
         }

@@ -2,7 +2,8 @@
 //! journals have, for every order of the threads' steps.
 //!
 //! A sheet knows nothing of locks and tables. It gives a keeper for each stripe, to be put behind that stripe's lock,
-//! and a share, which is split among the threads that book. `OpenSheet::note` books, with a share and a keeper in hand.
+//! and a share, which is split among the threads that book. `OpenSheet::note` notes what was booked, with a share and a
+//! keeper in hand.
 //!
 //! ```ignore
 //! let (sheet, mut opening) = sheet.open::<N>();

@@ -3,7 +3,7 @@ ghost use Rattle.std.specs.Prelude.{◌≡◌, ◌<◌, ◌≤◌, []};
 ghost use Rattle.kc_share.specs.Share.{share_of, word_total_in, entry_total_in};
 
 use crate::books::Books;
-use crate::sheet_rule::Seat;
+use crate::sheet_rule::Token;
 use std::marker::{Model, PhantomData};
 
 /// How many stripes there are at most.
@@ -14,7 +14,7 @@ pub(crate) const MOST: usize = 64;
 /// it. That list has no bytes.
 #[derive(Drop)]
 pub struct Share<N: Books> {
-    pub(crate) seat: Seat,
+    pub(crate) token: Token,
     pub(crate) parts: u64,
     pub(crate) words: [u64; 64],
     pub(crate) entries: [u64; 64],
@@ -27,30 +27,30 @@ impl<N: Books> Model for Share<N> {
 
     ghost Value = { ShareSeen };
 
-    ghost view = { λ s. share_of s.seat.me.0.plan s.seat.me.0.parts s.seat.me.0.booked };
+    ghost view = { λ s. share_of s.token.me.0.plan s.token.me.0.parts s.token.me.0.booked };
 
     ghost invariant = { λ s.
-        (s.seat.table_id ≡ N.table)
-        × (s.seat.me.1 ≡ [])
-        × (s.seat.me.0.kept ≡ [])
-        × (s.parts ≡ s.seat.me.0.parts)
+        (s.token.table_id ≡ N.table)
+        × (s.token.me.1 ≡ [])
+        × (s.token.me.0.kept ≡ [])
+        × (s.parts ≡ s.token.me.0.parts)
         × (0 < s.parts)
-        × (s.seat.me.0.plan.stripes ≤ 64)
-        × AreNumbersOf (λ stripe. word_total_in stripe s.seat.me.0.booked) s.words
-        × AreNumbersOf (λ stripe. entry_total_in stripe s.seat.me.0.booked) s.entries };
+        × (s.token.me.0.plan.stripes ≤ 64)
+        × AreNumbersOf (λ stripe. word_total_in stripe s.token.me.0.booked) s.words
+        × AreNumbersOf (λ stripe. entry_total_in stripe s.token.me.0.booked) s.entries };
 }
 
 impl<N: Books> Share<N> {
     // A share that has booked nothing.
-    pub(crate) fn of(seat: Seat, parts: u64) -> Share<N>
-        requires table { seat.table_id ≡ N.table }
-        requires view { (seat.me.0.parts ≡ parts) × (seat.me.0.booked ≡ []) × (seat.me.0.kept ≡ []) × (seat.me.1 ≡ []) }
+    pub(crate) fn of(token: Token, parts: u64) -> Share<N>
+        requires table { token.table_id ≡ N.table }
+        requires view { (token.me.0.parts ≡ parts) × (token.me.0.booked ≡ []) × (token.me.0.kept ≡ []) × (token.me.1 ≡ []) }
         requires parts { 0 < parts }
-        requires stripes { seat.me.0.plan.stripes ≤ 64 }
-        ensures { result ≡ share_of seat.me.0.plan parts [] }
+        requires stripes { token.me.0.plan.stripes ≤ 64 }
+        ensures { result ≡ share_of token.me.0.plan parts [] }
     {
         Share {
-            seat,
+            token,
             parts,
             words: [0; 64],
             entries: [0; 64],

@@ -7,7 +7,7 @@ use crate::books::Books;
 use crate::entry::Plan;
 use crate::keeper::Keeper;
 use crate::share::Share;
-use crate::sheet_rule::{FirstKept, Seat, SheetTable};
+use crate::sheet_rule::{FirstKept, SheetTable, Token};
 use std::alloc::{AllocError, Global};
 use std::marker::{Model, PhantomData};
 
@@ -16,7 +16,7 @@ use std::marker::{Model, PhantomData};
 #[derive(Drop)]
 pub struct Sheet {
     table: SheetTable,
-    first: Seat,
+    first: Token,
     plan: Plan,
 }
 
@@ -67,7 +67,7 @@ impl Sheet {
             name: PhantomData,
         };
         let opening = Opening {
-            seat: first,
+            token: first,
             plan,
             next: 0,
             name: PhantomData,
@@ -80,7 +80,7 @@ impl Sheet {
 /// number of the stripe whose keeper is made next.
 #[derive(Drop)]
 pub struct Opening<N: Books> {
-    seat: Seat,
+    token: Token,
     plan: Plan,
     next: u32,
     name: PhantomData<N>,
@@ -96,8 +96,8 @@ impl<N: Books> Model for Opening<N> {
     ghost view = { λ o. opening_of o.plan o.next };
 
     ghost invariant = { λ o.
-        (o.seat.table_id ≡ N.table)
-        × (o.seat.me ≡ (view_of o.plan o.plan.parts [] (empty_stripes o.next (o.plan.stripes - o.next)), []))
+        (o.token.table_id ≡ N.table)
+        × (o.token.me ≡ (view_of o.plan o.plan.parts [] (empty_stripes o.next (o.plan.stripes - o.next)), []))
         × (o.next ≤ o.plan.stripes)
         × (o.plan.stripes ≤ 64)
         × (0 < o.plan.parts) };
@@ -130,9 +130,12 @@ impl<N: Books> OpenSheet<N> {
         ensures opening { opening.new ≡ opening_of opening.old.plan (opening.old.next + 1) }
     {
         let stripe = opening.next;
-        let seat = self.table.shared.split_seat::<FirstKept>(&mut opening.seat);
+        let token = self
+            .table
+            .shared
+            .split_seat::<FirstKept>(&mut opening.token);
         opening.next += 1;
-        Keeper::of(seat, stripe)
+        Keeper::of(token, stripe)
     }
 
     /// Makes the first share, which has all parts, once each stripe has its keeper.
@@ -141,11 +144,11 @@ impl<N: Books> OpenSheet<N> {
         ensures { result ≡ share_of opening.plan opening.plan.parts [] }
     {
         let Opening {
-            seat,
+            token,
             plan,
             next: _,
             name: _,
         } = opening;
-        Share::of(seat, plan.parts)
+        Share::of(token, plan.parts)
     }
 }

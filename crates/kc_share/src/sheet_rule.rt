@@ -93,6 +93,6 @@ impl<E: Event> Play<(), View> for Book<E> {
 }
 
 /// The right to take steps, with a view.
-pub(crate) type Seat = atomic_table::Seat<(), View>;
+pub(crate) type Token = atomic_table::Seat<(), View>;
 
 pub(crate) type SheetTable = Table<(), View, Plan, SheetRule, Global>;

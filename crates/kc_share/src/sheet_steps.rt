@@ -8,7 +8,7 @@ use crate::books::Books;
 use crate::keeper::Keeper;
 use crate::share::{MOST, Share};
 use crate::sheet::OpenSheet;
-use crate::sheet_rule::{Book, Event, FirstKept, Look, OnePart, Seat, Together, Whole};
+use crate::sheet_rule::{Book, Event, FirstKept, Look, OnePart, Together, Token, Whole};
 use kc_word::Batch;
 use std::marker::Brand;
 
@@ -23,9 +23,9 @@ impl<N: Books> OpenSheet<N> {
         ensures share { share.new ≡ with_one_part_less share.old }
         ensures new { result ≡ new_share share.old }
     {
-        let seat = self.table.shared.split_seat::<OnePart>(&mut share.seat);
+        let token = self.table.shared.split_seat::<OnePart>(&mut share.token);
         share.parts -= 1;
-        Share::of(seat, 1)
+        Share::of(token, 1)
     }
 
     /// Joins two shares: their parts and numbers are added up, and what one booked stands behind what the other did.
@@ -34,15 +34,15 @@ impl<N: Books> OpenSheet<N> {
         ensures { share.new ≡ joined_shares share.old other }
     {
         let Share {
-            seat,
+            token,
             parts,
             words,
             entries,
             name: _,
         } = other;
         let shared = &self.table.shared;
-        shared.join_seat::<Together>(&mut share.seat, seat);
-        shared.load::<Look>(&mut share.seat, PARTS);
+        shared.join_seat::<Together>(&mut share.token, token);
+        shared.load::<Look>(&mut share.token, PARTS);
         share.parts += parts;
         add_each(&mut share.words, &words);
         add_each(&mut share.entries, &entries);
@@ -76,9 +76,9 @@ impl<N: Books> OpenSheet<N> {
         ensures keeper { keeper.new ≡ with_entry keeper.old (entry_of batch.now words) }
     {
         let stripe = keeper.stripe as usize;
-        self.take_in(&mut share.seat, &mut keeper.seat);
-        self.table.shared.load::<Book<E>>(&mut share.seat, PARTS);
-        keeper.seat = self.give_back(&mut share.seat);
+        self.take_in(&mut share.token, &mut keeper.token);
+        self.table.shared.load::<Book<E>>(&mut share.token, PARTS);
+        keeper.token = self.give_back(&mut share.token);
         share.words[stripe] += words;
         share.entries[stripe] += 1;
     }
@@ -92,13 +92,13 @@ impl<N: Books> OpenSheet<N> {
         ensures whole { share.old.parts ≡ share.old.plan.parts
             → AreSame (entries_in keeper.old.stripe share.old.booked) keeper.old.journal }
     {
-        self.take_in(&mut share.seat, &mut keeper.seat);
-        self.table.shared.load::<Look>(&mut share.seat, PARTS);
-        keeper.seat = self.give_back(&mut share.seat);
+        self.take_in(&mut share.token, &mut keeper.token);
+        self.table.shared.load::<Look>(&mut share.token, PARTS);
+        keeper.token = self.give_back(&mut share.token);
     }
 
     // Joins a keeper's view with a share's, so that one atomic step can tell of both.
-    fn take_in(&self, share: &mut Seat, keeper: &mut Seat)
+    fn take_in(&self, share: &mut Token, keeper: &mut Token)
         requires share { (share.old.table_id ≡ N.table) × (0 < share.old.me.0.parts) × (share.old.me.1 ≡ []) }
         requires keeper { (keeper.old.table_id ≡ N.table) × (keeper.old.me.1 ≡ []) }
         ensures share { (share.new.table_id ≡ N.table)
@@ -110,7 +110,7 @@ impl<N: Books> OpenSheet<N> {
     }
 
     // Parts the keeper's view from the share's again.
-    fn give_back(&self, share: &mut Seat) -> Seat
+    fn give_back(&self, share: &mut Token) -> Token
         requires { (share.old.table_id ≡ N.table) × (share.old.me.1 ≡ []) }
         ensures share { (share.new.table_id ≡ N.table) × (share.new.me ≡ (view_without_first share.old.me.0, [])) }
         ensures keeper { (result.table_id ≡ N.table) × (result.me ≡ (first_kept_view share.old.me.0, [])) }

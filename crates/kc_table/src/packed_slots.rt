@@ -32,7 +32,7 @@ impl Model for PackedSlots {
 }
 
 impl PackedSlots {
-    /// So many empty slots, with so many low bits of a count in each word.
+    /// So many empty slots, with so many low bits of a count in each.
     pub fn empty(alloc: Global, low: u32, size: usize) -> Result<PackedSlots, AllocError>
         requires { low ≤ remainder_bits }
         ensures low { IfOk result (λ p. p.low ≡ low) }
@@ -111,7 +111,7 @@ impl PackedSlots {
     }
 }
 
-// The lowest `low` bits of a count, which stand in the slot's word.
+// The lowest `low` bits of a count, which stand in the slot.
 #[inline(always)]
 fn low_bits(number: u64, low: u32) -> u64
     requires { low ≤ remainder_bits }

@@ -36,7 +36,7 @@ impl Tag {
         }
     }
 
-    /// The tag in a word, above so many low bits.
+    /// The tag in a slot, above so many low bits.
     #[inline(always)]
     pub fn of_word(word: u64, low: u32) -> Tag
         requires { low ≤ remainder_bits }
@@ -47,7 +47,7 @@ impl Tag {
         }
     }
 
-    /// The word that has this tag above so many low bits, which are 0.
+    /// The slot that has this tag above so many low bits, which are 0.
     #[inline(always)]
     pub fn to_word(self, low: u32) -> u64
         requires few { low ≤ remainder_bits }

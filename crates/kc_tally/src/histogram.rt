@@ -15,8 +15,8 @@ use std::marker::Model;
 // The number of the bins, and of the last one.
 const LAST_BIN: u64 = 10_001;
 
-/// The sizes of the bins 1 to 10,001. A count from 1 to 10,000 has a bin of its own, and all greater ones share the
-/// last.
+/// The sizes of the bins 1 to 10,001. A count from 1 to 10,000 has a bin of its own, and all greater ones have the last
+/// in common.
 #[derive(Drop)]
 pub struct Histogram {
     bins: Vec<u64>,

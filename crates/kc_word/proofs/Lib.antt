@@ -13,7 +13,7 @@ pub mod PieceLemmas
 pub mod WalkLemmas
 pub mod Shifting
 pub mod Clipping
-pub mod Gatherings
+pub mod UsableLemmas
 pub mod Appending
 pub mod Joining
 pub mod Readings

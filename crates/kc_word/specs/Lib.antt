@@ -6,7 +6,7 @@ pub mod Packed
 pub mod Runs
 pub mod PackedPiece
 pub mod Walking
-pub mod Gathering
+pub mod UsableCodes
 pub mod PackedBatch
 pub mod OpenCutting
 pub mod Only

@@ -13,8 +13,8 @@ use kc_kmer::{K, Rule, Word};
 use std::alloc::{AllocError, Global};
 use std::marker::Model;
 
-// How many words are collected at least before repeated ones are left out.
-const GATHERED: usize = 65_536;
+// The least limit: how many words are collected before repeated ones are left out.
+const LEAST_LIMIT: usize = 65_536;
 
 /// A list of words, in rising order, in which a word is looked up quickly: the words to which a count is kept, or the
 /// solid words of a table.
@@ -149,7 +149,7 @@ fn words_in_reads(alloc: Global, reads: &[SeqRead], rule: &Rule) -> Result<Vec<u
         → Contains words.items n ↔ Contains (words_of rule.now reads.now) n) }
 {
     let mut words = Vec::new(alloc);
-    let mut limit = GATHERED;
+    let mut limit = LEAST_LIMIT;
     for read in reads {
         let more = read_words(alloc, read, rule)?;
         words.extend_from_slice(&more)?;
@@ -169,7 +169,7 @@ fn keep_short(words: &mut Vec<u64>, limit: usize) -> usize
         return limit;
     }
     keep_once(words);
-    words.len().saturating_mul(2).max(GATHERED)
+    words.len().saturating_mul(2).max(LEAST_LIMIT)
 }
 
 // Puts the words in rising order, each once.

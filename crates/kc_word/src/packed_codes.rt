@@ -65,7 +65,7 @@ impl Packed {
         (self.words[i / BASES] >> (62 - 2 * (i % BASES))) & 3
     }
 
-    /// The 32 codes from index `at` on, or all that are left, as a word. Condition: `at` is below the length.
+    /// The 32 codes from index `at` on, or all that are left, in one number. Condition: `at` is below the length.
     #[inline(always)]
     pub(crate) fn window(&self, at: usize) -> u64
         requires { at < length self.now }
@@ -103,7 +103,7 @@ impl Packed {
         Ok(())
     }
 
-    /// Appends the first `count` codes of a word. Conditions: the count is 1 to 32, and the length stays below 2^64.
+    /// Appends the first `count` codes of a number. Conditions: the count is 1 to 32, and the length stays below 2^64.
     pub(crate) fn push_codes(&mut self, word: u64, count: usize) -> Result<(), AllocError>
         requires some { 1 ≤ count }
         requires most { count ≤ 32 }
@@ -123,7 +123,7 @@ impl Packed {
         self.push_word(word << (2 * room), count - room)
     }
 
-    // Appends the first `count` codes of a word within the last word. Conditions: that one has a code, and room for
+    // Appends the first `count` codes of a number within the last number. Conditions: that one has a code, and room for
     // so many more.
     #[inline(always)]
     fn fill_word(&mut self, word: u64, count: usize)
@@ -152,8 +152,8 @@ impl Packed {
         }
     }
 
-    /// Appends the first `count` codes of a word, behind whole words. Conditions: the count is 1 to 32, the length is
-    /// a multiple of 32, and it stays below 2^64.
+    /// Appends the first `count` codes of a number, behind whole numbers. Conditions: the count is 1 to 32, the length
+    /// is a multiple of 32, and it stays below 2^64.
     #[inline(always)]
     pub(crate) fn push_word(&mut self, word: u64, count: usize) -> Result<(), AllocError>
         requires some { 1 ≤ count }
@@ -169,7 +169,7 @@ impl Packed {
     }
 }
 
-/// Equal lists of codes have equal words.
+/// Equal lists of codes have equal numbers.
 impl PartialEq for Packed {
     ghost use Rattle.std.specs.Str.{bytes_eq};
     ghost use Rattle.std.specs.Cmp.{partial_equiv_from_equiv};

@@ -8,7 +8,7 @@ ghost use Rattle.kc_word.specs.Packed.{word_count};
 use crate::codes::Codes;
 use crate::packed_codes::{BASES, Packed};
 use crate::runs::{Run, append_runs, clip_runs, is_in_runs};
-use crate::usable_codes::{gather, mark_gaps};
+use crate::usable_codes::{block_of, mark_gaps};
 use kc_fastx::SeqRead;
 use kc_kmer::letter::base_of;
 use kc_kmer::{K, Rule};
@@ -177,7 +177,7 @@ pub fn clean(alloc: Global, read: &SeqRead, rule: &Rule) -> Result<Piece, AllocE
     for j in 0..count.div_ceil(BASES) {
         let from = j * BASES;
         let taken = (count - from).min(BASES);
-        let block = gather(read, rule, from, taken);
+        let block = block_of(read, rule, from, taken);
         bases.push_word(block.word, taken)?;
         if block.has_gap {
             mark_gaps(read, rule, from, taken, &mut runs)?;
@@ -186,7 +186,7 @@ pub fn clean(alloc: Global, read: &SeqRead, rule: &Rule) -> Result<Piece, AllocE
     Ok(Piece { bases, runs })
 }
 
-// An empty vector with room for the words of 64 bits that the bases of a read take.
+// An empty vector with room for the numbers of 64 bits that the bases of a read take.
 fn room_for_bases(alloc: Global, read: &SeqRead) -> Result<Vec<u64>, AllocError>
     ensures empty { IfOk result (λ room. room.items ≡ []) }
     ensures bounded { IfOk result (λ room. vec_capacity room ≤ word_count (length read.now.bases)) }

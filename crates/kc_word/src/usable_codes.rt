@@ -1,6 +1,6 @@
 //! The codes of a read and its gaps, 32 bases at a time.
 ghost use Rattle.std.specs.Prelude.{◌≡◌, ◌+◌, ◌^◌, ◌<◌, ◌≤◌, length, OnOk};
-ghost use Rattle.kc_word.specs.Gathering.{usable_code, IsBlock, AreGaps};
+ghost use Rattle.kc_word.specs.UsableCodes.{usable_code, IsBlock, AreGaps};
 
 use crate::runs::{Run, extend_runs};
 use kc_fastx::SeqRead;
@@ -19,7 +19,7 @@ pub(crate) struct Block {
 
 /// The block of `count` bases from index `from` on. Condition: the count is 1 to 32, and the read has these bases.
 #[inline(always)]
-pub(crate) fn gather(read: &SeqRead, rule: &Rule, from: usize, count: usize) -> Block
+pub(crate) fn block_of(read: &SeqRead, rule: &Rule, from: usize, count: usize) -> Block
     requires some { 1 ≤ count }
     requires most { count ≤ 32 }
     requires within { from + count ≤ length read.now.bases }

@@ -1,20 +1,20 @@
 use Rattle.std.proofs.Common.{◌≡◌, ◌+◌, ◌*◌, ◌^◌, ◌<◌, min, length, List, ap, sym, ◌∙◌, subst, arith, rules}
 use Rattle.kc_word.specs.declared.runs.Run.{Run}
-use Rattle.kc_word.specs.Gathering.{AreGaps}
+use Rattle.kc_word.specs.UsableCodes.{AreGaps}
 use Rattle.kc_word.proofs.Cleaning.{length-cleaned}
-use Rattle.kc_word.proofs.Gatherings.{IsGathering, gathering-none, length-gathering, codes-block, gaps-block, gathered}
+use Rattle.kc_word.proofs.UsableLemmas.{AreUsableCodes, usable-none, length-usable, codes-block, gaps-block, usable-all}
 use Rattle.kc_word.proofs.piece.clean.Goals as goal
 use Rattle.kc_word.proofs.piece.clean.Goals.{then-block+in_ok-mark_gaps, else-block}
 
 pub loop-j-init : goal.loop-j-init
 loop-j-init c =
     let none : 0 ≡ min 0 (length c.bases-count.result.now) = omega arith in
-    subst (λ n. IsGathering c.args.rule.now c.args.read.now n c.in_room-bases.result c.new-runs.result.items) none
-    (gathering-none c.args.rule.now c.args.read.now c.in_room-bases.result c.new-runs.result.items c.in_room-bases.ensures c.new-runs.ensures.items)
+    subst (λ n. AreUsableCodes c.args.rule.now c.args.read.now n c.in_room-bases.result c.new-runs.result.items) none
+    (usable-none c.args.rule.now c.args.read.now c.in_room-bases.result c.new-runs.result.items c.in_room-bases.ensures c.new-runs.ensures.items)
 
 pub push_word-requires-clause-whole : goal.push_word-requires-clause-whole
 push_word-requires-clause-whole c =
-    let long = length-gathering c.args.rule.now c.args.read.now (min (c.loop-j.j * 32) (length c.bases-count.result.now))
+    let long = length-usable c.args.rule.now c.args.read.now (min (c.loop-j.j * 32) (length c.bases-count.result.now))
     c.loop-j.bases c.loop-j.runs.items c.loop-j.invariant in
     let test = c.loop-j-test.true in
     let end = c.div_ceil-j-end.ensures in
@@ -22,7 +22,7 @@ push_word-requires-clause-whole c =
 
 pub push_word-requires-clause-fits : goal.push_word-requires-clause-fits
 push_word-requires-clause-fits c =
-    let long = length-gathering c.args.rule.now c.args.read.now (min (c.loop-j.j * 32) (length c.bases-count.result.now))
+    let long = length-usable c.args.rule.now c.args.read.now (min (c.loop-j.j * 32) (length c.bases-count.result.now))
     c.loop-j.bases c.loop-j.runs.items c.loop-j.invariant in
     let test = c.loop-j-test.true in
     let end = c.div_ceil-j-end.ensures in
@@ -44,9 +44,9 @@ loop-j-preserved c =
     let taken = c.min-taken.ensures in
     let from : min (c.loop-j.j * 32) (length c.bases-count.result.now) ≡ c.loop-j.j * 32 = omega (arith, test, end) in
     let next : c.loop-j.j * 32 + c.min-taken.result ≡ min ((c.loop-j.j + 1) * 32) (length c.bases-count.result.now) = omega (arith, test, end, taken) in
-    let before = subst (λ n. IsGathering c.args.rule.now c.args.read.now n c.loop-j.bases c.loop-j.runs.items) from c.loop-j.invariant in
-    subst (λ n. IsGathering c.args.rule.now c.args.read.now n c.push_word.new.self c.if-block.runs.items) next (record {
-      codes_are = codes-block c.gather-block.ensures c.loop-j.bases c.push_word.new.self before.codes_are
+    let before = subst (λ n. AreUsableCodes c.args.rule.now c.args.read.now n c.loop-j.bases c.loop-j.runs.items) from c.loop-j.invariant in
+    subst (λ n. AreUsableCodes c.args.rule.now c.args.read.now n c.push_word.new.self c.if-block.runs.items) next (record {
+      codes_are = codes-block c.block_of-block.ensures c.loop-j.bases c.push_word.new.self before.codes_are
           c.in_ok-push_word.ensures;
       gaps = elim c.if-block.branch [
         | then-block+in_ok-mark_gaps w ↦
@@ -55,7 +55,7 @@ loop-j-preserved c =
         | else-block w ↦
             subst (λ (rs : List Run). AreGaps c.args.rule.now c.args.read.now (c.loop-j.j * 32 + c.min-taken.result) rs) (sym (ap (λ v. v.items) w.runs-is))
             (gaps-block c.args.rule.now c.args.read.now (c.loop-j.j * 32) c.min-taken.result c.loop-j.runs.items before.gaps
-            (c.gather-block.ensures.usable w.if-block.false))
+            (c.block_of-block.ensures.usable w.if-block.false))
       ];
     })
 
@@ -64,7 +64,7 @@ invariant_of-result c =
     let test = c.loop-j-test.false in
     let end = c.div_ceil-j-end.ensures in
     let all : min (c.loop-j.j * 32) (length c.bases-count.result.now) ≡ length c.bases-count.result.now = omega (arith, test, end) in
-    (gathered c.args.rule.now c.args.read.now (min (c.loop-j.j * 32) (length c.bases-count.result.now)) c.loop-j.bases c.loop-j.runs.items
+    (usable-all c.args.rule.now c.args.read.now (min (c.loop-j.j * 32) (length c.bases-count.result.now)) c.loop-j.bases c.loop-j.runs.items
     (all ∙ ap length c.bases-count.ensures.value) c.loop-j.invariant.codes_are c.loop-j.invariant.gaps).piece
 
 pub returns-clause-cleaned : goal.returns-clause-cleaned
@@ -72,7 +72,7 @@ returns-clause-cleaned c =
     let test = c.loop-j-test.false in
     let end = c.div_ceil-j-end.ensures in
     let all : min (c.loop-j.j * 32) (length c.bases-count.result.now) ≡ length c.bases-count.result.now = omega (arith, test, end) in
-    (gathered c.args.rule.now c.args.read.now (min (c.loop-j.j * 32) (length c.bases-count.result.now)) c.loop-j.bases c.loop-j.runs.items
+    (usable-all c.args.rule.now c.args.read.now (min (c.loop-j.j * 32) (length c.bases-count.result.now)) c.loop-j.bases c.loop-j.runs.items
     (all ∙ ap length c.bases-count.ensures.value) c.loop-j.invariant.codes_are c.loop-j.invariant.gaps).bytes
 
 pub returns-clause-long : goal.returns-clause-long
@@ -80,6 +80,6 @@ returns-clause-long c =
     let test = c.loop-j-test.false in
     let end = c.div_ceil-j-end.ensures in
     let all : min (c.loop-j.j * 32) (length c.bases-count.result.now) ≡ length c.bases-count.result.now = omega (arith, test, end) in
-    ap length (gathered c.args.rule.now c.args.read.now (min (c.loop-j.j * 32) (length c.bases-count.result.now)) c.loop-j.bases c.loop-j.runs.items
+    ap length (usable-all c.args.rule.now c.args.read.now (min (c.loop-j.j * 32) (length c.bases-count.result.now)) c.loop-j.bases c.loop-j.runs.items
     (all ∙ ap length c.bases-count.ensures.value) c.loop-j.invariant.codes_are c.loop-j.invariant.gaps).bytes
     ∙ length-cleaned c.args.rule.now c.args.read.now

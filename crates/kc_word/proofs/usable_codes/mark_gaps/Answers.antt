@@ -1,8 +1,8 @@
 use Rattle.std.proofs.Common.{◌≡◌, ◌+◌, ◌<◌, ◌≤◌, List, ap, sym, subst, arith}
 use Rattle.kc_word.specs.declared.runs.Run.{Run}
-use Rattle.kc_word.specs.Gathering.{AreGaps}
+use Rattle.kc_word.specs.UsableCodes.{AreGaps}
 use Rattle.kc_word.specs.Runs.{AreExtended}
-use Rattle.kc_word.proofs.Gatherings.{gaps-base, gaps-gap}
+use Rattle.kc_word.proofs.UsableLemmas.{gaps-base, gaps-gap}
 use Rattle.kc_word.proofs.usable_codes.mark_gaps.Goals as goal
 use Rattle.kc_word.proofs.usable_codes.mark_gaps.Goals.{then-usable_code-ge-NO_BASE+in_ok-extend_runs}
 use Rattle.kc_word.proofs.usable_codes.mark_gaps.Goals.{else-usable_code-ge-NO_BASE}

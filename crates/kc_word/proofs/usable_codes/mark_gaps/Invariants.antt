@@ -1,5 +1,5 @@
 use Rattle.std.proofs.Common.{◌+◌}
-use Rattle.kc_word.specs.Gathering.{AreGaps}
+use Rattle.kc_word.specs.UsableCodes.{AreGaps}
 use Rattle.kc_word.proofs.usable_codes.mark_gaps.Given as goal
 
 abbrev pub invariant-loop-i : goal.invariant-loop-i

@@ -1,5 +1,5 @@
 use Rattle.std.proofs.Common.{ap, sym, ◌∙◌, option_copied}
-use Rattle.kc_word.proofs.Gatherings.{usable_code-high, usable_code-low, passes-none, passes-high, passes-low}
+use Rattle.kc_word.proofs.UsableLemmas.{usable_code-high, usable_code-low, passes-none, passes-high, passes-low}
 use Rattle.kc_word.proofs.usable_codes.usable_code.Goals as goal
 
 pub returns-in-None : goal.returns-in-None

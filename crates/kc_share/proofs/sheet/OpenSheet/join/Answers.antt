@@ -15,24 +15,24 @@ load-requires g c = (c.join_seat.ensures.0 ∙ c.share.invariant.0 ∙ sym c.sel
 pub add_each-requires : goal.add_each-requires
 add_each-requires g c =
     let share = c.share.invariant in
-    let joined : IsJoinedLook c.share.inside.seat.me.0 c.other.inside.seat.me.0 c.share.inside.seat.me.1 c.join_seat.new.seat.me c.load.new.seat.me = record { empty = share.1; joins = c.join_seat.ensures.2; look = c.load.ensures.2 } in
+    let joined : IsJoinedLook c.share.inside.token.me.0 c.other.inside.token.me.0 c.share.inside.token.me.1 c.join_seat.new.seat.me c.load.new.seat.me = record { empty = share.1; joins = c.join_seat.ensures.2; look = c.load.ensures.2 } in
     words_have_room joined c.share.inside.words c.other.inside.words share.6 c.other.invariant.6
 
 pub add_each-requires-2 : goal.add_each-requires-2
 add_each-requires-2 g c =
     let share = c.share.invariant in
-    let joined : IsJoinedLook c.share.inside.seat.me.0 c.other.inside.seat.me.0 c.share.inside.seat.me.1 c.join_seat.new.seat.me c.load.new.seat.me = record { empty = share.1; joins = c.join_seat.ensures.2; look = c.load.ensures.2 } in
+    let joined : IsJoinedLook c.share.inside.token.me.0 c.other.inside.token.me.0 c.share.inside.token.me.1 c.join_seat.new.seat.me c.load.new.seat.me = record { empty = share.1; joins = c.join_seat.ensures.2; look = c.load.ensures.2 } in
     entries_have_room joined c.share.inside.entries c.other.inside.entries share.7 c.other.invariant.7
 
 pub invariant_of-share : goal.invariant_of-share
 invariant_of-share g c =
     let share = c.share.invariant in
     let other = c.other.invariant in
-    let joined : IsJoinedLook c.share.inside.seat.me.0 c.other.inside.seat.me.0 c.share.inside.seat.me.1 c.join_seat.new.seat.me c.load.new.seat.me = record { empty = share.1; joins = c.join_seat.ensures.2; look = c.load.ensures.2 } in
+    let joined : IsJoinedLook c.share.inside.token.me.0 c.other.inside.token.me.0 c.share.inside.token.me.1 c.join_seat.new.seat.me c.load.new.seat.me = record { empty = share.1; joins = c.join_seat.ensures.2; look = c.load.ensures.2 } in
     let looked = both_looked joined in (
       c.load.ensures.0 ∙ c.join_seat.ensures.0 ∙ share.0,
       ap (λ m. m.1) looked,
-      ap (λ m. m.0.kept) looked ∙ ap (λ them. them ++ c.other.inside.seat.me.0.kept) share.2 ∙ other.2,
+      ap (λ m. m.0.kept) looked ∙ ap (λ them. them ++ c.other.inside.token.me.0.kept) share.2 ∙ other.2,
       omega (arith, share.3, other.3, ap (λ m. m.0.parts) looked),
       omega (arith, share.4),
       omega (arith, share.5, ap (λ m. m.0.plan.stripes) looked),

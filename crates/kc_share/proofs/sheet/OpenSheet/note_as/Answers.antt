@@ -12,9 +12,9 @@ load-requires g c =
     let share = c.share.invariant in
     let took = c.take_in.ensures.share in
     let it = c.keeper.view_is in
-    let taken : IsTaken c.share.inside.seat.me.0 c.keeper.inside.seat.me.0 (first_kept c.keeper.inside.seat.me.0.kept) c.take_in.new.share.me = record { share_keeps_none = share.2; keeper_keeps = ap (λ m. m.0) c.keeper.invariant.1; took = took.1 } in
-    let few_words : word_total (first_kept c.keeper.inside.seat.me.0.kept).journal + g.E.Event.entry.words < 2 ^ 64 = omega (arith, c.requires.words, ap (λ (k : KeptStripe). word_total k.journal) it, ap (λ (e : Entry). e.words) c.requires.entry) in
-    let few_entries : length (first_kept c.keeper.inside.seat.me.0.kept).journal + 1 < 2 ^ 64 = omega (arith, c.requires.entries, ap (λ (k : KeptStripe). length k.journal) it) in (
+    let taken : IsTaken c.share.inside.token.me.0 c.keeper.inside.token.me.0 (first_kept c.keeper.inside.token.me.0.kept) c.take_in.new.share.me = record { share_keeps_none = share.2; keeper_keeps = ap (λ m. m.0) c.keeper.invariant.1; took = took.1 } in
+    let few_words : word_total (first_kept c.keeper.inside.token.me.0.kept).journal + g.E.Event.entry.words < 2 ^ 64 = omega (arith, c.requires.words, ap (λ (k : KeptStripe). word_total k.journal) it, ap (λ (e : Entry). e.words) c.requires.entry) in
+    let few_entries : length (first_kept c.keeper.inside.token.me.0.kept).journal + 1 < 2 ^ 64 = omega (arith, c.requires.entries, ap (λ (k : KeptStripe). length k.journal) it) in (
       took.0 ∙ sym c.self.invariant.0,
       omega arith,
       booking_is_allowed _ _ _ _ _ _ (record {
@@ -29,31 +29,31 @@ pub overflow_add-share : goal.overflow_add-share
 overflow_add-share g c =
     let share = c.share.invariant in
     let keeper = c.keeper.invariant in
-    let taken : IsTaken c.share.inside.seat.me.0 c.keeper.inside.seat.me.0 (first_kept c.keeper.inside.seat.me.0.kept) c.take_in.new.share.me = record { share_keeps_none = share.2; keeper_keeps = ap (λ m. m.0) keeper.1; took = c.take_in.ensures.share.1 } in
+    let taken : IsTaken c.share.inside.token.me.0 c.keeper.inside.token.me.0 (first_kept c.keeper.inside.token.me.0.kept) c.take_in.new.share.me = record { share_keeps_none = share.2; keeper_keeps = ap (λ m. m.0) keeper.1; took = c.take_in.ensures.share.1 } in
     let done : IsNoted c.take_in.new.share.me g.E.Event.entry c.load.new.seat.me c.give_back.new.share.me = record { book = c.load.ensures.2; goes = c.give_back.ensures.share.1 } in
-    let place : IsIndexOf (first_kept c.keeper.inside.seat.me.0.kept) c.share.inside.words c.keeper.inside.stripe = record { long = c.share.told.0; here = keeper.2; small = keeper.3 } in
-    omega (arith, words_room c.share.inside.seat.me.0 _ place c.args.words (sym (ap (λ (e : Entry). e.words) c.requires.entry)) (booking_tells taken done) share.6)
+    let place : IsIndexOf (first_kept c.keeper.inside.token.me.0.kept) c.share.inside.words c.keeper.inside.stripe = record { long = c.share.told.0; here = keeper.2; small = keeper.3 } in
+    omega (arith, words_room c.share.inside.token.me.0 _ place c.args.words (sym (ap (λ (e : Entry). e.words) c.requires.entry)) (booking_tells taken done) share.6)
 
 pub overflow_add-share-2 : goal.overflow_add-share-2
 overflow_add-share-2 g c =
     let share = c.share.invariant in
     let keeper = c.keeper.invariant in
-    let taken : IsTaken c.share.inside.seat.me.0 c.keeper.inside.seat.me.0 (first_kept c.keeper.inside.seat.me.0.kept) c.take_in.new.share.me = record { share_keeps_none = share.2; keeper_keeps = ap (λ m. m.0) keeper.1; took = c.take_in.ensures.share.1 } in
+    let taken : IsTaken c.share.inside.token.me.0 c.keeper.inside.token.me.0 (first_kept c.keeper.inside.token.me.0.kept) c.take_in.new.share.me = record { share_keeps_none = share.2; keeper_keeps = ap (λ m. m.0) keeper.1; took = c.take_in.ensures.share.1 } in
     let done : IsNoted c.take_in.new.share.me g.E.Event.entry c.load.new.seat.me c.give_back.new.share.me = record { book = c.load.ensures.2; goes = c.give_back.ensures.share.1 } in
-    let place : IsIndexOf (first_kept c.keeper.inside.seat.me.0.kept) c.share.inside.entries c.keeper.inside.stripe = record { long = c.share.told.1; here = keeper.2; small = keeper.3 } in
-    omega (arith, entries_room c.share.inside.seat.me.0 _ place (booking_tells taken done) share.7)
+    let place : IsIndexOf (first_kept c.keeper.inside.token.me.0.kept) c.share.inside.entries c.keeper.inside.stripe = record { long = c.share.told.1; here = keeper.2; small = keeper.3 } in
+    omega (arith, entries_room c.share.inside.token.me.0 _ place (booking_tells taken done) share.7)
 
 pub invariant_of-share : goal.invariant_of-share
 invariant_of-share g c =
     let share = c.share.invariant in
     let keeper = c.keeper.invariant in
-    let taken : IsTaken c.share.inside.seat.me.0 c.keeper.inside.seat.me.0 (first_kept c.keeper.inside.seat.me.0.kept) c.take_in.new.share.me = record { share_keeps_none = share.2; keeper_keeps = ap (λ m. m.0) keeper.1; took = c.take_in.ensures.share.1 } in
+    let taken : IsTaken c.share.inside.token.me.0 c.keeper.inside.token.me.0 (first_kept c.keeper.inside.token.me.0.kept) c.take_in.new.share.me = record { share_keeps_none = share.2; keeper_keeps = ap (λ m. m.0) keeper.1; took = c.take_in.ensures.share.1 } in
     let done : IsNoted c.take_in.new.share.me g.E.Event.entry c.load.new.seat.me c.give_back.new.share.me = record { book = c.load.ensures.2; goes = c.give_back.ensures.share.1 } in
     let left = booking_leaves taken done in
-    let place : IsIndexOf (first_kept c.keeper.inside.seat.me.0.kept) c.share.inside.words c.keeper.inside.stripe = record { long = c.share.told.0; here = keeper.2; small = keeper.3 } in
-    let entry_place : IsIndexOf (first_kept c.keeper.inside.seat.me.0.kept) c.share.inside.entries c.keeper.inside.stripe = record { long = c.share.told.1; here = keeper.2; small = keeper.3 } in
-    let words = words_told c.share.inside.seat.me.0 g.E.Event.entry place c.args.words (sym (ap (λ (e : Entry). e.words) c.requires.entry)) share.6 in
-    let entries = entries_told c.share.inside.seat.me.0 g.E.Event.entry entry_place share.7 in (
+    let place : IsIndexOf (first_kept c.keeper.inside.token.me.0.kept) c.share.inside.words c.keeper.inside.stripe = record { long = c.share.told.0; here = keeper.2; small = keeper.3 } in
+    let entry_place : IsIndexOf (first_kept c.keeper.inside.token.me.0.kept) c.share.inside.entries c.keeper.inside.stripe = record { long = c.share.told.1; here = keeper.2; small = keeper.3 } in
+    let words = words_told c.share.inside.token.me.0 g.E.Event.entry place c.args.words (sym (ap (λ (e : Entry). e.words) c.requires.entry)) share.6 in
+    let entries = entries_told c.share.inside.token.me.0 g.E.Event.entry entry_place share.7 in (
       c.give_back.ensures.share.0,
       ap (λ m. m.1) left,
       ap (λ m. m.0.kept) left,

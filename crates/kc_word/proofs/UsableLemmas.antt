@@ -16,7 +16,7 @@ use Rattle.kc_word.specs.Packed.{code_in, codes_in}
 use Rattle.kc_word.specs.declared.runs.Run.{Run}
 use Rattle.kc_word.specs.Runs.{is_in_runs, AreRuns, AreExtended}
 use Rattle.kc_word.specs.PackedPiece.{bytes_of, IsPiece}
-use Rattle.kc_word.specs.Gathering.{usable_code, packed_codes, IsBlock, AreGaps}
+use Rattle.kc_word.specs.UsableCodes.{usable_code, packed_codes, IsBlock, AreGaps}
 use Rattle.kc_kmer.proofs.WordLemmas.{at_base, code-lt}
 use Rattle.kc_word.proofs.RunLemmas.{AreRuns-wider, behind-runs}
 use Rattle.kc_word.proofs.PieceLemmas.{length-bytes_of, get_or-bytes_of, base-code}
@@ -211,7 +211,7 @@ get_or-packed_codes rule read n i h = get_or-map-range_with_len (λ j. usable_co
 -- ---- the piece
 
 -- the codes and the runs of all bases
-pub record IsGathered (rule : CountingRule) (read : Read) (codes : List ℕ) (runs : List Run) : Type 0 where
+pub record IsCleaned (rule : CountingRule) (read : Read) (codes : List ℕ) (runs : List Run) : Type 0 where
   pub piece : IsPiece codes runs
   pub bytes : bytes_of codes runs ≡ cleaned rule read
 
@@ -231,10 +231,10 @@ byte-cleaned rule read i =
     ∙ sym (cond-false _ (to_ascii_uppercase (get_or read.bases i 0)) unusable h))
     (cases_Bool (is_usable rule read i))
 
-pub gathered : (rule : CountingRule) (read : Read) (n : ℕ) (codes : List ℕ) (runs : List Run)
+pub usable-all : (rule : CountingRule) (read : Read) (n : ℕ) (codes : List ℕ) (runs : List Run)
     → n ≡ length read.bases → codes ≡ packed_codes rule read n
-    → AreGaps rule read n runs → IsGathered rule read codes runs
-gathered rule read n codes runs all is gaps = record {
+    → AreGaps rule read n runs → IsCleaned rule read codes runs
+usable-all rule read n codes runs all is gaps = record {
   piece = record {
     rising = subst (λ m. AreRuns 0 m runs) (sym long) gaps.rising;
     below = λ i. ⊎_elim (λ h. let e = here i h in omega (arith, e)) (λ h. subst (λ c. c < 4) (sym (past i h)) (lit< tt)) (cases_lt i n);
@@ -274,15 +274,15 @@ few-seen seen h = ⊎_elim (λ l. l) (λ l. absurd (true≢false (sym (le-leb 4 
 -- ---- a read, block by block
 
 -- the codes and the gaps of the first bases
-pub record IsGathering (rule : CountingRule) (read : Read) (n : ℕ) (codes : List ℕ) (runs : List Run) : Type 0 where
+pub record AreUsableCodes (rule : CountingRule) (read : Read) (n : ℕ) (codes : List ℕ) (runs : List Run) : Type 0 where
   pub codes_are : codes ≡ packed_codes rule read n
   pub gaps : AreGaps rule read n runs
 
-pub gathering-none : (rule : CountingRule) (read : Read) (codes : List ℕ) (runs : List Run) → codes ≡ [] → runs ≡ []
-    → IsGathering rule read 0 codes runs
+pub usable-none : (rule : CountingRule) (read : Read) (codes : List ℕ) (runs : List Run) → codes ≡ [] → runs ≡ []
+    → AreUsableCodes rule read 0 codes runs
 unfolding packed_codes
-gathering-none rule read codes runs none empty = record { codes_are = none; gaps = gaps-none rule read runs empty }
+usable-none rule read codes runs none empty = record { codes_are = none; gaps = gaps-none rule read runs empty }
 
-pub length-gathering : (rule : CountingRule) (read : Read) (n : ℕ) (codes : List ℕ) (runs : List Run)
-    → IsGathering rule read n codes runs → length codes ≡ n
-length-gathering rule read n codes runs before = ap length before.codes_are ∙ length-packed_codes rule read n
+pub length-usable : (rule : CountingRule) (read : Read) (n : ℕ) (codes : List ℕ) (runs : List Run)
+    → AreUsableCodes rule read n codes runs → length codes ≡ n
+length-usable rule read n codes runs before = ap length before.codes_are ∙ length-packed_codes rule read n

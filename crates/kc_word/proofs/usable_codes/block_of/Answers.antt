@@ -1,7 +1,7 @@
 use Rattle.std.proofs.Common.{◌≡◌, subst, arith}
 use Rattle.std.proofs.lemmas.Nat.{and_mask}
-use Rattle.kc_word.proofs.Gatherings.{IsTaken, room-below, taken-more, taken-all, few-seen}
-use Rattle.kc_word.proofs.usable_codes.gather.Goals as goal
+use Rattle.kc_word.proofs.UsableLemmas.{IsTaken, room-below, taken-more, taken-all, few-seen}
+use Rattle.kc_word.proofs.usable_codes.block_of.Goals as goal
 
 pub loop-i-preserved : goal.loop-i-preserved
 loop-i-preserved c =
