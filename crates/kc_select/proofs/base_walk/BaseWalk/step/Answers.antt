@@ -4,7 +4,7 @@ use Rattle.kc_word.specs.Cutting.{cleaned}
 use Rattle.kc_word.specs.Walking.{words_left}
 use Rattle.kc_word.proofs.Cleaning.{length-cleaned}
 use Rattle.kc_word.proofs.Counting.{forward-fits, backward-fits, word-lesser, word-forward}
-use Rattle.kc_word.proofs.Gatherings.{usable_code-cleaned}
+use Rattle.kc_word.proofs.UsableLemmas.{usable_code-cleaned}
 use Rattle.kc_word.proofs.WalkLemmas.{code-walked, code-word, code-no-word}
 use Rattle.kc_select.proofs.base_walk.BaseWalk.step.Goals as goal
 use Rattle.kc_select.proofs.base_walk.BaseWalk.step.Goals.{then-code, else-code, then-both, else-both}
