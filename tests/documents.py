@@ -3,8 +3,8 @@
     tests/documents.py
 Each name of docs/DEFINITIONS.md is declared in that file of the crate's specs/; the tables of docs/ARCHITECTURE.md and docs/PROVED.md have the
 crates of crates.txt in its order, and those that are gone stand nowhere; each file that a document names is there. The example at the front
-of each library is a part of a test, and no two source files but the libraries' fronts have one name. Where something isn't so, it is printed
-and the status is 1.
+of each library is a part of a test, and no two source files but the libraries' fronts have one name. No line of the code, of the definitions
+or of a document's prose is too long. Where something isn't so, it is printed and the status is 1.
 """
 
 import glob
@@ -15,6 +15,8 @@ import sys
 TOP = os.path.dirname(os.path.dirname(os.path.abspath(__file__)))
 # (what a file of specs/ declares: a definition, a record, its fields)
 DECLARED = r"(?m)^ *(?:(?:pub|abbrev|unfoldable|opaque|data|record) +)+(\S+)"
+# (the most columns of a line)
+COLUMNS = 120
 
 
 def text_of(path):
@@ -121,11 +123,24 @@ def files_of_one_name(listed):
     return [f"{path}: another file has this name" for path, name in zip(paths, names) if names.count(name) > 1]
 
 
+def prose(text):
+    """Returns the lines of a document with nothing in place of those of tables and of blocks of code."""
+    return re.sub(r"(?m)^\|.*$", "", re.sub(r"(?ms)^```.*?^```$", lambda it: "\n" * it[0].count("\n"), text))
+
+
+def long_lines(listed):
+    """Returns which lines of the code, of the definitions and of the documents' prose have more than COLUMNS columns."""
+    specs = [os.path.relpath(it, TOP) for it in sorted(glob.glob(f"{TOP}/crates/*/specs/**/*.antt", recursive=True))]
+    texts = {path: text_of(path) for path in [*sources(listed), *specs]} | {path: prose(text_of(path)) for path in documents()}
+    lines = [(path, number, line) for path, text in texts.items() for number, line in enumerate(text.split("\n"), 1)]
+    return [f"{path}:{number}: more than {COLUMNS} columns" for path, number, line in lines if len(line) > COLUMNS]
+
+
 def main():
     listed = listed_crates()
     wrong = [*lost_definitions(), *wrong_tables(listed), *lost_crates(listed), *lost_files()]
-    wrong += [*untested_examples(listed), *files_of_one_name(listed)]
-    print("\n".join(wrong) if wrong else "documents: each name that they have is there, and each example is a part of a test")
+    wrong += [*untested_examples(listed), *files_of_one_name(listed), *long_lines(listed)]
+    print("\n".join(wrong) if wrong else "documents: each name that they have is there, each example is a part of a test, and no line is too long")
     return 1 if wrong else 0
 
 

@@ -104,7 +104,7 @@ pub fn cut_up_all(
         let cuts = Cuts {
             setup: setup.clone()?,
             stripe: stripe as u32,
-            batches: shared(alloc, batches)?,
+            batches: clones_of(alloc, batches)?,
             keys,
             sizes: column(alloc, &sizes, stripe)?,
             numbers_differ,
@@ -178,8 +178,8 @@ fn column(alloc: Global, rows: &[[usize; 64]], place: usize) -> Result<Vec<usize
     Ok(column)
 }
 
-/// The batches of a list, in a list of their own. No batch is copied.
-pub fn shared(alloc: Global, batches: &[Arc<Batch>]) -> Result<Vec<Arc<Batch>>, AllocError>
+/// A list of its own of the same batches: each `Arc` is cloned, and no batch is copied.
+pub fn clones_of(alloc: Global, batches: &[Arc<Batch>]) -> Result<Vec<Arc<Batch>>, AllocError>
     ensures { IfOk result (λ more. values more.items ≡ values batches.now) }
 {
     let mut more = room_for_each(alloc, batches)?;

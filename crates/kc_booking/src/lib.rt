@@ -26,7 +26,7 @@ mod stripe;
 
 pub use booking_fault::BookFault;
 pub use cut::{Cut, cut_up};
-pub use cuts::{Cuts, cut_up_all, shared};
+pub use cuts::{Cuts, clones_of, cut_up_all};
 pub use setup::Setup;
 pub use starting_tables::{plain_tables, quotient_tables};
 pub use stripe::Stripe;

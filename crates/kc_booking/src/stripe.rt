@@ -19,7 +19,7 @@ ghost use Rattle.kc_booking.specs.Stripe.{word_occurrences, stripe_occurrences, 
 use crate::booking_fault::BookFault;
 use crate::counted::CountedTable;
 use crate::cut::Cut;
-use crate::cuts::{Cuts, shared};
+use crate::cuts::{Cuts, clones_of};
 use crate::setup::Setup;
 use kc_hash::MatrixTables;
 use kc_lemmas::room_for_each;
@@ -211,11 +211,11 @@ impl<C: Counts> Stripe<C> {
         ensures limits { KeepsLimits C.bits C.may_be_full self.old.table self.new.table }
     {
         self.check(cut)?;
-        self.book_checked(cut)
+        self.count_checked(cut)
     }
 
-    // Books a batch that `check` lets through.
-    fn book_checked(&mut self, cut: &Cut) -> Result<(), BookFault>
+    // Counts the words of a cut that `check` lets through, and enters its batch in the journal, or neither.
+    fn count_checked(&mut self, cut: &Cut) -> Result<(), BookFault>
         requires new { ¬ IsBooked self.old.journal cut.now.batch.number }
         requires own { IsOwnCut self.old cut.now }
         requires room { self.old.total + length (keys_of cut.now) ≤ 2 ^ 62 }
@@ -295,11 +295,11 @@ impl<C: Counts> Stripe<C> {
             return Ok(());
         }
         self.check_all(cuts)?;
-        self.book_all_checked(cuts)
+        self.count_all_checked(cuts)
     }
 
-    // Books several batches that `check_all` lets through.
-    fn book_all_checked(&mut self, cuts: &Cuts) -> Result<(), BookFault>
+    // Counts the words of cuts that `check_all` lets through, and enters their batches in the journal, or neither.
+    fn count_all_checked(&mut self, cuts: &Cuts) -> Result<(), BookFault>
         requires new { NumbersDiffer (self.old.journal ++ cuts.now.batches) }
         requires own { IsOwnRound self.old cuts.now }
         requires room { self.old.total + length (all_keys_of cuts.now) ≤ 2 ^ 62 }
@@ -443,7 +443,7 @@ fn enter_all(
     ensures unchanged { OnErr result (values journal.new.items ≡ values journal.old.items) }
     ensures known { KnowsNumbers (contains nat_eq booked.new) (values journal.new.items) }
 {
-    let mut more = shared(*journal.allocator(), batches)?;
+    let mut more = clones_of(*journal.allocator(), batches)?;
     booked.reserve(more.len())?;
     journal.append(&mut more)?;
     remember(booked, batches);

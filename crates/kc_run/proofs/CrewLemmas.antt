@@ -10,32 +10,32 @@ use Rattle.kc_share.specs.declared.entry.Plan.{Plan}
 use Rattle.kc_share.specs.Share.{ShareSeen, joined_shares}
 use Rattle.kc_run.specs.declared.run_fault.RunFault.{RunFault}
 use Rattle.kc_run.specs.declared.run_fault.RunFault.TheVariants.{NoThread}
-use Rattle.kc_tickets.specs.Tickets.{Roll, Drawer, IsSeatOf, IsDone, answers_of}
+use Rattle.kc_tickets.specs.Tickets.{TicketsSeen, SeatSeen, IsSeatOf, IsDone, answers_of}
 use Rattle.kc_run.proofs.EntryLemmas.{entries-joined}
 use Rattle.kc_run.specs.Runs.{IsFreshSeatOf, HasWorked, HaveWorked, IsFirstFault, EndedWell}
 
 -- one worker
-pub HaveWorked-one : (roll : Roll) (plan : Plan) (seat : Drawer) (share : ShareSeen) → HasWorked roll plan seat share → HaveWorked roll plan (seat ∷ []) share
-HaveWorked-one roll plan seat share it = record {
-  own = All-cons (IsSeatOf roll) seat [] it.own (All-nil (IsSeatOf roll));
+pub HaveWorked-one : (tickets : TicketsSeen) (plan : Plan) (seat : SeatSeen) (share : ShareSeen) → HasWorked tickets plan seat share → HaveWorked tickets plan (seat ∷ []) share
+HaveWorked-one tickets plan seat share it = record {
+  own = All-cons (IsSeatOf tickets) seat [] it.own (All-nil (IsSeatOf tickets));
   done = All-cons IsDone seat [] it.done (All-nil IsDone);
   parts = it.one_part;
   same_plan = it.same_plan;
   booked = λ stripe less.
-      let alone : sum_by (λ (s : Drawer). length (answers_of s)) (seat ∷ []) ≡ 0 + length (answers_of seat) = refl in
+      let alone : sum_by (λ (s : SeatSeen). length (answers_of s)) (seat ∷ []) ≡ 0 + length (answers_of seat) = refl in
       omega (arith, alone, it.booked stripe less);
 }
 
 -- one worker more
-pub HaveWorked-more : (roll : Roll) (plan : Plan) (seats : List Drawer) (share : ShareSeen) (seat : Drawer) (other : ShareSeen) → HaveWorked roll plan seats share
-    → HasWorked roll plan seat other → HaveWorked roll plan (seats ++ seat ∷ []) (joined_shares share other)
-HaveWorked-more roll plan seats share seat other them it = record {
-  own = All-push (IsSeatOf roll) seats seat them.own it.own;
+pub HaveWorked-more : (tickets : TicketsSeen) (plan : Plan) (seats : List SeatSeen) (share : ShareSeen) (seat : SeatSeen) (other : ShareSeen) → HaveWorked tickets plan seats share
+    → HasWorked tickets plan seat other → HaveWorked tickets plan (seats ++ seat ∷ []) (joined_shares share other)
+HaveWorked-more tickets plan seats share seat other them it = record {
+  own = All-push (IsSeatOf tickets) seats seat them.own it.own;
   done = All-push IsDone seats seat them.done it.done;
   parts = omega (arith, length-append seats (seat ∷ []), them.parts, it.one_part);
   same_plan = them.same_plan;
   booked = λ stripe less.
-      let sum = sum_by_push (λ (s : Drawer). length (answers_of s)) seats seat in
+      let sum = sum_by_push (λ (s : SeatSeen). length (answers_of s)) seats seat in
       omega (arith, sum, entries-joined stripe share.booked other.booked, them.booked stripe less, it.booked stripe less);
 }
 
@@ -69,8 +69,8 @@ holds_of_first {W} Q results fault all (i, there, before) =
     subst (λ (result : Result W RunFault). IfErr result Q) is (all i (Err fault) (slice_get_within results i (Err fault) there))
 
 -- seats of these tickets that have drawn nothing
-pub fresh_seats : (roll : Roll) (seats : List Drawer) → All (IsSeatOf roll) seats → All (λ seat. seat.drawn ≡ []) seats → All (IsFreshSeatOf roll) seats
-fresh_seats roll seats own fresh k d within = record { own = own k d within; fresh = fresh k d within }
+pub fresh_seats : (tickets : TicketsSeen) (seats : List SeatSeen) → All (IsSeatOf tickets) seats → All (λ seat. seat.drawn ≡ []) seats → All (IsFreshSeatOf tickets) seats
+fresh_seats tickets seats own fresh k d within = record { own = own k d within; fresh = fresh k d within }
 
 -- among workers that ended well is no fault
 abbrev well_of : {W : Type 0} → List W → List (Result W RunFault)

@@ -1,12 +1,12 @@
 -- How many entries of each stripe stand among bookings.
-use Rattle.std.proofs.Common.{◌≡◌, ◌≢◌, ℕ, ◌+◌, List, [], ◌∷◌, ◌++◌, cond, eq-eqb, length, length-append, map, refl, sym, ap, ◌∙◌, subst, arith}
-use Rattle.std.proofs.lemmas.Bool.{ne_eqb}
+use Rattle.std.proofs.Common.{◌≡◌, ◌≢◌, ℕ, ◌+◌, List, [], ◌∷◌, ◌++◌, cond, eq-eqb, length, length-append, map, refl, sym, ap, ◌∙◌, subst, arith, ⊎_elim}
+use Rattle.std.proofs.lemmas.Bool.{cases_lt, ne_eqb}
 use Rattle.kc_share.specs.declared.entry.Entry.{Entry}
 use Rattle.kc_share.specs.declared.entry.Booking.{Booking}
 use Rattle.kc_share.specs.Entries.{entries_in, booking_of}
 use Rattle.kc_share.specs.Share.{ShareSeen, with_booking, entry_total_in}
 use Rattle.kc_share.proofs.Views.{entries_in-append}
-use Rattle.kc_run.specs.Runs.{HaveMoreIn}
+use Rattle.kc_run.specs.Runs.{HaveMore, HaveMoreIn}
 
 pub no_entries : (stripe : ℕ) → entry_total_in stripe [] ≡ 0
 unfolding entries_in
@@ -55,3 +55,12 @@ HaveMoreIn-more stripe at entry share new booked before =
 -- nothing booked yet
 pub HaveMoreIn-none : (from to : ℕ) (booked : List Booking) → HaveMoreIn from to 0 booked booked
 HaveMoreIn-none from to booked = record { there = λ stripe low high. omega arith; before = λ stripe less. refl; behind = λ stripe more. refl }
+
+-- booked into the stripes from one on, and then into those before it
+pub HaveMoreIn-round : {first stripes n : ℕ} {old between new : List Booking}
+    → HaveMoreIn first stripes n old between → HaveMoreIn 0 first n between new → HaveMore stripes n old new
+HaveMoreIn-round {first} {stripes} {n} {old} {between} {new} one two stripe less =
+    ⊎_elim
+    (λ low. two.there stripe (omega arith) low ∙ ap (λ m. m + n) (one.before stripe low))
+    (λ high. two.behind stripe high ∙ one.there stripe high less)
+    (cases_lt stripe first)

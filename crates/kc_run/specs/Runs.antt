@@ -13,26 +13,26 @@ use Rattle.kc_booking.specs.declared.booking_fault.BookFault.{BookFault}
 use Rattle.kc_booking.specs.declared.booking_fault.BookFault.TheVariants as book
 use Rattle.kc_gather.specs.declared.gather_fault.GatherFault.{GatherFault}
 use Rattle.kc_gather.specs.declared.gather_fault.GatherFault.TheVariants as gather
-use Rattle.kc_tickets.specs.Tickets.{Roll, Drawer, IsSeatOf, IsDone, answers_of}
+use Rattle.kc_tickets.specs.Tickets.{TicketsSeen, SeatSeen, IsSeatOf, IsDone, answers_of}
 use Rattle.kc_run.specs.declared.round.Round.{Round}
 use Rattle.kc_run.specs.declared.run_fault.RunFault.{RunFault}
 use Rattle.kc_run.specs.declared.run_fault.RunFault.TheVariants as run
 
 -- what the workers share belongs together: as many numbers are drawn from the tickets as there are batches, and the
 -- sheet of this plan is for the stripes of this setup
-pub record IsJob (roll : Roll) (plan : Plan) (batches : ℕ) (setup : StripeSetup) : Type 0 where
-  pub limit : roll.limit ≡ batches
+pub record IsJob (tickets : TicketsSeen) (plan : Plan) (batches : ℕ) (setup : StripeSetup) : Type 0 where
+  pub limit : tickets.limit ≡ batches
   pub stripes : plan.stripes ≡ stripe_count setup
 
 -- the seat draws from these tickets, and has drawn nothing
-pub record IsFreshSeatOf (roll : Roll) (seat : Drawer) : Type 0 where
-  pub own : IsSeatOf roll seat
+pub record IsFreshSeatOf (tickets : TicketsSeen) (seat : SeatSeen) : Type 0 where
+  pub own : IsSeatOf tickets seat
   pub fresh : seat.drawn ≡ []
 
 -- a worker that has done nothing yet: its seat has drawn nothing, and its share has one part of a sheet of this plan
 -- and has booked nothing
-pub record IsReady (roll : Roll) (plan : Plan) (seat : Drawer) (share : ShareSeen) : Type 0 where
-  pub seat_fresh : IsFreshSeatOf roll seat
+pub record IsReady (tickets : TicketsSeen) (plan : Plan) (seat : SeatSeen) (share : ShareSeen) : Type 0 where
+  pub seat_fresh : IsFreshSeatOf tickets seat
   pub unused : share ≡ share_of plan 1 []
 
 -- the batches of a round are cut up by this setup
@@ -52,8 +52,8 @@ pub record HaveMoreIn (from to n : ℕ) (old new : List Booking) : Type 0 where
 
 -- a worker that has ended well: its seat is done, and its share still has one part, with as many entries in each stripe
 -- as the seat was answered numbers
-pub record HasWorked (roll : Roll) (plan : Plan) (seat : Drawer) (share : ShareSeen) : Type 0 where
-  pub own : IsSeatOf roll seat
+pub record HasWorked (tickets : TicketsSeen) (plan : Plan) (seat : SeatSeen) (share : ShareSeen) : Type 0 where
+  pub own : IsSeatOf tickets seat
   pub done : IsDone seat
   pub one_part : share.parts ≡ 1
   pub same_plan : share.plan ≡ plan
@@ -61,8 +61,8 @@ pub record HasWorked (roll : Roll) (plan : Plan) (seat : Drawer) (share : ShareS
       → entry_total_in stripe share.booked ≡ length (answers_of seat)
 
 -- workers that have ended well: their seats, and their shares joined
-pub record HaveWorked (roll : Roll) (plan : Plan) (seats : List Drawer) (share : ShareSeen) : Type 0 where
-  pub own : All (IsSeatOf roll) seats
+pub record HaveWorked (tickets : TicketsSeen) (plan : Plan) (seats : List SeatSeen) (share : ShareSeen) : Type 0 where
+  pub own : All (IsSeatOf tickets) seats
   pub done : All IsDone seats
   pub parts : share.parts ≡ length seats
   pub same_plan : share.plan ≡ plan
@@ -70,8 +70,8 @@ pub record HaveWorked (roll : Roll) (plan : Plan) (seats : List Drawer) (share :
       → entry_total_in stripe share.booked ≡ sum_by (λ seat. length (answers_of seat)) seats
 
 -- a thread is promised to work with these tickets and a sheet of this plan
-abbrev pub IsPromised : Roll → Plan → Roll → Plan → Type 0
-IsPromised roll plan promised_roll promised_plan = (promised_roll ≡ roll) × (promised_plan ≡ plan)
+abbrev pub IsPromised : TicketsSeen → Plan → TicketsSeen → Plan → Type 0
+IsPromised tickets plan promised_tickets promised_plan = (promised_tickets ≡ tickets) × (promised_plan ≡ plan)
 
 -- the fault with which a worker ends whose booking into the stripe of this number was refused
 abbrev pub booking_fault : ℕ → BookFault → RunFault

@@ -5,7 +5,7 @@ ghost use Rattle.std.specs.Prelude.{length, map, slice_get, vec_len};
 ghost use Rattle.kc_share.specs.declared.entry.Plan.{Plan};
 ghost use Rattle.kc_share.specs.Share.{share_of, joined_shares};
 ghost use Rattle.kc_run.specs.declared.run_fault.RunFault.TheVariants.{Memory, NoThread};
-ghost use Rattle.kc_tickets.specs.Tickets.{Roll};
+ghost use Rattle.kc_tickets.specs.Tickets.{TicketsSeen};
 ghost use Rattle.kc_run.specs.Runs.{IsJob, IsFreshSeatOf, IsReady, HasWorked, HaveWorked, IsPromised, AreEnds};
 ghost use Rattle.kc_run.specs.Runs.{IsWorkerFault, IsRunFault, AllEndedWell, IsFirstFault};
 
@@ -60,8 +60,8 @@ pub(crate) fn workers_of<C: Counts, N: Books>(
     requires some { 1 ≤ vec_len seats }
     requires share { share ≡ share_of share.plan (vec_len seats) [] }
     ensures len { IfOk result (λ workers. vec_len workers ≡ vec_len seats) }
-    ensures ready { IfOk result (λ workers. (roll : Roll) → All (IsFreshSeatOf roll) seats.items
-        → All (λ worker. IsReady roll share.plan worker.seat worker.share) workers.items) }
+    ensures ready { IfOk result (λ workers. (tickets : TicketsSeen) → All (IsFreshSeatOf tickets) seats.items
+        → All (λ worker. IsReady tickets share.plan worker.seat worker.share) workers.items) }
 {
     let mut workers = Vec::with_capacity(alloc, seats.len())?;
     while seats.len() > 1 {
@@ -176,11 +176,11 @@ fn start_all<
 
 // Waits for the threads. Their answers stand in the order of the workers, and last that one more was refused.
 fn join_all<R: Threads, N: Books>(rt: &R, started: Started<N>) -> Result<Vec<Ended<N>>, AllocError>
-    ensures kept { IfOk result (λ results. (roll : Roll) (plan : Plan)
-        → All (λ thread. IsPromised roll plan thread.promise.tickets.value thread.promise.plan) started.threads.items
-        → All (λ ended. IfOk ended (λ worker. HasWorked roll plan worker.seat worker.share)) results.items) }
-    ensures faults { IfOk result (λ results. (roll : Roll) (plan : Plan) (workers : ℕ)
-        → All (λ thread. IsPromised roll plan thread.promise.tickets.value thread.promise.plan) started.threads.items
+    ensures kept { IfOk result (λ results. (tickets : TicketsSeen) (plan : Plan)
+        → All (λ thread. IsPromised tickets plan thread.promise.tickets.value thread.promise.plan) started.threads.items
+        → All (λ ended. IfOk ended (λ worker. HasWorked tickets plan worker.seat worker.share)) results.items) }
+    ensures faults { IfOk result (λ results. (tickets : TicketsSeen) (plan : Plan) (workers : ℕ)
+        → All (λ thread. IsPromised tickets plan thread.promise.tickets.value thread.promise.plan) started.threads.items
         → IfSome started.refused (λ number. number < workers)
         → All (λ ended. IfErr ended (IsRunFault workers plan.stripes)) results.items) }
     ensures all { IfOk result (λ results. started.refused ≡ None → vec_len results ≡ vec_len started.threads) }
@@ -236,9 +236,9 @@ pub(crate) fn joined<C: Counts, N: Books>(
 ) -> Result<(Vec<Seat>, Share<N>), AllocError>
     requires some { 1 ≤ vec_len workers }
     ensures len { IfOk result (λ both. vec_len both.0 ≡ vec_len workers) }
-    ensures whole { IfOk result (λ both. (roll : Roll) (plan : Plan)
-        → All (λ worker. HasWorked roll plan worker.seat worker.share) workers.items
-        → HaveWorked roll plan both.0.items both.1) }
+    ensures whole { IfOk result (λ both. (tickets : TicketsSeen) (plan : Plan)
+        → All (λ worker. HasWorked tickets plan worker.seat worker.share) workers.items
+        → HaveWorked tickets plan both.0.items both.1) }
 {
     let mut seats = Vec::with_capacity(alloc, workers.len())?;
     let Some(Worker { seat, mut share }) = workers.pop() else {

@@ -2,7 +2,7 @@
 //! the lines of a stripe that one batch has fetched are still near for the next.
 ghost use Rattle.std.specs.Prelude.{◌≡◌, ◌+◌, ◌*◌, ◌%◌, ◌^◌, ◌≤◌, ◌<◌, ◌⊎◌, OnOk, IfErr, length};
 ghost use Rattle.kc_booking.specs.Setup.{stripe_count};
-ghost use Rattle.kc_run.specs.Runs.{IsCutUp, HaveMore, HaveMoreIn, IsOfBooking, IsWorkerFault};
+ghost use Rattle.kc_run.specs.Runs.{IsCutUp, HaveMoreIn, IsOfBooking, IsWorkerFault};
 
 use crate::run_fault::RunFault;
 use kc_share::{Books, Share};
@@ -54,27 +54,10 @@ pub(crate) fn first_stripe(stripes: u32, apart: u32, number: u32) -> u32
     number.wrapping_mul(apart) % stripes
 }
 
-/// Books the batches of a round into every stripe: those from the first one on, and then those before it.
-pub(crate) fn book_round<H: Wait, C: Counts, N: Books>(
-    rt: &H,
-    stripes: &Stripes<C, N>,
-    round: &Round,
-    first: u32,
-    share: &mut Share<N>,
-) -> Result<(), RunFault>
-    requires cut_up { IsCutUp stripes.now.setup round.now }
-    requires first { first ≤ stripe_count stripes.now.setup }
-    ensures kept { (share.new.parts ≡ share.old.parts) × (share.new.plan ≡ share.old.plan) }
-    ensures booked { OnOk result (HaveMore (stripe_count stripes.now.setup) (length round.now.batches.items)
-        share.old.booked share.new.booked) }
-    ensures refused { IfErr result (IsWorkerFault (stripe_count stripes.now.setup)) }
-{
-    book_range(rt, stripes, round, first, stripes.setup().stripes(), share)?;
-    book_range(rt, stripes, round, 0, first, share)
-}
-
-// Books the batches of a round into the stripes from one number to before another.
-fn book_range<H: Wait, C: Counts, N: Books>(
+/// Books the batches of a round into the stripes from one number to before another.
+///
+/// The round was cut up for these stripes, and the numbers are some of theirs.
+pub(crate) fn book_range<H: Wait, C: Counts, N: Books>(
     rt: &H,
     stripes: &Stripes<C, N>,
     round: &Round,

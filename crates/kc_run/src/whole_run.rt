@@ -62,7 +62,8 @@ pub fn run<H: Threads + Wait + Sync, C: Counts + Drop + Send, G: Gate + Sync>(
         workers,
         gate,
     };
-    let stripes = counted(rt, alloc, &count, tables)?;
+    let sheet = Sheet::new(alloc, setup.stripes(), u64::from(workers))?;
+    let stripes = counted::<H, C, G, Brand>(rt, alloc, &count, tables, sheet)?;
     gathered(rt, alloc, &count, stripes)
 }
 
@@ -93,7 +94,8 @@ pub fn run_histogram<H: Threads + Wait + Sync, C: Counts + Drop + Send, G: Gate 
         workers,
         gate,
     };
-    let stripes = counted(rt, alloc, &count, tables)?;
+    let sheet = Sheet::new(alloc, setup.stripes(), u64::from(workers))?;
+    let stripes = counted::<H, C, G, Brand>(rt, alloc, &count, tables, sheet)?;
     histogram_gathered(alloc, &count, stripes)
 }
 
@@ -124,7 +126,8 @@ pub fn run_statistics<H: Threads + Wait + Sync, C: Counts + Drop + Send, G: Gate
         workers,
         gate,
     };
-    let stripes = counted(rt, alloc, &count, tables)?;
+    let sheet = Sheet::new(alloc, setup.stripes(), u64::from(workers))?;
+    let stripes = counted::<H, C, G, Brand>(rt, alloc, &count, tables, sheet)?;
     statistics_gathered(alloc, &count, stripes)
 }
 
@@ -137,30 +140,9 @@ struct Count<'a, G: Gate> {
     gate: &'a G,
 }
 
-// The stripes in which all batches were booked.
-fn counted<H: Threads + Wait + Sync, C: Counts + Drop + Send, G: Gate + Sync>(
-    rt: &H,
-    alloc: Global,
-    count: &Count<G>,
-    tables: Vec<C>,
-) -> Result<Vec<Stripe<C>>, RunFault>
-    requires workers { (1 ≤ count.now.workers) × (count.now.workers ≤ 64) }
-    requires few { length count.now.batches.now ≤ 2 ^ 40 }
-    requires small { position_sum count.now.setup.now.rule.k (values count.now.batches.now) ≤ 2 ^ 62 }
-    requires one_each { length tables.items ≡ stripe_count count.now.setup.now }
-    requires tables { All (λ table. (C.counts table ≡ empty) × (C.bits table ≡ key_bits count.now.setup.now))
-        tables.items }
-    ensures counted { IfOk result
-        (λ stripes. HaveCounted count.now.setup.now (length count.now.batches.now) stripes.items) }
-    ensures refused { IfErr result (IsRunFault count.now.workers (stripe_count count.now.setup.now)) }
-{
-    let sheet = Sheet::new(alloc, count.setup.stripes(), u64::from(count.workers))?;
-    counted_by_name::<H, C, G, Brand>(rt, alloc, count, tables, sheet)
-}
-
 // The stripes in which the workers booked all batches, with this sheet of shares. Every sheet has a type of its own, N,
 // so that no share of another gets in.
-fn counted_by_name<
+fn counted<
     H: Threads + Wait + Sync,
     C: Counts + Drop + Send,
     G: Gate + Sync,

@@ -6,7 +6,7 @@ ghost use Rattle.kc_tickets.specs.Tickets.{IsSeatOf, IsDone, answers_of};
 ghost use Rattle.kc_run.specs.Runs.{IsJob, IsReady, HasWorked, IsCutUp, IsWorkerFault};
 
 use crate::gate::Gate;
-use crate::round::{Round, book_round, first_stripe};
+use crate::round::{Round, book_range, first_stripe};
 use crate::run_fault::RunFault;
 use kc_share::{Books, Plan, Share};
 use kc_stripe::{Stripes, cut_up_all};
@@ -54,13 +54,15 @@ impl<N: Books> Worker<N> {
             HasWorked job.now.tickets.now job.now.plan worker.seat worker.share) }
         ensures refused { IfErr result (IsWorkerFault job.now.plan.stripes) }
     {
-        let first = first_stripe(job.stripes.setup().stripes(), job.stripes_apart, number);
+        let stripes = job.stripes.setup().stripes();
+        let first = first_stripe(stripes, job.stripes_apart, number);
         while let Some(drawn) = self.draw(job.tickets) {
             let batches = self.draw_batches(alloc, job, drawn)?;
             let cuts = cut_up_all(alloc, job.stripes.setup(), &batches)?;
             let round = Round { batches, cuts };
             tell_before(job.gate, number, &round.batches);
-            book_round(rt, job.stripes, &round, first, &mut self.share)?;
+            book_range(rt, job.stripes, &round, first, stripes, &mut self.share)?;
+            book_range(rt, job.stripes, &round, 0, first, &mut self.share)?;
             tell_after(job.gate, number, &round.batches);
         }
         Ok(self)

@@ -44,7 +44,8 @@ impl<N: Books> Share<N> {
     // A share that has booked nothing.
     pub(crate) fn of(token: Token, parts: u64) -> Share<N>
         requires table { token.table_id ≡ N.table }
-        requires view { (token.me.0.parts ≡ parts) × (token.me.0.booked ≡ []) × (token.me.0.kept ≡ []) × (token.me.1 ≡ []) }
+        requires view { (token.me.0.parts ≡ parts) × (token.me.0.booked ≡ []) × (token.me.0.kept ≡ [])
+            × (token.me.1 ≡ []) }
         requires parts { 0 < parts }
         requires stripes { token.me.0.plan.stripes ≤ 64 }
         ensures { result ≡ share_of token.me.0.plan parts [] }

@@ -4,7 +4,7 @@ ghost use Rattle.kc_word.specs.Shared.{values};
 ghost use Rattle.kc_booking.specs.Setup.{word_count};
 ghost use Rattle.kc_stripe.specs.Seen.{IsSeen, form_stripe};
 
-use kc_booking::{Setup, Stripe, shared};
+use kc_booking::{Setup, Stripe, clones_of};
 use kc_table::Counts;
 use kc_word::{Batch, Word};
 use std::alloc::{AllocError, Global};
@@ -53,7 +53,7 @@ impl Seen {
         // No number stands twice in its journal.
         stripe.is_lawful();
         let count = stripe.count_of(stripe.setup().form_of(word));
-        let batches = shared(alloc, stripe.journal())?;
+        let batches = clones_of(alloc, stripe.journal())?;
         Ok(Seen {
             setup: stripe.setup().clone()?,
             word,

@@ -5,7 +5,7 @@ pub mod Places
 pub mod ReprobingSteps
 pub mod Resizing
 pub mod SlotSteps
-pub mod SlotWords
+pub mod SlotNumbers
 pub mod Soundness
 pub mod Writing
 pub mod Parts

@@ -13,7 +13,7 @@ use Rattle.kc_table.proofs.Contents.{counts_in-set}
 use Rattle.kc_table.proofs.Places.{place-lt}
 use Rattle.kc_table.proofs.SlotSteps.{length-contents_from, contents_from-set, content_of_some, within_slots, empty_at}
 use Rattle.kc_table.proofs.SlotSteps.{slots_apart, holds_found, nowhere_free}
-use Rattle.kc_table.proofs.SlotWords.{tag_at-set_same, tag_at-set_other}
+use Rattle.kc_table.proofs.SlotNumbers.{tag_at-set_same, tag_at-set_other}
 use Rattle.kc_table.proofs.Soundness.{found_some, found_key, sound_put, sound_same}
 
 contents_of-set : (log : ℕ) (slots : List Slot) (s : ℕ) (slot : Slot) (k : ℕ) → slot.tag ≢ 0 → key_in log s slot.tag ≡ k

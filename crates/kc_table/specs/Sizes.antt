@@ -1,4 +1,4 @@
--- How many places a key has, how the 64 bits of a slot's word are shared out, and the bounds that follow.
+-- How many places a key has, how the 64 bits of a slot's number are shared out, and the bounds that follow.
 use Rattle.std.specs.Prelude.{ℕ}
 
 -- How many places a key has. With more of them a table grows later and a tag has fewer bits for the remainder.

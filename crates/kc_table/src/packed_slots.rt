@@ -16,7 +16,7 @@ use std::marker::Model;
 #[derive(Drop)]
 pub(crate) struct PackedSlots {
     low: u32,
-    words: Vec<u64>,
+    numbers: Vec<u64>,
     high: Vec<u64>,
 }
 
@@ -26,9 +26,9 @@ impl Model for PackedSlots {
 
     ghost Value = { Packed };
 
-    ghost view = { λ p. record { low = p.low; items = slots_of p.low p.words.items p.high.items } };
+    ghost view = { λ p. record { low = p.low; items = slots_of p.low p.numbers.items p.high.items } };
 
-    ghost invariant = { λ p. IsPacked p.low (vec_capacity p.high) p.words.items p.high.items };
+    ghost invariant = { λ p. IsPacked p.low (vec_capacity p.high) p.numbers.items p.high.items };
 }
 
 impl PackedSlots {
@@ -39,8 +39,8 @@ impl PackedSlots {
         ensures empty { IfOk result (λ p. p.items ≡ replicate size empty_slot) }
     {
         let high = Vec::with_capacity(alloc, size)?;
-        let words = zeros(alloc, size)?;
-        Ok(PackedSlots { low, words, high })
+        let numbers = zeros(alloc, size)?;
+        Ok(PackedSlots { low, numbers, high })
     }
 
     /// How many slots there are.
@@ -48,7 +48,7 @@ impl PackedSlots {
     pub fn len(&self) -> usize
         ensures { result ≡ length self.now.items }
     {
-        self.words.len()
+        self.numbers.len()
     }
 
     /// The tag in a slot.
@@ -57,7 +57,7 @@ impl PackedSlots {
         requires { index < length self.now.items }
         ensures { result ≡ tag_at self.now.items index }
     {
-        Tag::of_word(self.words[index], self.low)
+        Tag::of_number(self.numbers[index], self.low)
     }
 
     /// The count in a slot.
@@ -67,7 +67,7 @@ impl PackedSlots {
         ensures { result ≡ slot_count self.now.items index }
     {
         let high = high_bits(&self.high, index);
-        (high << self.low) + low_bits(self.words[index], self.low)
+        (high << self.low) + low_bits(self.numbers[index], self.low)
     }
 
     /// Puts a tag and a count into an empty slot.
@@ -80,7 +80,7 @@ impl PackedSlots {
         ensures low { self.new.low ≡ self.old.low }
         ensures put { self.new.items ≡ slice_set self.old.items index (record { tag = tag; count = count }) }
     {
-        self.words[index] = tag.to_word(self.low) + low_bits(count, self.low);
+        self.numbers[index] = tag.to_number(self.low) + low_bits(count, self.low);
         let high = count >> self.low;
         if high > 0 {
             set_high_bits(&mut self.high, index, high);
@@ -99,12 +99,12 @@ impl PackedSlots {
             (record { tag = tag_at self.old.items index; count = slot_count self.old.items index + 1 }) }
     {
         let count = self.count(index) + 1;
-        let word = self.words[index];
-        let below = low_bits(word, self.low);
+        let number = self.numbers[index];
+        let below = low_bits(number, self.low);
         if (below + 1) >> self.low == 0 {
-            self.words[index] = word + 1;
+            self.numbers[index] = number + 1;
         } else {
-            self.words[index] = word - below;
+            self.numbers[index] = number - below;
             carry_into(&mut self.high, index);
         }
         count

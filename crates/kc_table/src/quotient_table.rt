@@ -19,9 +19,9 @@ use kc_lemmas::Counter;
 use std::alloc::{AllocError, Global};
 use std::marker::Model;
 
-/// The map as a table of 2^log slots, which grows up to 2^max_log. A slot is a word that holds a tag, which is a key's
-/// remainder and its number of reprobes, and the low bits of the key's count; the slot's index gives the rest of the
-/// key, and the count's high bits stand apart.
+/// The map as a table of 2^log slots, which grows up to 2^max_log. A slot is a number that holds a tag, which is the
+/// remainder of a key and its number of reprobes, and the low bits of the key's count; the slot's index gives the rest
+/// of the key, and the count's high bits stand apart.
 #[derive(Drop)]
 pub struct QuotientTable {
     alloc: Global,

@@ -38,18 +38,18 @@ impl Tag {
 
     /// The tag in a slot, above so many low bits.
     #[inline(always)]
-    pub fn of_word(word: u64, low: u32) -> Tag
+    pub fn of_number(number: u64, low: u32) -> Tag
         requires { low ≤ remainder_bits }
-        ensures { result ≡ word / 2 ^ low }
+        ensures { result ≡ number / 2 ^ low }
     {
         Tag {
-            number: word >> low,
+            number: number >> low,
         }
     }
 
     /// The slot that has this tag above so many low bits, which are 0.
     #[inline(always)]
-    pub fn to_word(self, low: u32) -> u64
+    pub fn to_number(self, low: u32) -> u64
         requires few { low ≤ remainder_bits }
         requires fits { self * 2 ^ low < 2 ^ 64 }
         ensures { result ≡ self * 2 ^ low }

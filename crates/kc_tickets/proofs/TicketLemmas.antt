@@ -17,17 +17,17 @@ use Rattle.atomic_table.specs.Seated.{TableId}
 use Rattle.atomic_table.specs.Table.{Me}
 use Rattle.kc_tickets.specs.declared.tickets.View.{View}
 use Rattle.kc_tickets.specs.WholeDraws.{drawer_of, view_of, IsAnswer}
-use Rattle.kc_tickets.specs.Tickets.{Drawer, IsDone, Draws, answers_of, numbers_below, AreNumbersBelow}
+use Rattle.kc_tickets.specs.Tickets.{SeatSeen, IsDone, Draws, answers_of, numbers_below, AreNumbersBelow}
 use Rattle.kc_lemmas.proofs.Permutations.{IsPermutation-from_weights, IsPermutation-filter}
 use Rattle.kc_tickets.proofs.NumbersBelow.{length-numbers_below, numbers_below-zero, numbers_below-suc, below-from_Contains}
 
 -- a seat that isn't done has only numbers below the limit
-pub all_below : (seat : Drawer) → ¬ IsDone seat → All (λ number. number < seat.limit) seat.drawn
+pub all_below : (seat : SeatSeen) → ¬ IsDone seat → All (λ number. number < seat.limit) seat.drawn
 all_below seat more k d within =
     let number = get_or seat.drawn k d in
     lt_of_not-le (λ later. more (k, number, within, get_or_default seat.drawn k number d within, later))
 
-pub not_done : (seat : Drawer) → All (λ number. number < seat.limit) seat.drawn → ¬ IsDone seat
+pub not_done : (seat : SeatSeen) → All (λ number. number < seat.limit) seat.drawn → ¬ IsDone seat
 not_done seat below (k, number, within, is, later) =
     let less : get_or seat.drawn k number < seat.limit = below k number within in
     omega (arith, is)
@@ -65,8 +65,8 @@ module _ {S : Type 0} {table table' : TableId} {me me' : Me S View} {number limi
   stays_open more less =
       let below : number < me.0.limit = omega (arith, steps.limit_is) in
       let all = All-push (λ n. n < me.0.limit) me.0.drawn number (all_below (drawer_of table me.0) more) below in
-      let after : Drawer = record { table = table; limit = me.0.limit; drawn = me.0.drawn ++ number ∷ [] } in
-      subst (λ (d : Drawer). ¬ IsDone d) (sym steps.drawn) (not_done after all)
+      let after : SeatSeen = record { table = table; limit = me.0.limit; drawn = me.0.drawn ++ number ∷ [] } in
+      subst (λ (d : SeatSeen). ¬ IsDone d) (sym steps.drawn) (not_done after all)
 
   -- a number at or past it ends the draws
   pub ends : limit ≤ number → IsDone (drawer_of table' me'.0)
@@ -77,7 +77,7 @@ module _ {S : Type 0} {table table' : TableId} {me me' : Me S View} {number limi
   -- a seat is answered no more numbers than there are
   pub few_answers : number < limit → length (answers_of (drawer_of table' me'.0)) ≤ me.0.limit
   few_answers less =
-      let same = ap (λ (d : Drawer). length d.drawn) steps.drawn in
+      let same = ap (λ (d : SeatSeen). length d.drawn) steps.drawn in
       omega (
         arith,
         same,
@@ -139,15 +139,15 @@ module _ {S : Type 0} {table table' : TableId} {me me' : Me S View} {number limi
 -- ---- the seats together
 
 -- all that the seats drew
-abbrev pub all_drawn : List Drawer → List ℕ
-all_drawn seats = flat_map (λ (seat : Drawer). seat.drawn) seats
+abbrev pub all_drawn : List SeatSeen → List ℕ
+all_drawn seats = flat_map (λ (seat : SeatSeen). seat.drawn) seats
 
-all_but_one : (seats others : List Drawer) (seat : Drawer) → seats ≡ others ++ seat ∷ []
+all_but_one : (seats others : List SeatSeen) (seat : SeatSeen) → seats ≡ others ++ seat ∷ []
     → all_drawn seats ≡ all_drawn others ++ (seat.drawn ++ [])
-all_but_one seats others seat is = ap all_drawn is ∙ flat_map-append (λ (s : Drawer). s.drawn) others (seat ∷ [])
+all_but_one seats others seat is = ap all_drawn is ∙ flat_map-append (λ (s : SeatSeen). s.drawn) others (seat ∷ [])
 
 -- the last seat's numbers go to the seat that takes it in
-pub takes_in : (drawn : List ℕ) (seats others : List Drawer) (seat : Drawer) (whole : List ℕ)
+pub takes_in : (drawn : List ℕ) (seats others : List SeatSeen) (seat : SeatSeen) (whole : List ℕ)
     → seats ≡ others ++ seat ∷ [] → IsPermutation drawn (all_drawn seats ++ whole)
     → IsPermutation drawn (all_drawn others ++ (whole ++ seat.drawn))
 takes_in drawn seats others seat whole is same =
@@ -165,15 +165,15 @@ takes_in drawn seats others seat whole is same =
     ))
 
 -- the first seat that takes others in
-pub begins_with : (seats others : List Drawer) (seat : Drawer) → seats ≡ others ++ seat ∷ []
+pub begins_with : (seats others : List SeatSeen) (seat : SeatSeen) → seats ≡ others ++ seat ∷ []
     → IsPermutation (all_drawn seats) (all_drawn others ++ seat.drawn)
 begins_with seats others seat is =
     let parts = all_but_one seats others seat is ∙ ap (λ xs. all_drawn others ++ xs) (append-nil seat.drawn) in
     subst (IsPermutation (all_drawn seats)) parts (IsPermutation-refl (all_drawn seats))
 
 -- a seat that is done has a number at or past the limit, so the next number is past it
-pub limit_reached : (limit next : ℕ) (seats : List Drawer) → 0 < length seats
-    → All (λ (seat : Drawer). seat.limit ≡ limit) seats → All IsDone seats → AreNumbersBelow next (all_drawn seats)
+pub limit_reached : (limit next : ℕ) (seats : List SeatSeen) → 0 < length seats
+    → All (λ (seat : SeatSeen). seat.limit ≡ limit) seats → All IsDone seats → AreNumbersBelow next (all_drawn seats)
     → limit ≤ next
 limit_reached limit next [] some same done whole = absurd (omega arith)
 limit_reached limit next (x ∷ xs) some same done whole =
@@ -181,16 +181,16 @@ limit_reached limit next (x ∷ xs) some same done whole =
     let stands = Contains-append_left x.drawn (all_drawn xs) number (k, within, is) in
     let among = Contains-permutation (all_drawn (x ∷ xs)) (numbers_below next) number whole stands in
     let less = below-from_Contains next number among in
-    let limit_is = All-head (λ (seat : Drawer). seat.limit ≡ limit) x xs same in
+    let limit_is = All-head (λ (seat : SeatSeen). seat.limit ≡ limit) x xs same in
     omega arith
 
 -- what was answered is what was drawn below the limit
-answers_is : (limit : ℕ) (seats : List Drawer) → All (λ (seat : Drawer). seat.limit ≡ limit) seats
+answers_is : (limit : ℕ) (seats : List SeatSeen) → All (λ (seat : SeatSeen). seat.limit ≡ limit) seats
     → flat_map answers_of seats ≡ filter (λ number. ltb number limit) (all_drawn seats)
 answers_is limit [] same = refl
 answers_is limit (x ∷ xs) same =
-    ap (λ l. filter (λ number. ltb number l) x.drawn ++ flat_map answers_of xs) (All-head (λ (seat : Drawer). seat.limit ≡ limit) x xs same)
-    ∙ ap (λ rest. filter (λ number. ltb number limit) x.drawn ++ rest) (answers_is limit xs (All-tail (λ (seat : Drawer). seat.limit ≡ limit) x xs same))
+    ap (λ l. filter (λ number. ltb number l) x.drawn ++ flat_map answers_of xs) (All-head (λ (seat : SeatSeen). seat.limit ≡ limit) x xs same)
+    ∙ ap (λ rest. filter (λ number. ltb number limit) x.drawn ++ rest) (answers_is limit xs (All-tail (λ (seat : SeatSeen). seat.limit ≡ limit) x xs same))
     ∙ sym (filter-append (λ number. ltb number limit) x.drawn (all_drawn xs))
 
 -- the numbers below next that are below the limit
@@ -220,8 +220,8 @@ below_limit limit (suc more) =
     ∙ below_limit limit more
 
 -- where all seats are done, the callers were answered each number below the limit, once
-pub all_answers : (limit next : ℕ) (seats : List Drawer) → 0 < length seats
-    → All (λ (seat : Drawer). seat.limit ≡ limit) seats → AreNumbersBelow next (all_drawn seats) → All IsDone seats
+pub all_answers : (limit next : ℕ) (seats : List SeatSeen) → 0 < length seats
+    → All (λ (seat : SeatSeen). seat.limit ≡ limit) seats → AreNumbersBelow next (all_drawn seats) → All IsDone seats
     → AreNumbersBelow limit (flat_map answers_of seats)
 all_answers limit next seats some same whole done =
     let reached = limit_reached limit next seats some same done whole in
@@ -231,14 +231,14 @@ all_answers limit next seats some same whole done =
     subst (λ xs. IsPermutation xs (numbers_below limit)) (sym (answers_is limit seats same))
     (subst (IsPermutation (filter p (all_drawn seats))) (ap (λ n. filter p (numbers_below n)) (sym total) ∙ below_limit limit (next - limit)) kept)
 
-pub answer_count : (limit : ℕ) (seats : List Drawer) → AreNumbersBelow limit (flat_map answers_of seats)
-    → sum_by (λ (seat : Drawer). length (answers_of seat)) seats ≡ limit
+pub answer_count : (limit : ℕ) (seats : List SeatSeen) → AreNumbersBelow limit (flat_map answers_of seats)
+    → sum_by (λ (seat : SeatSeen). length (answers_of seat)) seats ≡ limit
 answer_count limit seats whole =
     sym (length-flat_map answers_of seats)
     ∙ sym (length_permutation (flat_map answers_of seats) (numbers_below limit) whole) ∙ length-numbers_below limit
 
 -- the seat that took all others in has drawn what they all drew
-pub nothing_left : (drawn : List ℕ) (seats : List Drawer) (whole : List ℕ) → length seats ≡ 0
+pub nothing_left : (drawn : List ℕ) (seats : List SeatSeen) (whole : List ℕ) → length seats ≡ 0
     → IsPermutation drawn (all_drawn seats ++ whole) → IsPermutation drawn whole
 nothing_left drawn [] whole no_more same = same
 nothing_left drawn (x ∷ xs) whole no_more same = absurd (omega arith)

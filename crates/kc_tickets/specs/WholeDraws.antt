@@ -10,7 +10,7 @@ use Rattle.atomic_table.specs.Table.{State, Step, Me}
 use Rattle.kc_tickets.specs.declared.tickets.View.{View}
 use Rattle.kc_tickets.specs.declared.tickets.Plan.{Plan}
 use Rattle.atomic_table.specs.Seated.{TableId}
-use Rattle.kc_tickets.specs.Tickets.{AreNumbersBelow, Drawer}
+use Rattle.kc_tickets.specs.Tickets.{AreNumbersBelow, SeatSeen}
 
 -- the numbers at or past the limit
 abbrev pub numbers_past : ℕ → List ℕ → List ℕ
@@ -80,5 +80,5 @@ abbrev pub spent_view : View
 spent_view = view_of 0 0 []
 
 -- a seat as callers see it
-abbrev pub drawer_of : TableId → View → Drawer
+abbrev pub drawer_of : TableId → View → SeatSeen
 drawer_of table view = record { table = table; limit = view.limit; drawn = view.drawn }

@@ -90,7 +90,7 @@ type Token = atomic_table::Seat<(), View>;
 
 /// The tickets of a run: the numbers from 0 on, which the seats that were made with them draw, each number once. A draw
 /// is answered its number where that is below the limit, and else `None`. Threads share it by reference. What a
-/// contract sees of it is a `Roll`.
+/// contract sees of it is a `TicketsSeen`.
 #[derive(Drop)]
 pub struct Tickets {
     table: Table<(), View, Plan, WholeDraws, Global>,
@@ -98,9 +98,9 @@ pub struct Tickets {
 
 impl Model for Tickets {
     ghost use Rattle.std.specs.Prelude.{◌≡◌, ◌≤◌};
-    ghost use Rattle.kc_tickets.specs.Tickets.{Roll};
+    ghost use Rattle.kc_tickets.specs.Tickets.{TicketsSeen};
 
-    ghost Value = { Roll };
+    ghost Value = { TicketsSeen };
 
     ghost view = { λ t.
         let shared = t.table.shared in
@@ -112,7 +112,7 @@ impl Model for Tickets {
 }
 
 /// A seat: the right to draw from these tickets. One thread has it at a time, and it may go to another. What a contract
-/// sees of it is a `Drawer`: its tickets, and all the numbers that it drew.
+/// sees of it is a `SeatSeen`: its tickets, and all the numbers that it drew.
 #[derive(Drop)]
 pub struct Seat {
     token: Token,
@@ -121,9 +121,9 @@ pub struct Seat {
 
 impl Model for Seat {
     ghost use Rattle.std.specs.Prelude.{◌≡◌, ◌↔◌, [], IsTrue};
-    ghost use Rattle.kc_tickets.specs.Tickets.{Drawer, IsDone};
+    ghost use Rattle.kc_tickets.specs.Tickets.{SeatSeen, IsDone};
 
-    ghost Value = { Drawer };
+    ghost Value = { SeatSeen };
 
     ghost use Rattle.kc_tickets.specs.WholeDraws.{drawer_of};
 

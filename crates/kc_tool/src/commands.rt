@@ -171,8 +171,8 @@ fn answer_into<H: Threads + Wait + Sync, S: Files, R: Source, P: Progress + Sync
 ) -> Result<Option<SelectionCounts>, ToolFault>
     requires files { HasFilesFor task.now (seen_of (λ s. s) sources.items) }
     requires writable { HasWritableReport task.now }
-    ensures { DoesTaskInto name.now sources.entry.items task.now (R.seen input.old) (R.seen input.new) files.old files.new
-        result
+    ensures { DoesTaskInto name.now sources.entry.items task.now (R.seen input.old) (R.seen input.new)
+        files.old files.new result
         ⊎ LacksOutput name.now sources.entry.items (R.seen input.old) (R.seen input.new) files.old files.new result }
 {
     let mut sources = sources;

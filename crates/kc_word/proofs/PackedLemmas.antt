@@ -1,4 +1,4 @@
--- Codes in packed words: what one more code changes, and that equal codes have equal words.
+-- Codes in packed numbers: what one more code changes, and that equal codes have equal numbers.
 use Rattle.std.proofs.Common.{◌≡◌, ◌≢◌, ℕ, zero, suc, ◌+◌, ◌-◌, ◌*◌, ◌/◌, ◌%◌, ◌^◌, ◌<◌, ◌≤◌, ⊎_elim, Bool, false, List, [], length, get_or, refl, ap, sym, ◌∙◌, subst, arith}
 use Rattle.std.proofs.lemmas.Bool.{cases_lt, cases_Bool}
 use Rattle.std.proofs.lemmas.Bool.Decides.{same_from_decides, Decides-at, Decides-like}
@@ -34,34 +34,34 @@ same-digits v w (suc m) same =
 digits-zero : (f : ℕ) → 0 / 2 ^ (2 * f) % 4 ≡ 0
 digits-zero f = let positive = pow_pos (2 * f) in omega (arith, positive)
 
--- ---- the codes of words
+-- ---- the codes of numbers
 
--- the code that has f digits below it in word j
-code_at-word : (words : List ℕ) (j f : ℕ) → f < 32 → code_at words (j * 32 + (31 - f)) ≡ get_or words j 0 / 2 ^ (2 * f) % 4
-code_at-word words j f h =
-    let word : (j * 32 + (31 - f)) / 32 ≡ j = omega (arith, h) in
+-- the code that has f digits below it in number j
+code_at-number : (numbers : List ℕ) (j f : ℕ) → f < 32 → code_at numbers (j * 32 + (31 - f)) ≡ get_or numbers j 0 / 2 ^ (2 * f) % 4
+code_at-number numbers j f h =
+    let number : (j * 32 + (31 - f)) / 32 ≡ j = omega (arith, h) in
     let place : 62 - 2 * ((j * 32 + (31 - f)) % 32) ≡ 2 * f = omega (arith, h) in
-    ap (λ m. get_or words m 0 / 2 ^ (62 - 2 * ((j * 32 + (31 - f)) % 32)) % 4) word ∙ ap (λ m. get_or words j 0 / 2 ^ m % 4) place
+    ap (λ m. get_or numbers m 0 / 2 ^ (62 - 2 * ((j * 32 + (31 - f)) % 32)) % 4) number ∙ ap (λ m. get_or numbers j 0 / 2 ^ m % 4) place
 
-pub code_at-lt : (words : List ℕ) (i : ℕ) → code_at words i < 4
-code_at-lt words i = omega arith
+pub code_at-lt : (numbers : List ℕ) (i : ℕ) → code_at numbers i < 4
+code_at-lt numbers i = omega arith
 
-pub length-codes_of : (words : List ℕ) (n : ℕ) → length (codes_of words n) ≡ n
+pub length-codes_of : (numbers : List ℕ) (n : ℕ) → length (codes_of numbers n) ≡ n
 unfolding codes_of
-length-codes_of words n = length-map-range_with_len (λ i. code_at words i) 0 n
+length-codes_of numbers n = length-map-range_with_len (λ i. code_at numbers i) 0 n
 
-pub get_or-codes_of : (words : List ℕ) (n i d : ℕ) → i < n → get_or (codes_of words n) i d ≡ code_at words i
+pub get_or-codes_of : (numbers : List ℕ) (n i d : ℕ) → i < n → get_or (codes_of numbers n) i d ≡ code_at numbers i
 unfolding codes_of
-get_or-codes_of words n i d h = get_or-map-range_with_len (λ j. code_at words j) 0 n i i d h (omega arith)
+get_or-codes_of numbers n i d h = get_or-map-range_with_len (λ j. code_at numbers j) 0 n i i d h (omega arith)
 
-pub codes_of-none : (words : List ℕ) → codes_of words 0 ≡ []
+pub codes_of-none : (numbers : List ℕ) → codes_of numbers 0 ≡ []
 unfolding codes_of
-codes_of-none words = refl
+codes_of-none numbers = refl
 
-pub ArePacked-none : (words : List ℕ) → words ≡ [] → ArePacked words 0
-ArePacked-none words e = record {
+pub ArePacked-none : (numbers : List ℕ) → numbers ≡ [] → ArePacked numbers 0
+ArePacked-none numbers e = record {
   exact = ap length e;
-  clear = λ i h. let none : get_or words (i / 32) 0 ≡ 0 = ap (λ ws. get_or ws (i / 32) 0) e in
+  clear = λ i h. let none : get_or numbers (i / 32) 0 ≡ 0 = ap (λ ws. get_or ws (i / 32) 0) e in
       ap (λ w. w / 2 ^ (62 - 2 * (i % 32)) % 4) none ∙ ap (λ m. 0 / 2 ^ m % 4) (place i) ∙ digits-zero (31 - i % 32);
 }
   where
@@ -70,18 +70,18 @@ ArePacked-none words e = record {
 
 -- ---- one code more
 
--- a code in a word of its own, and one in the last word
+-- a code in a number of its own, and one in the last number
 shifted : (c s : ℕ) → c < 4 → s ≤ 62 → c * 2 ^ s % 2 ^ 64 ≡ c * 2 ^ s
 shifted c s small h = shl_whole c 2 s 64 small (omega (arith, h))
 
--- ---- equal codes, equal words
+-- ---- equal codes, equal numbers
 
-pub same-words : (v w : List ℕ) (n : ℕ) → ((k : ℕ) → get_or v k 0 < 2 ^ 64) → ((k : ℕ) → get_or w k 0 < 2 ^ 64) → ArePacked v n → ArePacked w n
+pub same-numbers : (v w : List ℕ) (n : ℕ) → ((k : ℕ) → get_or v k 0 < 2 ^ 64) → ((k : ℕ) → get_or w k 0 < 2 ^ 64) → ArePacked v n → ArePacked w n
     → codes_of v n ≡ codes_of w n → v ≡ w
-same-words v w n small_v small_w packed_v packed_w e =
+same-numbers v w n small_v small_w packed_v packed_w e =
     ext_get_or 0 v w (packed_v.exact ∙ sym packed_w.exact) (λ j h.
     let same = same-digits (get_or v j 0) (get_or w j 0) 32 (λ f l.
-    sym (code_at-word v j f l) ∙ same_code (j * 32 + (31 - f)) ∙ code_at-word w j f l) in
+    sym (code_at-number v j f l) ∙ same_code (j * 32 + (31 - f)) ∙ code_at-number w j f l) in
     let fits_v = small_v j in
     let fits_w = small_w j in
     omega (arith, same, fits_v, fits_w))
@@ -92,7 +92,7 @@ same-words v w n small_v small_w packed_v packed_w e =
         (λ h. sym (get_or-codes_of v n i 0 h) ∙ ap (λ cs. get_or cs i 0) e ∙ get_or-codes_of w n i 0 h)
         (λ h. packed_v.clear i h ∙ sym (packed_w.clear i h)) (cases_lt i n)
 
--- whether the words are the same tells whether the codes are
+-- whether the numbers are the same tells whether the codes are
 pub same-packed : (v w : List ℕ) (n m : ℕ) (same : Bool)
     → ((k : ℕ) → get_or v k 0 < 2 ^ 64) × ((k : ℕ) → get_or w k 0 < 2 ^ 64) → ArePacked v n × ArePacked w m
     → (n ≡ m) × (same ≡ bytes_eq v w) → same ≡ bytes_eq (codes_of v n) (codes_of w m)
@@ -100,8 +100,8 @@ same-packed v w n m same small packed are =
     let long = are.0 in
     same_from_decides same (bytes_eq (codes_of v n) (codes_of w m))
     (Decides-at same (bytes_eq v w) are.1
-    (Decides-like (bytes_eq v w) (λ words. ap (λ ws. codes_of ws n) words ∙ ap (codes_of w) long)
-    (λ codes. same-words v w n small.0 small.1 packed.0 (subst (ArePacked w) (sym long) packed.1) (codes ∙ sym (ap (codes_of w) long)))
+    (Decides-like (bytes_eq v w) (λ numbers. ap (λ ws. codes_of ws n) numbers ∙ ap (codes_of w) long)
+    (λ codes. same-numbers v w n small.0 small.1 packed.0 (subst (ArePacked w) (sym long) packed.1) (codes ∙ sym (ap (codes_of w) long)))
     (bytes_eq-Decides v w)))
     (bytes_eq-Decides (codes_of v n) (codes_of w m))
 

@@ -39,7 +39,7 @@ digit-low w f h =
 digit-or : (v w f : ℕ) → bit_or v w / 2 ^ (2 * f) % 4 ≡ bit_or (v / 2 ^ (2 * f) % 4) (w / 2 ^ (2 * f) % 4)
 digit-or v w f = ap (λ n. n % 4) (or_shr v w (2 * f)) ∙ or_mod (v / 2 ^ (2 * f)) (w / 2 ^ (2 * f)) 2
 
--- ---- codes of a word
+-- ---- codes of a number
 
 at-digit : (w i : ℕ) → i < 32 → code_in w i ≡ w / 2 ^ (2 * (31 - i)) % 4
 at-digit w i h =
@@ -77,7 +77,7 @@ code-down-none w n i small most h =
     ∙ ap (λ m. m / 2 ^ (2 * (n - 1 - i))) nothing)
     ∙ omega (arith, positive)
 
--- two neighbouring words joined: codes from m on of the first, and then those of the second
+-- two neighbouring numbers joined: codes from m on of the first, and then those of the second
 pub code-joined : (v w m i : ℕ) → w < 2 ^ 64 → m < 32 → m + i < 32
     → code_in (bit_or (v * 2 ^ (2 * m) % 2 ^ 64) (w / 2 ^ (2 * (32 - m)))) i ≡ code_in v (m + i)
 code-joined v w m i small most h =
@@ -116,7 +116,7 @@ code-behind w n i most low h =
     ap (λ e. code_in (w / 2 ^ e * 2 ^ e % 2 ^ 64) i) place
     ∙ code-up-none (w / 2 ^ (2 * (32 - n))) (32 - n) i (omega arith) low (omega (arith, h, most))
 
--- ---- a word behind whole words
+-- ---- a number behind whole numbers
 
 pub range-joined : (f g h : ℕ → ℕ) (n m : ℕ) → ((i : ℕ) → i < n → f i ≡ g i) → ((i : ℕ) → i < m → f (n + i) ≡ h i)
     → map f (range_with_len 0 (n + m)) ≡ map g (range_with_len 0 n) ++ map h (range_with_len 0 m)
@@ -134,103 +134,103 @@ range-joined f g h n (suc m) front back =
     ∙ ap (λ xs. map g (range_with_len 0 n) ++ xs) (sym (map-range_with_len_more h 0 m m (omega arith))
     ∙ ap (λ i. map h (range_with_len 0 i)) last)
 
--- the words, of n codes that fill them, with the first codes of one word more
-pub record IsFilled (words next : List ℕ) (n count word : ℕ) : Type 0 where
+-- the numbers, of n codes that fill them, with the first codes of one number more
+pub record IsFilled (numbers next : List ℕ) (n count number : ℕ) : Type 0 where
   pub packed : ArePacked next (n + count)
-  pub codes : codes_of next (n + count) ≡ codes_of words n ++ codes_in word count
+  pub codes : codes_of next (n + count) ≡ codes_of numbers n ++ codes_in number count
 
-earlier : (words : List ℕ) (w n i : ℕ) → ArePacked words n → n % 32 ≡ 0 → i < n
-    → code_at (words ++ w ∷ []) i ≡ code_at words i
-earlier words w n i packed whole h =
+earlier : (numbers : List ℕ) (w n i : ℕ) → ArePacked numbers n → n % 32 ≡ 0 → i < n
+    → code_at (numbers ++ w ∷ []) i ≡ code_at numbers i
+earlier numbers w n i packed whole h =
     let exact = packed.exact in
-    ap (λ x. code_in x (i % 32)) (get_or_append_left words (w ∷ []) 0 (i / 32) (omega (arith, exact, whole, h)))
+    ap (λ x. code_in x (i % 32)) (get_or_append_left numbers (w ∷ []) 0 (i / 32) (omega (arith, exact, whole, h)))
 
-here : (words : List ℕ) (w n i : ℕ) → ArePacked words n → n % 32 ≡ 0 → i < 32
-    → code_at (words ++ w ∷ []) (n + i) ≡ code_in w i
-here words w n i packed whole h =
+here : (numbers : List ℕ) (w n i : ℕ) → ArePacked numbers n → n % 32 ≡ 0 → i < 32
+    → code_at (numbers ++ w ∷ []) (n + i) ≡ code_in w i
+here numbers w n i packed whole h =
     let exact = packed.exact in
-    let word : (n + i) / 32 ≡ length words = omega (arith, exact, whole, h) in
+    let number : (n + i) / 32 ≡ length numbers = omega (arith, exact, whole, h) in
     let place : (n + i) % 32 ≡ i = omega (arith, whole, h) in
-    ap (λ x. code_in x ((n + i) % 32)) (get_or_push words w 0 ((n + i) / 32) (sym word)) ∙ ap (code_in w) place
+    ap (λ x. code_in x ((n + i) % 32)) (get_or_push numbers w 0 ((n + i) / 32) (sym number)) ∙ ap (code_in w) place
 
-later : (words : List ℕ) (w n i : ℕ) → ArePacked words n → n % 32 ≡ 0 → n + 32 ≤ i → code_at (words ++ w ∷ []) i ≡ 0
-later words w n i packed whole h =
+later : (numbers : List ℕ) (w n i : ℕ) → ArePacked numbers n → n % 32 ≡ 0 → n + 32 ≤ i → code_at (numbers ++ w ∷ []) i ≡ 0
+later numbers w n i packed whole h =
     let exact = packed.exact in
-    let long = length_push words w in
+    let long = length_push numbers w in
     let positive = pow_pos (62 - 2 * (i % 32)) in
-    ap (λ x. code_in x (i % 32)) (get_or_past (words ++ w ∷ []) (i / 32) 0 (omega (arith, exact, whole, h, long)))
+    ap (λ x. code_in x (i % 32)) (get_or_past (numbers ++ w ∷ []) (i / 32) 0 (omega (arith, exact, whole, h, long)))
     ∙ omega (arith, positive)
 
-pub filled : (words next : List ℕ) (n count word : ℕ) → ArePacked words n → (n % 32 ≡ 0) × (1 ≤ count) × (count ≤ 32)
-    → next ≡ words ++ (word / 2 ^ (64 - 2 * count) * 2 ^ (64 - 2 * count) % 2 ^ 64) ∷ []
-    → IsFilled words next n count word
+pub filled : (numbers next : List ℕ) (n count number : ℕ) → ArePacked numbers n → (n % 32 ≡ 0) × (1 ≤ count) × (count ≤ 32)
+    → next ≡ numbers ++ (number / 2 ^ (64 - 2 * count) * 2 ^ (64 - 2 * count) % 2 ^ 64) ∷ []
+    → IsFilled numbers next n count number
 unfolding codes_of codes_in
-filled words next n count word packed fits e = record {
+filled numbers next n count number packed fits e = record {
   packed = subst (λ ws. ArePacked ws (n + count)) (sym e) (record {
     exact = let exact = packed.exact in
-        let long = length_push words front in
+        let long = length_push numbers front in
         let whole = fits.0 in
         let some = fits.1 in
         let most = fits.2 in
         omega (arith, exact, long, whole, some, most);
-    clear = λ i h. ⊎_elim (λ l. behind i h l) (λ l. later words front n i packed fits.0 l) (cases_lt i (n + 32));
+    clear = λ i h. ⊎_elim (λ l. behind i h l) (λ l. later numbers front n i packed fits.0 l) (cases_lt i (n + 32));
   });
   codes = ap (λ ws. codes_of ws (n + count)) e
-      ∙ range-joined (λ i. code_at (words ++ front ∷ []) i) (λ i. code_at words i) (λ i. code_in word i) n count
-      (λ i h. earlier words front n i packed fits.0 h)
-      (λ i h. here words front n i packed fits.0 (let most = fits.2 in omega (arith, h, most))
-      ∙ code-front word count i fits.2 h);
+      ∙ range-joined (λ i. code_at (numbers ++ front ∷ []) i) (λ i. code_at numbers i) (λ i. code_in number i) n count
+      (λ i h. earlier numbers front n i packed fits.0 h)
+      (λ i h. here numbers front n i packed fits.0 (let most = fits.2 in omega (arith, h, most))
+      ∙ code-front number count i fits.2 h);
 }
   where
     front : ℕ
-    front = word / 2 ^ (64 - 2 * count) * 2 ^ (64 - 2 * count) % 2 ^ 64
+    front = number / 2 ^ (64 - 2 * count) * 2 ^ (64 - 2 * count) % 2 ^ 64
 
-    behind : (i : ℕ) → n + count ≤ i → i < n + 32 → code_at (words ++ front ∷ []) i ≡ 0
+    behind : (i : ℕ) → n + count ≤ i → i < n + 32 → code_at (numbers ++ front ∷ []) i ≡ 0
     behind i h l =
         let place : i ≡ n + (i - n) = omega (arith, h) in
-        ap (code_at (words ++ front ∷ [])) place ∙ here words front n (i - n) packed fits.0 (omega (arith, l))
-        ∙ code-behind word count (i - n) fits.2 (omega (arith, l)) (omega (arith, h))
+        ap (code_at (numbers ++ front ∷ [])) place ∙ here numbers front n (i - n) packed fits.0 (omega (arith, l))
+        ∙ code-behind number count (i - n) fits.2 (omega (arith, l)) (omega (arith, h))
 
 -- ---- a window
 
-pub record IsWindow (words : List ℕ) (n at word : ℕ) : Type 0 where
-  pub codes : (i : ℕ) → i < 32 → at + i < n → code_in word i ≡ code_at words (at + i)
+pub record IsWindow (numbers : List ℕ) (n at number : ℕ) : Type 0 where
+  pub codes : (i : ℕ) → i < 32 → at + i < n → code_in number i ≡ code_at numbers (at + i)
 
-pub window-of-one : (words : List ℕ) (n at v : ℕ) → v ≡ get_or words (at / 32) 0 → ArePacked words n
-    → ((at % 32 ≡ 0) ⊎ (at / 32 + 1 ≡ length words))
-    → IsWindow words n at (v * 2 ^ (2 * (at % 32)) % 2 ^ 64)
-window-of-one words n at v is packed alone = record {
+pub window-of-one : (numbers : List ℕ) (n at v : ℕ) → v ≡ get_or numbers (at / 32) 0 → ArePacked numbers n
+    → ((at % 32 ≡ 0) ⊎ (at / 32 + 1 ≡ length numbers))
+    → IsWindow numbers n at (v * 2 ^ (2 * (at % 32)) % 2 ^ 64)
+window-of-one numbers n at v is packed alone = record {
   codes = λ i h l. let inside : at % 32 + i < 32 = ⊎_elim (λ e. omega (arith, e, h)) (λ e. let exact = packed.exact in omega (arith, e, exact, l)) alone in
-      let word : (at + i) / 32 ≡ at / 32 = omega (arith, inside) in
+      let number : (at + i) / 32 ≡ at / 32 = omega (arith, inside) in
       let place : (at + i) % 32 ≡ at % 32 + i = omega (arith, inside) in
       code-up v (at % 32) i inside ∙ ap (λ x. code_in x (at % 32 + i)) is
-      ∙ sym (ap (λ j. code_in (get_or words j 0) ((at + i) % 32)) word ∙ ap (code_in (get_or words (at / 32) 0)) place);
+      ∙ sym (ap (λ j. code_in (get_or numbers j 0) ((at + i) % 32)) number ∙ ap (code_in (get_or numbers (at / 32) 0)) place);
 }
 
-pub window-of-two : (words : List ℕ) (n at v w : ℕ) → v ≡ get_or words (at / 32) 0
-    → w ≡ get_or words (at / 32 + 1) 0 → w < 2 ^ 64
-    → IsWindow words n at (bit_or (v * 2 ^ (2 * (at % 32)) % 2 ^ 64) (w / 2 ^ (2 * (32 - at % 32))))
-window-of-two words n at v w is other small = record {
+pub window-of-two : (numbers : List ℕ) (n at v w : ℕ) → v ≡ get_or numbers (at / 32) 0
+    → w ≡ get_or numbers (at / 32 + 1) 0 → w < 2 ^ 64
+    → IsWindow numbers n at (bit_or (v * 2 ^ (2 * (at % 32)) % 2 ^ 64) (w / 2 ^ (2 * (32 - at % 32))))
+window-of-two numbers n at v w is other small = record {
   codes = λ i h l. ⊎_elim (same i) (next i h) (cases_lt (at % 32 + i) 32);
 }
   where
     same : (i : ℕ) → at % 32 + i < 32
-        → code_in (bit_or (v * 2 ^ (2 * (at % 32)) % 2 ^ 64) (w / 2 ^ (2 * (32 - at % 32)))) i ≡ code_at words (at + i)
+        → code_in (bit_or (v * 2 ^ (2 * (at % 32)) % 2 ^ 64) (w / 2 ^ (2 * (32 - at % 32)))) i ≡ code_at numbers (at + i)
     same i inside =
-        let word : (at + i) / 32 ≡ at / 32 = omega (arith, inside) in
+        let number : (at + i) / 32 ≡ at / 32 = omega (arith, inside) in
         let place : (at + i) % 32 ≡ at % 32 + i = omega (arith, inside) in
         code-joined v w (at % 32) i small (omega arith) inside ∙ ap (λ x. code_in x (at % 32 + i)) is
-        ∙ sym (ap (λ j. code_in (get_or words j 0) ((at + i) % 32)) word
-        ∙ ap (code_in (get_or words (at / 32) 0)) place)
+        ∙ sym (ap (λ j. code_in (get_or numbers j 0) ((at + i) % 32)) number
+        ∙ ap (code_in (get_or numbers (at / 32) 0)) place)
 
     next : (i : ℕ) → i < 32 → 32 ≤ at % 32 + i
-        → code_in (bit_or (v * 2 ^ (2 * (at % 32)) % 2 ^ 64) (w / 2 ^ (2 * (32 - at % 32)))) i ≡ code_at words (at + i)
+        → code_in (bit_or (v * 2 ^ (2 * (at % 32)) % 2 ^ 64) (w / 2 ^ (2 * (32 - at % 32)))) i ≡ code_at numbers (at + i)
     next i h beyond =
-        let word : (at + i) / 32 ≡ at / 32 + 1 = omega (arith, h, beyond) in
+        let number : (at + i) / 32 ≡ at / 32 + 1 = omega (arith, h, beyond) in
         let place : (at + i) % 32 ≡ at % 32 + i - 32 = omega (arith, h, beyond) in
         code-joined-next v w (at % 32) i (omega arith) h beyond ∙ ap (λ x. code_in x (at % 32 + i - 32)) other
-        ∙ sym (ap (λ j. code_in (get_or words j 0) ((at + i) % 32)) word
-        ∙ ap (code_in (get_or words (at / 32 + 1) 0)) place)
+        ∙ sym (ap (λ j. code_in (get_or numbers j 0) ((at + i) % 32)) number
+        ∙ ap (code_in (get_or numbers (at / 32 + 1) 0)) place)
 
 -- ---- a part, window by window
 
@@ -243,14 +243,14 @@ length-part codes part from taken before = ap length before.is
     ∙ length-map-range_with_len (λ i. get_or codes (from + i) 0) 0 taken
 
 pub part-more : {codes part : List ℕ} {from taken : ℕ} → IsPart codes part from taken
-    → (next : List ℕ) (count word : ℕ) → next ≡ part ++ codes_in word count
+    → (next : List ℕ) (count number : ℕ) → next ≡ part ++ codes_in number count
     → (count ≤ 32) × (from + taken + count ≤ length codes)
-    → ((i : ℕ) → i < 32 → from + taken + i < length codes → code_in word i ≡ get_or codes (from + taken + i) 0)
+    → ((i : ℕ) → i < 32 → from + taken + i < length codes → code_in number i ≡ get_or codes (from + taken + i) 0)
     → IsPart codes next from (taken + count)
 unfolding codes_in
-part-more {codes = codes} {from = from} {taken = taken} before next count word e fits window = record {
-  is = e ∙ ap (λ xs. xs ++ codes_in word count) before.is
-      ∙ sym (range-joined (λ i. get_or codes (from + i) 0) (λ i. get_or codes (from + i) 0) (λ i. code_in word i) taken count
+part-more {codes = codes} {from = from} {taken = taken} before next count number e fits window = record {
+  is = e ∙ ap (λ xs. xs ++ codes_in number count) before.is
+      ∙ sym (range-joined (λ i. get_or codes (from + i) 0) (λ i. get_or codes (from + i) 0) (λ i. code_in number i) taken count
       (λ i h. refl) (λ i h. let most = fits.0 in
       let within = fits.1 in
       let place : from + (taken + i) ≡ from + taken + i = omega arith in

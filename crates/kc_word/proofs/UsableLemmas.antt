@@ -16,7 +16,7 @@ use Rattle.kc_word.specs.Packed.{code_in, codes_in}
 use Rattle.kc_word.specs.declared.runs.Run.{Run}
 use Rattle.kc_word.specs.Runs.{is_in_runs, AreRuns, AreExtended}
 use Rattle.kc_word.specs.PackedPiece.{bytes_of, IsPiece}
-use Rattle.kc_word.specs.UsableCodes.{usable_code, packed_codes, IsBlock, AreGaps}
+use Rattle.kc_word.specs.UsableCodes.{usable_code, packed_codes, IsCodeBlock, AreGaps}
 use Rattle.kc_kmer.proofs.WordLemmas.{at_base, code-lt}
 use Rattle.kc_word.proofs.RunLemmas.{AreRuns-wider, behind-runs}
 use Rattle.kc_word.proofs.PieceLemmas.{length-bytes_of, get_or-bytes_of, base-code}
@@ -85,24 +85,24 @@ passes-low rule read j floor quals some level h =
 
 -- ---- a block, base by base
 
-pub record IsTaken (rule : CountingRule) (read : Read) (from taken word seen : ℕ) : Type 0 where
-  pub below : word < 2 ^ (2 * taken)
-  pub digits : (j : ℕ) → j < taken → word / 2 ^ (2 * (taken - 1 - j)) % 4 ≡ usable_code rule read (from + j) % 4
+pub record IsTaken (rule : CountingRule) (read : Read) (from taken number seen : ℕ) : Type 0 where
+  pub below : number < 2 ^ (2 * taken)
+  pub digits : (j : ℕ) → j < taken → number / 2 ^ (2 * (taken - 1 - j)) % 4 ≡ usable_code rule read (from + j) % 4
   pub usable : seen < 4 → (j : ℕ) → j < taken → usable_code rule read (from + j) < 4
 
--- a word of less than 32 codes has room for one more
-pub room-below : (word taken : ℕ) → taken < 32 → word < 2 ^ (2 * taken) → word < 2 ^ 62
-room-below word taken h below =
+-- a number of less than 32 codes has room for one more
+pub room-below : (number taken : ℕ) → taken < 32 → number < 2 ^ (2 * taken) → number < 2 ^ 62
+room-below number taken h below =
     let rest : 62 ≡ 2 * taken + (62 - 2 * taken) = omega (arith, h) in
     let positive = pow_pos (62 - 2 * taken) in
-    subst (λ n. word < 2 ^ n) (sym rest) (subst (λ n. word < n) (sym (pow-add 2 (2 * taken) (62 - 2 * taken)))
+    subst (λ n. number < 2 ^ n) (sym rest) (subst (λ n. number < n) (sym (pow-add 2 (2 * taken) (62 - 2 * taken)))
     (wide (2 ^ (2 * taken)) (2 ^ (62 - 2 * taken)) positive below))
   where
-    wide : (a b : ℕ) → 0 < b → word < a → word < a * b
+    wide : (a b : ℕ) → 0 < b → number < a → number < a * b
     wide a b some h = let more = mul-le a 1 a b (omega arith) some in omega (arith, h, more)
 
-module _ {rule : CountingRule} {read : Read} {from taken word seen : ℕ} (before : IsTaken rule read from taken word seen) where
-  pub taken-more : (next code : ℕ) → next ≡ word * 4 + code % 4 → code ≡ usable_code rule read (from + taken)
+module _ {rule : CountingRule} {read : Read} {from taken number seen : ℕ} (before : IsTaken rule read from taken number seen) where
+  pub taken-more : (next code : ℕ) → next ≡ number * 4 + code % 4 → code ≡ usable_code rule read (from + taken)
       → IsTaken rule read from (taken + 1) next (bit_or seen code)
   taken-more next code e is = record {
     below = let power : 2 ^ (2 * (taken + 1)) ≡ 2 ^ (2 * taken) * 4 = ap (λ n. 2 ^ n) (double taken)
@@ -124,7 +124,7 @@ module _ {rule : CountingRule} {read : Read} {from taken word seen : ℕ} (befor
       earlier : (j : ℕ) → j < taken → next / 2 ^ (2 * (taken + 1 - 1 - j)) % 4 ≡ usable_code rule read (from + j) % 4
       earlier j l =
           let place : 2 * (taken + 1 - 1 - j) ≡ 2 + 2 * (taken - 1 - j) = omega (arith, l) in
-          let quarter : next / 2 ^ 2 ≡ word = omega (arith, e) in
+          let quarter : next / 2 ^ 2 ≡ number = omega (arith, e) in
           ap (λ n. next / 2 ^ n % 4) place ∙ ap (λ n. n % 4) (sym (shr-shr next 2 (2 * (taken - 1 - j))))
           ∙ ap (λ n. n / 2 ^ (2 * (taken - 1 - j)) % 4) quarter ∙ before.digits j l
 
@@ -134,14 +134,14 @@ module _ {rule : CountingRule} {read : Read} {from taken word seen : ℕ} (befor
           ap (λ n. next / 2 ^ n % 4) place ∙ omega (arith, e) ∙ ap (λ n. n % 4) is
           ∙ ap (λ i. usable_code rule read (from + i) % 4) (sym here)
 
-  -- the word is shifted to the top
+  -- the number is shifted to the top
   pub taken-all : (has_gap : Bool) → taken ≤ 32 → (has_gap ≡ false → seen < 4)
-      → IsBlock rule read from taken (word * 2 ^ (64 - 2 * taken) % 2 ^ 64) has_gap
+      → IsCodeBlock rule read from taken (number * 2 ^ (64 - 2 * taken) % 2 ^ 64) has_gap
   taken-all has_gap most gap = record {
     codes = λ i h. let place : 64 - 2 * taken ≡ 2 * (32 - taken) = omega arith in
         let top : 62 - 2 * (32 - taken + i) ≡ 2 * (taken - 1 - i) = omega (arith, h, most) in
-        ap (λ n. code_in (word * 2 ^ n % 2 ^ 64) i) place ∙ code-up word (32 - taken) i (omega (arith, h, most))
-        ∙ ap (λ n. word / 2 ^ n % 4) top ∙ before.digits i h;
+        ap (λ n. code_in (number * 2 ^ n % 2 ^ 64) i) place ∙ code-up number (32 - taken) i (omega (arith, h, most))
+        ∙ ap (λ n. number / 2 ^ n % 4) top ∙ before.digits i h;
     usable = λ g i h. before.usable (gap g) i h;
   }
 
@@ -190,13 +190,13 @@ gaps-block rule read n count runs before usable = record {
 
 -- ---- the codes, block by block
 
-pub codes-block : {rule : CountingRule} {read : Read} {n count word : ℕ} {has_gap : Bool}
-    → IsBlock rule read n count word has_gap → (codes next : List ℕ) → codes ≡ packed_codes rule read n
-    → next ≡ codes ++ codes_in word count → next ≡ packed_codes rule read (n + count)
+pub codes-block : {rule : CountingRule} {read : Read} {n count number : ℕ} {has_gap : Bool}
+    → IsCodeBlock rule read n count number has_gap → (codes next : List ℕ) → codes ≡ packed_codes rule read n
+    → next ≡ codes ++ codes_in number count → next ≡ packed_codes rule read (n + count)
 unfolding packed_codes codes_in
-codes-block {rule = rule} {read = read} {n = n} {count = count} {word = word} block codes next before e =
-    e ∙ ap (λ xs. xs ++ codes_in word count) before
-    ∙ sym (range-joined (λ j. usable_code rule read j % 4) (λ j. usable_code rule read j % 4) (λ i. code_in word i) n count
+codes-block {rule = rule} {read = read} {n = n} {count = count} {number = number} block codes next before e =
+    e ∙ ap (λ xs. xs ++ codes_in number count) before
+    ∙ sym (range-joined (λ j. usable_code rule read j % 4) (λ j. usable_code rule read j % 4) (λ i. code_in number i) n count
     (λ i h. refl) (λ i h. sym (block.codes i h)))
 
 pub length-packed_codes : (rule : CountingRule) (read : Read) (n : ℕ) → length (packed_codes rule read n) ≡ n

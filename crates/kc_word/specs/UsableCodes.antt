@@ -19,9 +19,9 @@ usable_code rule read j = if is_usable rule read j then code (to_ascii_uppercase
 unfoldable pub packed_codes : CountingRule → Read → ℕ → List ℕ
 packed_codes rule read n = map (λ j. usable_code rule read j % 4) (range_with_len 0 n)
 
--- a word has the codes from an index on, so many of them; where it is told that no base is missing, all are usable
-pub record IsBlock (rule : CountingRule) (read : Read) (from count word : ℕ) (has_gap : Bool) : Type 0 where
-  pub codes : (i : ℕ) → i < count → code_in word i ≡ usable_code rule read (from + i) % 4
+-- a number has the codes from an index on, so many of them; where it is told that no base is missing, all are usable
+pub record IsCodeBlock (rule : CountingRule) (read : Read) (from count number : ℕ) (has_gap : Bool) : Type 0 where
+  pub codes : (i : ℕ) → i < count → code_in number i ≡ usable_code rule read (from + i) % 4
   pub usable : has_gap ≡ false → (i : ℕ) → i < count → usable_code rule read (from + i) < 4
 
 -- the runs are those of the bases that are not usable, of the first n

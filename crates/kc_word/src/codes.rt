@@ -15,7 +15,7 @@ use std::marker::Model;
 #[derive(Clone, Copy)]
 pub(crate) struct Stretch {
     /// Their codes, the first one in the highest bits.
-    pub(crate) word: u64,
+    pub(crate) number: u64,
     /// How many they are.
     pub(crate) count: usize,
 }
@@ -75,14 +75,14 @@ impl<'a> Codes<'a> {
         self.to <= self.at
     }
 
-    /// Takes the next bases, at most 32 and up to an N: their codes, the first one in the highest bits of a word, and
+    /// Takes the next bases, at most 32 and up to an N: their codes, the first one in the highest bits of a number, and
     /// how many they are. Condition: not all bytes were taken.
     #[inline(always)]
     pub(crate) fn take_bases(&mut self) -> Stretch
         requires { self.old.taken < length self.old.bytes }
         ensures codes { (i : ℕ) → i < result.count → let byte =
             to_ascii_uppercase (slice_index self.old.bytes (self.old.taken + i)) in
-            code_in result.word i ≡ (if is_base byte then code byte else 4) }
+            code_in result.number i ≡ (if is_base byte then code byte else 4) }
         ensures most { result.count ≤ 32 }
         ensures within { self.old.taken + result.count ≤ length self.old.bytes }
         ensures taken { self.new
@@ -91,9 +91,9 @@ impl<'a> Codes<'a> {
         let at = self.at;
         let left = self.to - at;
         let count = free_of_runs(self.runs, self.next, at, left.min(BASES));
-        let word = self.bases.window(at);
+        let number = self.bases.window(at);
         self.at = at + count;
-        Stretch { word, count }
+        Stretch { number, count }
     }
 
     /// The code of the next byte, and `NO_BASE` for N. Condition: not all bytes were taken.

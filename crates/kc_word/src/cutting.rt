@@ -98,7 +98,7 @@ impl Cutting {
             return Ok(batches);
         }
         let begun = packed(alloc, &self.begun)?;
-        let last = shared(alloc, batches.len() as u64, begun)?;
+        let last = numbered(alloc, batches.len() as u64, begun)?;
         batches.push(last)?;
         Ok(batches)
     }
@@ -177,7 +177,7 @@ impl Cutting {
     {
         let begun = packed(alloc, &self.begun)?;
         let begun = begun.and_part(alloc, piece, from, to)?;
-        shared(alloc, self.batches.len() as u64, begun)
+        numbered(alloc, self.batches.len() as u64, begun)
     }
 }
 
@@ -214,8 +214,8 @@ fn packed(alloc: Global, pieces: &[Piece]) -> Result<Pieces, AllocError>
     Ok(packed)
 }
 
-// A batch of these pieces, without spare room. Condition: there is a piece.
-fn shared(alloc: Global, number: u64, pieces: Pieces) -> Result<Arc<Batch>, AllocError>
+// The batch with this number and these pieces, without spare room. Condition: there is a piece.
+fn numbered(alloc: Global, number: u64, pieces: Pieces) -> Result<Arc<Batch>, AllocError>
     requires { 1 ≤ length pieces }
     ensures { IfOk result (λ batch. batch.value ≡ record { number = number; pieces = pieces }) }
 {

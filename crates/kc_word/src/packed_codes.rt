@@ -13,7 +13,7 @@ pub(crate) const BASES: usize = 32;
 /// the last one are 0, so that equal lists have equal numbers.
 #[derive(Debug, Drop)]
 pub(crate) struct Packed {
-    words: Vec<u64>,
+    numbers: Vec<u64>,
     len: usize,
 }
 
@@ -23,9 +23,9 @@ impl Model for Packed {
 
     ghost Value = { List ℕ };
 
-    ghost view = { λ p. codes_of p.words.items p.len };
+    ghost view = { λ p. codes_of p.numbers.items p.len };
 
-    ghost invariant = { λ p. ArePacked p.words.items p.len };
+    ghost invariant = { λ p. ArePacked p.numbers.items p.len };
 }
 
 impl Packed {
@@ -34,17 +34,17 @@ impl Packed {
         ensures { result ≡ [] }
     {
         Packed {
-            words: Vec::new(alloc),
+            numbers: Vec::new(alloc),
             len: 0,
         }
     }
 
     /// No codes, to be kept in the room of a vector. Condition: the vector is empty.
-    pub(crate) fn in_room(words: Vec<u64>) -> Packed
-        requires { words.items ≡ [] }
+    pub(crate) fn in_room(numbers: Vec<u64>) -> Packed
+        requires { numbers.items ≡ [] }
         ensures { result ≡ [] }
     {
-        Packed { words, len: 0 }
+        Packed { numbers, len: 0 }
     }
 
     /// The number of codes.
@@ -62,7 +62,7 @@ impl Packed {
         ensures value { result ≡ slice_index self.now i }
         ensures below { result < 4 }
     {
-        (self.words[i / BASES] >> (62 - 2 * (i % BASES))) & 3
+        (self.numbers[i / BASES] >> (62 - 2 * (i % BASES))) & 3
     }
 
     /// The 32 codes from index `at` on, or all that are left, in one number. Condition: `at` is below the length.
@@ -73,12 +73,12 @@ impl Packed {
     {
         let place = at / BASES;
         let shift = 2 * (at % BASES);
-        let high = self.words[place] << shift;
+        let high = self.numbers[place] << shift;
         let next = place + 1;
-        if shift == 0 || next == self.words.len() {
+        if shift == 0 || next == self.numbers.len() {
             return high;
         }
-        high | (self.words[next] >> (64 - shift))
+        high | (self.numbers[next] >> (64 - shift))
     }
 
     /// Appends the codes of another list from index `from` to before `to`. Conditions: these are in order, and at most
@@ -97,46 +97,46 @@ impl Packed {
         let count = to - from;
         for j in 0..count.div_ceil(BASES) {
             let taken = j * BASES;
-            let word = other.window(from + taken);
-            self.push_codes(word, (count - taken).min(BASES))?;
+            let number = other.window(from + taken);
+            self.push_codes(number, (count - taken).min(BASES))?;
         }
         Ok(())
     }
 
     /// Appends the first `count` codes of a number. Conditions: the count is 1 to 32, and the length stays below 2^64.
-    pub(crate) fn push_codes(&mut self, word: u64, count: usize) -> Result<(), AllocError>
+    pub(crate) fn push_codes(&mut self, number: u64, count: usize) -> Result<(), AllocError>
         requires some { 1 ≤ count }
         requires most { count ≤ 32 }
         requires fits { length self.old + count < 2 ^ 64 }
-        ensures { OnOk result (self.new ≡ self.old ++ codes_in word count) }
+        ensures { OnOk result (self.new ≡ self.old ++ codes_in number count) }
     {
         let used = self.len() % BASES;
         if used == 0 {
-            return self.push_word(word, count);
+            return self.push_number(number, count);
         }
         let room = BASES - used;
         if count <= room {
-            self.fill_word(word, count);
+            self.fill_number(number, count);
             return Ok(());
         }
-        self.fill_word(word, room);
-        self.push_word(word << (2 * room), count - room)
+        self.fill_number(number, room);
+        self.push_number(number << (2 * room), count - room)
     }
 
     // Appends the first `count` codes of a number within the last number. Conditions: that one has a code, and room for
     // so many more.
     #[inline(always)]
-    fn fill_word(&mut self, word: u64, count: usize)
+    fn fill_number(&mut self, number: u64, count: usize)
         requires some { 1 ≤ count }
         requires begun { 1 ≤ length self.old % 32 }
         requires room { length self.old % 32 + count ≤ 32 }
         requires fits { length self.old + count < 2 ^ 64 }
-        ensures { self.new ≡ self.old ++ codes_in word count }
+        ensures { self.new ≡ self.old ++ codes_in number count }
     {
         let behind = 64 - 2 * count;
-        let front = (word >> behind) << behind;
+        let front = (number >> behind) << behind;
         let last = self.len / BASES;
-        self.words[last] |= front >> (2 * (self.len % BASES));
+        self.numbers[last] |= front >> (2 * (self.len % BASES));
         self.len += count;
     }
 
@@ -144,10 +144,10 @@ impl Packed {
     pub(crate) fn fitted(self) -> Packed
         ensures { result ≡ self }
     {
-        let mut words = self.words;
-        words.shrink_to_fit();
+        let mut numbers = self.numbers;
+        numbers.shrink_to_fit();
         Packed {
-            words,
+            numbers,
             len: self.len,
         }
     }
@@ -155,15 +155,15 @@ impl Packed {
     /// Appends the first `count` codes of a number, behind whole numbers. Conditions: the count is 1 to 32, the length
     /// is a multiple of 32, and it stays below 2^64.
     #[inline(always)]
-    pub(crate) fn push_word(&mut self, word: u64, count: usize) -> Result<(), AllocError>
+    pub(crate) fn push_number(&mut self, number: u64, count: usize) -> Result<(), AllocError>
         requires some { 1 ≤ count }
         requires most { count ≤ 32 }
         requires whole { length self.old % 32 ≡ 0 }
         requires fits { length self.old + count < 2 ^ 64 }
-        ensures { OnOk result (self.new ≡ self.old ++ codes_in word count) }
+        ensures { OnOk result (self.new ≡ self.old ++ codes_in number count) }
     {
         let behind = 64 - 2 * count;
-        self.words.push((word >> behind) << behind)?;
+        self.numbers.push((number >> behind) << behind)?;
         self.len += count;
         Ok(())
     }
@@ -180,9 +180,9 @@ impl PartialEq for Packed {
     ghost laws = { partial_equiv_from_equiv nat_list_eq_equiv };
 
     fn eq(&self, other: &Packed) -> bool {
-        let words = self.words.as_slice();
-        let others = other.words.as_slice();
-        self.len == other.len && words == others
+        let numbers = self.numbers.as_slice();
+        let others = other.numbers.as_slice();
+        self.len == other.len && numbers == others
     }
 }
 

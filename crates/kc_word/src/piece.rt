@@ -3,7 +3,7 @@ ghost use Rattle.std.specs.Prelude.{◌≡◌, ◌^◌, ◌<◌, ◌↔◌, ◌+
 ghost use Rattle.kc_kmer.specs.Occurrences.{position_count};
 ghost use Rattle.std.specs.Vec.{vec_capacity};
 ghost use Rattle.kc_word.specs.Cutting.{cleaned, is_piece_byte};
-ghost use Rattle.kc_word.specs.Packed.{word_count};
+ghost use Rattle.kc_word.specs.Packed.{number_count};
 
 use crate::codes::Codes;
 use crate::packed_codes::{BASES, Packed};
@@ -178,7 +178,7 @@ pub fn clean(alloc: Global, read: &SeqRead, rule: &Rule) -> Result<Piece, AllocE
         let from = j * BASES;
         let taken = (count - from).min(BASES);
         let block = block_of(read, rule, from, taken);
-        bases.push_word(block.word, taken)?;
+        bases.push_number(block.number, taken)?;
         if block.has_gap {
             mark_gaps(read, rule, from, taken, &mut runs)?;
         }
@@ -189,7 +189,7 @@ pub fn clean(alloc: Global, read: &SeqRead, rule: &Rule) -> Result<Piece, AllocE
 // An empty vector with room for the numbers of 64 bits that the bases of a read take.
 fn room_for_bases(alloc: Global, read: &SeqRead) -> Result<Vec<u64>, AllocError>
     ensures empty { IfOk result (λ room. room.items ≡ []) }
-    ensures bounded { IfOk result (λ room. vec_capacity room ≤ word_count (length read.now.bases)) }
+    ensures bounded { IfOk result (λ room. vec_capacity room ≤ number_count (length read.now.bases)) }
 {
     Vec::with_capacity(alloc, read.bases().len().div_ceil(BASES))
 }

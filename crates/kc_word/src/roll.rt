@@ -188,7 +188,7 @@ impl<'a> Roll<'a> {
         let mut codes = self.codes;
         let stretch = codes.take_bases();
         for i in 0..stretch.count {
-            let digit = (stretch.word >> (62 - 2 * i)) & 3;
+            let digit = (stretch.number >> (62 - 2 * i)) & 3;
             forward = (forward * 4 + digit) & mask;
             backward = (backward >> 2) + ((3 - digit) << (2 * (k - 1)));
             run += 1;

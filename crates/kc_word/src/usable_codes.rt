@@ -1,6 +1,6 @@
 //! The codes of a read and its gaps, 32 bases at a time.
 ghost use Rattle.std.specs.Prelude.{◌≡◌, ◌+◌, ◌^◌, ◌<◌, ◌≤◌, length, OnOk};
-ghost use Rattle.kc_word.specs.UsableCodes.{usable_code, IsBlock, AreGaps};
+ghost use Rattle.kc_word.specs.UsableCodes.{usable_code, IsCodeBlock, AreGaps};
 
 use crate::runs::{Run, extend_runs};
 use kc_fastx::SeqRead;
@@ -10,31 +10,31 @@ use std::alloc::AllocError;
 
 /// Up to 32 bases of a read.
 #[derive(Clone, Copy)]
-pub(crate) struct Block {
+pub(crate) struct CodeBlock {
     /// Their codes, the first one in the highest bits, 0 for a base that is not usable.
-    pub(crate) word: u64,
+    pub(crate) number: u64,
     /// Whether one of them is not usable.
     pub(crate) has_gap: bool,
 }
 
 /// The block of `count` bases from index `from` on. Condition: the count is 1 to 32, and the read has these bases.
 #[inline(always)]
-pub(crate) fn block_of(read: &SeqRead, rule: &Rule, from: usize, count: usize) -> Block
+pub(crate) fn block_of(read: &SeqRead, rule: &Rule, from: usize, count: usize) -> CodeBlock
     requires some { 1 ≤ count }
     requires most { count ≤ 32 }
     requires within { from + count ≤ length read.now.bases }
     requires fits { from + count < 2 ^ 64 }
-    ensures { IsBlock rule.now read.now from count result.word result.has_gap }
+    ensures { IsCodeBlock rule.now read.now from count result.number result.has_gap }
 {
-    let mut word = 0u64;
+    let mut number = 0u64;
     let mut seen = 0u8;
     for i in 0..count {
         let code = usable_code(read, rule, from + i);
-        word = (word << 2) + (code & 3) as u64;
+        number = (number << 2) + (code & 3) as u64;
         seen |= code;
     }
-    Block {
-        word: word << (64 - 2 * count),
+    CodeBlock {
+        number: number << (64 - 2 * count),
         has_gap: seen >= NO_BASE,
     }
 }

@@ -35,8 +35,8 @@ invariant_of-cuts c =
     let batches = values c.args.batches.now in
     let divided : map (λ part. part.items) c.in_ok-parts.parts.items ≡ key_parts setup.stripe_bits (flat_map (batch_codes setup) batches) =
     c.in_ok-parts.ensures ∙ ap₂ key_parts c.stripe_bits.ensures.value (c.deref.ensures.value ∙ c.in_ok-codes.ensures.codes) in
-    let same : round_at c.in_ok-clone.field-0 (values c.in_ok-shared.field-0.items) c.len-stripe.result ≡ round_at setup batches (length c.loop-keys.yielded) =
-    λ i. record { setup = c.in_ok-clone.ensures.cases i; stripe = place i; batches = c.in_ok-shared.ensures i } in
+    let same : round_at c.in_ok-clone.field-0 (values c.in_ok-clones_of.field-0.items) c.len-stripe.result ≡ round_at setup batches (length c.loop-keys.yielded) =
+    λ i. record { setup = c.in_ok-clone.ensures.cases i; stripe = place i; batches = c.in_ok-clones_of.ensures i } in
     subst (λ (round : RoundCut). AreCuts round c.in-Some.keys.items c.in_ok-column.field-0.items c.in_ok-numbers_differ.numbers_differ) (sym same)
     (record {
       keys_are = part-round_keys setup batches c.in_ok-parts.parts.items (length c.loop-keys.yielded) c.in-Some.keys divided turn;
@@ -50,8 +50,8 @@ pub loop-keys-preserved : goal.loop-keys-preserved
 loop-keys-preserved c =
     let whole : vec_len c.loop-keys.rounds ≡ length c.loop-keys.rounds.items = search rules in
     let place : c.len-stripe.result ≡ length c.loop-keys.yielded = c.len-stripe.ensures ∙ whole ∙ length-made _ _ _ c.loop-keys.invariant in
-    let same : round_at c.in_ok-clone.field-0 (values c.in_ok-shared.field-0.items) c.len-stripe.result ≡ round_at c.args.setup.now (values c.args.batches.now) (length c.loop-keys.yielded) =
-    λ i. record { setup = c.in_ok-clone.ensures.cases i; stripe = place i; batches = c.in_ok-shared.ensures i } in
+    let same : round_at c.in_ok-clone.field-0 (values c.in_ok-clones_of.field-0.items) c.len-stripe.result ≡ round_at c.args.setup.now (values c.args.batches.now) (length c.loop-keys.yielded) =
+    λ i. record { setup = c.in_ok-clone.ensures.cases i; stripe = place i; batches = c.in_ok-clones_of.ensures i } in
     rw length_push
     (c.in_ok-push.ensures.items
     ∙ ap (λ (round : RoundCut). c.loop-keys.rounds.items ++ round ∷ []) same

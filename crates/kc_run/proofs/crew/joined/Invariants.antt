@@ -1,17 +1,17 @@
 use Rattle.std.proofs.Common.{◌≡◌, ◌+◌, vec_len}
 use Rattle.std.specs.Prelude.{All}
 use Rattle.kc_share.specs.declared.entry.Plan.{Plan}
-use Rattle.kc_tickets.specs.Tickets.{Roll}
+use Rattle.kc_tickets.specs.Tickets.{TicketsSeen}
 use Rattle.kc_run.specs.Runs.{HasWorked, HaveWorked}
 use Rattle.kc_run.proofs.crew.joined.Given as goal
 
 abbrev pub invariant-loop-worker : goal.invariant-loop-worker
 invariant-loop-worker g l = record {
   counted : vec_len l.seats + vec_len l.workers ≡ vec_len l.fn.workers;
-  left : (roll : Roll) (plan : Plan) → All (λ worker. HasWorked roll plan worker.seat worker.share) l.fn.workers.items
-      → All (λ worker. HasWorked roll plan worker.seat worker.share) l.workers.items;
-  whole : (roll : Roll) (plan : Plan) → All (λ worker. HasWorked roll plan worker.seat worker.share) l.fn.workers.items
-      → HaveWorked roll plan l.seats.items l.share;
+  left : (tickets : TicketsSeen) (plan : Plan) → All (λ worker. HasWorked tickets plan worker.seat worker.share) l.fn.workers.items
+      → All (λ worker. HasWorked tickets plan worker.seat worker.share) l.workers.items;
+  whole : (tickets : TicketsSeen) (plan : Plan) → All (λ worker. HasWorked tickets plan worker.seat worker.share) l.fn.workers.items
+      → HaveWorked tickets plan l.seats.items l.share;
 }
 
 abbrev pub decreases-loop-worker : goal.decreases-loop-worker

@@ -2,7 +2,7 @@ use Rattle.std.proofs.Common.{◌≡◌, [], ◌∷◌, ◌++◌, Some, Vec, ℕ
 use Rattle.std.specs.List.{flat_map}
 use Rattle.std.proofs.lemmas.List.Concat.{flat_map-append}
 use Rattle.std.proofs.lemmas.List.Elements.{All-push, All-pop, All-same}
-use Rattle.kc_tickets.specs.Tickets.{Roll, IsSeatOf, IsDone, answers_of}
+use Rattle.kc_tickets.specs.Tickets.{TicketsSeen, IsSeatOf, IsDone, answers_of}
 use Rattle.kc_run_tests.proofs.draws.join_all.Goals as goal
 
 pub loop-thread-preserved : goal.loop-thread-preserved
@@ -11,7 +11,7 @@ loop-thread-preserved g c =
     let popped = All-pop (λ thread. thread.promise.0.value ≡ c.args.tickets.now) c.loop-thread.threads.items c.pop.new.self.items (Some c.in-Some.thread) c.in-Some.ensures.items i.promised in
     let ended = c.in_ok-seat.ensures in
     let seat = c.in_ok-seat.seat in
-    let own : IsSeatOf c.args.tickets.now seat = (ended.0.0 ∙ ap (λ (roll : Roll). roll.table) popped.1, ended.0.1 ∙ ap (λ (roll : Roll). roll.limit) popped.1) in
+    let own : IsSeatOf c.args.tickets.now seat = (ended.0.0 ∙ ap (λ (tickets : TicketsSeen). tickets.table) popped.1, ended.0.1 ∙ ap (λ (tickets : TicketsSeen). tickets.limit) popped.1) in
     let seats = c.in_ok-push.ensures.items in
     let all = c.in_ok-push-2.ensures.items in
     record {

@@ -1,4 +1,4 @@
-use Rattle.kc_table.proofs.SlotWords.{masked_low}
+use Rattle.kc_table.proofs.SlotNumbers.{masked_low}
 use Rattle.kc_table.proofs.packed_slots.low_bits.Goals as goal
 
 pub returns : goal.returns

@@ -1,6 +1,6 @@
 use Rattle.std.proofs.Common.{ℕ, List, subst, sym, ◌≡◌, ◌≤◌, ◌∙◌, ◌+◌, length, arith, refl, max, length-set}
 use Rattle.std.proofs.lemmas.List.{get_or-set_same, get_or-set_other}
-use Rattle.kc_table.proofs.SlotWords.{IsFilled, filled_none, filled_more}
+use Rattle.kc_table.proofs.SlotNumbers.{IsFilled, filled_none, filled_more}
 use Rattle.kc_table.proofs.packed_slots.set_high_bits.Goals as goal
 
 pub loop-init : goal.loop-init

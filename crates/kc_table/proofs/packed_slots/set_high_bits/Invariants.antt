@@ -1,5 +1,5 @@
 use Rattle.std.proofs.Common.{◌≡◌, vec_capacity}
-use Rattle.kc_table.proofs.SlotWords.{IsFilled}
+use Rattle.kc_table.proofs.SlotNumbers.{IsFilled}
 use Rattle.kc_table.proofs.packed_slots.set_high_bits.Given as goal
 
 abbrev pub invariant-loop : goal.invariant-loop

@@ -12,16 +12,16 @@ loop-j-init c =
     subst (λ n. AreUsableCodes c.args.rule.now c.args.read.now n c.in_room-bases.result c.new-runs.result.items) none
     (usable-none c.args.rule.now c.args.read.now c.in_room-bases.result c.new-runs.result.items c.in_room-bases.ensures c.new-runs.ensures.items)
 
-pub push_word-requires-clause-whole : goal.push_word-requires-clause-whole
-push_word-requires-clause-whole c =
+pub push_number-requires-clause-whole : goal.push_number-requires-clause-whole
+push_number-requires-clause-whole c =
     let long = length-usable c.args.rule.now c.args.read.now (min (c.loop-j.j * 32) (length c.bases-count.result.now))
     c.loop-j.bases c.loop-j.runs.items c.loop-j.invariant in
     let test = c.loop-j-test.true in
     let end = c.div_ceil-j-end.ensures in
     omega (arith, long, test, end)
 
-pub push_word-requires-clause-fits : goal.push_word-requires-clause-fits
-push_word-requires-clause-fits c =
+pub push_number-requires-clause-fits : goal.push_number-requires-clause-fits
+push_number-requires-clause-fits c =
     let long = length-usable c.args.rule.now c.args.read.now (min (c.loop-j.j * 32) (length c.bases-count.result.now))
     c.loop-j.bases c.loop-j.runs.items c.loop-j.invariant in
     let test = c.loop-j-test.true in
@@ -45,9 +45,9 @@ loop-j-preserved c =
     let from : min (c.loop-j.j * 32) (length c.bases-count.result.now) ≡ c.loop-j.j * 32 = omega (arith, test, end) in
     let next : c.loop-j.j * 32 + c.min-taken.result ≡ min ((c.loop-j.j + 1) * 32) (length c.bases-count.result.now) = omega (arith, test, end, taken) in
     let before = subst (λ n. AreUsableCodes c.args.rule.now c.args.read.now n c.loop-j.bases c.loop-j.runs.items) from c.loop-j.invariant in
-    subst (λ n. AreUsableCodes c.args.rule.now c.args.read.now n c.push_word.new.self c.if-block.runs.items) next (record {
-      codes_are = codes-block c.block_of-block.ensures c.loop-j.bases c.push_word.new.self before.codes_are
-          c.in_ok-push_word.ensures;
+    subst (λ n. AreUsableCodes c.args.rule.now c.args.read.now n c.push_number.new.self c.if-block.runs.items) next (record {
+      codes_are = codes-block c.block_of-block.ensures c.loop-j.bases c.push_number.new.self before.codes_are
+          c.in_ok-push_number.ensures;
       gaps = elim c.if-block.branch [
         | then-block+in_ok-mark_gaps w ↦
             subst (λ (rs : List Run). AreGaps c.args.rule.now c.args.read.now (c.loop-j.j * 32 + c.min-taken.result) rs) (sym (ap (λ v. v.items) w.runs-is))

@@ -1,7 +1,9 @@
-use Rattle.std.proofs.Common.{◌≡◌, ℕ, List, length, filter, nat_lt, ap, sym, ◌∙◌, subst, arith}
+use Rattle.std.proofs.Common.{◌≡◌, ℕ, List, length, filter, nat_lt, ap, sym, ◌∙◌, subst, arith, rules}
 use Rattle.std.proofs.lemmas.Result.{err_from_is_err_and}
 use Rattle.kc_share.specs.Share.{ShareSeen, entry_total_in}
-use Rattle.kc_run.proofs.EntryLemmas.{no_entries}
+use Rattle.kc_booking.specs.Setup.{stripe_count}
+use Rattle.kc_run.proofs.EntryLemmas.{HaveMoreIn-round, no_entries}
+use Rattle.kc_run.proofs.FaultLemmas.{fault_of_more}
 use Rattle.kc_run.specs.Runs.{IsWorkerFault}
 use Rattle.kc_run.proofs.worker.Worker.work.Goals as goal
 
@@ -20,13 +22,14 @@ loop-drawn-init g c =
 pub loop-drawn-preserved : goal.loop-drawn-preserved
 loop-drawn-preserved g c =
     let i = c.loop-drawn.invariant in
+    let stripes : c.stripes-stripes.result ≡ stripe_count c.args.job.now.stripes.now.setup = search rules in
     let same : c.draw_batches.new.self.share ≡ c.loop-drawn.self.share = c.draw_batches.ensures.share ∙ c.draw.ensures.share in
     record {
       own = c.draw_batches.ensures.own;
-      one_part = c.book_round.ensures.kept.0 ∙ ap (λ (share : ShareSeen). share.parts) same ∙ i.one_part;
-      same_plan = c.book_round.ensures.kept.1 ∙ ap (λ (share : ShareSeen). share.plan) same ∙ i.same_plan;
+      one_part = c.book_range-in-Some.ensures.kept.0 ∙ c.book_range.ensures.kept.0 ∙ ap (λ (share : ShareSeen). share.parts) same ∙ i.one_part;
+      same_plan = c.book_range-in-Some.ensures.kept.1 ∙ c.book_range.ensures.kept.1 ∙ ap (λ (share : ShareSeen). share.plan) same ∙ i.same_plan;
       booked = λ stripe less.
-          let more = c.in_ok-book_round.ensures.booked stripe (omega (arith, less, c.requires.job.stripes)) in
+          let more = HaveMoreIn-round c.in_ok-book_range.ensures.booked c.in_ok-book_range-2.ensures.booked stripe (omega (arith, less, stripes, c.requires.job.stripes)) in
           let before = ap (λ (share : ShareSeen). entry_total_in stripe share.booked) same in
           let long = ap length c.deref-in-Some.ensures.value in
           omega (arith, more, before, long, i.booked stripe less, c.in-Some.ensures.answered.0, c.in_ok-batches.ensures.answered);
@@ -42,8 +45,17 @@ returns-in_err-cuts-clause-refused g c =
     let p = err_from_is_err_and c.from_residual-in_err-cuts.result c.from_residual-in_err-cuts.ensures.1 in
     rw (p.1, p.2) tt
 
-pub returns-in_err-book_round-clause-refused : goal.returns-in_err-book_round-clause-refused
-returns-in_err-book_round-clause-refused g c =
-    let p = err_from_is_err_and c.from_residual-in_err-book_round.result c.from_residual-in_err-book_round.ensures.1 in
+pub returns-in_err-book_range-clause-refused : goal.returns-in_err-book_range-clause-refused
+returns-in_err-book_range-clause-refused g c =
+    let p = err_from_is_err_and c.from_residual-in_err-book_range.result c.from_residual-in_err-book_range.ensures.1 in
+    let stripes : c.stripes-stripes.result ≡ stripe_count c.args.job.now.stripes.now.setup = search rules in
     rw (p.1, p.2)
-    (subst (λ n. IsWorkerFault n c.in_err-book_round.field-0.0) (sym c.requires.job.stripes) c.in_err-book_round.ensures.refused)
+    (subst (λ n. IsWorkerFault n c.in_err-book_range.field-0.0) (stripes ∙ sym c.requires.job.stripes) c.in_err-book_range.ensures.refused)
+
+pub returns-in_err-book_range-2-clause-refused : goal.returns-in_err-book_range-2-clause-refused
+returns-in_err-book_range-2-clause-refused g c =
+    let p = err_from_is_err_and c.from_residual-in_err-book_range-2.result c.from_residual-in_err-book_range-2.ensures.1 in
+    let stripes : c.stripes-stripes.result ≡ stripe_count c.args.job.now.stripes.now.setup = search rules in
+    rw (p.1, p.2)
+    (fault_of_more c.first_stripe-first.result c.args.job.now.plan.stripes c.in_err-book_range-2.field-0.0
+    (omega (arith, c.first_stripe-first.ensures.below, stripes, c.requires.job.stripes)) c.in_err-book_range-2.ensures.refused)

@@ -1,66 +1,66 @@
 use Rattle.std.proofs.Common.{◌≡◌, ◌<◌, ◌≤◌, ◌∙◌, ◌+◌, ◌*◌, ◌/◌, ◌%◌, ◌^◌, ap, length, arith, subst, sym, refl, set}
 use Rattle.kc_table.specs.Packing.{Packed}
 use Rattle.kc_table.specs.Slot.{tag_at}
-use Rattle.kc_table.proofs.SlotWords.{word_there, word_put_fits, slot_put, place_of, Write, IsWrite, written}
-use Rattle.kc_table.proofs.SlotWords.{written_packed}
-use Rattle.kc_table.proofs.SlotWords.{no_high_bits}
+use Rattle.kc_table.proofs.SlotNumbers.{number_there, number_put_fits, slot_put, place_of, Write, IsWrite, written}
+use Rattle.kc_table.proofs.SlotNumbers.{written_packed}
+use Rattle.kc_table.proofs.SlotNumbers.{no_high_bits}
 use Rattle.kc_table.proofs.packed_slots.PackedSlots.put.Goals as goal
 
-pub overflow_add-to_word : goal.overflow_add-to_word
-overflow_add-to_word c =
+pub overflow_add-to_number : goal.overflow_add-to_number
+overflow_add-to_number c =
     let fits : c.args.tag * 2 ^ c.self.inside.low < 2 ^ 64 =
     subst (λ (p : Packed). c.args.tag * 2 ^ p.low < 2 ^ 64) (sym c.self.view_is) c.requires.fits in
     let sum : c.args.tag * 2 ^ c.self.inside.low + c.args.count % 2 ^ c.self.inside.low < 2 ^ 64 =
-    word_put_fits c.self.inside.low c.args.tag c.args.count c.self.invariant.few_low fits in
-    omega (arith, c.to_word.ensures, c.low_bits.ensures)
+    number_put_fits c.self.inside.low c.args.tag c.args.count c.self.invariant.few_low fits in
+    omega (arith, c.to_number.ensures, c.low_bits.ensures)
 
 pub index_mut-requires : goal.index_mut-requires
 index_mut-requires c =
-    let below : c.args.index < length c.self.inside.words.items =
-    word_there _ _ _ _ _ c.self.view_is c.requires.in_range in
-    omega (arith, c.self.inside.words.ok.0)
+    let below : c.args.index < length c.self.inside.numbers.items =
+    number_there _ _ _ _ _ c.self.view_is c.requires.in_range in
+    omega (arith, c.self.inside.numbers.ok.0)
 
 pub set_high_bits-requires : goal.set_high_bits-requires
 set_high_bits-requires c =
-    let below : c.args.index < length c.self.inside.words.items =
-    word_there _ _ _ _ _ c.self.view_is c.requires.in_range in
+    let below : c.args.index < length c.self.inside.numbers.items =
+    number_there _ _ _ _ _ c.self.view_is c.requires.in_range in
     omega (arith, c.self.invariant.roomy)
 
 pub invariant_of-self : goal.invariant_of-self
 invariant_of-self c =
-    let p = place_of c.self.inside.low c.self.inside.words.items c.self.inside.high.items c.args.index in
-    let below : c.args.index < length c.self.inside.words.items =
-    word_there _ _ _ _ _ c.self.view_is c.requires.in_range in
+    let p = place_of c.self.inside.low c.self.inside.numbers.items c.self.inside.high.items c.args.index in
+    let below : c.args.index < length c.self.inside.numbers.items =
+    number_there _ _ _ _ _ c.self.view_is c.requires.in_range in
     let put : Write = record {
       place = p;
-      word = c.to_word.result + c.low_bits.result;
+      number = c.to_number.result + c.low_bits.result;
       after = c.set_high_bits.new.high.items;
       slot = record { tag = c.args.tag; count = c.args.count };
     } in
     let is : IsWrite put = record {
       below = below;
-      here = slot_put p.low c.args.tag c.args.count _ _ (omega (arith, c.to_word.ensures, c.low_bits.ensures))
+      here = slot_put p.low c.args.tag c.args.count _ _ (omega (arith, c.to_number.ensures, c.low_bits.ensures))
           c.set_high_bits.ensures.here;
       others = c.set_high_bits.ensures.others;
     } in
-    let within : length c.self.inside.high.items ≤ length c.self.inside.words.items = c.self.invariant.within in
+    let within : length c.self.inside.high.items ≤ length c.self.inside.numbers.items = c.self.invariant.within in
     written_packed put is _ _ c.self.invariant c.set_high_bits.ensures.room (omega (arith, c.set_high_bits.ensures.reach))
     c.requires.some c.ranges.count.fits
 
 pub returns-then-high-gt0-clause-put : goal.returns-then-high-gt0-clause-put
 returns-then-high-gt0-clause-put c =
-    let p = place_of c.self.inside.low c.self.inside.words.items c.self.inside.high.items c.args.index in
-    let below : c.args.index < length c.self.inside.words.items =
-    word_there _ _ _ _ _ c.self.view_is c.requires.in_range in
+    let p = place_of c.self.inside.low c.self.inside.numbers.items c.self.inside.high.items c.args.index in
+    let below : c.args.index < length c.self.inside.numbers.items =
+    number_there _ _ _ _ _ c.self.view_is c.requires.in_range in
     let put : Write = record {
       place = p;
-      word = c.to_word.result + c.low_bits.result;
+      number = c.to_number.result + c.low_bits.result;
       after = c.set_high_bits.new.high.items;
       slot = record { tag = c.args.tag; count = c.args.count };
     } in
     let is : IsWrite put = record {
       below = below;
-      here = slot_put p.low c.args.tag c.args.count _ _ (omega (arith, c.to_word.ensures, c.low_bits.ensures))
+      here = slot_put p.low c.args.tag c.args.count _ _ (omega (arith, c.to_number.ensures, c.low_bits.ensures))
           c.set_high_bits.ensures.here;
       others = c.set_high_bits.ensures.others;
     } in
@@ -68,13 +68,13 @@ returns-then-high-gt0-clause-put c =
 
 pub invariant_of-self-else-high-gt0 : goal.invariant_of-self-else-high-gt0
 invariant_of-self-else-high-gt0 c =
-    let p = place_of c.self.inside.low c.self.inside.words.items c.self.inside.high.items c.args.index in
-    let below : c.args.index < length c.self.inside.words.items =
-    word_there _ _ _ _ _ c.self.view_is c.requires.in_range in
+    let p = place_of c.self.inside.low c.self.inside.numbers.items c.self.inside.high.items c.args.index in
+    let below : c.args.index < length c.self.inside.numbers.items =
+    number_there _ _ _ _ _ c.self.view_is c.requires.in_range in
     let none : c.args.count / 2 ^ p.low ≡ 0 = omega arith in
     let put : Write = record {
       place = p;
-      word = c.to_word.result + c.low_bits.result;
+      number = c.to_number.result + c.low_bits.result;
       after = p.high;
       slot = record { tag = c.args.tag; count = c.args.count };
     } in
@@ -83,7 +83,7 @@ invariant_of-self-else-high-gt0 c =
     (ap (λ (s : Packed). tag_at s.items c.args.index) c.self.view_is ∙ c.requires.empty) in
     let is : IsWrite put = record {
       below = below;
-      here = slot_put p.low c.args.tag c.args.count _ _ (omega (arith, c.to_word.ensures, c.low_bits.ensures))
+      here = slot_put p.low c.args.tag c.args.count _ _ (omega (arith, c.to_number.ensures, c.low_bits.ensures))
           (no_high_bits p.low c.args.index _ _ below empty ∙ sym none);
       others = λ i apart. refl;
     } in
@@ -91,13 +91,13 @@ invariant_of-self-else-high-gt0 c =
 
 pub returns-else-high-gt0-clause-put : goal.returns-else-high-gt0-clause-put
 returns-else-high-gt0-clause-put c =
-    let p = place_of c.self.inside.low c.self.inside.words.items c.self.inside.high.items c.args.index in
-    let below : c.args.index < length c.self.inside.words.items =
-    word_there _ _ _ _ _ c.self.view_is c.requires.in_range in
+    let p = place_of c.self.inside.low c.self.inside.numbers.items c.self.inside.high.items c.args.index in
+    let below : c.args.index < length c.self.inside.numbers.items =
+    number_there _ _ _ _ _ c.self.view_is c.requires.in_range in
     let none : c.args.count / 2 ^ p.low ≡ 0 = omega arith in
     let put : Write = record {
       place = p;
-      word = c.to_word.result + c.low_bits.result;
+      number = c.to_number.result + c.low_bits.result;
       after = p.high;
       slot = record { tag = c.args.tag; count = c.args.count };
     } in
@@ -106,7 +106,7 @@ returns-else-high-gt0-clause-put c =
     (ap (λ (s : Packed). tag_at s.items c.args.index) c.self.view_is ∙ c.requires.empty) in
     let is : IsWrite put = record {
       below = below;
-      here = slot_put p.low c.args.tag c.args.count _ _ (omega (arith, c.to_word.ensures, c.low_bits.ensures))
+      here = slot_put p.low c.args.tag c.args.count _ _ (omega (arith, c.to_number.ensures, c.low_bits.ensures))
           (no_high_bits p.low c.args.index _ _ below empty ∙ sym none);
       others = λ i apart. refl;
     } in

@@ -1,6 +1,6 @@
 use Rattle.std.proofs.Common.{◌≡◌, [], ap, ◌∙◌, arith}
 use Rattle.std.proofs.lemmas.List.Elements.{All-push, All-same}
-use Rattle.kc_tickets.specs.Tickets.{Drawer, IsSeatOf}
+use Rattle.kc_tickets.specs.Tickets.{SeatSeen, IsSeatOf}
 use Rattle.kc_tickets.proofs.tickets.Tickets.seats_of.Goals as goal
 
 pub loop-preserved : goal.loop-preserved
@@ -17,6 +17,6 @@ loop-preserved c =
       no_slots = ap (λ me. me.1) left.1;
       own = All-same (IsSeatOf c.args.self.now) c.push.new.self.items _ items
           (All-push (IsSeatOf c.args.self.now) c.loop.row.items c.split_off.result i.own c.split_off.ensures.own);
-      fresh = All-same (λ (seat : Drawer). seat.drawn ≡ []) c.push.new.self.items _ items
-          (All-push (λ (seat : Drawer). seat.drawn ≡ []) c.loop.row.items c.split_off.result i.fresh c.split_off.ensures.fresh);
+      fresh = All-same (λ (seat : SeatSeen). seat.drawn ≡ []) c.push.new.self.items _ items
+          (All-push (λ (seat : SeatSeen). seat.drawn ≡ []) c.loop.row.items c.split_off.result i.fresh c.split_off.ensures.fresh);
     }

@@ -1,6 +1,6 @@
 use Rattle.std.proofs.Common.{◌≡◌, [], ◌+◌, length}
 use Rattle.std.specs.Prelude.{All}
-use Rattle.kc_tickets.specs.Tickets.{Drawer, IsSeatOf}
+use Rattle.kc_tickets.specs.Tickets.{SeatSeen, IsSeatOf}
 use Rattle.kc_tickets.proofs.tickets.Tickets.seats_of.Given as goal
 
 abbrev pub invariant-loop : goal.invariant-loop
@@ -12,5 +12,5 @@ invariant-loop l = record {
   none_drawn : l.first.me.0.drawn ≡ [];
   no_slots : l.first.me.1 ≡ [];
   own : All (IsSeatOf l.self) l.row.items;
-  fresh : All (λ (seat : Drawer). seat.drawn ≡ []) l.row.items;
+  fresh : All (λ (seat : SeatSeen). seat.drawn ≡ []) l.row.items;
 }

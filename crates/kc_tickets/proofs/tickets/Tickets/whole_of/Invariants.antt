@@ -2,7 +2,7 @@ use Rattle.std.proofs.Common.{◌≡◌, ◌+◌, ◌<◌, ◌++◌, length, vec
 use Rattle.std.specs.Prelude.{All}
 use Rattle.std.specs.List.{flat_map}
 use Rattle.std.specs.List.Sorted.{IsPermutation}
-use Rattle.kc_tickets.specs.Tickets.{Drawer, IsSeatOf}
+use Rattle.kc_tickets.specs.Tickets.{SeatSeen, IsSeatOf}
 use Rattle.kc_tickets.proofs.tickets.Tickets.whole_of.Given as goal
 
 abbrev pub invariant-loop-seat : goal.invariant-loop-seat
@@ -11,7 +11,7 @@ invariant-loop-seat l = record {
   own : All (IsSeatOf l.self) l.seats.items;
   heavy : 0 < l.whole.me.0.weight;
   weight : l.whole.me.0.weight + length l.seats.items ≡ l.self.seats;
-  drawn : IsPermutation (flat_map (λ (seat : Drawer). seat.drawn) l.fn.seats.items) (flat_map (λ (seat : Drawer). seat.drawn) l.seats.items ++ l.whole.me.0.drawn);
+  drawn : IsPermutation (flat_map (λ (seat : SeatSeen). seat.drawn) l.fn.seats.items) (flat_map (λ (seat : SeatSeen). seat.drawn) l.seats.items ++ l.whole.me.0.drawn);
 }
 
 abbrev pub decreases-loop-seat : goal.decreases-loop-seat

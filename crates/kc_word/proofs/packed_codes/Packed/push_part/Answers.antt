@@ -25,10 +25,10 @@ loop-j-preserved c =
       now = c.loop-j.self;
       next = c.push_codes.new.self;
       count = c.min.result;
-      word = c.window-word.result;
+      number = c.window-number.result;
       next_is = c.in_ok-push_codes.ensures;
       fits = (omega (arith, count), omega (arith, test, end, count, within, ordered));
-      window = c.window-word.ensures;
+      window = c.window-number.ensures;
     })
     (subst (IsAppended c.args.self.now c.loop-j.self c.args.other.now c.args.from) taken c.loop-j.invariant))
 

@@ -22,7 +22,7 @@ overflow_add-forward c =
     let value = c.get-k.ensures.value ∙ c.k.ensures in
     let most = c.get-k.ensures.fits in
     let small = forward-fits c.args.self.rule.k _ c.loop-i.forward _ _ (omega (arith, same, value, most)) c.loop-i.invariant.walking.rolled in
-    let digit = and_le_r (c.take_bases-stretch.result.word / 2 ^ (62 - 2 * c.loop-i.i)) 3 in
+    let digit = and_le_r (c.take_bases-stretch.result.number / 2 ^ (62 - 2 * c.loop-i.i)) 3 in
     omega (arith, small, digit)
 
 pub overflow_add-backward : goal.overflow_add-backward
@@ -31,7 +31,7 @@ overflow_add-backward c =
     let value = c.get-k.ensures.value ∙ c.k.ensures in
     let some = c.get-k.ensures.some in
     let most = c.get-k.ensures.fits in
-    let small = backward-fits c.args.self.rule.k (bit_and (c.take_bases-stretch.result.word / 2 ^ (62 - 2 * c.loop-i.i)) 3) c.get-k.result (value ∙ same)
+    let small = backward-fits c.args.self.rule.k (bit_and (c.take_bases-stretch.result.number / 2 ^ (62 - 2 * c.loop-i.i)) 3) c.get-k.result (value ∙ same)
     (omega (arith, same, value, some)) (omega (arith, same, value, most)) c.loop-i.invariant.walking.rolled in
     omega (arith, small)
 
@@ -43,11 +43,11 @@ loop-i-preserved c =
     let most = c.get-k.ensures.fits in
     let test = c.loop-i-test.true in
     let step : StretchStep c.args.self.rule c.args.self.bytes c.args.self.taken c.loop-i.i
-    (bit_and (c.take_bases-stretch.result.word / 2 ^ (62 - 2 * c.loop-i.i)) 3) c.args.words.now.items c.loop-i.words.items = record {
+    (bit_and (c.take_bases-stretch.result.number / 2 ^ (62 - 2 * c.loop-i.i)) 3) c.args.words.now.items c.loop-i.words.items = record {
       forward = c.loop-i.forward;
       backward = c.loop-i.backward;
       run = c.loop-i.run;
-      found = code_in c.take_bases-stretch.result.word c.loop-i.i;
+      found = code_in c.take_bases-stretch.result.number c.loop-i.i;
       bases = c.get-k.result;
       bases_are = value ∙ same;
       some = omega (arith, same, value, some);
@@ -60,7 +60,7 @@ loop-i-preserved c =
       found_is = c.take_bases-stretch.ensures.codes c.loop-i.i test
           ∙ ap (λ w. cond (is_base (to_ascii_uppercase (get_or w.bytes (w.taken + c.loop-i.i) 0))) (code (to_ascii_uppercase (get_or w.bytes (w.taken + c.loop-i.i) 0))) 4)
           c.self.view_is;
-      digit_is = and_mask (c.take_bases-stretch.result.word / 2 ^ (62 - 2 * c.loop-i.i)) 2;
+      digit_is = and_mask (c.take_bases-stretch.result.number / 2 ^ (62 - 2 * c.loop-i.i)) 2;
       stretched = c.loop-i.invariant;
     } in
     elim c.if-run-k.branch [

@@ -12,7 +12,7 @@ use Rattle.kc_booking.specs.Stripe.{IsKept, NumbersDiffer, KnowsNumbers}
 use Rattle.kc_booking.proofs.Lawful.{IsLawful-from, was_full}
 use Rattle.kc_booking.proofs.PartOrder.{count_by-ordered, length-ordered}
 use Rattle.kc_booking.proofs.RoundLemmas.{own_round_keys, own-keys-fit, ordered-keys-fit, CountsWords-all}
-use Rattle.kc_booking.proofs.stripe.Stripe.book_all_checked.Goals as goal
+use Rattle.kc_booking.proofs.stripe.Stripe.count_all_checked.Goals as goal
 
 pub by_parts-requires : goal.by_parts-requires
 by_parts-requires g c =

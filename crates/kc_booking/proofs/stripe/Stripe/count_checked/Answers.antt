@@ -9,7 +9,7 @@ use Rattle.kc_booking.specs.Cut.{keys_of, cut_at}
 use Rattle.kc_booking.specs.Counted.{SomeMayBeFull}
 use Rattle.kc_booking.specs.Stripe.{IsKept, IsBooked, KnowsNumbers}
 use Rattle.kc_booking.proofs.Lawful.{IsLawful-from, CountsWords-more, keys-fit, numbers_differ-more, own_keys, was_full}
-use Rattle.kc_booking.proofs.stripe.Stripe.book_checked.Goals as goal
+use Rattle.kc_booking.proofs.stripe.Stripe.count_checked.Goals as goal
 
 pub ready_all-requires : goal.ready_all-requires
 ready_all-requires g c =

@@ -9,19 +9,19 @@ use Rattle.kc_run.specs.declared.worker.Worker.{Worker}
 use Rattle.kc_booking.specs.Setup.{stripe_count}
 use Rattle.kc_run.proofs.CrewLemmas.{fresh_seats}
 use Rattle.kc_run.proofs.GatheringLemmas.{journals_counted}
-use Rattle.kc_run.proofs.whole_run.counted_by_name.Goals as goal
+use Rattle.kc_run.proofs.whole_run.counted.Goals as goal
 
 pub work_all-requires-clause-ready : goal.work_all-requires-clause-ready
 work_all-requires-clause-ready g c κs within =
     let count = c.args.count.now in
-    let roll = c.in_ok-tickets.tickets in
+    let tickets = c.in_ok-tickets.tickets in
     let made = c.in_ok-tickets.ensures in
     let stripes : c.from.result ≡ stripe_count count.setup.now = search rules in
     let workers : c.from-2.result ≡ count.workers = search rules in
     let same : plan_of (stripe_count count.setup.now) count.workers ≡ plan_of c.from.result c.from-2.result = sym (λ i. plan_of (stripes i) (workers i)) in
-    subst (λ (p : Plan). All (λ (worker : Worker g.row.N.Denot). IsReady roll p worker.seat worker.share) c.in_ok-ready.ready.items)
+    subst (λ (p : Plan). All (λ (worker : Worker g.row.N.Denot). IsReady tickets p worker.seat worker.share) c.in_ok-ready.ready.items)
     (ap (λ (s : ShareSeen). s.plan) c.in_ok-stripes.ensures.share ∙ c.requires.plan ∙ same)
-    (c.in_ok-ready.ensures.ready roll (fresh_seats roll c.in_ok-tickets.seats.items made.own made.fresh))
+    (c.in_ok-ready.ensures.ready tickets (fresh_seats tickets c.in_ok-tickets.seats.items made.own made.fresh))
 
 pub close-requires-clause-own : goal.close-requires-clause-own
 close-requires-clause-own g c =

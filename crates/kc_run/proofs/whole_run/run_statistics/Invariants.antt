@@ -1,0 +1,4 @@
+use Rattle.kc_run.proofs.whole_run.run_statistics.Given as goal
+
+abbrev pub ghosts-counted : goal.ghosts-counted
+ghosts-counted g a = record { table = a.sheet.table }
