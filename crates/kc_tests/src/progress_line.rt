@@ -302,14 +302,13 @@ impl Write for Behind<'_> {
     }
 }
 
-// A command line, its input, and what it writes to the output and to the errors; how many bytes are told, how many
-// batches, and how many ends.
+// A command line, its input, and what it writes to the output and to the errors; how many bytes are told, and how many
+// batches.
 type Run = (
     &'static str,
     &'static str,
     &'static str,
     &'static str,
-    u64,
     u64,
     u64,
 );
@@ -322,9 +321,8 @@ const RUNS: &[Run] = &[
         "",
         9,
         3,
-        1,
     ),
-    ("count -m 3 --print dump --column", "", "", "", 0, 0, 1),
+    ("count -m 3 --print dump --column", "", "", "", 0, 0),
     (
         "count -m 3",
         ">r\nA@C\n",
@@ -333,14 +331,12 @@ const RUNS: &[Run] = &[
         // bytes are told with the reads that they say
         0,
         0,
-        1,
     ),
     (
         "dump -c",
         "KCT 2 3 s a 33 1\nACG 1\nEND 1 1\n",
         "ACG 1\n",
         "",
-        0,
         0,
         0,
     ),
@@ -357,12 +353,12 @@ fn writer_behind(alloc: Global, heard: &Heard) -> Behind<'_> {
 
 // Asserts what was written and told of a run.
 fn assert_heard<H: Abort>(rt: &H, written: &Behind<'_>, told: &Behind<'_>, run: &Run) {
-    let (line, _, output, errors, bytes, batches, ends) = run;
+    let (line, _, output, errors, bytes, batches) = run;
     assert_bytes(rt, *line, &written.taken, output.as_bytes());
     assert_bytes(rt, *line, &told.taken, errors.as_bytes());
-    let want = [*bytes, *batches, *batches, *batches, *ends, 0];
+    let want = [*bytes, *batches, *batches, *batches, 1, 0];
     assert_same(rt, *line, &written.heard.numbers(), &want);
-    let is_behind = *ends == 0 || (written.is_behind && told.is_behind);
+    let is_behind = written.is_behind && told.is_behind;
     assert_same(rt, *line, &is_behind, &true);
 }
 
@@ -389,7 +385,8 @@ fn assert_run<H: Files + Threads + Wait + Abort + Sync + AllocGlobal>(
     Ok(())
 }
 
-// The bytes of all sources and each batch are told, and then the end, before anything is written.
+// The bytes of all sources and each batch are told, and then the end, once and before anything is written. A command
+// that reads a table tells the end alone.
 #[test]
 fn a_count_tells_its_bytes_and_batches(rt: HostRuntime) -> Result<(), AllocError> {
     for run in RUNS {

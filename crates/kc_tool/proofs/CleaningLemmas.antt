@@ -14,7 +14,7 @@ use Rattle.kc_word.specs.OpenCutting.{OpenCutting, HasTaken}
 use Rattle.kc_kmer.specs.Rule.{CountingRule}
 use Rattle.kc_word.proofs.Cleaning.{length-cleaned}
 use Rattle.kc_tool.specs.Tallies.{CutsNext, CutsNone, CutsSources, FailsAt, RefusesSource, RefusesSources, TakesPiece, pieces_of}
-use Rattle.kc_tool.specs.declared.counted_sources.CutReads.{CutReads}
+use Rattle.kc_tool.specs.declared.counted_sources.ReadsInCutting.{ReadsInCutting}
 use Rattle.kc_tool.specs.declared.tool_faults.ToolFault.{ToolFault}
 use Rattle.kc_tool.specs.declared.tool_faults.ToolFault.TheVariants.{Fastx, BadHeader, BadRow, BadEnd, TableTooLong}
 use Rattle.kc_tool.specs.declared.tool_faults.ToolFault.TheVariants.{TableRead, Memory, BadOption, BadWord, Write, Run}
@@ -34,7 +34,7 @@ letters rule (read ∷ reads) =
     pieces ∙ omega (arith, length-cleaned rule read, letters rule reads, bases)
 
 -- The sources before this one were read, and their reads cleaned and cut.
-pub record CutSoFar (old new : List Seen) (rule : CountingRule) (batch : ℕ) (cut : CutReads) : Type 0 where
+pub record CutSoFar (old new : List Seen) (rule : CountingRule) (batch : ℕ) (cut : ReadsInCutting) : Type 0 where
   pub reads : List Read
   pub so_far : ReadSoFar old new reads cut.left cut.sources
   pub length_of_words : cut.cutting.k ≡ rule.k
@@ -43,8 +43,8 @@ pub record CutSoFar (old new : List Seen) (rule : CountingRule) (batch : ℕ) (c
   pub counted : cut.reads ≡ length reads
   pub few : cut.reads + cut.left ≤ most_bytes
 
-pub cutting_begun : (sources : List Seen) {rule : CountingRule} {batch : ℕ} {cut : CutReads} → CutsNone rule batch cut
-    → CutSoFar sources sources rule batch cut
+pub cutting_begun : (sources : List Seen) {rule : CountingRule} {batch : ℕ} {cut : ReadsInCutting}
+    → CutsNone rule batch cut → CutSoFar sources sources rule batch cut
 cutting_begun sources {cut = cut} is = record {
   reads = [];
   so_far = subst (λ n. ReadSoFar sources sources [] n cut.sources) (sym is.left)
@@ -57,7 +57,7 @@ cutting_begun sources {cut = cut} is = record {
 }
 
 -- The next source's pieces were cut.
-pub one_more_cut : {old new : List Seen} {rule : CountingRule} {batch : ℕ} (d later : Seen) {cut after : CutReads}
+pub one_more_cut : {old new : List Seen} {rule : CountingRule} {batch : ℕ} (d later : Seen) {cut after : ReadsInCutting}
     → CutSoFar old new rule batch cut → cut.sources < length new
     → CutsNext (get_or new cut.sources d) later rule cut after → CutSoFar old (set new cut.sources later) rule batch after
 one_more_cut {old = old} {new = new} {rule = rule} d later {cut} {after} r within next =
@@ -79,7 +79,7 @@ one_more_cut {old = old} {new = new} {rule = rule} d later {cut} {after} r withi
     }
 
 -- The next source was refused.
-pub refused_cleaning : {old new : List Seen} {rule : CountingRule} {batch : ℕ} (d later : Seen) {cut : CutReads}
+pub refused_cleaning : {old new : List Seen} {rule : CountingRule} {batch : ℕ} (d later : Seen) {cut : ReadsInCutting}
     (fault : ToolFault) → CutSoFar old new rule batch cut → cut.sources < length new
     → RefusesSource (get_or new cut.sources d) later (cut.sources + 1) cut.left fault
     → RefusesSources old (set new cut.sources later) fault
@@ -101,7 +101,7 @@ refused_cleaning d later TooLarge r within h = absurd h
 
 -- The same, where the sources are seen by `see`, and this one is replaced in their list.
 module _ {X : Type 0} (see : X → Seen) (xs : List X) {i : ℕ} (x y : X) (is : x ≡ get_or xs i x) (within : i < length xs)
-    {old : List Seen} {rule : CountingRule} {batch : ℕ} {cut : CutReads} (counted : cut.sources ≡ i)
+    {old : List Seen} {rule : CountingRule} {batch : ℕ} {cut : ReadsInCutting} (counted : cut.sources ≡ i)
     (r : CutSoFar old (map see xs) rule batch cut) where
   here : see x ≡ get_or (map see xs) cut.sources (see x)
   here = ap see is ∙ sym (get_or-map see xs i x (see x) within) ∙ ap (λ n. get_or (map see xs) n (see x)) (sym counted)
@@ -112,7 +112,7 @@ module _ {X : Type 0} (see : X → Seen) (xs : List X) {i : ℕ} (x y : X) (is :
   replaced : set (map see xs) cut.sources (see y) ≡ map see (set xs i y)
   replaced = ap (λ n. set (map see xs) n (see y)) counted ∙ sym (map-set see xs i y)
 
-  pub one_more_kept : {after : CutReads} → CutsNext (see x) (see y) rule cut after
+  pub one_more_kept : {after : ReadsInCutting} → CutsNext (see x) (see y) rule cut after
       → CutSoFar old (map see (set xs i y)) rule batch after
   one_more_kept {after} next =
       subst (λ v. CutSoFar old v rule batch after) replaced
@@ -125,8 +125,8 @@ module _ {X : Type 0} (see : X → Seen) (xs : List X) {i : ℕ} (x y : X) (is :
       (refused_cleaning (see x) (see y) fault r below (subst (λ v. RefusesSource v (see y) (cut.sources + 1) cut.left fault) here h))
 
 -- All sources were read.
-pub all_cut : {old new : List Seen} {rule : CountingRule} {batch : ℕ} {cut : CutReads} → CutSoFar old new rule batch cut
-    → length new ≤ cut.sources → CutsSources old new rule batch cut.cutting cut.reads
+pub all_cut : {old new : List Seen} {rule : CountingRule} {batch : ℕ} {cut : ReadsInCutting}
+    → CutSoFar old new rule batch cut → length new ≤ cut.sources → CutsSources old new rule batch cut.cutting cut.reads
 all_cut {old} {new} {rule = rule} {cut = cut} r all = record {
   reads = r.reads;
   are = ended old new r.reads cut.left cut.sources r.so_far all;
@@ -141,8 +141,8 @@ all_cut {old} {new} {rule = rule} {cut = cut} r all = record {
 }
 
 -- One source alone was read, and its pieces were cut; or it was refused.
-module _ (old new : Seen) {rule : CountingRule} {batch : ℕ} {cut : CutReads} (is : CutsNone rule batch cut) where
-  pub one_cut : {after : CutReads} → CutsNext old new rule cut after
+module _ (old new : Seen) {rule : CountingRule} {batch : ℕ} {cut : ReadsInCutting} (is : CutsNone rule batch cut) where
+  pub one_cut : {after : ReadsInCutting} → CutsNext old new rule cut after
       → CutsSources (old ∷ []) (new ∷ []) rule batch after.cutting after.reads
   one_cut {after} next =
       all_cut (one_more_kept (λ seen. seen) (old ∷ []) {i = 0} old new refl (omega arith) is.sources

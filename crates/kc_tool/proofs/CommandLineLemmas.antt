@@ -1,6 +1,6 @@
 -- How a command line ends.
 use Rattle.std.proofs.Common.{◌≡◌, ◌≤◌, ◌∙◌, arith, ℕ, refl, sym, ap, subst, List, [], inl, inr, Option, Some, None, Result, Ok, Err, IfOk, IfErr, true}
-use Rattle.std.specs.Prelude.{option_map, Box}
+use Rattle.std.specs.Prelude.{option_map, Box, IsErrAnd, MatchResult}
 use Rattle.std.specs.Box.{box_value}
 use Rattle.clap.specs.declared.parser.matches.ArgMatches.TheViews.{out-ArgMatches, out-SubCommand}
 use Rattle.clap.specs.declared.parser.matches.SubCommand.{SubCommand}
@@ -13,7 +13,7 @@ use Rattle.clap.specs.declared.error.kind.ErrorKind.{ErrorKind}
 use Rattle.clap.specs.declared.error.kind.ErrorKind.TheVariants.{DisplayHelp, DisplayVersion, OutOfMemory}
 use Rattle.kc_io.specs.Sources.{Seen}
 use Rattle.kc_command.specs.Command.{IsCommand, kcount_app}
-use Rattle.kc_tool.specs.CommandLine.{AskForHelp, AreTaken, CarriesOut, DoesCommand, EndsRefused, EndsWell, FailsSo}
+use Rattle.kc_tool.specs.CommandLine.{AskForHelp, AreTaken, CarriesOut, DoesCommand, EndsWell, FailsSo}
 use Rattle.kc_tool.specs.CommandLine.{IsHelp, IsTold, ShowsSo, status_of}
 use Rattle.kc_tool.specs.FaultLines.{fault_line}
 use Rattle.kc_tool.specs.Process.{Ends}
@@ -119,6 +119,14 @@ command_done {arguments} {old} {new} {outcome} {matches} {name} {rows} {command}
     let command_is : command ≡ taken.command = same_verb (is ∙ ap verb_named name_is ∙ verb_found taken.command) in
     (taken.command, taken.options, taken.asked, subst (λ v. EndsSo v taken.options old new outcome) command_is (subst (λ v. EndsSo command v old new outcome) rows_are ends))
 
+-- what a command answers, its fault as the end of a command line
+pub command_ended : {arguments : List Text} {old new : Surroundings} (outcome : Result Told ToolFault) (r : Result Told Ending)
+    → MatchResult outcome (λ told. r ≡ Ok told) (λ fault. IsErrAnd r (λ ending. ending ≡ Fault fault)) → DoesCommand arguments old new outcome
+    → CarriesOut arguments old new r
+command_ended {arguments} {old} {new} (Ok told) r is done = subst (λ (r : Result Told Ending). CarriesOut arguments old new r) (sym is) (inl done)
+command_ended {arguments} {old} {new} (Err fault) (Ok told) is done = absurd is
+command_ended {arguments} {old} {new} (Err fault) (Err ending) is done = subst (λ (e : Ending). CarriesOut arguments old new (Err e)) (sym is) (inl done)
+
 -- the output alone may have changed
 abbrev with_output : Seen → List FileEvent → Written → Surroundings
 with_output input asked output = record { input = input; output = output; asked = asked }
@@ -205,6 +213,3 @@ module _ {arguments : List Text} {old new : Surroundings} {errors errors_after :
     refused = λ is. inl (record { fault = fault; exit = sym is ∙ exit; failed = failed; told = told });
     within = rw exit (small_status fault);
   }
-
-  pub ends_refused : EndsRefused arguments old new errors errors_after → Ends arguments old new errors errors_after 2
-  ends_refused refused = record { done = λ status. cc; fault = λ status. cc; refused = λ status. inr refused; within = omega arith }

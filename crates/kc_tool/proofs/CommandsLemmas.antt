@@ -1,5 +1,5 @@
 -- The commands and their tasks.
-use Rattle.std.proofs.Common.{◌≡◌, ◌≤◌, ◌∙◌, ◌++◌, Bool, Bor, List, [], ◌∷◌, Option, Some, None, length, map, take, refl, sym, ap, ap₂, subst, inl, inr, Result, Ok, Err, ℕ, true, false, arith}
+use Rattle.std.proofs.Common.{◌≡◌, ◌≤◌, ◌∙◌, ◌++◌, Bor, List, [], ◌∷◌, Option, Some, None, length, map, take, refl, sym, ap, ap₂, subst, inl, inr, Result, Ok, Err, ℕ, true, false, arith}
 use Rattle.std.proofs.Common.{append_assoc, append-nil}
 use Rattle.std.specs.Prelude.{◌==◌, ◌⊎◌, unwrap_or, All}
 use Rattle.std.proofs.lemmas.List.{length-map, nil_from_length}
@@ -8,12 +8,6 @@ use Rattle.clap.specs.Words.{Row, Text}
 use Rattle.kc_io.specs.History.{no_history}
 use Rattle.kc_io.specs.Sinks.{Written}
 use Rattle.kc_io.specs.Sources.{Seen}
-use Rattle.kc_report.specs.TableReading.{RefusesTable}
-use Rattle.kc_report.specs.Merging.{Merges}
-use Rattle.kc_report.specs.declared.report_faults.ReportFault.{ReportFault}
-use Rattle.kc_report.specs.declared.report_faults.ReportFault.TheVariants as report
-use Rattle.kc_select.specs.Solid.{SelectionRule}
-use Rattle.kc_tool.specs.Faults.{report_fault}
 use Rattle.kc_tool.specs.Tallies.{Given, TableSeen}
 use Rattle.kc_tool.specs.FileEvents.{FileEvent, created, not_created, opened, wrote}
 use Rattle.kc_tool.specs.NamedSources.{names_of, seen_of}
@@ -21,7 +15,7 @@ use Rattle.kc_tool.specs.Files.{AreOf, AreOpened, FailsToOpen, FileRead, LacksFi
 use Rattle.kc_tool.specs.Files.{files_named, given_back, openings, output_of, returned, unread}
 use Rattle.kc_tool.specs.Commands.{DoesByTally, IsAboutTally, Stage}
 use Rattle.kc_tool.specs.Selections.{Told}
-use Rattle.kc_tool.specs.Commands.{Answers, Does, HasFilesFor, HasNoTallyFor, IsTallyFor, TellNoSum, TellNoTable, behind_list, given_of, most_table_bytes, sources_from, sources_in}
+use Rattle.kc_tool.specs.Commands.{Answers, Does, HasFilesFor, IsTallyFor, behind_list, given_of, sources_from, sources_in}
 use Rattle.kc_tool.specs.Commands.{AsksForTask, DoesTaskInto, EndsSo, IsRefused, IsRefusedOption, KeepsInput, LacksOutput}
 use Rattle.kc_tool.specs.Commands.{Surroundings, files_of, first_refused, stage_after, stage_before}
 use Rattle.kc_tool.specs.declared.named_sources.NamedSource.{NamedSource}
@@ -32,7 +26,6 @@ use Rattle.kc_tool.specs.declared.commands.Task.TheVariants.{Count, CountListed,
 use Rattle.kc_tool.specs.declared.commands.Verb.{Verb}
 use Rattle.kc_tool.specs.declared.commands.Verb.TheVariants as verb
 use Rattle.kc_tool.proofs.FilesLemmas.{PairedTo, unread_back}
-use Rattle.kc_tool.proofs.SourcesLemmas.{not_counted}
 
 -- a task is done with sources that were opened, and they are given back
 pub record DoesTask (sources : List (NamedSource Seen)) (task : Task) (old new : Surroundings)
@@ -154,77 +147,7 @@ has_opened command rows task names {sources = sources} asks named opens =
     as_named task names sources opens.named
     (as_many task (map (λ (name : Bor Text). name.now) names) names many (has_files rows command task _ asks named))
 
--- No table is refused since a writer failed.
-no_write : (why : ReportFault) (source later : Seen) → RefusesTable source later most_table_bytes why → Write ≡ report_fault why → ⊥
-no_write report.BadHeader source later h e = cc
-no_write (report.BadRow line) source later h e = cc
-no_write report.BadEnd source later h e = cc
-no_write report.TableTooLong source later h e = cc
-no_write report.TableRead source later h e = cc
-no_write report.Memory source later h e = cc
-no_write (report.BadWord number) source later h e = cc
-no_write report.Write source later h e = h.2
-no_write report.Unlike source later h e = cc
-no_write report.TooLarge source later h e = cc
-
-told_table : (old new : List Seen) → TellNoTable old new Write → ⊥
-told_table (old ∷ []) (new ∷ []) h = no_write h.0 old new h.1 h.2
-told_table [] new h = h
-told_table (old ∷ other ∷ olds) new h = h
-told_table (old ∷ []) [] h = h
-told_table (old ∷ []) (new ∷ other ∷ news) h = h
-
--- Nor are two put together.
-no_sum : (why : ReportFault) (table other : TableSeen) → Merges table.0 other.0 table.1 other.1 (Err why) → Write ≡ report_fault why → ⊥
-no_sum report.BadHeader table other h e = cc
-no_sum (report.BadRow line) table other h e = cc
-no_sum report.BadEnd table other h e = cc
-no_sum report.TableTooLong table other h e = cc
-no_sum report.TableRead table other h e = cc
-no_sum report.Memory table other h e = cc
-no_sum (report.BadWord number) table other h e = cc
-no_sum report.Write table other h e = h
-no_sum report.Unlike table other h e = cc
-no_sum report.TooLarge table other h e = cc
-
-told_sum : (old new : List Seen) → TellNoSum old new Write → ⊥
-told_sum (first ∷ second ∷ []) (first_after ∷ second_after ∷ []) (inl h) = no_write h.0.0 first first_after h.0.1 h.0.2
-told_sum (first ∷ second ∷ []) (first_after ∷ second_after ∷ []) (inr (inl h)) = no_write h.2.0 second second_after h.2.1 h.2.2
-told_sum (first ∷ second ∷ []) (first_after ∷ second_after ∷ []) (inr (inr h)) = no_sum h.3.0 h.0 h.1 h.3.1 h.3.2
-told_sum [] new h = h
-told_sum (first ∷ []) new h = h
-told_sum (first ∷ second ∷ third ∷ olds) new h = h
-told_sum (first ∷ second ∷ []) [] h = h
-told_sum (first ∷ second ∷ []) (after ∷ []) h = h
-told_sum (first ∷ second ∷ []) (after ∷ other ∷ third ∷ news) h = h
-
-read_before : (task : Task) (old new : Given) → HasNoTallyFor old new task Write → ⊥
-read_before (Count settings) old new h = not_counted old new settings h
-read_before (CountListed settings) old new h = not_counted old new settings h
-read_before (Report report) old new h = told_table old.sources new.sources h
-read_before (Query words) old new h = told_table old.sources new.sources h
-read_before Merge old new h = told_sum old.sources new.sources h
-read_before (Select rule tells) old new h = h
-
 module _ (old new : Given) (task : Task) where
-  -- Without a tally nothing is written.
-  pub unanswered : (output : Written) (fault : ToolFault) → HasNoTallyFor old new task fault
-      → DoesByTally task (record { given = old; output = output }) (record { given = new; output = output }) (Err fault)
-  unanswered output Write h = absurd (read_before task old new h)
-  unanswered output (Fastx number fault) h = (refl, inl h)
-  unanswered output BadHeader h = (refl, inl h)
-  unanswered output (BadRow line) h = (refl, inl h)
-  unanswered output BadEnd h = (refl, inl h)
-  unanswered output TableTooLong h = (refl, inl h)
-  unanswered output TableRead h = (refl, inl h)
-  unanswered output Memory h = (refl, inl h)
-  unanswered output (BadOption name) h = (refl, inl h)
-  unanswered output (BadWord number) h = (refl, inl h)
-  unanswered output (Run fault) h = (refl, inl h)
-  unanswered output (OpenFailed name) h = (refl, inl h)
-  unanswered output Unlike h = (refl, inl h)
-  unanswered output TooLarge h = (refl, inl h)
-
   -- The answer about the tally was written, or a beginning of it, or nothing.
   pub answered : (before after : Written) (table : TableSeen) (outcome : Result (Unit {0}) ToolFault) → IsTallyFor old new task table
       → Answers task table before after outcome → DoesByTally task (record { given = old; output = before }) (record { given = new; output = after }) outcome
@@ -243,15 +166,6 @@ module _ (old new : Given) (task : Task) where
   answered before after table (Err (OpenFailed name)) is h = (h.0, inr (table, is, h.1))
   answered before after table (Err Unlike) is h = (h.0, inr (table, is, h.1))
   answered before after table (Err TooLarge) is h = (h.0, inr (table, is, h.1))
-
--- A task that is no selection is about a tally.
-pub not_selection : (task : Task) → ((rule : SelectionRule) (tells : Bool) → task ≡ Select rule tells → ⊥) → IsAboutTally task
-not_selection (Count settings) other = tt
-not_selection (CountListed settings) other = tt
-not_selection (Report report) other = tt
-not_selection (Query words) other = tt
-not_selection Merge other = tt
-not_selection (Select rule tells) other = other rule tells refl
 
 -- What a task does about a tally is what it does, where it is no selection, and it tells nothing.
 pub about_tally : (task : Task) (old new : Stage) → IsAboutTally task → DoesByTally task old new (Ok tt)

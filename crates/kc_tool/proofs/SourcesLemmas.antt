@@ -1,16 +1,22 @@
 -- Sources whose reads were cut, and what is counted of them, with a list and without one.
-use Rattle.std.proofs.Common.{◌≡◌, ◌≤◌, ◌∙◌, ℕ, List, [], ◌∷◌, refl, sym, ap, ap₂, subst, inl, inr}
+use Rattle.std.proofs.Common.{◌≡◌, ◌≤◌, ◌^◌, ◌∙◌, ℕ, List, [], ◌∷◌, length, refl, sym, ap, ap₂, subst, inl, inr}
 use Rattle.std.specs.Prelude.{Option, Some, None, is_some}
+use Rattle.std.specs.declared.alloc.Global.{Global}
+use Rattle.std.specs.declared.sync.Arc.{Arc}
+use Rattle.std.proofs.lemmas.List.{length-map}
 use Rattle.kc_io.specs.Sources.{Seen}
 use Rattle.kc_fastx.specs.Parsing.{most_bytes}
 use Rattle.kc_fastx.specs.Reads.{Read}
 use Rattle.kc_word.specs.Cutting.{cleaned, cutting}
-use Rattle.kc_word.specs.OpenCutting.{OpenCutting}
+use Rattle.kc_word.specs.OpenCutting.{OpenCutting, HasTaken}
+use Rattle.kc_word.specs.Shared.{values}
+use Rattle.kc_word.specs.declared.batch.Batch.{Batch}
 use Rattle.kc_word.specs.Only.{WordList}
 use Rattle.kc_kmer.specs.Rule.{CountingRule, with_list}
 use Rattle.kc_kmer.specs.Occurrences.{is_usable}
 use Rattle.kc_tally.specs.Tally.{IsTallyOf, TallySeen}
 use Rattle.kc_booking.specs.Stripe.{reads_in}
+use Rattle.kc_gather.specs.Gathering.{position_sum}
 use Rattle.kc_gather.specs.Laws.{TallyOfCutting}
 use Rattle.kc_report.specs.declared.origin.Origin.{Origin}
 use Rattle.kc_command.specs.Settings.{Settings, rule_of}
@@ -19,6 +25,7 @@ use Rattle.kc_tool.specs.CountedTallies.{IsEnoughFor, Knows, KnowsOne}
 use Rattle.kc_tool.specs.Reports.{report_of}
 use Rattle.kc_tool.specs.declared.counted_tally.CountedTally.{CountedTally}
 use Rattle.kc_tool.specs.declared.counted_tally.CountedTally.TheVariants.{Rows}
+use Rattle.kc_tool.proofs.TalliesLemmas.{few_batches, few_enough, small_cutting, small_enough}
 use Rattle.kc_tool.specs.Tallies.{Given, given, kept_to, origin_of, pieces_of, words_of}
 use Rattle.kc_tool.specs.declared.tool_faults.ToolFault.{ToolFault}
 use Rattle.kc_tool.specs.declared.tool_faults.ToolFault.TheVariants.{Fastx, BadHeader, BadRow, BadEnd, TableTooLong, TableRead, Memory, BadOption, BadWord, Write, Run, OpenFailed, Unlike, TooLarge}
@@ -29,7 +36,7 @@ listed_or_not None = refl
 listed_or_not (Some list) = refl
 
 -- A list changes neither the length of the words nor the pieces.
-pub k-kept : (list : Option (List ℕ)) (rule : CountingRule) → (kept_to list rule).k ≡ rule.k
+k-kept : (list : Option (List ℕ)) (rule : CountingRule) → (kept_to list rule).k ≡ rule.k
 k-kept None rule = refl
 k-kept (Some words) rule = refl
 
@@ -44,7 +51,7 @@ pieces_of-kept words rule (read ∷ reads) =
     ap₂ (λ piece pieces. piece ∷ pieces) (cleaned-kept words rule read) (pieces_of-kept words rule reads)
 
 -- The tally of a cutting is that of the reads, under a list or not.
-pub tally_kept : TallyOfCutting → (list : Option (List ℕ)) (rule : CountingRule) (size : ℕ) (reads : List Read)
+tally_kept : TallyOfCutting → (list : Option (List ℕ)) (rule : CountingRule) (size : ℕ) (reads : List Read)
     (tally : TallySeen) → 1 ≤ rule.k → 1 ≤ size
     → IsTallyOf (kept_to list rule) (reads_in (cutting rule.k size (pieces_of rule reads))) tally
     → IsTallyOf (kept_to list rule) reads tally
@@ -53,6 +60,35 @@ tally_kept law (Some words) rule size reads tally some room h =
     let listed = with_list rule words in
     law listed size reads tally some room
     (subst (λ pieces. IsTallyOf listed (reads_in (cutting rule.k size pieces)) tally) (sym (pieces_of-kept words rule reads)) h)
+
+-- The batches of a cutting of reads are few and small enough for a run, with a list and without one, and what is known
+-- of their tally is known of that of the reads.
+module _ {rule : CountingRule} {size : ℕ} {reads : List Read} {cut : OpenCutting} (some : 1 ≤ rule.k) (room : 1 ≤ size)
+    (is : IsCuttingOf rule size reads cut) (batches : List (Arc Batch Global))
+    (finished : (pieces : List (List ℕ)) → HasTaken cut pieces → values batches ≡ cutting cut.k cut.size pieces) where
+  are : values batches ≡ cutting rule.k size (pieces_of rule reads)
+  are = let raw = finished (pieces_of rule reads) is.taken in rw (is.length_of_words, is.size) at raw
+
+  pub few_for_run : length batches ≤ 2 ^ 40
+  few_for_run =
+      let counted = sym (length-map batches (λ batch. batch.value)) ∙ ap length are in
+      let few = few_batches rule.k size (pieces_of rule reads) some room in
+      rw counted (few_enough _ _ few is.few)
+
+  pub small_for_run : (list : Option (List ℕ)) (kept : CountingRule) → kept ≡ kept_to list rule
+      → position_sum kept.k (values batches) ≤ 2 ^ 62
+  small_for_run list kept same =
+      let small = small_cutting rule.k size (pieces_of rule reads) some room in
+      rw (same, k-kept list rule, are) (small_enough _ _ small is.few)
+
+  pub known_of_reads : TallyOfCutting → (list : Option (List ℕ)) (kept : CountingRule) → kept ≡ kept_to list rule
+      → (counted : CountedTally) → KnowsOne counted (IsTallyOf kept (reads_in (values batches)))
+      → KnowsOne counted (IsTallyOf (kept_to list rule) reads)
+  known_of_reads law list kept same counted known = record {
+    tally = known.tally;
+    knows = known.knows;
+    holds = tally_kept law list rule size reads known.tally some room (rw (same, are) at known.holds);
+  }
 
 module _ {old new : List Seen} (settings : Settings) {cutting : OpenCutting} {count : ℕ}
     (cut : CutsSources old new (rule_of settings) settings.batch cutting count) where

@@ -14,7 +14,7 @@ use Rattle.kc_kmer.specs.Rule.{CountingRule, with_list}
 use Rattle.kc_tally.specs.Tally.{TallySeen, IsTallyOf}
 use Rattle.kc_report.specs.declared.origin.Origin.{Origin}
 use Rattle.kc_command.specs.Settings.{Settings, rule_of}
-use Rattle.kc_tool.specs.declared.counted_sources.CutReads.{CutReads}
+use Rattle.kc_tool.specs.declared.counted_sources.ReadsInCutting.{ReadsInCutting}
 use Rattle.kc_tool.specs.declared.tool_faults.ToolFault.{ToolFault}
 use Rattle.kc_tool.specs.declared.tool_faults.ToolFault.TheVariants.{Fastx, Memory, Run}
 
@@ -81,7 +81,7 @@ pub record CutsPieces (old new : Seen) (limit : ℕ) (rule : CountingRule) (byte
   pub behind : (pieces : List (List ℕ)) → HasTaken before pieces → HasTaken after (pieces ++ pieces_of rule reads)
 
 -- no source was read yet: nothing was cut, by this rule, and all bytes are left
-pub record CutsNone (rule : CountingRule) (batch : ℕ) (cut : CutReads) : Type 0 where
+pub record CutsNone (rule : CountingRule) (batch : ℕ) (cut : ReadsInCutting) : Type 0 where
   pub length_of_words : cut.cutting.k ≡ rule.k
   pub size : cut.cutting.size ≡ batch
   pub none : HasTaken cut.cutting []
@@ -90,7 +90,7 @@ pub record CutsNone (rule : CountingRule) (batch : ℕ) (cut : CutReads) : Type 
   pub reads : cut.reads ≡ 0
 
 -- one source more was read: it gave no more bytes than were left, and the pieces of its reads were cut
-pub record CutsNext (old new : Seen) (rule : CountingRule) (before after : CutReads) : Type 0 where
+pub record CutsNext (old new : Seen) (rule : CountingRule) (before after : ReadsInCutting) : Type 0 where
   pub bytes : ℕ
   pub count : ℕ
   pub pieces : CutsPieces old new before.left rule bytes count before.cutting after.cutting

@@ -1,7 +1,8 @@
 //! The command line: what its arguments ask for is carried out, over streams that the caller keeps.
-ghost use Rattle.std.specs.Prelude.{◌≡◌, ◌≤◌, IfErr, IfOk, map, string_bytes};
+ghost use Rattle.std.specs.Prelude.{◌≡◌, ◌≤◌, IfErr, IfOk, List, map, string_bytes};
 ghost use Rattle.clap.specs.Faults.{fault_of};
 ghost use Rattle.clap.specs.Kinds.{HasKind};
+ghost use Rattle.clap.specs.Words.{Text};
 ghost use Rattle.kc_command.specs.Command.{kcount_app};
 ghost use Rattle.kc_tool.specs.CommandLine.{
   AreTaken,
@@ -9,6 +10,7 @@ ghost use Rattle.kc_tool.specs.CommandLine.{
   ShowsSo,
   status_of,
 };
+ghost use Rattle.kc_tool.specs.Commands.{Surroundings};
 ghost use Rattle.kc_tool.specs.Process.{Ends, EndsUnread, TellsUnread};
 ghost use Rattle.kc_tool.specs.declared.tool_faults.ToolFault.TheVariants.{Memory, Write};
 ghost use Rattle.kc_tool.specs.declared.command_line.Ending.TheVariants.{Fault};
@@ -78,7 +80,41 @@ pub fn run<H: Threads + Wait + Sync, S: Files, R: Source, W: Sink, E: Sink, P: P
         Ok(arguments) => arguments,
         Err(error) => return tell_unread(error, errors),
     };
-    match run_arguments(rt, alloc, arguments, files, input, output, progress) {
+    let matches = match parsed(alloc, arguments) {
+        Ok(matches) => matches,
+        Err(error) => return tell_end(show(alloc, &error, output), errors),
+    };
+    // `clap` passes no command line without one of the commands
+    let Some((name, matches)) = matches.subcommand() else {
+        unreachable!()
+    };
+    let Some(verb) = verb_named(name) else {
+        unreachable!()
+    };
+    let ended = run_command(rt, alloc, verb, matches, files, input, output, progress);
+    tell_end(ended.map_err(Ending::Fault), errors)
+}
+
+// Tells why there are no arguments: the exit status.
+fn tell_unread<E: Sink>(error: &io::Error, errors: &mut E) -> u8
+    ensures { TellsUnread error.now (E.seen errors.old) (E.seen errors.new) result }
+{
+    if error.kind() == io::ErrorKind::InvalidData {
+        // as with any refusal, failing to say so changes no status
+        let _ = write_out(errors, NOT_TEXT);
+        return REFUSED;
+    }
+    let _ = write_fault(errors, &ToolFault::Memory);
+    FAULT
+}
+
+// Tells how a command line ended: the exit status. Failing to say so changes no status.
+fn tell_end<E: Sink>(ended: Result<Option<SelectionCounts>, Ending>, errors: &mut E) -> u8
+    ensures within { result ≤ 2 }
+    ensures ends { (arguments : List Text) (old new : Surroundings) → CarriesOut arguments old new ended
+        → Ends arguments old new (E.seen errors.old) (E.seen errors.new) result }
+{
+    match ended {
         Ok(None) => DONE,
         Ok(Some(counts)) => {
             let _ = write_counts(errors, &counts);
@@ -95,19 +131,6 @@ pub fn run<H: Threads + Wait + Sync, S: Files, R: Source, W: Sink, E: Sink, P: P
     }
 }
 
-// Tells why there are no arguments: the exit status.
-fn tell_unread<E: Sink>(error: &io::Error, errors: &mut E) -> u8
-    ensures { TellsUnread error.now (E.seen errors.old) (E.seen errors.new) result }
-{
-    if error.kind() == io::ErrorKind::InvalidData {
-        // as with any refusal, failing to say so changes no status
-        let _ = write_out(errors, NOT_TEXT);
-        return REFUSED;
-    }
-    let _ = write_fault(errors, &ToolFault::Memory);
-    FAULT
-}
-
 // Why a command was not carried out.
 #[derive(Drop)]
 enum Ending {
@@ -115,14 +138,6 @@ enum Ending {
     Fault(ToolFault),
     // The command line was refused, and this text says why.
     Refused(String),
-}
-
-impl From<ToolFault> for Ending {
-    ghost from_gives = { λ fault ending. ending ≡ Fault fault };
-
-    fn from(fault: ToolFault) -> Ending {
-        Ending::Fault(fault)
-    }
 }
 
 impl From<Failed> for Ending {
@@ -149,36 +164,6 @@ fn status_of(fault: &ToolFault) -> u8
         ToolFault::BadOption(_) => REFUSED,
         _ => FAULT,
     }
-}
-
-// Reads the command line and runs the command that it names, or shows the help or the version that it asks for. It
-// answers what the command tells.
-fn run_arguments<H: Threads + Wait + Sync, S: Files, R: Source, W: Sink, P: Progress + Sync>(
-    rt: &H,
-    alloc: Global,
-    arguments: &[String],
-    files: &mut NamedFiles<'_, S>,
-    input: &mut R,
-    output: &mut W,
-    progress: &P,
-) -> Result<Option<SelectionCounts>, Ending>
-    ensures { CarriesOut (map string_bytes arguments.now)
-        (record { input = R.seen input.old; output = W.seen output.old; asked = files.old })
-        (record { input = R.seen input.new; output = W.seen output.new; asked = files.new })
-        result }
-{
-    let matches = match parsed(alloc, arguments) {
-        Ok(matches) => matches,
-        Err(error) => return show(alloc, &error, output),
-    };
-    // `clap` passes no command line without one of the commands
-    let Some((name, matches)) = matches.subcommand() else {
-        unreachable!()
-    };
-    let Some(verb) = verb_named(name) else {
-        unreachable!()
-    };
-    Ok(run_command(rt, alloc, verb, matches, files, input, output, progress)?)
 }
 
 // What `clap` makes of the command line.

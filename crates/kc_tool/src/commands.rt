@@ -32,13 +32,14 @@ ghost use Rattle.kc_report.specs.Table.{MaySay};
 ghost use Rattle.kc_tally.specs.Tally.{TallySeen};
 
 use crate::count_progress::Progress;
+use crate::counted_sources::count_given;
 use crate::counted_tally::CountedTally;
 use crate::files::{FileSource, NamedFiles, open_failed, open_files, take_sources};
 use crate::given_options::{dump_options, high_of, options, select_options};
 use crate::named_sources::NamedSource;
 use crate::reports::{Report, report_of, write_counted, write_report};
 use crate::selected_sources::select_files;
-use crate::task_tallies::{table_from, tally_for};
+use crate::task_tallies::{count_listed, known, sum_of, table_from, table_of};
 use crate::tool_faults::ToolFault;
 use clap::ArgMatches;
 use kc_command::command::{COUNT, DUMP, HISTO, MERGE, QUERY, SELECT, STATS};
@@ -188,7 +189,7 @@ fn answer_into<H: Threads + Wait + Sync, S: Files, R: Source, P: Progress + Sync
 }
 
 // Does a task with its files, which keep their names: it takes the tally that the task is about, and writes its answer,
-// or it selects reads.
+// or it selects reads. How far a count has come is told.
 fn answer<H: Threads + Wait + Sync, R: Source, F: Source, W: Sink, P: Progress + Sync>(
     rt: &H,
     alloc: Global,
@@ -207,16 +208,20 @@ fn answer<H: Threads + Wait + Sync, R: Source, F: Source, W: Sink, P: Progress +
     ensures input { KeepsInput (sources_in task.now (seen_of F.seen files.old)) (R.seen input.old) (R.seen input.new) }
     ensures names { names_of files.new ≡ names_of files.old }
 {
-    match task {
+    let taken = match task {
+        Task::Count(options) => count_given(rt, alloc, None, options, files, input, progress),
+        Task::CountListed(options) => count_listed(rt, alloc, options, files, input, progress),
+        Task::Report(_) | Task::Query(_) => table_of(alloc, files, input).map(known),
+        Task::Merge => sum_of(alloc, files).map(known),
         Task::Select(selection, tells) => {
-            select_by_table(alloc, *selection, *tells, files, input, output)
+            return select_by_table(alloc, *selection, *tells, files, input, output);
         }
-        _ => {
-            let (counted, origin) = tally_for(rt, alloc, task, files, input, progress)?;
-            write_answer(alloc, task, &counted, origin, output)?;
-            Ok(None)
-        }
-    }
+    };
+    // what shows the count is cleared before the report, or the line of a fault, is written
+    progress.ends();
+    let (counted, origin) = taken?;
+    write_answer(alloc, task, &counted, origin, output)?;
+    Ok(None)
 }
 
 // Reads the table of the first file, and writes the reads of the others that it selects or, where there are none, those

@@ -23,7 +23,8 @@ pub trait Progress {
     /// One more batch was counted.
     fn batch_counted(&self);
 
-    /// All was told. What is shown is taken away, and nothing is shown from now on.
+    /// All was told; of a command that reads a table this alone is told. What is shown is taken away, and nothing is
+    /// shown from now on.
     fn ends(&self);
 }
 

@@ -1,14 +1,12 @@
 //! The tally of the reads of all sources: they are read, cleaned and cut into batches, and the words of the batches are
 //! counted by as many threads as are asked for, all of them or those of a list. Of the tally no more is gathered than
 //! the report is about.
-ghost use Rattle.std.specs.Prelude.{◌≡◌, ◌≤◌, ◌<◌, ◌+◌, ◌^◌, ℕ, List, [], ◌∷◌, IfOk, IfErr, IfSome, None, OnOk};
+ghost use Rattle.std.specs.Prelude.{◌≡◌, ◌≤◌, ◌<◌, ◌+◌, ℕ, List, [], ◌∷◌, IfOk, IfErr, IfSome, None, OnOk};
 ghost use Rattle.std.specs.Prelude.{length, max, option_map};
 ghost use Rattle.kc_io.specs.Sources.{Seen};
 ghost use Rattle.kc_fastx.specs.Parsing.{most_bytes};
 ghost use Rattle.kc_fastx.specs.Reading.{MeetsFault};
 ghost use Rattle.kc_booking.specs.Setup.{stripe_count};
-ghost use Rattle.kc_booking.specs.Stripe.{reads_in};
-ghost use Rattle.kc_gather.specs.Gathering.{position_sum};
 ghost use Rattle.kc_tool.specs.CountedTallies.{IsEnoughFor, KnowsOne};
 ghost use Rattle.kc_tool.specs.Commands.{KeepsInput, sources_from};
 ghost use Rattle.kc_tool.specs.NamedSources.{names_of, seen_of};
@@ -17,7 +15,6 @@ ghost use Rattle.kc_fastx.specs.Reads.{Read};
 ghost use Rattle.kc_tally.specs.Tally.{IsTallyOf};
 ghost use Rattle.kc_report.specs.Table.{IsOrigin, MaySay};
 ghost use Rattle.kc_word.specs.Cutting.{cleaned};
-ghost use Rattle.kc_word.specs.Shared.{values};
 ghost use Rattle.kc_word.specs.Only.{WordList};
 ghost use Rattle.kc_tool.specs.Tallies.{
   CutsNext,
@@ -49,7 +46,7 @@ use kc_hash::Hash;
 use kc_report::Origin;
 use kc_run::{quotient_tables, run, run_histogram, run_statistics};
 use kc_stripe::Setup;
-use kc_word::{Batch, Cutting, Only, Rule, clean};
+use kc_word::{Cutting, Only, Rule, clean};
 use std::alloc::{AllocError, Global};
 use std::sync::{Arc, Wait};
 use std::thread::Threads;
@@ -185,9 +182,9 @@ fn origin_of(options: &Options, reads: u64, listed: bool) -> Origin
     }
 }
 
-// Counts the words of the reads whose pieces were cut, or those of the list alone, and answers as much of their tally
-// as the report needs. Conditions: the cutting is that of some reads, and the list is one under the rule of the
-// options.
+// Counts the words of the reads whose pieces were cut, or those of the list alone, by as many threads as are asked for,
+// and answers as much of their tally as the report needs. Conditions: the cutting is that of some reads, and the list
+// is one under the rule of the options.
 fn count_cutting<H: Threads + Wait + Sync, P: Progress + Sync>(
     rt: &H,
     alloc: Global,
@@ -212,40 +209,20 @@ fn count_cutting<H: Threads + Wait + Sync, P: Progress + Sync>(
     let batches = cutting.finish(alloc)?;
     progress.counting_begins(batches.len() as u64);
     let setup = setup_of(alloc, list, options)?;
-    count_batches(rt, alloc, &batches, &setup, options, progress)
-}
-
-// Counts the batches by as many threads as are asked for, and gathers as much of their tally as the report needs.
-// Conditions: the batches have no more than 2^62 positions together, and are not more than 2^40.
-fn count_batches<H: Threads + Wait + Sync, P: Progress + Sync>(
-    rt: &H,
-    alloc: Global,
-    batches: &[Arc<Batch>],
-    setup: &Setup,
-    options: &Options,
-    progress: &P,
-) -> Result<CountedTally, ToolFault>
-    requires few { length batches.now ≤ 2 ^ 40 }
-    requires small { position_sum setup.now.rule.k (values batches.now) ≤ 2 ^ 62 }
-    ensures tally { IfOk result (λ counted.
-        KnowsOne counted (IsTallyOf setup.now.rule (reads_in (values batches.now)))) }
-    ensures enough { IfOk result (λ counted. IsEnoughFor counted (report_of options.now)) }
-    ensures fault { IfErr result IsUncounted }
-{
-    let tables = quotient_tables(alloc, setup, options.size())?;
+    let tables = quotient_tables(alloc, &setup, options.size())?;
     let workers = options.workers();
     let gate = ToldGate { progress };
     match options.print() {
         Print::Histo if options.high() <= GREATEST_BIN => {
-            let bins = run_histogram(rt, alloc, batches, setup, tables, workers, &gate)?;
+            let bins = run_histogram(rt, alloc, &batches, &setup, tables, workers, &gate)?;
             Ok(CountedTally::Bins(bins))
         }
         Print::Stats => {
-            let numbers = run_statistics(rt, alloc, batches, setup, tables, workers, &gate)?;
+            let numbers = run_statistics(rt, alloc, &batches, &setup, tables, workers, &gate)?;
             Ok(CountedTally::Numbers(numbers))
         }
         _ => {
-            let tally = run(rt, alloc, batches, setup, tables, workers, &gate)?;
+            let tally = run(rt, alloc, &batches, &setup, tables, workers, &gate)?;
             Ok(CountedTally::Rows(tally))
         }
     }
@@ -267,7 +244,7 @@ fn cut_sources<R: Source, P: Progress>(
     ensures names { names_of sources.new ≡ names_of sources.old }
 {
     let rule = options.rule();
-    let mut cut = CutReads::none(alloc, options);
+    let mut cut = ReadsInCutting::none(alloc, options);
     let _fits = sources.len();
     for source in sources.iter_mut() {
         cut.take(alloc, &mut source.source, &rule, progress)?;
@@ -291,32 +268,18 @@ fn cut_given<R: Source, F: Source, P: Progress>(
     ensures input { KeepsInput (seen_of F.seen files.old) (R.seen input.old) (R.seen input.new) }
     ensures names { names_of files.new ≡ names_of files.old }
 {
-    if files.is_empty() {
-        return cut_input(alloc, input, options, progress);
+    if !files.is_empty() {
+        return cut_sources(alloc, files, options, progress);
     }
-    cut_sources(alloc, files, options, progress)
-}
-
-// The cutting of the reads of one source, the input, and how many they are.
-fn cut_input<R: Source, P: Progress>(
-    alloc: Global,
-    input: &mut R,
-    options: &Options,
-    progress: &P,
-) -> Result<(Cutting, u64), ToolFault>
-    ensures cut { let Cuts = CutsSources (R.seen input.old ∷ []) (R.seen input.new ∷ []) in
-        IfOk result (λ cut. Cuts (rule_of options.now) options.now.batch cut.0 cut.1) }
-    ensures fault { IfErr result (RefusesSources (R.seen input.old ∷ []) (R.seen input.new ∷ [])) }
-{
     let rule = options.rule();
-    let mut cut = CutReads::none(alloc, options);
+    let mut cut = ReadsInCutting::none(alloc, options);
     cut.take(alloc, input, &rule, progress)?;
     Ok((cut.cutting, cut.reads))
 }
 
-// The reads of some sources, cut so far.
+// A cutting of the reads of the sources that were read so far, and how many they were.
 #[derive(Drop)]
-struct CutReads {
+struct ReadsInCutting {
     cutting: Cutting,
     // how many bytes the sources behind them may give
     left: u64,
@@ -326,12 +289,12 @@ struct CutReads {
     reads: u64,
 }
 
-impl CutReads {
+impl ReadsInCutting {
     // No source was read yet.
-    fn none(alloc: Global, options: &Options) -> CutReads
+    fn none(alloc: Global, options: &Options) -> ReadsInCutting
         ensures { CutsNone (rule_of options.now) options.now.batch result }
     {
-        CutReads {
+        ReadsInCutting {
             cutting: Cutting::new(alloc, options.rule().k(), options.batch()),
             left: MOST_BYTES,
             sources: 0,

@@ -1,4 +1,4 @@
-//! The tally that a task is about: that of reads that are counted, of a table that is read, or of two tables together.
+//! Tallies that are taken from the files of a task: of the reads behind a list, of a table, or of two tables together.
 ghost use Rattle.std.specs.Prelude.{◌≡◌, ◌≤◌, IfErr, IfOk, Ok, drop, length};
 ghost use Rattle.kc_report.specs.Table.{MaySay};
 ghost use Rattle.kc_report.specs.Merging.{Merges};
@@ -8,11 +8,6 @@ ghost use Rattle.kc_tool.specs.NamedSources.{names_of, seen_of};
 ghost use Rattle.kc_tool.specs.Reports.{report_of};
 ghost use Rattle.kc_tool.specs.Tallies.{Counts, RefusesCount};
 ghost use Rattle.kc_tool.specs.Commands.{
-  HasFilesFor,
-  HasNoTallyFor,
-  IsAboutTally,
-  IsEnoughForTask,
-  IsTallyFor,
   KeepsInput,
   MergesNot,
   TellNoSum,
@@ -21,13 +16,10 @@ ghost use Rattle.kc_tool.specs.Commands.{
   TellSum,
   TellsNoTable,
   given_listed,
-  given_of,
   most_table_bytes,
   sources_from,
-  sources_in,
 };
 
-use crate::commands::Task;
 use crate::count_progress::Progress;
 use crate::counted_sources::{count_given, read_list};
 use crate::counted_tally::CountedTally;
@@ -44,45 +36,8 @@ use std::thread::Threads;
 /// The most bytes that a table may have.
 const MOST_TABLE_BYTES: u64 = 1 << 42;
 
-/// The tally that a task needs, or as much of it as its report needs, and its origin where that is told: of the reads
-/// of the files or, where there are none, of the given input, whose counting is told; of a table; or of two tables
-/// together. The files keep their names. Condition: the task has such files as it is to have.
-///
-/// # Errors
-/// The fault of the list, of the sources, of the run, of a table, or of two tables that can't be put together.
-pub(crate) fn tally_for<H: Threads + Wait + Sync, R: Source, F: Source, P: Progress + Sync>(
-    rt: &H,
-    alloc: Global,
-    task: &Task,
-    files: &mut [NamedSource<'_, F>],
-    input: &mut R,
-    progress: &P,
-) -> Result<(CountedTally, Option<Origin>), ToolFault>
-    requires files { HasFilesFor task.now (seen_of F.seen files.old) }
-    requires about { IsAboutTally task.now }
-    ensures tally { let Tallies = IsTallyFor (given_of task.now (R.seen input.old) (seen_of F.seen files.old))
-        (given_of task.now (R.seen input.new) (seen_of F.seen files.new)) in
-        IfOk result (λ table. KnowsOne table.0 (λ tally. Tallies task.now (tally, table.1))) }
-    ensures enough { IfOk result (λ table. IsEnoughForTask table.0 task.now) }
-    ensures origin { IfOk result (λ table. MaySay table.1) }
-    ensures fault { let HasNone = HasNoTallyFor (given_of task.now (R.seen input.old) (seen_of F.seen files.old))
-        (given_of task.now (R.seen input.new) (seen_of F.seen files.new)) in IfErr result (HasNone task.now) }
-    ensures input { KeepsInput (sources_in task.now (seen_of F.seen files.old)) (R.seen input.old) (R.seen input.new) }
-    ensures names { names_of files.new ≡ names_of files.old }
-{
-    let counted = match task {
-        Task::Count(options) => count_given(rt, alloc, None, options, files, input, progress),
-        Task::CountListed(options) => count_listed(rt, alloc, options, files, input, progress),
-        Task::Merge => return Ok(known(sum_of(alloc, files)?)),
-        Task::Report(_) | Task::Query(_) => return Ok(known(table_of(alloc, files, input)?)),
-        Task::Select(_, _) => unreachable!(),
-    };
-    progress.ends();
-    counted
-}
-
-// A tally of which the whole is known, and what it was counted from.
-fn known(table: (Tally, Option<Origin>)) -> (CountedTally, Option<Origin>)
+/// A tally of which the whole is known, and what it was counted from.
+pub(crate) fn known(table: (Tally, Option<Origin>)) -> (CountedTally, Option<Origin>)
     ensures tally { result.0 ≡ CountedTally.Rows table.0 }
     ensures origin { result.1 ≡ table.1 }
 {
@@ -90,9 +45,13 @@ fn known(table: (Tally, Option<Origin>)) -> (CountedTally, Option<Origin>)
     (CountedTally::Rows(tally), origin)
 }
 
-// Counts those words that occur in the reads of the first file, in the reads of the files behind it or, where there are
-// none, of the given input, and answers as much of their tally as the report needs. Condition: there is a first file.
-fn count_listed<H: Threads + Wait + Sync, R: Source, F: Source, P: Progress + Sync>(
+/// Counts those words that occur in the reads of the first file, in the reads of the files behind it or, where there
+/// are none, of the given input, and answers as much of their tally as the report needs. How far it has come is told.
+/// Condition: there is a first file.
+///
+/// # Errors
+/// The fault of the list, of the sources, or of the run.
+pub(crate) fn count_listed<H: Threads + Wait + Sync, R: Source, F: Source, P: Progress + Sync>(
     rt: &H,
     alloc: Global,
     options: &Options,
@@ -116,9 +75,12 @@ fn count_listed<H: Threads + Wait + Sync, R: Source, F: Source, P: Progress + Sy
     count_given(rt, alloc, Some(list), options, sources, input, progress)
 }
 
-// The tables of two files, put together. The first is read whole before a byte of the second is. Condition: there are
-// two files.
-fn sum_of<F: Source>(
+/// The tables of two files, put together. The first is read whole before a byte of the second is. Condition: there are
+/// two files.
+///
+/// # Errors
+/// The fault of a table, or of two tables that can't be put together.
+pub(crate) fn sum_of<F: Source>(
     alloc: Global,
     files: &mut [NamedSource<'_, F>],
 ) -> Result<(Tally, Option<Origin>), ToolFault>
@@ -157,9 +119,12 @@ fn merged(
     )?)
 }
 
-// What the table text of the file says or, where there is none, that of the given input. Condition: there is one file
-// or none.
-fn table_of<R: Source, F: Source>(
+/// What the table text of the file says or, where there is none, that of the given input. Condition: there is one file
+/// or none.
+///
+/// # Errors
+/// The fault of the table.
+pub(crate) fn table_of<R: Source, F: Source>(
     alloc: Global,
     files: &mut [NamedSource<'_, F>],
     input: &mut R,

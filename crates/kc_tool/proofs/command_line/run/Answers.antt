@@ -1,30 +1,15 @@
-use Rattle.std.proofs.Common.{Some, sym}
-use Rattle.kc_tool.proofs.CommandLineLemmas.{ends_in_fault, ends_refused, ends_well, told}
+use Rattle.std.proofs.Common.{map, string_bytes, sym}
+use Rattle.kc_tool.proofs.CommandLineLemmas.{command_done, command_ended, shown}
 use Rattle.kc_tool.proofs.command_line.run.Goals as goal
 
-pub returns-in-Err-Fault-clause-texts : goal.returns-in-Err-Fault-clause-texts
-returns-in-Err-Fault-clause-texts g c =
-    let failed = rw c.in-Err-Fault.field-0-is at c.in-Err-Fault.ensures in
+pub returns-in-Err-parsed-clause-texts : goal.returns-in-Err-parsed-clause-texts
+returns-in-Err-parsed-clause-texts g c =
     rw (c.in-Ok.is, sym c.deref.ensures.value)
-    (ends_in_fault c.in-Err-Fault.fault c.status_of.result c.status_of.ensures failed (told _ _ c.write_fault.result _ c.write_fault.ensures.written))
+    (c.tell_end.ensures.ends (map string_bytes c.deref.result.now) _ _
+    (shown (g.R.Source.seen c.args.input.now) c.args.files.now (map string_bytes c.deref.result.now) c.in-Err-parsed.error _ _ c.show.result c.in-Err-parsed.ensures.refused c.show.ensures))
 
-pub returns-in-Err-Refused-clause-texts : goal.returns-in-Err-Refused-clause-texts
-returns-in-Err-Refused-clause-texts g c =
-    let refused = rw c.in-Err-Refused.field-0-is at c.in-Err-Refused.ensures in
+pub returns-clause-texts : goal.returns-clause-texts
+returns-clause-texts g c =
+    let done = command_done c.in-Ok-parsed.ensures.taken c.in-Some.ensures.name c.in-Some.ensures.rows c.in-Some-verb_named.ensures c.run_command-ended.ensures in
     rw (c.in-Ok.is, sym c.deref.ensures.value)
-    (ends_refused (record {
-      refused = refused.0;
-      kept = refused.1;
-      text = c.as_bytes.result.now;
-      told = told _ _ c.write_out.result _ c.write_out.ensures;
-    }))
-
-pub returns-in-Ok-Some-clause-texts : goal.returns-in-Ok-Some-clause-texts
-returns-in-Ok-Some-clause-texts g c =
-    let done = rw c.in-Ok-Some.field-0-is at c.in-Ok-Some.ensures in
-    rw (c.in-Ok.is, sym c.deref.ensures.value)
-    (ends_well (record {
-      tells = Some c.in-Ok-Some.counts;
-      done = done;
-      told = told _ _ c.write_counts.result _ c.write_counts.ensures;
-    }))
+    (c.tell_end-2.ensures.ends (map string_bytes c.deref.result.now) _ _ (command_ended c.run_command-ended.result c.map_err.result c.map_err.ensures.cases done))

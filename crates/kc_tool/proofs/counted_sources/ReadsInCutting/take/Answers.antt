@@ -1,6 +1,6 @@
 use Rattle.std.proofs.Common.{refl}
 use Rattle.std.proofs.lemmas.Result.{err_from_is_err_and}
-use Rattle.kc_tool.proofs.counted_sources.CutReads.take.Goals as goal
+use Rattle.kc_tool.proofs.counted_sources.ReadsInCutting.take.Goals as goal
 
 pub returns-clause-next : goal.returns-clause-next
 returns-clause-next g c = record {

@@ -1,6 +1,6 @@
 use Rattle.std.proofs.Common.{◌∙◌, ap, refl}
 use Rattle.kc_kmer.specs.Rule.{CountingRule}
-use Rattle.kc_tool.proofs.counted_sources.CutReads.none.Goals as goal
+use Rattle.kc_tool.proofs.counted_sources.ReadsInCutting.none.Goals as goal
 
 pub returns : goal.returns
 returns c =
