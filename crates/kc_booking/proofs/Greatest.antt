@@ -1,5 +1,5 @@
 -- How often the word of a stripe occurs that occurs most, by the greatest count of its table.
-use Rattle.std.proofs.Common.{◌≡◌, ◌≢◌, ◌∙◌, ℕ, ◌<◌, ◌≤◌, ◌^◌, ◌⊎◌, inl, inr, Bool, false, true, List, Contains, map, sum_by, unwrap_or, Some, None, Option, fold, max}
+use Rattle.std.proofs.Common.{◌≡◌, ◌≢◌, ◌∙◌, ℕ, ◌<◌, ◌≤◌, ◌^◌, ◌⊎◌, inl, inr, Bool, List, Contains, unwrap_or, Some, None, Option}
 use Rattle.std.proofs.Common.{refl, sym, ap, subst, arith, ⊎_elim}
 use Rattle.std.specs.FinMap.{get}
 use Rattle.std.specs.List.{range_with_len}
@@ -7,7 +7,7 @@ use Rattle.std.proofs.lemmas.Bool.{cases_eq}
 use Rattle.std.proofs.lemmas.List.Elements.{All-map, All-contains}
 use Rattle.std.proofs.lemmas.List.FromFn.{get_or-range_with_len, length-range_with_len}
 use Rattle.kc_lemmas.proofs.Greatest.{max-most, max-reached, max-same}
-use Rattle.kc_lemmas.proofs.Lists.{All-range, Contains-map}
+use Rattle.kc_lemmas.proofs.Lists.{Contains-map}
 use Rattle.kc_word.specs.Cutting.{NumberedPieces}
 use Rattle.kc_table.specs.Counts.{KeyCounts, IsGreatestCount, IsStored, IsWithin, count_at}
 use Rattle.kc_table.proofs.KeyCounts.{stored_by_some}

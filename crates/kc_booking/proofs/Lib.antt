@@ -1,4 +1,4 @@
-pub mod Codes
+pub mod HashValues
 pub mod Parts
 pub mod CountedTables
 pub mod Lawful

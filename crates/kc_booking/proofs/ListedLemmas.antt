@@ -1,5 +1,5 @@
 -- Setups with lists of words: when they are the same, and which of the words of a batch count.
-use Rattle.std.proofs.Common.{◌≡◌, ℕ, ◌+◌, ◌<◌, length, drop, get_or, arith, true, List, filter, Option, Some, None, All, Decides, refl, ap, ap₂, sym, ◌∙◌, subst, eqb-true, eq-eqb, true≢false}
+use Rattle.std.proofs.Common.{◌≡◌, ◌≢◌, ℕ, ◌+◌, ◌<◌, length, drop, get_or, arith, true, not, List, filter, Option, Some, None, All, Decides, refl, ap, ap₂, sym, ◌∙◌, subst, eqb-true, eq-eqb, true≢false}
 use Rattle.std.proofs.lemmas.Bool.{and_parts, and_from}
 use Rattle.std.proofs.lemmas.Slice.Eq.{bytes_eq-Decides}
 use Rattle.std.proofs.lemmas.List.{get_or-drop}
@@ -64,6 +64,10 @@ is_same_setup-Decides setup other = (same, alike)
 
 pub is_same_setup-same : (setup other : StripeSetup) → setup ≡ other → is_same_setup setup other ≡ true
 is_same_setup-same setup other same = (is_same_setup-Decides setup other).1 same
+
+-- setups that are found to differ
+pub other_setup : (setup other : StripeSetup) → true ≡ not (is_same_setup setup other) → setup ≢ other
+other_setup setup other differ same = true≢false (differ ∙ ap not (is_same_setup-same setup other same))
 
 -- ---- the words that count
 

@@ -1,5 +1,5 @@
 -- The counts that are noted while keys are counted, and the histogram that follows from them.
-use Rattle.std.proofs.Common.{◌≡◌, ℕ, zero, suc, ◌+◌, ◌-◌, ◌<◌, ◌≤◌, ◌^◌, List, [], ◌∷◌, ◌++◌, length, get_or, set, take, refl, ap, sym, ◌∙◌, subst, arith, count_by, eqb, sum_by, cond, drop, min, ◌*◌}
+use Rattle.std.proofs.Common.{◌≡◌, All, ℕ, zero, suc, ◌+◌, ◌-◌, ◌<◌, ◌≤◌, ◌^◌, List, [], ◌∷◌, ◌++◌, length, get_or, set, take, refl, ap, sym, ◌∙◌, subst, arith, count_by, eqb, sum_by, cond, drop, min, ◌*◌}
 use Rattle.std.proofs.lemmas.List.{take_more, take_more_set, length-set, length-take-le, length-drop, take_all, get_or-take, get_or-drop}
 use Rattle.std.proofs.lemmas.List.Sums.{fold_more, count_by-le-length, sum_by-append, sum_by-take-drop}
 use Rattle.std.proofs.lemmas.List.Folds.{drop_split}
@@ -237,3 +237,14 @@ AreAddedTo-more bits counts full stands old keys done end step so_far =
 -- an entry of a block is one of the whole list
 pub get_or-block : (keys : List ℕ) (done end i d : ℕ) → i < end - done → get_or (slice_range keys done end) i d ≡ get_or keys (done + i) d
 get_or-block keys done end i d within = get_or-take (end - done) (drop done keys) i d within ∙ get_or-drop done keys i d
+
+-- what is known of a block before it is counted
+pub AreCounted-block : (bits : ℕ) (m : KeyCounts) (bins : List ℕ) (total : ℕ) (keys : List ℕ) (done end : ℕ) → IsCounted bits m bins total
+    → All (λ key. key < 2 ^ bits) keys → end ≤ length keys → total + (end - done) ≤ 2 ^ 62 → AreCounted bits m bins total (slice_range keys done end)
+AreCounted-block bits m bins total keys done end counted below within room =
+    let long = length-block keys done end within in
+    record {
+      counted = counted;
+      below = λ i inside. subst (λ key. key < 2 ^ bits) (sym (get_or-block keys done end i 0 (omega (arith, long, inside)))) (below (done + i) 0 (omega (arith, long, inside)));
+      room = omega (arith, long, room);
+    }

@@ -1,4 +1,4 @@
--- Codes divided among stripes, as the loops have them.
+-- Hash values divided among stripes, as the loops have them.
 use Rattle.std.proofs.Common.{vec_capacity, ◌≡◌, ◌≢◌, ℕ, ◌+◌, ◌/◌, ◌%◌, ◌*◌, ◌-◌, ◌^◌, ◌<◌, ◌≤◌, Bool, true, false, cond, eqb, List, [], ◌∷◌, ◌++◌, length, get_or, set, take, map, filter, All, count_by, replicate, bit_and, Vec, Global, append-nil, refl, ap, ap₂, sym, ◌∙◌, arith, ⊎_elim, below_more}
 use Rattle.std.specs.List.{range_with_len}
 use Rattle.std.proofs.lemmas.Nat.{mod_below, pow_pos, one_shl}
@@ -11,9 +11,9 @@ use Rattle.kc_lemmas.proofs.Lists.{range_more, map-same, All-range}
 use Rattle.kc_kmer.specs.Rule.{CountingRule}
 use Rattle.kc_kmer.specs.Occurrences.{words_of}
 use Rattle.kc_word.specs.Cutting.{NumberedPieces, as_reads}
-use Rattle.kc_booking.specs.Setup.{StripeSetup, HasBits, stripe_count, code_of}
+use Rattle.kc_booking.specs.Setup.{StripeSetup, HasBits, stripe_count, hash_value_of}
 use Rattle.kc_booking.specs.Cut.{cut_at, cuts_of, keys_of, key_parts, keys_among}
-use Rattle.kc_booking.proofs.Codes.{low-bits, stripes-few, word-fits}
+use Rattle.kc_booking.proofs.HashValues.{low-bits, stripes-few, word-fits}
 
 -- ---- a function applied in place
 
@@ -40,19 +40,19 @@ IsMappedTo-all f old new i end so_far =
     ext_get_or 0 new (map f old) (so_far.long ∙ sym (length-map old f))
     (λ k h. so_far.done k (omega arith) ∙ sym (get_or-map f old k 0 0 (let e = so_far.long in omega arith)))
 
--- ---- how many codes fall in each stripe
+-- ---- how many hash values fall in each stripe
 
--- the code's low bits
+-- the hash value's low bits
 abbrev pub falls_in : ℕ → ℕ → ℕ → Bool
-falls_in s stripe code = eqb (code % 2 ^ s) stripe
+falls_in s stripe hash_value = eqb (hash_value % 2 ^ s) stripe
 
--- the first i codes are counted, each in its stripe
-pub record IsCountedTo (s : ℕ) (codes sizes : List ℕ) (i : ℕ) : Type 0 where
+-- the first i hash values are counted, each in its stripe
+pub record IsCountedTo (s : ℕ) (hash_values sizes : List ℕ) (i : ℕ) : Type 0 where
   pub full : length sizes ≡ 64
-  pub counts : (stripe : ℕ) → get_or sizes stripe 0 ≡ count_by (falls_in s stripe) (take i codes)
+  pub counts : (stripe : ℕ) → get_or sizes stripe 0 ≡ count_by (falls_in s stripe) (take i hash_values)
 
-pub IsCountedTo-none : (s : ℕ) (codes zeros : List ℕ) → zeros ≡ replicate 64 0 → IsCountedTo s codes zeros 0
-IsCountedTo-none s codes zeros is = record {
+pub IsCountedTo-none : (s : ℕ) (hash_values zeros : List ℕ) → zeros ≡ replicate 64 0 → IsCountedTo s hash_values zeros 0
+IsCountedTo-none s hash_values zeros is = record {
   full = ap length is ∙ length-replicate {A = ℕ} 64 0;
   counts = λ stripe. ap (λ xs. get_or xs stripe 0) is ∙ each_zero 64 stripe;
 }
@@ -63,28 +63,28 @@ IsCountedTo-none s codes zeros is = record {
         (λ (h : n ≤ i). get_or_past (replicate n 0) i 0 (omega (arith, length-replicate {A = ℕ} n 0)))
         (cases_lt i n)
 
--- one code more, counted in its stripe
-pub record CountStep (s : ℕ) (codes sizes : List ℕ) (i : ℕ) : Type 0 where
+-- one hash value more, counted in its stripe
+pub record CountStep (s : ℕ) (hash_values sizes : List ℕ) (i : ℕ) : Type 0 where
   pub stripe : ℕ
   pub size : ℕ
-  pub within : i < length codes
-  pub stripe_is : stripe ≡ get_or codes i 0 % 2 ^ s
+  pub within : i < length hash_values
+  pub stripe_is : stripe ≡ get_or hash_values i 0 % 2 ^ s
   pub fits : stripe < 64
   pub size_is : size ≡ get_or sizes stripe 0 + 1
 
-pub IsCountedTo-more : (s : ℕ) (codes sizes : List ℕ) (i : ℕ) (step : CountStep s codes sizes i) → IsCountedTo s codes sizes i
-    → IsCountedTo s codes (set sizes step.stripe step.size) (i + 1)
-IsCountedTo-more s codes sizes i step so_far = record {
+pub IsCountedTo-more : (s : ℕ) (hash_values sizes : List ℕ) (i : ℕ) (step : CountStep s hash_values sizes i) → IsCountedTo s hash_values sizes i
+    → IsCountedTo s hash_values (set sizes step.stripe step.size) (i + 1)
+IsCountedTo-more s hash_values sizes i step so_far = record {
   full = length-set sizes step.stripe step.size ∙ so_far.full;
   counts = λ stripe.
       ⊎_elim
       (λ (here : stripe ≡ step.stripe).
       ap (λ k. get_or (set sizes step.stripe step.size) k 0) here ∙ get_or-set_same sizes step.stripe step.size 0 (rw so_far.full step.fits) ∙ step.size_is
       ∙ ap (λ n. n + 1) (ap (λ k. get_or sizes k 0) (sym here) ∙ so_far.counts stripe)
-      ∙ sym (count_by_more_yes (falls_in s stripe) codes i 0 step.within (eq-eqb (get_or codes i 0 % 2 ^ s) stripe (sym step.stripe_is ∙ sym here))))
+      ∙ sym (count_by_more_yes (falls_in s stripe) hash_values i 0 step.within (eq-eqb (get_or hash_values i 0 % 2 ^ s) stripe (sym step.stripe_is ∙ sym here))))
       (λ (apart : stripe ≢ step.stripe).
       get_or-set_other sizes step.stripe stripe step.size 0 apart ∙ so_far.counts stripe
-      ∙ sym (count_by_more_no (falls_in s stripe) codes i 0 step.within (ne_eqb (get_or codes i 0 % 2 ^ s) stripe (λ e. apart (sym e ∙ sym step.stripe_is)))))
+      ∙ sym (count_by_more_no (falls_in s stripe) hash_values i 0 step.within (ne_eqb (get_or hash_values i 0 % 2 ^ s) stripe (λ e. apart (sym e ∙ sym step.stripe_is)))))
       (cases_eq stripe step.stripe);
 }
 
@@ -98,7 +98,7 @@ stripes-within_64 s few = let whole = stripes-shifted_64 s few in let most = str
 pub stripe-below_64 : (s stripe : ℕ) → s ≤ 6 → stripe < 1 * 2 ^ s % 2 ^ 64 → stripe < 64
 stripe-below_64 s stripe few below = let whole = stripes-shifted_64 s few in let most = stripes-few s few in omega arith
 
--- the code's stripe, as the program takes it
+-- the hash value's stripe, as the program takes it
 pub low-below : (x s : ℕ) → s ≤ 6 → bit_and x (1 * 2 ^ s % 2 ^ 64 - 1) < 2 ^ s
 low-below x s few = rw (low-bits x s few) (mod_below x (2 ^ s) (pow_pos s))
 
@@ -107,9 +107,9 @@ low-below_64 x s few = let low = low-below x s few in let most = stripes-few s f
 
 -- ---- the keys of each stripe
 
--- the keys of the codes that fall in a stripe
+-- the keys of the hash values that fall in a stripe
 abbrev pub keys_in : ℕ → ℕ → List ℕ → List ℕ
-keys_in s stripe codes = map (λ code. code / 2 ^ s) (filter (falls_in s stripe) codes)
+keys_in s stripe hash_values = map (λ value. value / 2 ^ s) (filter (falls_in s stripe) hash_values)
 
 abbrev pub Part : Type 0
 Part = Vec ℕ Global
@@ -126,26 +126,26 @@ empty-more s i parts new part is empty so_far =
     ∙ sym (ap (map (λ stripe. keys_in s stripe [])) (range_more i) ∙ map_push (λ stripe. keys_in s stripe []) (range_with_len 0 i) i)
 
 -- one vector more, with room for as many keys as fall in its stripe
-pub room-more : (s i : ℕ) (codes : List ℕ) (parts new : List Part) (part : Part) → new ≡ parts ++ part ∷ []
-    → vec_capacity part ≡ count_by (falls_in s i) codes
-    → map (λ part. vec_capacity part) parts ≡ map length (map (λ stripe. keys_in s stripe codes) (range_with_len 0 i))
-    → map (λ part. vec_capacity part) new ≡ map length (map (λ stripe. keys_in s stripe codes) (range_with_len 0 (i + 1)))
-room-more s i codes parts new part is room so_far =
-    let long : length (keys_in s i codes) ≡ count_by (falls_in s i) codes =
-    length-map (filter (falls_in s i) codes) (λ code. code / 2 ^ s) ∙ length-filter (falls_in s i) codes in
+pub room-more : (s i : ℕ) (hash_values : List ℕ) (parts new : List Part) (part : Part) → new ≡ parts ++ part ∷ []
+    → vec_capacity part ≡ count_by (falls_in s i) hash_values
+    → map (λ part. vec_capacity part) parts ≡ map length (map (λ stripe. keys_in s stripe hash_values) (range_with_len 0 i))
+    → map (λ part. vec_capacity part) new ≡ map length (map (λ stripe. keys_in s stripe hash_values) (range_with_len 0 (i + 1)))
+room-more s i hash_values parts new part is room so_far =
+    let long : length (keys_in s i hash_values) ≡ count_by (falls_in s i) hash_values =
+    length-map (filter (falls_in s i) hash_values) (λ value. value / 2 ^ s) ∙ length-filter (falls_in s i) hash_values in
     ap (map (λ part. vec_capacity part)) is ∙ map_push (λ part. vec_capacity part) parts part
     ∙ ap₂ (λ xs x. xs ++ x ∷ []) so_far (room ∙ sym long)
-    ∙ sym (ap (λ is. map length (map (λ stripe. keys_in s stripe codes) is)) (range_more i)
-    ∙ ap (map length) (map_push (λ stripe. keys_in s stripe codes) (range_with_len 0 i) i)
-    ∙ map_push length (map (λ stripe. keys_in s stripe codes) (range_with_len 0 i)) (keys_in s i codes))
+    ∙ sym (ap (λ is. map length (map (λ stripe. keys_in s stripe hash_values) is)) (range_more i)
+    ∙ ap (map length) (map_push (λ stripe. keys_in s stripe hash_values) (range_with_len 0 i) i)
+    ∙ map_push length (map (λ stripe. keys_in s stripe hash_values) (range_with_len 0 i)) (keys_in s i hash_values))
 
--- the first i codes are divided
-pub record IsDividedTo (s : ℕ) (codes : List ℕ) (parts : List Part) (i : ℕ) : Type 0 where
+-- the first i hash values are divided
+pub record IsDividedTo (s : ℕ) (hash_values : List ℕ) (parts : List Part) (i : ℕ) : Type 0 where
   pub long : length parts ≡ 2 ^ s
-  pub keys : (stripe : ℕ) (d : Part) → stripe < 2 ^ s → (get_or parts stripe d).items ≡ keys_in s stripe (take i codes)
+  pub keys : (stripe : ℕ) (d : Part) → stripe < 2 ^ s → (get_or parts stripe d).items ≡ keys_in s stripe (take i hash_values)
 
-pub IsDividedTo-none : (s : ℕ) (codes : List ℕ) (parts : List Part) → map (λ part. part.items) parts ≡ key_parts s [] → IsDividedTo s codes parts 0
-IsDividedTo-none s codes parts empty =
+pub IsDividedTo-none : (s : ℕ) (hash_values : List ℕ) (parts : List Part) → map (λ part. part.items) parts ≡ key_parts s [] → IsDividedTo s hash_values parts 0
+IsDividedTo-none s hash_values parts empty =
     let long : length parts ≡ 2 ^ s =
     sym (length-map parts (λ part. part.items)) ∙ ap length empty ∙ length-map-range_with_len (λ stripe. keys_in s stripe []) 0 (2 ^ s) in
     record {
@@ -156,67 +156,67 @@ IsDividedTo-none s codes parts empty =
           ∙ get_or-map-range_with_len (λ stripe. keys_in s stripe []) 0 (2 ^ s) stripe stripe [] within (omega arith);
     }
 
--- one code more, its key put at the end of its stripe's part
-pub record DivideStep (s : ℕ) (codes : List ℕ) (parts : List Part) (i : ℕ) : Type 0 where
+-- one hash value more, its key put at the end of its stripe's part
+pub record DivideStep (s : ℕ) (hash_values : List ℕ) (parts : List Part) (i : ℕ) : Type 0 where
   pub stripe : ℕ
   pub key : ℕ
   pub old : Part
   pub part : Part
-  pub within : i < length codes
-  pub stripe_is : stripe ≡ get_or codes i 0 % 2 ^ s
+  pub within : i < length hash_values
+  pub stripe_is : stripe ≡ get_or hash_values i 0 % 2 ^ s
   pub fits : stripe < 2 ^ s
-  pub key_is : key ≡ get_or codes i 0 / 2 ^ s
+  pub key_is : key ≡ get_or hash_values i 0 / 2 ^ s
   pub old_is : old ≡ get_or parts stripe old
   pub part_is : part.items ≡ old.items ++ key ∷ []
 
-pub IsDividedTo-more : (s : ℕ) (codes : List ℕ) (parts : List Part) (i : ℕ) (step : DivideStep s codes parts i) → IsDividedTo s codes parts i
-    → IsDividedTo s codes (set parts step.stripe step.part) (i + 1)
-IsDividedTo-more s codes parts i step so_far = record {
+pub IsDividedTo-more : (s : ℕ) (hash_values : List ℕ) (parts : List Part) (i : ℕ) (step : DivideStep s hash_values parts i) → IsDividedTo s hash_values parts i
+    → IsDividedTo s hash_values (set parts step.stripe step.part) (i + 1)
+IsDividedTo-more s hash_values parts i step so_far = record {
   long = length-set parts step.stripe step.part ∙ so_far.long;
   keys = λ stripe d below.
       ⊎_elim
       (λ (here : stripe ≡ step.stripe).
       ap (λ k. (get_or (set parts step.stripe step.part) k d).items) here
       ∙ ap (λ (p : Part). p.items) (get_or-set_same parts step.stripe step.part d (rw so_far.long step.fits))
-      ∙ step.part_is ∙ ap (λ xs. xs ++ step.key ∷ []) (ap (λ (p : Part). p.items) step.old_is ∙ so_far.keys step.stripe step.old step.fits ∙ ap (λ k. keys_in s k (take i codes)) (sym here))
-      ∙ sym (ap (map (λ code. code / 2 ^ s)) (kept stripe (falls_in s stripe (get_or codes i 0)) refl)
-      ∙ turned stripe (falls_in s stripe (get_or codes i 0)) (eq-eqb (get_or codes i 0 % 2 ^ s) stripe (sym step.stripe_is ∙ sym here))))
+      ∙ step.part_is ∙ ap (λ xs. xs ++ step.key ∷ []) (ap (λ (p : Part). p.items) step.old_is ∙ so_far.keys step.stripe step.old step.fits ∙ ap (λ k. keys_in s k (take i hash_values)) (sym here))
+      ∙ sym (ap (map (λ value. value / 2 ^ s)) (kept stripe (falls_in s stripe (get_or hash_values i 0)) refl)
+      ∙ turned stripe (falls_in s stripe (get_or hash_values i 0)) (eq-eqb (get_or hash_values i 0 % 2 ^ s) stripe (sym step.stripe_is ∙ sym here))))
       (λ (apart : stripe ≢ step.stripe).
       ap (λ (p : Part). p.items) (get_or-set_other parts step.stripe stripe step.part d apart) ∙ so_far.keys stripe d below
-      ∙ sym (ap (map (λ code. code / 2 ^ s)) (kept stripe (falls_in s stripe (get_or codes i 0)) refl)
-      ∙ same stripe (falls_in s stripe (get_or codes i 0)) (ne_eqb (get_or codes i 0 % 2 ^ s) stripe (λ e. apart (sym e ∙ sym step.stripe_is)))))
+      ∙ sym (ap (map (λ value. value / 2 ^ s)) (kept stripe (falls_in s stripe (get_or hash_values i 0)) refl)
+      ∙ same stripe (falls_in s stripe (get_or hash_values i 0)) (ne_eqb (get_or hash_values i 0 % 2 ^ s) stripe (λ e. apart (sym e ∙ sym step.stripe_is)))))
       (cases_eq stripe step.stripe);
 }
   where
-    kept : (stripe : ℕ) (b : Bool) → falls_in s stripe (get_or codes i 0) ≡ b
-        → filter (falls_in s stripe) (take (i + 1) codes) ≡ filter (falls_in s stripe) (take i codes) ++ cond (falls_in s stripe (get_or codes i 0)) (get_or codes i 0 ∷ []) []
-    kept stripe b _ = filter_more (falls_in s stripe) codes i 0 step.within
+    kept : (stripe : ℕ) (b : Bool) → falls_in s stripe (get_or hash_values i 0) ≡ b
+        → filter (falls_in s stripe) (take (i + 1) hash_values) ≡ filter (falls_in s stripe) (take i hash_values) ++ cond (falls_in s stripe (get_or hash_values i 0)) (get_or hash_values i 0 ∷ []) []
+    kept stripe b _ = filter_more (falls_in s stripe) hash_values i 0 step.within
 
     turned : (stripe : ℕ) (b : Bool) → b ≡ true
-        → map (λ code. code / 2 ^ s) (filter (falls_in s stripe) (take i codes) ++ cond b (get_or codes i 0 ∷ []) []) ≡ keys_in s stripe (take i codes) ++ step.key ∷ []
-    turned stripe true _ = map_push (λ code. code / 2 ^ s) (filter (falls_in s stripe) (take i codes)) (get_or codes i 0) ∙ ap (λ k. keys_in s stripe (take i codes) ++ k ∷ []) (sym step.key_is)
+        → map (λ value. value / 2 ^ s) (filter (falls_in s stripe) (take i hash_values) ++ cond b (get_or hash_values i 0 ∷ []) []) ≡ keys_in s stripe (take i hash_values) ++ step.key ∷ []
+    turned stripe true _ = map_push (λ value. value / 2 ^ s) (filter (falls_in s stripe) (take i hash_values)) (get_or hash_values i 0) ∙ ap (λ k. keys_in s stripe (take i hash_values) ++ k ∷ []) (sym step.key_is)
     turned stripe false e = absurd (cc)
 
     same : (stripe : ℕ) (b : Bool) → b ≡ false
-        → map (λ code. code / 2 ^ s) (filter (falls_in s stripe) (take i codes) ++ cond b (get_or codes i 0 ∷ []) []) ≡ keys_in s stripe (take i codes)
-    same stripe false _ = ap (map (λ code. code / 2 ^ s)) (append-nil (filter (falls_in s stripe) (take i codes)))
+        → map (λ value. value / 2 ^ s) (filter (falls_in s stripe) (take i hash_values) ++ cond b (get_or hash_values i 0 ∷ []) []) ≡ keys_in s stripe (take i hash_values)
+    same stripe false _ = ap (map (λ value. value / 2 ^ s)) (append-nil (filter (falls_in s stripe) (take i hash_values)))
     same stripe true e = absurd (cc)
 
-pub IsDividedTo-all : (s : ℕ) (codes : List ℕ) (parts : List Part) (i : ℕ) → length codes ≤ i → IsDividedTo s codes parts i → map (λ part. part.items) parts ≡ key_parts s codes
-IsDividedTo-all s codes parts i end so_far =
+pub IsDividedTo-all : (s : ℕ) (hash_values : List ℕ) (parts : List Part) (i : ℕ) → length hash_values ≤ i → IsDividedTo s hash_values parts i → map (λ part. part.items) parts ≡ key_parts s hash_values
+IsDividedTo-all s hash_values parts i end so_far =
     let long : length (map (λ (part : Part). part.items) parts) ≡ 2 ^ s = length-map parts (λ part. part.items) ∙ so_far.long in
-    ext_get_or [] (map (λ part. part.items) parts) (key_parts s codes)
-    (long ∙ sym (length-map-range_with_len (λ stripe. keys_in s stripe codes) 0 (2 ^ s)))
+    ext_get_or [] (map (λ part. part.items) parts) (key_parts s hash_values)
+    (long ∙ sym (length-map-range_with_len (λ stripe. keys_in s stripe hash_values) 0 (2 ^ s)))
     (λ stripe within.
     let below : stripe < 2 ^ s = omega arith in
     by stripe below parts refl)
   where
-    by : (stripe : ℕ) → stripe < 2 ^ s → (ps : List Part) → ps ≡ parts → get_or (map (λ part. part.items) parts) stripe [] ≡ get_or (key_parts s codes) stripe []
+    by : (stripe : ℕ) → stripe < 2 ^ s → (ps : List Part) → ps ≡ parts → get_or (map (λ part. part.items) parts) stripe [] ≡ get_or (key_parts s hash_values) stripe []
     by stripe below [] is = absurd (let none : length parts ≡ 0 = ap length (sym is) in omega (arith, so_far.long))
     by stripe below (p ∷ ps) is =
         get_or-map (λ part. part.items) parts stripe p [] (rw so_far.long below)
-        ∙ so_far.keys stripe p below ∙ ap (keys_in s stripe) (take_all i codes end)
-        ∙ sym (get_or-map-range_with_len (λ stripe. keys_in s stripe codes) 0 (2 ^ s) stripe stripe [] below (omega arith))
+        ∙ so_far.keys stripe p below ∙ ap (keys_in s stripe) (take_all i hash_values end)
+        ∙ sym (get_or-map-range_with_len (λ stripe. keys_in s stripe hash_values) 0 (2 ^ s) stripe stripe [] below (omega arith))
 
 -- ---- the cuts of a batch
 
@@ -249,18 +249,18 @@ pub map-map : {X Y Z : Type 0} (f : Y → Z) (g : X → Y) (xs : List X) → map
 map-map f g [] = refl
 map-map f g (x ∷ xs) = ap (λ ys. f (g x) ∷ ys) (map-map f g xs)
 
-pub keys_in-hashed : (setup : StripeSetup) (stripe : ℕ) (words : List ℕ) → keys_in setup.stripe_bits stripe (map (code_of setup) words) ≡ keys_among setup stripe words
+pub keys_in-hashed : (setup : StripeSetup) (stripe : ℕ) (words : List ℕ) → keys_in setup.stripe_bits stripe (map (hash_value_of setup) words) ≡ keys_among setup stripe words
 keys_in-hashed setup stripe words =
-    ap (map (λ code. code / 2 ^ setup.stripe_bits)) (filter-map_after (falls_in setup.stripe_bits stripe) (code_of setup) words)
-    ∙ map-map (λ code. code / 2 ^ setup.stripe_bits) (code_of setup) (filter (λ word. falls_in setup.stripe_bits stripe (code_of setup word)) words)
+    ap (map (λ value. value / 2 ^ setup.stripe_bits)) (filter-map_after (falls_in setup.stripe_bits stripe) (hash_value_of setup) words)
+    ∙ map-map (λ value. value / 2 ^ setup.stripe_bits) (hash_value_of setup) (filter (λ word. falls_in setup.stripe_bits stripe (hash_value_of setup word)) words)
 
 -- the hashed words of a batch, divided, are the keys of its cuts
-pub divided-keys : (setup : StripeSetup) (batch : NumberedPieces) (codes : List ℕ) → codes ≡ map (code_of setup) (words_of setup.rule (as_reads batch.pieces))
-    → key_parts setup.stripe_bits codes ≡ map keys_of (cuts_of setup batch)
-divided-keys setup batch codes hashed =
+pub divided-keys : (setup : StripeSetup) (batch : NumberedPieces) (hash_values : List ℕ) → hash_values ≡ map (hash_value_of setup) (words_of setup.rule (as_reads batch.pieces))
+    → key_parts setup.stripe_bits hash_values ≡ map keys_of (cuts_of setup batch)
+divided-keys setup batch hash_values hashed =
     ap (key_parts setup.stripe_bits) hashed
-    ∙ map-same (λ stripe. keys_in setup.stripe_bits stripe (map (code_of setup) words)) (λ stripe. keys_among setup stripe words) (range_with_len 0 (stripe_count setup))
-    (All-range (λ stripe. keys_in setup.stripe_bits stripe (map (code_of setup) words) ≡ keys_among setup stripe words) 0 (stripe_count setup) (λ stripe _ _. keys_in-hashed setup stripe words))
+    ∙ map-same (λ stripe. keys_in setup.stripe_bits stripe (map (hash_value_of setup) words)) (λ stripe. keys_among setup stripe words) (range_with_len 0 (stripe_count setup))
+    (All-range (λ stripe. keys_in setup.stripe_bits stripe (map (hash_value_of setup) words) ≡ keys_among setup stripe words) 0 (stripe_count setup) (λ stripe _ _. keys_in-hashed setup stripe words))
     ∙ sym (map-map keys_of (cut_at setup batch) (range_with_len 0 (stripe_count setup)))
   where
     words : List ℕ
@@ -288,9 +288,9 @@ made-more f made i so_far = ap (λ xs. xs ++ f i ∷ []) so_far ∙ sym (ap (map
 pub length-made : {X : Type 0} (f : ℕ → X) (made : List X) (i : ℕ) → made ≡ map f (range_with_len 0 i) → length made ≡ i
 length-made f made i is = ap length is ∙ length-map-range_with_len f 0 i
 
-pub few-parts : (s : ℕ) (codes : List ℕ) (parts : List Part) → s ≤ 6 → map (λ p. p.items) parts ≡ key_parts s codes → length parts ≤ 64
-few-parts s codes parts few divided =
+pub few-parts : (s : ℕ) (hash_values : List ℕ) (parts : List Part) → s ≤ 6 → map (λ p. p.items) parts ≡ key_parts s hash_values → length parts ≤ 64
+few-parts s hash_values parts few divided =
     let most = stripes-few s few in
     let long : length parts ≡ 2 ^ s =
-    sym (length-map parts (λ p. p.items)) ∙ ap length divided ∙ length-map-range_with_len (λ stripe. keys_in s stripe codes) 0 (2 ^ s) in
+    sym (length-map parts (λ p. p.items)) ∙ ap length divided ∙ length-map-range_with_len (λ stripe. keys_in s stripe hash_values) 0 (2 ^ s) in
     omega arith

@@ -22,7 +22,7 @@ use Rattle.kc_word.specs.Shared.{values}
 use Rattle.kc_word.specs.declared.batch.Batch.{Batch}
 use Rattle.kc_table.specs.Counts.{KeyCounts, count_at}
 use Rattle.kc_booking.specs.Setup.{StripeSetup, DividesWords, stripe_count, key_bits, word_count, stripe_of, key_of}
-use Rattle.kc_booking.specs.Cut.{keys_of, cut_at, batch_codes, key_parts}
+use Rattle.kc_booking.specs.Cut.{keys_of, cut_at, batch_hash_values, key_parts}
 use Rattle.kc_booking.specs.Cuts.{RoundCut, round_at, cuts_in, all_keys_of, sizes_of, FirstIsBooked, FirstIsNew}
 use Rattle.kc_booking.specs.Stripe.{numbers_of, NumbersDiffer, KnowsNumbers, IsBooked, word_occurrences}
 use Rattle.kc_booking.proofs.Parts.{Part, falls_in, keys_in, keys_in-hashed, map-map}
@@ -32,52 +32,52 @@ use Rattle.kc_booking.proofs.Lawful.{CountsWords, WordLaws, occurrences-more, ke
 
 keys_in-append : (s stripe : ℕ) (xs ys : List ℕ) → keys_in s stripe (xs ++ ys) ≡ keys_in s stripe xs ++ keys_in s stripe ys
 keys_in-append s stripe xs ys =
-    ap (map (λ code. code / 2 ^ s)) (filter-append (falls_in s stripe) xs ys)
-    ∙ map-append (λ code. code / 2 ^ s) (filter (falls_in s stripe) xs) (filter (falls_in s stripe) ys)
+    ap (map (λ value. value / 2 ^ s)) (filter-append (falls_in s stripe) xs ys)
+    ∙ map-append (λ value. value / 2 ^ s) (filter (falls_in s stripe) xs) (filter (falls_in s stripe) ys)
 
--- the codes of the batches that fall in a stripe are the keys of their cuts
+-- the hash values of the batches that fall in a stripe are the keys of their cuts
 pub round-keys : (setup : StripeSetup) (stripe : ℕ) (batches : List NumberedPieces)
-    → keys_in setup.stripe_bits stripe (flat_map (batch_codes setup) batches) ≡ all_keys_of (round_at setup batches stripe)
+    → keys_in setup.stripe_bits stripe (flat_map (batch_hash_values setup) batches) ≡ all_keys_of (round_at setup batches stripe)
 round-keys setup stripe [] = refl
 round-keys setup stripe (batch ∷ batches) =
-    keys_in-append setup.stripe_bits stripe (batch_codes setup batch) (flat_map (batch_codes setup) batches)
+    keys_in-append setup.stripe_bits stripe (batch_hash_values setup batch) (flat_map (batch_hash_values setup) batches)
     ∙ ap₂ (λ (xs ys : List ℕ). xs ++ ys) (keys_in-hashed setup stripe (words_of setup.rule (as_reads batch.pieces))) (round-keys setup stripe batches)
 
 -- and so many of each batch
 pub round-sizes : (setup : StripeSetup) (stripe : ℕ) (batches : List NumberedPieces)
-    → map (λ batch. count_by (falls_in setup.stripe_bits stripe) (batch_codes setup batch)) batches ≡ sizes_of (round_at setup batches stripe)
+    → map (λ batch. count_by (falls_in setup.stripe_bits stripe) (batch_hash_values setup batch)) batches ≡ sizes_of (round_at setup batches stripe)
 round-sizes setup stripe batches =
-    map-same (λ batch. count_by (falls_in setup.stripe_bits stripe) (batch_codes setup batch)) (λ batch. length (keys_of (cut_at setup batch stripe))) batches
+    map-same (λ batch. count_by (falls_in setup.stripe_bits stripe) (batch_hash_values setup batch)) (λ batch. length (keys_of (cut_at setup batch stripe))) batches
     (λ k d within. one (get_or batches k d))
     ∙ sym (map-map (λ cut. length (keys_of cut)) (λ batch. cut_at setup batch stripe) batches)
   where
-    one : (batch : NumberedPieces) → count_by (falls_in setup.stripe_bits stripe) (batch_codes setup batch) ≡ length (keys_of (cut_at setup batch stripe))
+    one : (batch : NumberedPieces) → count_by (falls_in setup.stripe_bits stripe) (batch_hash_values setup batch) ≡ length (keys_of (cut_at setup batch stripe))
     one batch =
-        sym (length-map (filter (falls_in setup.stripe_bits stripe) (batch_codes setup batch)) (λ code. code / 2 ^ setup.stripe_bits)
-        ∙ length-filter (falls_in setup.stripe_bits stripe) (batch_codes setup batch))
+        sym (length-map (filter (falls_in setup.stripe_bits stripe) (batch_hash_values setup batch)) (λ value. value / 2 ^ setup.stripe_bits)
+        ∙ length-filter (falls_in setup.stripe_bits stripe) (batch_hash_values setup batch))
         ∙ ap length (keys_in-hashed setup stripe (words_of setup.rule (as_reads batch.pieces)))
 
--- one batch's codes more
-pub codes-more : (setup : StripeSetup) (front : List NumberedPieces) (batch : NumberedPieces)
-    → flat_map (batch_codes setup) (front ++ batch ∷ []) ≡ flat_map (batch_codes setup) front ++ batch_codes setup batch
-codes-more setup front batch =
-    flat_map-append (batch_codes setup) front (batch ∷ []) ∙ ap (λ codes. flat_map (batch_codes setup) front ++ codes) (append-nil (batch_codes setup batch))
+-- one batch's hash values more
+pub hash_values-more : (setup : StripeSetup) (front : List NumberedPieces) (batch : NumberedPieces)
+    → flat_map (batch_hash_values setup) (front ++ batch ∷ []) ≡ flat_map (batch_hash_values setup) front ++ batch_hash_values setup batch
+hash_values-more setup front batch =
+    flat_map-append (batch_hash_values setup) front (batch ∷ []) ∙ ap (λ hash_values. flat_map (batch_hash_values setup) front ++ hash_values) (append-nil (batch_hash_values setup batch))
 
-pub length-key_parts : (s : ℕ) (codes : List ℕ) (parts : List Part) → map (λ p. p.items) parts ≡ key_parts s codes → length parts ≡ 2 ^ s
-length-key_parts s codes parts divided =
-    sym (length-map parts (λ p. p.items)) ∙ ap length divided ∙ length-map-range_with_len (λ stripe. keys_in s stripe codes) 0 (2 ^ s)
+pub length-key_parts : (s : ℕ) (hash_values : List ℕ) (parts : List Part) → map (λ p. p.items) parts ≡ key_parts s hash_values → length parts ≡ 2 ^ s
+length-key_parts s hash_values parts divided =
+    sym (length-map parts (λ p. p.items)) ∙ ap length divided ∙ length-map-range_with_len (λ stripe. keys_in s stripe hash_values) 0 (2 ^ s)
 
 -- the part at a stripe's place has the keys of the batches in that stripe
 pub part-round_keys : (setup : StripeSetup) (batches : List NumberedPieces) (parts : List Part) (i : ℕ) (part : Part)
-    → map (λ p. p.items) parts ≡ key_parts setup.stripe_bits (flat_map (batch_codes setup) batches)
+    → map (λ p. p.items) parts ≡ key_parts setup.stripe_bits (flat_map (batch_hash_values setup) batches)
     → (i < length parts) × (part ≡ get_or parts i part) → part.items ≡ all_keys_of (round_at setup batches i)
 part-round_keys setup batches parts i part divided (within, is) =
-    let codes = flat_map (batch_codes setup) batches in
-    let long : length parts ≡ stripe_count setup = length-key_parts setup.stripe_bits codes parts divided in
+    let hash_values = flat_map (batch_hash_values setup) batches in
+    let long : length parts ≡ stripe_count setup = length-key_parts setup.stripe_bits hash_values parts divided in
     ap (λ (p : Part). p.items) is
     ∙ sym (get_or-map (λ p. p.items) parts i part [] within)
     ∙ ap (λ xs. get_or xs i []) divided
-    ∙ get_or-map-range_with_len (λ stripe. keys_in setup.stripe_bits stripe codes) 0 (stripe_count setup) i i [] (omega arith) (omega arith)
+    ∙ get_or-map-range_with_len (λ stripe. keys_in setup.stripe_bits stripe hash_values) 0 (stripe_count setup) i i [] (omega arith) (omega arith)
     ∙ round-keys setup i batches
 
 -- ---- lists whose keys differ, put together
@@ -215,6 +215,15 @@ first_tells journal (batch ∷ batches) first found at is = by found (is ∙ ap 
     by true is = IsBooked-found journal batch.value.number true is refl
     by false is = IsBooked-missing journal batch.value.number false is refl
 
+-- the same, as the stripe has them
+pub first_told : (old journal batches : List NumberedPieces) (shared : List Shared) (first : Shared) (number : ℕ) (found : Bool) → old ≡ journal
+    → values shared ≡ batches → IsSharedAt shared 0 first → number ≡ first.value.number → found ≡ list_any (nat_eq number) (numbers_of old)
+    → MatchBool found (FirstIsBooked journal batches) (FirstIsNew journal batches)
+first_told old journal batches shared first number found same_journal same_batches at is known =
+    subst (λ (bs : List NumberedPieces). MatchBool found (FirstIsBooked journal bs) (FirstIsNew journal bs)) same_batches
+    (subst (λ (js : List NumberedPieces). MatchBool found (FirstIsBooked js (values shared)) (FirstIsNew js (values shared))) same_journal
+    (first_tells old shared first found at (known ∙ ap (λ (n : ℕ). list_any (nat_eq n) (numbers_of old)) is)))
+
 pub new_first : (journal batches : List NumberedPieces) → FirstIsNew journal batches → ¬ FirstIsBooked journal batches
 new_first journal [] new booked = booked
 new_first journal (batch ∷ batches) new booked = new booked
@@ -222,6 +231,13 @@ new_first journal (batch ∷ batches) new booked = new booked
 pub first_booked : (journal batches : List NumberedPieces) → FirstIsBooked journal batches → ¬ NumbersDiffer (journal ++ batches)
 first_booked journal [] booked = absurd booked
 first_booked journal (batch ∷ batches) booked = booked_before journal (batch ∷ batches) 0 batch (record { within = omega arith; is = refl }) booked
+
+-- where all numbers differ, none is refused
+pub new_refused : (journal batches : List NumberedPieces) (Own : Type 0) → NumbersDiffer (journal ++ batches)
+    → FirstIsBooked journal batches ⊎ (Own × ¬ NumbersDiffer (journal ++ batches)) → ⊥
+new_refused journal batches Own differ refused =
+    ⊎_elim (λ (first : FirstIsBooked journal batches). first_booked journal batches first differ)
+    (λ (again : Own × ¬ NumbersDiffer (journal ++ batches)). again.1 differ) refused
 
 -- where there is no batch, none is refused
 pub none_refused : (journal batches : List NumberedPieces) (Own : Type 0) → batches ≡ [] → NumbersDiffer journal

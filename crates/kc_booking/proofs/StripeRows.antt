@@ -17,7 +17,7 @@ use Rattle.kc_tally.specs.Histogram.{last_bin, bin_of, bin_at, bin_size, bins_of
 use Rattle.kc_tally.proofs.Bins.{bin_at-bins_of}
 use Rattle.kc_booking.specs.Setup.{StripeSetup, HasBits, word_count, stripe_count, key_bits, stripe_of, key_of, stripe_words, StandsAt, DividesWords}
 use Rattle.kc_booking.specs.Stripe.{word_occurrences, stripe_occurrences, AreStripeRows}
-use Rattle.kc_booking.proofs.Codes.{StandsAt-undone}
+use Rattle.kc_booking.proofs.HashValues.{StandsAt-undone}
 use Rattle.kc_booking.proofs.Lawful.{CountsWords}
 
 -- the word of a key, and the row of a word, by the inverse of the hash

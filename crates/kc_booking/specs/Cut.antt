@@ -4,7 +4,7 @@ use Rattle.std.specs.Prelude.{ℕ, ◌/◌, ◌%◌, ◌^◌, ◌==◌, List, ma
 use Rattle.std.specs.List.{range_with_len}
 use Rattle.kc_kmer.specs.Occurrences.{words_of}
 use Rattle.kc_word.specs.Cutting.{NumberedPieces, as_reads}
-use Rattle.kc_booking.specs.Setup.{StripeSetup, stripe_count, code_of, stripe_of, key_of}
+use Rattle.kc_booking.specs.Setup.{StripeSetup, stripe_count, hash_value_of, stripe_of, key_of}
 
 -- the words of a batch, as they are divided by a setup, in one of its stripes
 pub record StripeCut : Type 0 where
@@ -20,9 +20,9 @@ keys_among setup stripe words = map (key_of setup) (filter (λ word. stripe_of s
 abbrev pub keys_of : StripeCut → List ℕ
 keys_of cut = keys_among cut.setup cut.stripe (words_of cut.setup.rule (as_reads cut.batch.pieces))
 
--- the codes of a batch's words, in order
-abbrev pub batch_codes : StripeSetup → NumberedPieces → List ℕ
-batch_codes setup batch = map (code_of setup) (words_of setup.rule (as_reads batch.pieces))
+-- the hash values of a batch's words, in order
+abbrev pub batch_hash_values : StripeSetup → NumberedPieces → List ℕ
+batch_hash_values setup batch = map (hash_value_of setup) (words_of setup.rule (as_reads batch.pieces))
 
 -- a batch cut up: one cut for each stripe, in the order of the stripes
 abbrev pub cut_at : StripeSetup → NumberedPieces → ℕ → StripeCut
@@ -31,8 +31,8 @@ cut_at setup batch stripe = record { setup = setup; stripe = stripe; batch = bat
 abbrev pub cuts_of : StripeSetup → NumberedPieces → List StripeCut
 cuts_of setup batch = map (cut_at setup batch) (range_with_len 0 (stripe_count setup))
 
--- codes divided among 2 ^ s stripes by their low s bits: for each stripe the other bits of its codes, in order
+-- hash values divided among 2 ^ s stripes by their low s bits: for each stripe the other bits of its values, in order
 abbrev pub key_parts : ℕ → List ℕ → List (List ℕ)
-key_parts s codes =
-    map (λ stripe. map (λ code. code / 2 ^ s) (filter (λ code. code % 2 ^ s == stripe) codes))
+key_parts s hash_values =
+    map (λ stripe. map (λ value. value / 2 ^ s) (filter (λ value. value % 2 ^ s == stripe) hash_values))
     (range_with_len 0 (2 ^ s))

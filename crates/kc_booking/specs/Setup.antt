@@ -37,17 +37,17 @@ module _ (setup : StripeSetup) where
   abbrev pub stripe_count : ℕ
   stripe_count = 2 ^ setup.stripe_bits
 
-  -- the code of a word: the matrix times its number
-  abbrev pub code_of : ℕ → ℕ
-  code_of word = product setup.hash word
+  -- the hash value of a word: the matrix times its number
+  abbrev pub hash_value_of : ℕ → ℕ
+  hash_value_of word = product setup.hash word
 
-  -- its stripe: the low s bits of the code
+  -- its stripe: the low s bits of the hash value
   abbrev pub stripe_of : ℕ → ℕ
-  stripe_of word = code_of word % 2 ^ setup.stripe_bits
+  stripe_of word = hash_value_of word % 2 ^ setup.stripe_bits
 
-  -- its key: the rest of the code
+  -- its key: the rest of the hash value
   abbrev pub key_of : ℕ → ℕ
-  key_of word = code_of word / 2 ^ setup.stripe_bits
+  key_of word = hash_value_of word / 2 ^ setup.stripe_bits
 
   -- how many bits a key has
   abbrev pub key_bits : ℕ

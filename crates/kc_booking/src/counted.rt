@@ -1,14 +1,12 @@
 //! A table of counts with the histogram and the sum of its counts.
-ghost use Rattle.std.specs.Prelude.{◌≡◌, ℕ, ◌+◌, ◌<◌, ◌≤◌, ◌^◌, ◌==◌, [], length, count_by, All, IfOk, OnOk, OnErr};
-ghost use Rattle.std.specs.FinMap.{empty};
+ghost use Rattle.std.specs.Prelude.{◌≡◌, ℕ, ◌+◌, ◌<◌, ◌≤◌, ◌^◌, ◌==◌, length, count_by, All, IfOk, OnOk};
 ghost use Rattle.std.specs.List.Sorted.{IsPermutation};
-ghost use Rattle.kc_table.specs.Counts.{IsStored, count_at, readied};
+ghost use Rattle.kc_table.specs.Counts.{IsStored, count_at};
 ghost use Rattle.kc_tally.specs.Histogram.{last_bin, bin_at};
-ghost use Rattle.kc_booking.specs.Counted.{IsCounted, KeepsLimits, SomeMayBeFull, StandAt, all_readied, all_added};
-ghost use Rattle.kc_booking.specs.NotedCounts.{block_len};
+ghost use Rattle.kc_booking.specs.Counted.{IsCounted, KeepsLimits, SomeMayBeFull, StandAt, all_readied};
 
 use crate::noted_counts::{BLOCK, count_keys, raise_all};
-use crate::part_order::part_by_part;
+use crate::part_order::parted;
 use kc_lemmas::room_for_each;
 use kc_table::{Counts, TableFault};
 use kc_tally::Histogram;
@@ -18,9 +16,10 @@ use std::marker::Model;
 /// A table, the histogram of its counts, and their sum, which is at most 2^62.
 #[derive(Drop)]
 pub(crate) struct CountedTable<C: Counts> {
-    table: C,
-    histogram: Histogram,
-    total: u64,
+    pub(crate) table: C,
+    pub(crate) histogram: Histogram,
+    // the sum of the counts
+    pub(crate) total: u64,
 }
 
 impl<C: Counts> Model for CountedTable<C> {
@@ -31,26 +30,6 @@ impl<C: Counts> Model for CountedTable<C> {
     ghost view = { λ t. record { table = t.table; bins = t.histogram; total = t.total } };
 
     ghost invariant = { λ t. IsCounted (C.bits t.table) (C.counts t.table) t.histogram t.total };
-}
-
-impl<C: Counts + Drop> CountedTable<C> {
-    /// A table in which nothing is stored, with an empty histogram.
-    pub fn new(alloc: Global, table: C) -> Result<CountedTable<C>, AllocError>
-        requires { C.counts table ≡ empty }
-        ensures table { IfOk result (λ counted. counted.table ≡ table) }
-        ensures total { IfOk result (λ counted. counted.total ≡ 0) }
-        ensures counted { IfOk result (λ counted.
-            IsCounted (C.bits counted.table) (C.counts counted.table) counted.bins counted.total) }
-    {
-        // for the proof: what is known of the table's keys
-        let _bits = table.key_bits();
-        let histogram = Histogram::new(alloc)?;
-        Ok(CountedTable {
-            table,
-            histogram,
-            total: 0,
-        })
-    }
 }
 
 impl<C: Counts> CountedTable<C> {
@@ -77,20 +56,18 @@ impl<C: Counts> CountedTable<C> {
         &self.histogram
     }
 
-    /// The sum of the counts.
-    pub fn total(&self) -> u64
-        ensures value { result ≡ self.now.total }
-        ensures counted { IsCounted (C.bits self.now.table) (C.counts self.now.table) self.now.bins self.now.total }
-    {
-        self.total
-    }
-
-    /// The keys in the order of the table's parts. Condition: they are keys of the table.
+    /// The keys in another order: those of one part of the table behind those of another. Condition: they are keys of
+    /// the table.
     pub fn by_parts(&self, alloc: Global, keys: &[u64]) -> Result<Vec<u64>, AllocError>
         requires { All (λ key. key < 2 ^ C.bits self.now.table) keys.now }
         ensures { IfOk result (λ ordered. IsPermutation keys.now ordered.items) }
     {
-        part_by_part(alloc, &self.table, keys)
+        let parts = parted(alloc, &self.table, keys)?;
+        let mut ordered = room_for_each(alloc, keys)?;
+        for part in &parts {
+            ordered.extend_from_slice(part)?;
+        }
+        Ok(ordered)
     }
 
     /// Stores the keys, one after another, as the table's `ready` does, and gives their places. The first refusal is
@@ -110,37 +87,18 @@ impl<C: Counts> CountedTable<C> {
             return Err(TableFault::Memory);
         };
         let growth = self.table.growth();
-        self.store_all(keys, &mut places)?;
+        for key in keys {
+            // The key has a slot then, and can be counted without a refusal.
+            let place = self.table.store(*key)?;
+            let Ok(()) = places.push(place) else {
+                return Err(TableFault::Memory);
+            };
+        }
         if self.table.growth() > growth {
             // keys that were stored before the table grew have other places now
             self.find_all(keys, &mut places);
         }
         Ok(places)
-    }
-
-    // Stores the keys, one after another, and notes their places, which they have unless the table has grown since.
-    fn store_all(&mut self, keys: &[u64], places: &mut Vec<u64>) -> Result<(), TableFault>
-        requires in_range { All (λ key. key < 2 ^ C.bits self.old.table) keys.now }
-        requires none { places.old.items ≡ [] }
-        ensures all { OnOk result (length places.new.items ≡ length keys.now) }
-        ensures grown { C.growth self.old.table ≤ C.growth self.new.table }
-        ensures places { C.growth self.new.table ≡ C.growth self.old.table
-            → OnOk result (StandAt C.stands_at self.new.table keys.now places.new.items) }
-        ensures stored { OnOk result (C.counts self.new.table ≡ all_readied (C.counts self.old.table) keys.now) }
-        ensures same_counts { (q : ℕ) → count_at (C.counts self.new.table) q ≡ count_at (C.counts self.old.table) q }
-        ensures full { result ≡ Err TableFault.Full
-            → SomeMayBeFull (C.may_be_full self.old.table) (C.counts self.old.table) keys.now }
-        ensures limits { KeepsLimits C.bits C.may_be_full self.old.table self.new.table }
-        ensures same_bins { self.new.bins ≡ self.old.bins }
-        ensures same_total { self.new.total ≡ self.old.total }
-    {
-        for key in keys {
-            let place = self.store(*key)?;
-            let Ok(()) = places.push(place) else {
-                return Err(TableFault::Memory);
-            };
-        }
-        Ok(())
     }
 
     // Writes down where the keys, which are stored, stand now.
@@ -166,48 +124,20 @@ impl<C: Counts> CountedTable<C> {
         ensures total { self.new.total ≡ self.old.total + length keys.now }
         ensures counted { IsCounted (C.bits self.new.table) (C.counts self.new.table) self.new.bins self.new.total }
     {
-        // for the proof: what is known of an empty list of keys
-        let _total = self.total();
         for block in 0..keys.len().div_ceil(BLOCK) {
             let begin = block * BLOCK;
             let end = keys.len().min(begin + BLOCK);
-            self.add_block(&keys[begin..end], &places[begin..end]);
+            // first in the table, and then in the histogram, so that the loop over the table does nothing else while it
+            // waits for memory
+            let mut noted = [0; BLOCK];
+            count_keys(
+                &mut self.table,
+                &keys[begin..end],
+                &places[begin..end],
+                &mut noted,
+            );
+            raise_all(&mut self.histogram, &noted[..end - begin]);
+            self.total += (end - begin) as u64;
         }
-    }
-
-    // Counts a block of keys: first in the table, and then in the histogram, so that the loop over the table does
-    // nothing else while it waits for memory.
-    fn add_block(&mut self, keys: &[u64], places: &[u64])
-        requires short { length keys.now ≤ block_len }
-        requires in_range { All (λ key. key < 2 ^ C.bits self.old.table) keys.now }
-        requires there { StandAt C.stands_at self.old.table keys.now places.now }
-        requires room { self.old.total + length keys.now ≤ 2 ^ 62 }
-        ensures counts { C.counts self.new.table ≡ all_added (C.counts self.old.table) keys.now }
-        ensures kept { (q place : ℕ) → C.stands_at self.old.table q place → C.stands_at self.new.table q place }
-        ensures limits { KeepsLimits C.bits C.may_be_full self.old.table self.new.table }
-        ensures total { self.new.total ≡ self.old.total + length keys.now }
-        ensures counted { IsCounted (C.bits self.new.table) (C.counts self.new.table) self.new.bins self.new.total }
-    {
-        let mut noted = [0; BLOCK];
-        count_keys(&mut self.table, keys, places, &mut noted);
-        raise_all(&mut self.histogram, &noted[..keys.len()]);
-        self.total += keys.len() as u64;
-    }
-
-    // Makes sure that the key has a slot, so that it can be counted without a refusal, and tells its place.
-    fn store(&mut self, key: u64) -> Result<u64, TableFault>
-        requires { key < 2 ^ C.bits self.old.table }
-        ensures place { IfOk result (C.stands_at self.new.table key) }
-        ensures stored { OnOk result (C.counts self.new.table ≡ readied (C.counts self.old.table) key) }
-        ensures refused { OnErr result (C.counts self.new.table ≡ C.counts self.old.table) }
-        ensures full { result ≡ Err TableFault.Full → C.may_be_full self.old.table (C.counts self.old.table) key }
-        ensures limits { KeepsLimits C.bits C.may_be_full self.old.table self.new.table }
-        ensures grown { C.growth self.old.table ≤ C.growth self.new.table }
-        ensures kept { C.growth self.new.table ≡ C.growth self.old.table
-            → (q place : ℕ) → C.stands_at self.old.table q place → C.stands_at self.new.table q place }
-        ensures same_bins { self.new.bins ≡ self.old.bins }
-        ensures same_total { self.new.total ≡ self.old.total }
-    {
-        self.table.store(key)
     }
 }

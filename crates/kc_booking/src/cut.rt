@@ -2,16 +2,12 @@
 ghost use Rattle.std.specs.Prelude.{◌≡◌, ℕ, ◌%◌, ◌^◌, ◌<◌, ◌≤◌, ◌==◌, [], length, map, count_by, slice_index, All};
 ghost use Rattle.std.specs.Prelude.{IfOk, Some, filter};
 ghost use Rattle.std.specs.Vec.{vec_capacity};
-ghost use Rattle.kc_hash.specs.Product.{product};
 ghost use Rattle.kc_kmer.specs.Rule.{is_listed};
-ghost use Rattle.kc_kmer.specs.Occurrences.{words_of};
-ghost use Rattle.kc_word.specs.Cutting.{as_reads};
-ghost use Rattle.kc_booking.specs.Cut.{StripeCut, keys_of, cuts_of, key_parts, batch_codes};
+ghost use Rattle.kc_booking.specs.Cut.{StripeCut, keys_of, cuts_of, key_parts, batch_hash_values};
 
 use crate::setup::Setup;
-use kc_hash::MatrixTables;
 use kc_lemmas::room_for_each;
-use kc_word::{Batch, Only, Word, word_laws, words};
+use kc_word::{Batch, Only, Word, words};
 use std::alloc::{AllocError, Global};
 use std::marker::Model;
 use std::sync::Arc;
@@ -93,40 +89,30 @@ fn stripe_keys(alloc: Global, setup: &Setup, batch: &Batch) -> Result<Vec<Vec<u6
         map (λ part. part.items) parts.items ≡ map keys_of (cuts_of setup.now batch.now)) }
     ensures few { IfOk result (λ parts. length parts.items ≤ 64) }
 {
-    let codes = hashed_words(alloc, setup, batch)?;
-    divided(alloc, &codes, setup.stripe_bits())
+    let hash_values = hashed_words(alloc, setup, batch)?;
+    divided(alloc, &hash_values, setup.stripe_bits)
 }
 
-/// The codes of the batch's words, in order.
+/// The hash values of the batch's words that count, in order: where a list is given, those of the listed ones.
 pub(crate) fn hashed_words(
     alloc: Global,
     setup: &Setup,
     batch: &Batch,
 ) -> Result<Vec<u64>, AllocError>
-    ensures { IfOk result (λ codes. codes.items ≡ batch_codes setup.now batch.now) }
+    ensures { IfOk result (λ hash_values. hash_values.items ≡ batch_hash_values setup.now batch.now) }
 {
     // for the proof: what is known of the hash's bits
-    let _bits = setup.stripe_bits();
-    let mut codes = counted_words(alloc, setup, batch)?;
-    hash_all(&setup.hash().forward_tables(), &mut codes);
-    Ok(codes)
-}
-
-// The words of the batch that count: where a list is given, the listed ones.
-fn counted_words(alloc: Global, setup: &Setup, batch: &Batch) -> Result<Vec<u64>, AllocError>
-    ensures words { IfOk result (λ words. words.items ≡ words_of setup.now.rule (as_reads batch.now.pieces)) }
-    ensures below { IfOk result (λ words. All (λ word. word < 4 ^ setup.now.rule.k) words.items) }
-{
+    let _bits = setup.stripe_bits;
     let mut words = words(alloc, batch, setup.rule())?;
-    word_laws::listed_words();
-    word_laws::words_of_reads();
     match setup.list() {
-        None => Ok(words),
-        Some(list) => {
-            keep_listed(list, &mut words);
-            Ok(words)
-        }
+        None => {}
+        Some(list) => keep_listed(list, &mut words),
     }
+    let tables = setup.hash().forward_tables();
+    for word in words.iter_mut() {
+        *word = tables.apply(*word);
+    }
+    Ok(words)
 }
 
 // Leaves out the words that are not in the list.
@@ -145,41 +131,35 @@ fn keep_listed(list: &Only, words: &mut Vec<u64>)
     words.truncate(kept);
 }
 
-// Replaces each word by its code, the word's hashed number.
-fn hash_all(tables: &MatrixTables, words: &mut [u64])
-    requires { All (λ word. word < 2 ^ length tables.now) words.old }
-    ensures { words.new ≡ map (λ word. product tables.now word) words.old }
-{
-    for word in words.iter_mut() {
-        *word = tables.apply(*word);
-    }
-}
-
-/// The codes divided by their low bits: for each stripe its keys, which are the other bits, in order.
+/// The hash values divided by their low bits: for each stripe its keys, which are the other bits, in order.
 pub(crate) fn divided(
     alloc: Global,
-    codes: &[u64],
+    hash_values: &[u64],
     stripe_bits: u32,
 ) -> Result<Vec<Vec<u64>>, AllocError>
     requires { stripe_bits ≤ 6 }
-    ensures { IfOk result (λ parts. map (λ part. part.items) parts.items ≡ key_parts stripe_bits codes.now) }
+    ensures { IfOk result (λ parts. map (λ part. part.items) parts.items ≡ key_parts stripe_bits hash_values.now) }
 {
     let low = (1 << stripe_bits) - 1;
-    let mut parts = empty_parts(alloc, codes, stripe_bits)?;
-    for code in codes {
-        parts[(*code & low) as usize].push(*code >> stripe_bits)?;
+    let mut parts = empty_parts(alloc, hash_values, stripe_bits)?;
+    for hash_value in hash_values {
+        parts[(*hash_value & low) as usize].push(*hash_value >> stripe_bits)?;
     }
     Ok(parts)
 }
 
 // An empty vector for each stripe, with room for its keys.
-fn empty_parts(alloc: Global, codes: &[u64], stripe_bits: u32) -> Result<Vec<Vec<u64>>, AllocError>
+fn empty_parts(
+    alloc: Global,
+    hash_values: &[u64],
+    stripe_bits: u32,
+) -> Result<Vec<Vec<u64>>, AllocError>
     requires { stripe_bits ≤ 6 }
     ensures empty { IfOk result (λ parts. map (λ part. part.items) parts.items ≡ key_parts stripe_bits []) }
     ensures room { IfOk result (λ parts.
-        map (λ part. vec_capacity part) parts.items ≡ map length (key_parts stripe_bits codes.now)) }
+        map (λ part. vec_capacity part) parts.items ≡ map length (key_parts stripe_bits hash_values.now)) }
 {
-    let sizes = part_sizes(codes, stripe_bits);
+    let sizes = part_sizes(hash_values, stripe_bits);
     let stripes = 1usize << stripe_bits;
     let mut parts = room_for_each(alloc, &sizes[..stripes])?;
     for stripe in 0..stripes {
@@ -188,15 +168,16 @@ fn empty_parts(alloc: Global, codes: &[u64], stripe_bits: u32) -> Result<Vec<Vec
     Ok(parts)
 }
 
-/// How many codes fall in each stripe.
-pub(crate) fn part_sizes(codes: &[u64], stripe_bits: u32) -> [usize; 64]
+/// How many hash values fall in each stripe.
+pub(crate) fn part_sizes(hash_values: &[u64], stripe_bits: u32) -> [usize; 64]
     requires { stripe_bits ≤ 6 }
-    ensures { (stripe : ℕ) → slice_index result stripe ≡ count_by (λ code. code % 2 ^ stripe_bits == stripe) codes.now }
+    ensures { (stripe : ℕ) → slice_index result stripe
+        ≡ count_by (λ value. value % 2 ^ stripe_bits == stripe) hash_values.now }
 {
     let low = (1 << stripe_bits) - 1;
     let mut sizes = [0usize; 64];
-    for code in codes {
-        sizes[(*code & low) as usize] += 1;
+    for hash_value in hash_values {
+        sizes[(*hash_value & low) as usize] += 1;
     }
     sizes
 }

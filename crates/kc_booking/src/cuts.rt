@@ -1,9 +1,8 @@
 //! The words of several batches divided among the stripes.
 ghost use Rattle.std.specs.Prelude.{◌≡◌, ℕ, ◌<◌, ◌==◌, ◌%◌, ◌^◌, map, count_by, slice_index, IfOk, MatchBool};
-ghost use Rattle.std.specs.Prelude.{OnOk, ◌++◌};
 ghost use Rattle.std.specs.List.{flat_map};
 ghost use Rattle.kc_word.specs.Shared.{values};
-ghost use Rattle.kc_booking.specs.Cut.{batch_codes};
+ghost use Rattle.kc_booking.specs.Cut.{batch_hash_values};
 ghost use Rattle.kc_booking.specs.Cuts.{all_keys_of, sizes_of, rounds_of};
 ghost use Rattle.kc_booking.specs.Stripe.{NumbersDiffer};
 
@@ -96,8 +95,8 @@ pub fn cut_up_all(
     ensures { IfOk result (λ rounds. rounds.items ≡ rounds_of setup.now (values batches.now)) }
 {
     let numbers_differ = do_numbers_differ(alloc, batches)?;
-    let (codes, sizes) = all_codes(alloc, setup, batches)?;
-    let parts = divided(alloc, &codes, setup.stripe_bits())?;
+    let (hash_values, sizes) = all_hash_values(alloc, setup, batches)?;
+    let parts = divided(alloc, &hash_values, setup.stripe_bits)?;
     let mut rounds = room_for_each(alloc, &parts)?;
     for keys in parts {
         let stripe = rounds.len();
@@ -131,39 +130,26 @@ fn do_numbers_differ(alloc: Global, batches: &[Arc<Batch>]) -> Result<bool, Allo
     Ok(true)
 }
 
-// The codes of the batches' words, one batch's behind another's, and how many codes of each batch fall in each stripe.
-fn all_codes(
+// The hash values of the batches' words, one batch's behind another's, and how many of each batch fall in each stripe.
+fn all_hash_values(
     alloc: Global,
     setup: &Setup,
     batches: &[Arc<Batch>],
 ) -> Result<(Vec<u64>, Vec<[usize; 64]>), AllocError>
-    ensures codes { IfOk result (λ made. made.0.items ≡ flat_map (batch_codes setup.now) (values batches.now)) }
+    ensures hash_values { IfOk result (λ made.
+        made.0.items ≡ flat_map (batch_hash_values setup.now) (values batches.now)) }
     ensures sizes { IfOk result (λ made. (stripe : ℕ) → map (λ sizes. slice_index sizes stripe) made.1.items
-        ≡ map (λ batch. count_by (λ code. code % 2 ^ setup.now.stripe_bits == stripe) (batch_codes setup.now batch))
-        (values batches.now)) }
+        ≡ map (λ batch. count_by (λ value. value % 2 ^ setup.now.stripe_bits == stripe)
+        (batch_hash_values setup.now batch)) (values batches.now)) }
 {
-    let mut codes = Vec::new(alloc);
+    let mut hash_values = Vec::new(alloc);
     let mut sizes = room_for_each(alloc, batches)?;
     for batch in batches {
-        sizes.push(add_codes(alloc, setup, batch, &mut codes)?)?;
+        let hashed = hashed_words(alloc, setup, batch)?;
+        hash_values.extend_from_slice(&hashed)?;
+        sizes.push(part_sizes(&hashed, setup.stripe_bits))?;
     }
-    Ok((codes, sizes))
-}
-
-// Puts the codes of a batch's words behind the others, and tells how many of them fall in each stripe.
-fn add_codes(
-    alloc: Global,
-    setup: &Setup,
-    batch: &Batch,
-    codes: &mut Vec<u64>,
-) -> Result<[usize; 64], AllocError>
-    ensures codes { OnOk result (codes.new.items ≡ codes.old.items ++ batch_codes setup.now batch.now) }
-    ensures sizes { IfOk result (λ sizes. (stripe : ℕ) → slice_index sizes stripe
-        ≡ count_by (λ code. code % 2 ^ setup.now.stripe_bits == stripe) (batch_codes setup.now batch.now)) }
-{
-    let hashed = hashed_words(alloc, setup, batch)?;
-    codes.extend_from_slice(&hashed)?;
-    Ok(part_sizes(&hashed, setup.stripe_bits()))
+    Ok((hash_values, sizes))
 }
 
 // One column of the rows: how many keys each batch has in one stripe.

@@ -2,9 +2,8 @@
 ghost use Rattle.std.specs.Prelude.{◌≡◌, ℕ, ◌+◌, ◌*◌, ◌^◌, ◌<◌, ◌≤◌, ◌↔◌, length, Some, None, IsSome, IfSome, IfNone};
 ghost use Rattle.std.specs.Prelude.{MatchBool};
 ghost use Rattle.kc_hash.specs.Product.{product};
-ghost use Rattle.kc_booking.specs.Setup.{StripeSetup, IsSetup, HasBits, word_count, stripe_count, key_bits};
+ghost use Rattle.kc_booking.specs.Setup.{StripeSetup, IsSetup, word_count, stripe_count, key_bits};
 ghost use Rattle.kc_booking.specs.Setup.{stripe_of, key_of, StandsAt, DividesWords, form_of, form_text};
-ghost use Rattle.kc_booking.specs.Listed.{listed_words, are_same_words};
 ghost use Rattle.kc_kmer.specs.Rule.{with_list, without_list};
 ghost use Rattle.kc_kmer.specs.Word.{text};
 
@@ -17,7 +16,7 @@ use std::sync::Arc;
 /// The setup of a count: how its words are divided among stripes. It has the rule of the count, the list of the words
 /// that it counts, where one is given, the hash of its words, and the number of stripes.
 ///
-/// A word's code is its hashed number. The low bits of the code, as many as tell the stripes apart, are the
+/// A word's hash value is its hashed number. The low bits of the hash value, as many as tell the stripes apart, are the
 /// word's stripe; the rest is its key. No call but `clone` takes memory. It has about 1 KB: lend it where it is not
 /// kept.
 #[derive(Debug, Drop)]
@@ -25,7 +24,8 @@ pub struct Setup {
     rule: Rule,
     only: Option<Arc<Only>>,
     hash: Hash,
-    stripe_bits: u32,
+    // how many bits of a hash value tell the stripes apart
+    pub(crate) stripe_bits: u32,
 }
 
 impl Model for Setup {
@@ -130,15 +130,6 @@ impl Setup {
         1 << self.stripe_bits
     }
 
-    /// How many bits of a code tell the stripes apart.
-    pub(crate) fn stripe_bits(&self) -> u32
-        ensures value { result ≡ self.now.stripe_bits }
-        ensures at_most { result ≤ 6 }
-        ensures bits { HasBits self.now.rule.k self.now.hash self.now.stripe_bits }
-    {
-        self.stripe_bits
-    }
-
     /// The number of bits of a key.
     pub fn key_bits(&self) -> u32
         ensures value { result ≡ key_bits self.now }
@@ -151,9 +142,7 @@ impl Setup {
     pub fn divides_words(&self)
         ensures { DividesWords self.now }
     {
-        self.hash.stays_below();
-        self.hash.is_one_to_one();
-        self.hash.is_onto();
+        self.hash.is_permutation();
     }
 
     /// The form under which a word counts: the canonical one where both strands do. Condition: the word is below 4^k.
@@ -198,11 +187,11 @@ impl Setup {
         ensures found { StandsAt self.now stripe key result.0 }
         ensures only { (word : ℕ) → StandsAt self.now stripe key word → result.0 ≡ word }
     {
-        Word(self.hash.back(self.code_at(stripe, key)))
+        Word(self.hash.back(self.hash_value_at(stripe, key)))
     }
 
-    /// The code of the word that has this stripe and this key.
-    pub(crate) fn code_at(&self, stripe: u32, key: u64) -> u64
+    /// The hash value of the word that has this stripe and this key.
+    pub(crate) fn hash_value_at(&self, stripe: u32, key: u64) -> u64
         requires stripe { stripe < stripe_count self.now }
         requires key { key < 2 ^ key_bits self.now }
         ensures value { result ≡ key * stripe_count self.now + stripe }
@@ -244,9 +233,13 @@ impl PartialEq for Setup {
     ghost laws = { is_same_setup-laws };
 
     fn eq(&self, other: &Setup) -> bool {
-        (self.rule == other.rule
-            && (self.hash == other.hash && self.stripe_bits == other.stripe_bits))
-            && have_same_words(&self.only, &other.only)
+        let alike = self.rule == other.rule
+            && (self.hash == other.hash && self.stripe_bits == other.stripe_bits);
+        match (&self.only, &other.only) {
+            (None, None) => alike,
+            (Some(list), Some(others)) => alike && list.words() == others.words(),
+            _ => false,
+        }
     }
 }
 
@@ -262,15 +255,4 @@ fn is_for_rule(list: &Only, rule: &Rule) -> bool
         (¬ ((list.now.k ≡ rule.now.k) × (list.now.both ≡ rule.now.both))) }
 {
     list.k() == rule.k() && list.both() == rule.both()
-}
-
-// Whether two lists have the same words, or none is given.
-fn have_same_words(only: &Option<Arc<Only>>, other: &Option<Arc<Only>>) -> bool
-    ensures { result ≡ are_same_words (listed_words only.now) (listed_words other.now) }
-{
-    match (only, other) {
-        (None, None) => true,
-        (Some(list), Some(other)) => list.words() == other.words(),
-        _ => false,
-    }
 }

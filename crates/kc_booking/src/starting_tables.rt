@@ -1,10 +1,10 @@
 //! The tables with which a count begins: an empty one for each stripe.
-ghost use Rattle.std.specs.Prelude.{◌≡◌, ◌≤◌, ℕ, length, min, All, IfOk};
+ghost use Rattle.std.specs.Prelude.{◌≡◌, length, min, All, IfOk};
 ghost use Rattle.std.specs.FinMap.{empty};
 ghost use Rattle.kc_table.specs.QuotientTable.{counts_in};
 ghost use Rattle.kc_table.specs.Sizes.{most_log};
 ghost use Rattle.kc_booking.specs.Setup.{stripe_count, key_bits};
-ghost use Rattle.kc_booking.specs.Tables.{IsLeastLog, IsStartLog};
+ghost use Rattle.kc_booking.specs.Tables.{IsStartLog};
 
 use crate::setup::Setup;
 use kc_table::{PlainCounts, QuotientTable};
@@ -48,20 +48,13 @@ pub fn quotient_tables(
 {
     let bits = setup.key_bits();
     let max_log = bits.min(MOST_LOG);
-    let log = least_log(size, setup.stripes()).clamp(bits.min(LEAST_LOG), max_log);
+    // size <= 2^log * stripes exactly where (size - 1) / stripes < 2^log
+    let last = size.saturating_sub(1) / setup.stripes() as u64;
+    let least_log = if last == 0 { 0 } else { last.ilog2() + 1 };
+    let log = least_log.clamp(bits.min(LEAST_LOG), max_log);
     let mut tables = Vec::new(alloc);
     for _ in 0..setup.stripes() {
         tables.push(QuotientTable::new(alloc, bits, log, max_log)?)?;
     }
     Ok(tables)
-}
-
-// The least log for which tables of 2^log slots, one a stripe, have `size` slots together.
-fn least_log(size: u64, stripes: u32) -> u32
-    requires { 1 ≤ stripes }
-    ensures { IsLeastLog stripes size result }
-{
-    // size <= 2^log * stripes exactly where (size - 1) / stripes < 2^log
-    let last = size.saturating_sub(1) / stripes as u64;
-    if last == 0 { 0 } else { last.ilog2() + 1 }
 }

@@ -1,11 +1,10 @@
 //! A stripe, which always holds exactly the counts of the batches that its journal names.
-ghost use Rattle.std.specs.Prelude.{◌≡◌, ℕ, ◌+◌, ◌<◌, ◌≤◌, ◌^◌, ◌≢◌, ◌==◌, ◌↔◌, ◌⊎◌, [], ◌∷◌, ◌++◌, length, sum_by};
-ghost use Rattle.std.specs.Prelude.{count_by, max, ◌*◌, IfOk, OnOk, OnErr, MatchBool, List, nat_eq};
-ghost use Rattle.std.specs.HashSet.{contains, spare};
+ghost use Rattle.std.specs.Prelude.{◌≡◌, ◌+◌, ◌<◌, ◌≤◌, ◌^◌, ◌≢◌, ◌==◌, ◌↔◌, ◌⊎◌, [], ◌∷◌, ◌++◌, length, sum_by};
+ghost use Rattle.std.specs.Prelude.{count_by, max, ◌*◌, IfOk, OnOk, OnErr, nat_eq};
+ghost use Rattle.std.specs.HashSet.{contains};
 ghost use Rattle.std.specs.Vec.{vec_len, vec_capacity};
 ghost use Rattle.std.specs.FinMap.{empty};
 ghost use Rattle.kc_hash.specs.Product.{product};
-ghost use Rattle.kc_word.specs.Cutting.{NumberedPieces};
 ghost use Rattle.kc_word.specs.Shared.{values};
 ghost use Rattle.kc_tally.specs.Histogram.{last_bin, bin_of, bin_at};
 ghost use Rattle.kc_tally.specs.Statistics.{greatest_of};
@@ -25,7 +24,7 @@ use kc_hash::MatrixTables;
 use kc_lemmas::room_for_each;
 use kc_table::Counts;
 use kc_tally::{Histogram, Row};
-use kc_word::{Batch, Word, word_laws};
+use kc_word::{Batch, Word};
 use std::alloc::{AllocError, Global};
 use std::collections::HashSet;
 use std::marker::Model;
@@ -78,13 +77,20 @@ impl<C: Counts + Drop> Stripe<C> {
         ensures journal { IfOk result (λ stripe. stripe.journal ≡ []) }
         ensures table { IfOk result (λ stripe. stripe.table ≡ table) }
     {
-        // for the proof: what is known of the words and their keys
+        // for the proof: what is known of the words and their keys, and of the table's keys
         setup.divides_words();
+        let _bits = table.key_bits();
         let setup = setup.clone()?;
+        let histogram = Histogram::new(alloc)?;
+        let counted = CountedTable {
+            table,
+            histogram,
+            total: 0,
+        };
         Ok(Stripe {
             setup,
             number,
-            counted: CountedTable::new(alloc, table)?,
+            counted,
             journal: Vec::new(alloc),
             booked: HashSet::new(alloc),
         })
@@ -130,7 +136,7 @@ impl<C: Counts> Stripe<C> {
             (stripe_words self.now.setup self.now.number) }
         ensures at_most { result ≤ 2 ^ 62 }
     {
-        self.counted.total()
+        self.counted.total
     }
 
     /// How many words of the stripe occur so often in the journal's batches; those that occur more often than 10,000
@@ -182,14 +188,14 @@ impl<C: Counts> Stripe<C> {
     pub fn rows(&self, alloc: Global) -> Result<Vec<Row>, AllocError>
         ensures { IfOk result (λ rows. AreStripeRows self.now.setup self.now.number self.now.journal rows.items) }
     {
+        let setup = &self.setup;
         // for the proof: what is known of the words and their keys
-        self.setup.divides_words();
-        let _bits = self.setup.stripe_bits();
+        let _bits = setup.stripe_bits;
         let counted = self.counted.table().rows(alloc)?;
-        let tables = self.setup.hash().back_tables();
+        let tables = setup.hash().back_tables();
         let mut rows = room_for_each(alloc, &counted)?;
         for (key, count) in &counted {
-            rows.push(row_of_key(&self.setup, &tables, self.number, *key, *count))?;
+            rows.push(row_of_key(setup, &tables, self.number, *key, *count))?;
         }
         Ok(rows)
     }
@@ -229,10 +235,6 @@ impl<C: Counts> Stripe<C> {
             → SomeMayBeFull (C.may_be_full self.old.table) (C.counts self.old.table) (keys_of cut.now) }
         ensures limits { KeepsLimits C.bits C.may_be_full self.old.table self.new.table }
     {
-        // for the proof: what is known of the words of batches
-        word_laws::words_of_reads();
-        word_laws::counted_words();
-        word_laws::joined_occurrences();
         // what can fail comes first; where it does, no count and no name in the journal has changed
         let batch = cut.batch();
         let alloc = *self.journal.allocator();
@@ -256,10 +258,10 @@ impl<C: Counts> Stripe<C> {
         if self.booked.contains(&cut.batch().number()) {
             return Err(BookFault::Twice);
         }
-        if !self.is_own(cut.setup(), cut.stripe()) {
+        if *cut.setup() != self.setup || cut.stripe() != self.number {
             return Err(BookFault::Stranger);
         }
-        if !self.has_room(cut.keys().len()) {
+        if cut.keys().len() as u64 > MOST_WORDS - self.total() {
             return Err(BookFault::Full);
         }
         Ok(())
@@ -295,28 +297,6 @@ impl<C: Counts> Stripe<C> {
             return Ok(());
         }
         self.check_all(cuts)?;
-        self.count_all_checked(cuts)
-    }
-
-    // Counts the words of cuts that `check_all` lets through, and enters their batches in the journal, or neither.
-    fn count_all_checked(&mut self, cuts: &Cuts) -> Result<(), BookFault>
-        requires new { NumbersDiffer (self.old.journal ++ cuts.now.batches) }
-        requires own { IsOwnRound self.old cuts.now }
-        requires room { self.old.total + length (all_keys_of cuts.now) ≤ 2 ^ 62 }
-        ensures setup { self.new.setup ≡ self.old.setup }
-        ensures number { self.new.number ≡ self.old.number }
-        ensures journal { OnOk result (self.new.journal ≡ self.old.journal ++ cuts.now.batches) }
-        ensures total { OnOk result (self.new.total ≡ self.old.total + length (all_keys_of cuts.now)) }
-        ensures unchanged { OnErr result (IsUnchanged C.counts self.old self.new) }
-        ensures refused { ¬ (result ≡ Err BookFault.Twice) × ¬ (result ≡ Err BookFault.Stranger) }
-        ensures full { result ≡ Err BookFault.Full → SomeMayBeFullInSomeOrder (C.may_be_full self.old.table)
-            (C.counts self.old.table) (all_keys_of cuts.now) }
-        ensures limits { KeepsLimits C.bits C.may_be_full self.old.table self.new.table }
-    {
-        // for the proof: what is known of the words of batches
-        word_laws::words_of_reads();
-        word_laws::counted_words();
-        word_laws::joined_occurrences();
         // what can fail comes first; where it does, no count and no name in the journal has changed
         let alloc = *self.journal.allocator();
         let keys = self.counted.by_parts(alloc, cuts.keys())?;
@@ -339,59 +319,24 @@ impl<C: Counts> Stripe<C> {
         ensures full { result ≡ Err BookFault.Full → 2 ^ 62 < self.now.total + length (all_keys_of cuts.now) }
         ensures memory { ¬ (result ≡ Err BookFault.Memory) }
     {
-        if self.has_first(cuts.batches()) {
+        if self.booked.contains(&cuts.batches()[0].number()) {
             return Err(BookFault::Twice);
         }
-        if !self.is_own(cuts.setup(), cuts.stripe()) {
+        if *cuts.setup() != self.setup || cuts.stripe() != self.number {
             return Err(BookFault::Stranger);
         }
-        if !self.are_new(cuts) {
-            return Err(BookFault::Twice);
-        }
-        if !self.has_room(cuts.keys().len()) {
-            return Err(BookFault::Full);
-        }
-        Ok(())
-    }
-
-    // Whether the first of the batches is in the journal. Condition: there is one.
-    fn has_first(&self, batches: &[Arc<Batch>]) -> bool
-        requires { 1 ≤ length batches.now }
-        ensures { MatchBool result (FirstIsBooked self.now.journal (values batches.now))
-            (FirstIsNew self.now.journal (values batches.now)) }
-    {
-        self.booked.contains(&batches[0].number())
-    }
-
-    // Whether cuts by this setup for the stripe of this number are this stripe's.
-    fn is_own(&self, setup: &Setup, number: u32) -> bool
-        ensures { MatchBool result ((setup.now ≡ self.now.setup) × (number ≡ self.now.number))
-            (¬ ((setup.now ≡ self.now.setup) × (number ≡ self.now.number))) }
-    {
-        *setup == self.setup && number == self.number
-    }
-
-    // Whether the total stays within its limit with so many words more.
-    fn has_room(&self, words: usize) -> bool
-        ensures { MatchBool result (self.now.total + words ≤ 2 ^ 62) (2 ^ 62 < self.now.total + words) }
-    {
-        words as u64 <= MOST_WORDS - self.counted.total()
-    }
-
-    // Whether no number stands twice in the journal once the batches stand behind it.
-    fn are_new(&self, cuts: &Cuts) -> bool
-        ensures { MatchBool result (NumbersDiffer (self.now.journal ++ cuts.now.batches))
-            (¬ NumbersDiffer (self.now.journal ++ cuts.now.batches)) }
-    {
         if !cuts.numbers_differ() {
-            return false;
+            return Err(BookFault::Twice);
         }
         for batch in cuts.batches() {
             if self.booked.contains(&batch.number()) {
-                return false;
+                return Err(BookFault::Twice);
             }
         }
-        true
+        if cuts.keys().len() as u64 > MOST_WORDS - self.total() {
+            return Err(BookFault::Full);
+        }
+        Ok(())
     }
 }
 
@@ -403,9 +348,9 @@ fn row_of_key(setup: &Setup, tables: &MatrixTables, stripe: u32, key: u64, count
     requires bits { length tables.now ≡ length setup.now.hash }
     ensures { result ≡ record { word = product tables.now (key * stripe_count setup.now + stripe); count = count } }
 {
-    let code = setup.code_at(stripe, key);
+    let hash_value = setup.hash_value_at(stripe, key);
     Row {
-        word: tables.apply(code),
+        word: tables.apply(hash_value),
         count,
     }
 }
@@ -446,21 +391,13 @@ fn enter_all(
     let mut more = clones_of(*journal.allocator(), batches)?;
     booked.reserve(more.len())?;
     journal.append(&mut more)?;
-    remember(booked, batches);
-    Ok(())
-}
-
-// Puts the numbers of the batches to those that are booked. Condition: there is room for them.
-fn remember(booked: &mut HashSet<u64>, batches: &[Arc<Batch>])
-    requires { length batches.now ≤ spare booked.old }
-    ensures { (journal : List NumberedPieces) → KnowsNumbers (contains nat_eq booked.old) journal
-        → KnowsNumbers (contains nat_eq booked.new) (journal ++ values batches.now) }
-{
     for batch in batches {
+        // There is room for it.
         let Ok(_) = booked.insert(batch.number()) else {
-            return;
+            return Err(AllocError);
         };
     }
+    Ok(())
 }
 
 // The greatest total.

@@ -102,8 +102,7 @@ fn hashes_are_equal_where_their_matrices_are(rt: HostRuntime) -> Result<(), Fail
     assert!(rt; Hash::of_matrix(matrix) == Ok(hash));
     assert!(rt; Hash::of_matrix(Matrix::identity(2)) != Ok(hash));
     assert!(rt; hash.forward_tables().matrix() == matrix);
-    hash.stays_below();
-    hash.is_one_to_one();
+    hash.is_permutation();
     Ok(())
 }
 

@@ -138,6 +138,41 @@ quality_behind need start now quals before TooLong h = absurd h
 quality_behind need start now quals before ReadFailed h = absurd h
 quality_behind need start now quals before Memory h = absurd h
 
+-- behind quality that is still too short the lines end, or the next one is bad, or too long
+pub quality_ends : (need : ℕ) (start now : Cursor) (quals : List ℕ) → QualitySoFar need start now quals
+    → length quals < need → now.left ≡ [] → QualityFails (line_count start) need start.left (Truncated now.taken)
+quality_ends need start now quals before short e =
+    quality_behind need start now quals before (Truncated now.taken)
+    ([], quality_begun (need - length quals) now.left [] (omega (arith, short)) e, omega (arith, ap length e))
+
+pub quality_bad : (need : ℕ) (start now next : Cursor) (quals : List ℕ) (line : Line)
+    → QualitySoFar need start now quals → length quals < need → TakesLine now next line
+    → list_all is_quality_byte line ≡ false → QualityFails (line_count start) need start.left (BadQuality next.taken)
+quality_bad need start now next quals line before short step bad =
+    quality_behind need start now quals before (BadQuality next.taken) (
+      [],
+      line,
+      next.left,
+      quality_begun (need - length quals) now.left (line ∷ next.left) (omega (arith, short)) step.left,
+      bad,
+      line_count-more now next line step,
+    )
+
+pub quality_long : (need : ℕ) (start now next : Cursor) (quals : List ℕ) (line : Line)
+    → QualitySoFar need start now quals → length quals < need → TakesLine now next line
+    → list_all is_quality_byte line ≡ true → need - length quals < length line
+    → QualityFails (line_count start) need start.left (LongQuality next.taken)
+quality_long need start now next quals line before short step good long =
+    quality_behind need start now quals before (LongQuality next.taken) (
+      [],
+      line,
+      next.left,
+      quality_begun (need - length quals) now.left (line ∷ next.left) (omega (arith, short)) step.left,
+      good,
+      omega (arith, long),
+      line_count-more now next line step,
+    )
+
 -- what a reader's part tells of its fault, another tells of it too
 pub unless_memory : (P Q : FastxFault → Type 0) → ((fault : FastxFault) → P fault → Q fault) → (fault : FastxFault) → UnlessMemory P fault → UnlessMemory Q fault
 unless_memory P Q f Memory p = tt
@@ -280,6 +315,17 @@ next_fastq_fails now next no_blanks t fault fails =
       is_title = t.is_title;
     }) fault
     (subst (λ count. FastqBodyFails count next.left fault) (line_count-more now next t.title t.step) fails)
+
+-- a record at the front fails by the quality behind its title, its sequence and its line with `+`
+pub next_quality_fails : (now next middle after : Cursor) (bases : List ℕ) (plus : Line) → skip_blanks now.left ≡ now.left
+    → TakesTitle at_sign now next → BeginsWithSequence plus_sign next.left bases middle.left
+    → ends_or_begins_with plus_sign middle.left ≡ true → line_count middle ≡ line_count next
+    → TakesLine middle after plus → (fault : FastxFault)
+    → QualityFails (line_count after) (length bases) after.left fault → FastqFails (line_count now) now.left fault
+next_quality_fails now next middle after bases plus no_blanks t sequence at counted step fault fails =
+    next_fastq_fails now next no_blanks t fault (body_fails-quality (line_count next) next.left bases after.left
+    (has_plus next middle after bases plus sequence at step.left) fault
+    (subst (λ count. QualityFails count (length bases) after.left fault) (line_count-more middle after plus step ∙ counted) fails))
 
 -- no line is made: blank lines are passed over, and a record's lines are taken
 pub length-skip_blanks : (ls : List Line) → length (skip_blanks ls) ≤ length ls

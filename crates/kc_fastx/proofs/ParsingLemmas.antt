@@ -10,7 +10,7 @@ use Rattle.kc_io.specs.declared.intakes.TakeFault.{TakeFault}
 use Rattle.kc_io.specs.declared.intakes.TakeFault.TheVariants as taking
 use Rattle.kc_fastx.specs.Parsing.{text_lines, HasFault, RefusesFor}
 use Rattle.kc_fastx.specs.Faults.{taking_fault}
-use Rattle.kc_fastx.specs.Fasta.{greater_than}
+use Rattle.kc_fastx.specs.Fasta.{IsFastaRecord, FastaFails, greater_than}
 
 pub at_true : (b : Bool) (P Q : Type 0) → b ≡ true → P → MatchBool b P Q
 at_true true P Q e p = p
@@ -19,6 +19,14 @@ at_true false P Q e p = cc
 pub at_false : (b : Bool) (P Q : Type 0) → b ≡ false → Q → MatchBool b P Q
 at_false true P Q e q = cc
 at_false false P Q e q = q
+
+-- where the first line is a FASTA title, a fault of FASTA is that of the bytes
+pub fault-fasta : (bytes : List ℕ) (start : Cursor) → start.left ≡ text_lines bytes → line_count start ≡ length (lines bytes)
+    → next_begins_with greater_than start.left ≡ true → (fault : FastxFault) → FirstFault IsFastaRecord (FastaFails (line_count start)) start.left fault → HasFault bytes fault
+fault-fasta bytes start e counted is fault h =
+    at_true (next_begins_with greater_than (text_lines bytes)) _ _ (subst (λ ls. next_begins_with greater_than ls ≡ true) e is)
+    (subst (λ ls. FirstFault IsFastaRecord (FastaFails (length (lines bytes))) ls fault) e
+    (subst (λ count. FirstFault IsFastaRecord (FastaFails count) start.left fault) counted h))
 
 -- where the first line is no FASTA title, a fault of FASTQ is that of the bytes
 pub fault-fastq : (bytes : List ℕ) (start : Cursor) → start.left ≡ text_lines bytes → line_count start ≡ length (lines bytes)

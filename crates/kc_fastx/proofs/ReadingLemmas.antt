@@ -355,6 +355,12 @@ stand_behind stand count lines_used q = record {
   failed = stand.failed;
 }
 
+pub behind_is : {was stand : Stand} {unread : Unread} {taken lines_used : ℕ} (count : ℕ) (q : Bool) → was ≡ stand
+    → unread ≡ record was.unread { bytes = drop count was.unread.bytes } → taken ≡ lines_used
+    → record was { unread = unread; used = was.used + count; lines_used = taken; is_fastq = q }
+    ≡ stand_behind stand count lines_used q
+behind_is count q same used line = rw (used, line, same) refl
+
 -- one line of the text is known to stay behind, or all bytes were taken
 abbrev pub Sure : Stand → List Line → Type 0
 Sure stand left = (stand.ended ≡ true) ⊎ (left ≢ [])

@@ -1,12 +1,12 @@
 -- What lines say with other lines behind them.
-use Rattle.std.proofs.Common.{◌≡◌, ℕ, ◌+◌, true, false, List, [], ◌∷◌, ◌++◌, length, refl, sym, ap, ◌∙◌, subst, arith}
+use Rattle.std.proofs.Common.{◌≡◌, ℕ, ◌+◌, ◌<◌, true, false, List, [], ◌∷◌, ◌++◌, length, refl, sym, ap, ◌∙◌, subst, arith}
 use Rattle.std.proofs.Common.{append_assoc, append-nil, length-append}
 use Rattle.std.specs.Prelude.{⊤}
 use Rattle.kc_fastx.specs.declared.read_faults.FastxFault.{FastxFault}
 use Rattle.kc_fastx.specs.declared.read_faults.FastxFault.TheVariants.{BadStart, BadBase, BadQuality, LongQuality}
 use Rattle.kc_fastx.specs.declared.read_faults.FastxFault.TheVariants.{Truncated, TooLong, Read as ReadFailed, Memory}
 use Rattle.kc_fastx.specs.Reads.{Read}
-use Rattle.kc_fastx.proofs.RecordsLemmas.{Records-push}
+use Rattle.kc_fastx.proofs.RecordsLemmas.{Records-push, TakesLine}
 use Rattle.kc_fastx.proofs.FastqLemmas.{FastqSoFar}
 use Rattle.kc_fastx.specs.Lines.{Line, Cursor, line_count, ends_or_begins_with, skip_blanks}
 use Rattle.kc_fastx.specs.Records.{FirstFault, BeginsWithSequence, IsLineNumber, SequenceFails}
@@ -37,6 +37,12 @@ pub skip_blanks-at : (byte : ℕ) (ls : List Line) → ends_or_begins_with byte 
 skip_blanks-at byte [] h = refl
 skip_blanks-at byte ([] ∷ ls) h = absurd (let no : false ≡ true = h in cc)
 skip_blanks-at byte ((b ∷ bs) ∷ ls) h = refl
+
+-- a blank line is passed over
+pub skip_blanks-next : (now next : Cursor) (line : Line) → TakesLine now next line → length line < 1
+    → skip_blanks next.left ≡ skip_blanks now.left
+skip_blanks-next now next [] step blank = sym (ap skip_blanks step.left)
+skip_blanks-next now next (b ∷ bs) step blank = absurd (omega (arith, blank))
 
 -- ---- records
 

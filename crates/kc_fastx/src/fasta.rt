@@ -9,6 +9,7 @@ use crate::read_faults::FastxFault;
 use crate::reads::SeqRead;
 use crate::records::take_sequence;
 use crate::text_lines::LineCursor;
+use memchr::memchr;
 use std::alloc::Global;
 
 // The reads of the lines that are left, of which the first begins with `>`.
@@ -43,7 +44,7 @@ pub(crate) fn next_fasta(
     let Some(_title) = lines.next_line() else {
         return Ok(None);
     };
-    let room = lines.room_before(alloc, b'>')?;
-    let bases = take_sequence(room, lines, b'>')?;
-    Ok(Some(SeqRead::without_quals(bases)))
+    let room = memchr(b'>', lines.left).unwrap_or(lines.left.len());
+    let bases = take_sequence(Vec::with_capacity(alloc, room)?, lines, b'>')?;
+    Ok(Some(SeqRead { bases, quals: None }))
 }

@@ -22,9 +22,12 @@ pub fn parse(alloc: Global, bytes: &[u8]) -> Result<Vec<SeqRead>, FastxFault>
     ensures fault { IfErr result (UnlessMemory (HasFault bytes.now)) }
     ensures bases { IfOk result (λ reads. base_count reads.items ≤ length bytes.now) }
 {
-    let mut lines = LineCursor::new(bytes);
+    let mut lines = LineCursor {
+        left: bytes,
+        taken: 0,
+    };
     lines.pass_blanks();
-    if lines.is_at(b'>') {
+    if lines.left.first() == Some(&b'>') {
         parse_fasta(alloc, &mut lines)
     } else {
         parse_fastq(alloc, &mut lines)

@@ -1,8 +1,8 @@
 //! What a sequence read is.
-ghost use Rattle.std.specs.Prelude.{◌≡◌, ◌↔◌, true, vec_len, Some, None, IsSome, IfSome};
+ghost use Rattle.std.specs.Prelude.{◌≡◌, ◌↔◌, IsSome, IfSome};
 ghost use Rattle.std.specs.List.{list_all};
 ghost use Rattle.std.specs.Option.{option_copied, option_map};
-ghost use Rattle.kc_fastx.specs.Reads.{Read, is_sequence_byte, is_quality_byte};
+ghost use Rattle.kc_fastx.specs.Reads.{is_sequence_byte, is_quality_byte};
 
 use std::marker::Model;
 
@@ -11,8 +11,8 @@ use std::marker::Model;
 /// Its bases are letters, `.`, `-` or `*`, and its qualities are 33 to 126.
 #[derive(Debug, Drop)]
 pub struct SeqRead {
-    bases: Vec<u8>,
-    quals: Option<Vec<u8>>,
+    pub(crate) bases: Vec<u8>,
+    pub(crate) quals: Option<Vec<u8>>,
 }
 
 impl Model for SeqRead {
@@ -45,27 +45,6 @@ impl SeqRead {
         }
     }
 
-    // The read of these bases, without qualities.
-    pub(crate) fn without_quals(bases: Vec<u8>) -> SeqRead
-        requires { list_all is_sequence_byte bases.items ≡ true }
-        ensures { result ≡ read_of bases.items None }
-    {
-        SeqRead { bases, quals: None }
-    }
-
-    // The read of these bases and qualities.
-    pub(crate) fn with_quals(bases: Vec<u8>, quals: Vec<u8>) -> SeqRead
-        requires bases { list_all is_sequence_byte bases.items ≡ true }
-        requires quals { list_all is_quality_byte quals.items ≡ true }
-        requires lengths { vec_len quals ≡ vec_len bases }
-        ensures { result ≡ read_of bases.items (Some quals.items) }
-    {
-        SeqRead {
-            bases,
-            quals: Some(quals),
-        }
-    }
-
     /// The bases, as they stand in the file.
     pub fn bases(&self) -> &[u8]
         ensures value { result.now ≡ self.now.bases }
@@ -86,24 +65,18 @@ impl SeqRead {
     }
 }
 
-// Whether a sequence may hold the byte.
-fn is_sequence_byte(byte: u8) -> bool
-    ensures { result ≡ is_sequence_byte byte }
-{
-    (byte >= b'A') & (byte <= b'Z')
-        | (byte >= b'a') & (byte <= b'z')
-        | (byte == b'.')
-        | (byte == b'-')
-        | (byte == b'*')
-}
-
 // Whether a sequence may hold all these bytes. Every byte is looked at, so that the loop has no exit inside.
 pub(crate) fn are_sequence_bytes(bytes: &[u8]) -> bool
     ensures { result ≡ list_all is_sequence_byte bytes.now }
 {
     let mut all = true;
     for byte in bytes {
-        all &= is_sequence_byte(*byte);
+        let byte = *byte;
+        all &= (byte >= b'A') & (byte <= b'Z')
+            | (byte >= b'a') & (byte <= b'z')
+            | (byte == b'.')
+            | (byte == b'-')
+            | (byte == b'*');
     }
     all
 }

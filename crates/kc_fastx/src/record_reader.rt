@@ -1,11 +1,11 @@
 //! The reads that a source says, one after another: of its bytes the reader keeps a block and what a record takes.
-ghost use Rattle.std.specs.Prelude.{◌≡◌, ℕ, List, Bool, true, false, None, Some, Err, [], ◌+◌, ◌≤◌, ◌<◌, ◌^◌};
+ghost use Rattle.std.specs.Prelude.{◌≡◌, ℕ, List, true, false, None, Some, Err, ◌+◌, ◌≤◌, ◌<◌};
 ghost use Rattle.std.specs.Prelude.{length, drop, IfOk, IfErr, OnOk, OnErr, IfSome, OnSome};
 ghost use Rattle.kc_io.specs.Sources.{Seen};
 ghost use Rattle.kc_fastx.specs.Reads.{Read};
 ghost use Rattle.kc_fastx.specs.Lines.{line_count, skip_blanks, Passes, HasWhole};
 ghost use Rattle.kc_fastx.specs.Parsing.{most_bytes, RefusesFor};
-ghost use Rattle.kc_fastx.specs.Reading.{Stand, first_stand, HasGiven, MeetsFault, GivesNext, TellsNext};
+ghost use Rattle.kc_fastx.specs.Reading.{first_stand, HasGiven, MeetsFault, GivesNext, TellsNext};
 ghost use Rattle.kc_fastx.specs.Reading.{IsNext, NextFails, IsSure, Moves, Grows};
 ghost use Rattle.kc_fastx.specs.Titles.{Record, HasGivenRecords, GivesRecord, TellsRecord};
 ghost use Rattle.kc_fastx.specs.Faults.{UnlessMemory, kept_fault};
@@ -117,10 +117,27 @@ impl Reading {
             return Err(fault);
         }
         'reading: loop {
-            match self.next_of_whole(alloc) {
-                Ok(Next::Given(read)) => return Ok(Some(read)),
-                Ok(Next::End) => return Ok(None),
-                Ok(Next::Short) => self.grow(source)?,
+            let whole = self.whole_lines();
+            let mut lines = LineCursor {
+                left: whole,
+                taken: self.lines_used,
+            };
+            lines.pass_blanks();
+            let next = next_record(alloc, &mut lines, self.is_fastq);
+            if !self.ended && !is_sure(&next, &lines) {
+                self.grow(source)?;
+                continue;
+            }
+            match next {
+                Ok(Some((read, is_fastq))) => {
+                    let count = whole.len() - lines.left.len();
+                    self.lines_used = lines.taken;
+                    self.is_fastq = is_fastq;
+                    self.used += count as u64;
+                    self.intake.use_up(count);
+                    return Ok(Some(read));
+                }
+                Ok(None) => return Ok(None),
                 Err(fault) => {
                     self.keep(fault);
                     return Err(fault);
@@ -229,29 +246,6 @@ impl Reading {
         }
     }
 
-    // The next read, as far as the lines that are whole in the block tell it.
-    fn next_of_whole(&mut self, alloc: Global) -> Result<Next, FastxFault>
-        requires { self.old.failed ≡ None }
-        ensures tells { (start now : Seen) (limit : ℕ) (reads : List Read)
-            → HasGiven start now limit reads self.old → TellsNext start now limit reads self.new result }
-        ensures moves { Moves self.old self.new result }
-    {
-        let whole = self.whole_lines();
-        let mut lines = LineCursor::behind(self.lines_used, whole);
-        lines.pass_blanks();
-        let next = next_record(alloc, &mut lines, self.is_fastq);
-        if !self.ended && !is_sure(&next, &lines) {
-            return Ok(Next::Short);
-        }
-        let Some((read, is_fastq)) = next? else {
-            return Ok(Next::End);
-        };
-        let count = whole.len() - lines.rest().len();
-        let lines_used = lines.taken();
-        self.use_up(count, lines_used, is_fastq);
-        Ok(Next::Given(read))
-    }
-
     // The next read and its title, as far as the lines that are whole in the block tell them.
     fn titled_of_whole(&mut self, alloc: Global, title: &mut Vec<u8>) -> Result<Next, FastxFault>
         requires { self.old.failed ≡ None }
@@ -261,7 +255,10 @@ impl Reading {
         ensures titled { TellsRecord self.old self.new title.new.items result }
     {
         let whole = self.whole_lines();
-        let mut lines = LineCursor::behind(self.lines_used, whole);
+        let mut lines = LineCursor {
+            left: whole,
+            taken: self.lines_used,
+        };
         lines.pass_blanks();
         let line = lines.title();
         let next = next_record(alloc, &mut lines, self.is_fastq);
@@ -273,9 +270,11 @@ impl Reading {
         };
         title.clear();
         title.extend_from_slice(line)?;
-        let count = whole.len() - lines.rest().len();
-        let lines_used = lines.taken();
-        self.use_up(count, lines_used, is_fastq);
+        let count = whole.len() - lines.left.len();
+        self.lines_used = lines.taken;
+        self.is_fastq = is_fastq;
+        self.used += count as u64;
+        self.intake.use_up(count);
         Ok(Next::Given(read))
     }
 
@@ -292,24 +291,6 @@ impl Reading {
             None => &bytes[..0],
         }
     }
-
-    // Drops the bytes of a record that was read from the front, and keeps the number of its last line and its format.
-    fn use_up(&mut self, count: usize, lines_used: u64, is_fastq: bool)
-        requires failed { self.old.failed ≡ None }
-        requires count { count ≤ length self.old.unread.bytes }
-        requires lines { lines_used ≤ self.old.lines_used + count }
-        ensures { self.new ≡ record self.old {
-          unread = record self.old.unread { bytes = drop count self.old.unread.bytes };
-          used = self.old.used + count;
-          lines_used = lines_used;
-          is_fastq = is_fastq;
-        } }
-    {
-        self.intake.use_up(count);
-        self.used += count as u64;
-        self.lines_used = lines_used;
-        self.is_fastq = is_fastq;
-    }
 }
 
 // The next record of lines of which the first isn't blank, and whether it is of FASTQ.
@@ -324,7 +305,7 @@ fn next_record(
     ensures passes { OnOk result (Passes lines.old lines.new) }
     ensures err { IfErr result (UnlessMemory (NextFails is_fastq (line_count lines.old) lines.old.left)) }
 {
-    if !is_fastq && lines.is_at(b'>') {
+    if !is_fastq && lines.left.first() == Some(&b'>') {
         let Some(read) = next_fasta(alloc, lines)? else {
             return Ok(None);
         };
@@ -341,7 +322,7 @@ fn is_sure(next: &Result<Option<(SeqRead, bool)>, FastxFault>, lines: &LineCurso
     ensures { result ≡ true → IsSure next.now lines.now.left }
 {
     match next {
-        Ok(Some(_)) => !lines.is_done(),
+        Ok(Some(_)) => !lines.left.is_empty(),
         Ok(None) => false,
         Err(FastxFault::Truncated(_)) => false,
         Err(_) => true,

@@ -1,13 +1,12 @@
 -- Products with one byte of a number at a time.
-use Rattle.std.proofs.Common.{◌-◌, ◌≡◌, ℕ, ◌+◌, ◌*◌, ◌/◌, ◌%◌, ◌^◌, ◌<◌, ◌≤◌, List, [], length, get_or, set, add-zero, add_comm, sym, ◌∙◌, ap, ap₂, ⊎_elim, arith}
+use Rattle.std.proofs.Common.{◌-◌, ◌≡◌, ℕ, ◌+◌, ◌*◌, ◌/◌, ◌%◌, ◌^◌, ◌<◌, ◌≤◌, List, [], length, get_or, set, add-zero, add_comm, sym, ◌∙◌, ap, ap₂, ⊎_elim, inl, inr, min, replicate, subst, arith}
 use Rattle.std.specs.Prelude.{bit_xor, bit_and}
 use Rattle.std.specs.Int.Bits.{xor_self, xor_zero_r, xor_assoc, xor_shifted}
-use Rattle.std.proofs.lemmas.Bool.{cases_lt}
+use Rattle.std.proofs.lemmas.Bool.{cases_lt, cases_eq}
 use Rattle.std.proofs.lemmas.Nat.{xor_comm, xor_block, pow_pos, pow-add, mod-pow-add, mod_below, and_mask}
-use Rattle.std.proofs.lemmas.List.{get_or_past, get_or-set_same, length-set}
+use Rattle.std.proofs.lemmas.List.{get_or_past, get_or-set_same, get_or-set_other, get_or-replicate, length-set, length-replicate}
 use Rattle.std.proofs.Math.Nat.{zero-mul, one-mul}
 use Rattle.kc_hash.specs.Product.{product}
-use Rattle.kc_hash.specs.Tables.{IsByteTable}
 use Rattle.kc_hash.proofs.Linear.{product-zero, product-xor, product-pow, product-pow_past}
 
 -- a column, or 0 past the last
@@ -43,18 +42,7 @@ product_bit_more columns n k m =
 
 -- the table of a position, filled below `byte`
 pub record FillsTable (columns : List ℕ) (position : ℕ) (table : List ℕ) (byte : ℕ) : Type 0 where
-  pub full : length table ≡ 256
   pub filled : (b : ℕ) → b < byte → get_or table b 0 ≡ product columns (b * 2 ^ (8 * position))
-
-pub table_first : (columns : List ℕ) (position : ℕ) (table : List ℕ) → length table ≡ 256 → FillsTable columns position (set table 0 0) 1
-table_first columns position table full = record {
-  full = length-set table 0 0 ∙ full;
-  filled = λ b h.
-      let first : b ≡ 0 = omega arith in
-      rw first
-      (get_or-set_same table 0 0 0 (omega arith)
-      ∙ sym (ap (product columns) (zero-mul (2 ^ (8 * position))) ∙ product-zero columns));
-}
 
 -- so many of the first entries are put behind the width, with the column added
 pub record AddsColumn (old new : List ℕ) (width column count : ℕ) : Type 0 where
@@ -66,14 +54,12 @@ pub record IsDoubling (columns : List ℕ) (position bit : ℕ) (old new : List 
   pub so_far : FillsTable columns position old (2 ^ bit)
   pub wide : width ≡ 2 ^ bit
   pub is : column ≡ get_or columns (8 * position + bit) 0
-  pub full : length new ≡ 256
   pub added : AddsColumn old new width column width
 
 -- the table of a position, filled below twice the width by one column more
 pub table_doubled : (columns : List ℕ) (position bit : ℕ) (old new : List ℕ) (width column : ℕ) → IsDoubling columns position bit old new width column
     → FillsTable columns position new (2 ^ (bit + 1))
 table_doubled columns position bit old new width column d = record {
-  full = d.full;
   filled = λ b h.
       let wide : width ≡ 2 ^ bit = d.wide in
       ⊎_elim
@@ -93,10 +79,52 @@ table_doubled columns position bit old new width column d = record {
       (cases_lt b (2 ^ bit));
 }
 
--- the tables of the positions so far
-pub record FillsTables (columns : List ℕ) (tables : List (List ℕ)) (count : ℕ) : Type 0 where
+-- the tables, with the columns before the bit: those of earlier positions are whole, and those of later ones have the
+-- entry of 0
+pub record FillsTables (columns : List ℕ) (tables : List (List ℕ)) (bit : ℕ) : Type 0 where
   pub all : length tables ≡ 8
-  pub each : (position : ℕ) → position < count → IsByteTable columns position (get_or tables position [])
+  pub each : (position : ℕ) → position < 8 → FillsTable columns position (get_or tables position []) (2 ^ min 8 (bit - 8 * position))
+
+pub tables_first : (columns : List ℕ) (tables : List (List ℕ)) → tables ≡ replicate 8 (replicate 256 0) → FillsTables columns tables 0
+tables_first columns tables zeros = record {
+  all = ap length zeros ∙ length-replicate 8 (replicate {A = ℕ} 256 0);
+  each = λ position h.
+      let none : min 8 (0 - 8 * position) ≡ 0 = omega arith in
+      let table : get_or tables position [] ≡ replicate 256 0 =
+      ap (λ (ts : List (List ℕ)). get_or ts position []) zeros ∙ get_or-replicate 8 position (replicate {A = ℕ} 256 0) [] h in
+      rw (none, table)
+      (record {
+        filled = λ b small.
+            let first : b ≡ 0 = omega arith in
+            rw first
+            (get_or-replicate {A = ℕ} 256 0 0 0 (omega arith)
+            ∙ sym (ap (product columns) (zero-mul (2 ^ (8 * position))) ∙ product-zero columns));
+      });
+}
+
+-- the column of the bit is added to the table of its position
+pub tables_more : (columns : List ℕ) (tables : List (List ℕ)) (bit place : ℕ) (new : List ℕ) (width column : ℕ) → FillsTables columns tables bit
+    → bit < 64 → place ≡ bit / 8
+    → IsDoubling columns (bit / 8) (bit % 8) (get_or tables (bit / 8) []) new width column
+    → FillsTables columns (set tables place new) (bit + 1)
+tables_more columns tables bit place new width column so_far small at doubling = record {
+  all = length-set tables place new ∙ so_far.all;
+  each = λ position h.
+      let all : length tables ≡ 8 = so_far.all in
+      elim (cases_eq position (bit / 8)) [
+        | inl here ↦
+            let next : min 8 (bit + 1 - 8 * (bit / 8)) ≡ bit % 8 + 1 = omega arith in
+            rw (here, next, at)
+            (subst (λ table. FillsTable columns (bit / 8) table (2 ^ (bit % 8 + 1)))
+            (sym (get_or-set_same tables (bit / 8) new [] (omega arith)))
+            (table_doubled columns (bit / 8) (bit % 8) (get_or tables (bit / 8) []) new width column doubling))
+        | inr apart ↦
+            let same : min 8 (bit + 1 - 8 * position) ≡ min 8 (bit - 8 * position) = omega arith in
+            rw (same, at)
+            (subst (λ table. FillsTable columns position table (2 ^ min 8 (bit - 8 * position)))
+            (sym (get_or-set_other tables (bit / 8) position new [] apart)) (so_far.each position h))
+      ];
+}
 
 -- one byte more of the number
 pub product_byte_more : (columns : List ℕ) (x position : ℕ)

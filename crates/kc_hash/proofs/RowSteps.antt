@@ -1,20 +1,34 @@
 -- Row operations keep a reduction; where it ends at the identity the other matrix is the inverse, and where it stops there is
 -- a number in the kernel.
-use Rattle.std.proofs.Common.{◌≡◌, ℕ, zero, suc, ◌+◌, ◌*◌, ◌%◌, ◌^◌, ◌<◌, ◌≤◌, List, length, map, get_or, set, take, drop, ◌++◌, ◌/◌, below_more, ⊎_elim, refl, sym, ◌∙◌, ap, ap₂, arith}
-use Rattle.std.specs.Int.{bit_at}
+use Rattle.std.proofs.Common.{◌≡◌, ℕ, zero, suc, ◌+◌, ◌-◌, ◌*◌, ◌%◌, ◌^◌, ◌<◌, ◌≤◌, List, length, map, get_or, set, take, drop, ◌++◌, ◌/◌, below_more, ⊎_elim, refl, sym, ◌∙◌, ap, ap₂, subst, arith}
+use Rattle.std.specs.Int.{bit_at, w64, trailing_zeros}
 use Rattle.std.specs.Prelude.{bit_xor, bit_and}
 use Rattle.std.specs.Int.Bits.{xor_self, xor_zero_r, xor_zero_l, xor_assoc, xor_shifted}
-use Rattle.std.proofs.lemmas.Nat.{xor_comm, xor_lt, pow_pos, pow_below, shr-shr}
-use Rattle.std.proofs.lemmas.Nat.Bits.{bit_at_xor, bit_at-lt, bit_at-zero, bit_at-pow_same, bit_at-pow_other, bit_at_above, shr_and_one}
+use Rattle.std.proofs.lemmas.Nat.{xor_comm, xor_lt, pow_pos, pow_below, shr-shr, shr_le}
+use Rattle.std.proofs.lemmas.Nat.Bits.{bit_at_xor, bit_at-lt, bit_at-zero, bit_at-pow_same, bit_at-pow_other, bit_at_above, bit_at-trailing_zeros, shr_and_one}
 use Rattle.std.proofs.lemmas.List.{length-map, get_or-map, take_all, drop_all, append-nil, get_or_past, get_or_default, length-append, length-take-le, length-drop}
 use Rattle.std.proofs.lemmas.List.Edits.{map_over_more}
 use Rattle.std.proofs.lemmas.Bool.{cases_lt}
-use Rattle.std.proofs.Math.Nat.{zero-mul, one-mul}
+use Rattle.std.proofs.Math.Nat.{zero-mul, one-mul, lt-div-mul-add}
+use Rattle.std.proofs.Math.Pow.{pow_mono}
 use Rattle.kc_hash.specs.Product.{product, identity, Undoes, AreInverse, IsInKernel, IsNonsingular, IsOneToOne}
 use Rattle.kc_hash.specs.Hash.{IsHash}
 use Rattle.kc_hash.specs.Matrix.{IsMatrix}
-use Rattle.kc_hash.specs.Elimination.{row_added, IsReduction, HasUnits}
+use Rattle.kc_hash.specs.Elimination.{row_added}
 use Rattle.kc_hash.proofs.Linear.{IsLinear, xor_medial, two_bits, bit_below, product-zero, product-xor, product-below, product-map, product-pow, product-units, product-identity, length-identity}
+
+-- The same row operations have made `reduced` of the matrix and `inverse` of the identity: `inverse` leads each product
+-- with the matrix to that with `reduced`, and nothing is lost by it.
+pub record IsReduction (columns reduced inverse : List ℕ) : Type 0 where
+  pub reduced_bits : length reduced ≡ length columns
+  pub inverse_bits : length inverse ≡ length columns
+  pub follows : (x : ℕ) → x < 2 ^ length columns → product inverse (product columns x) ≡ product reduced x
+  pub stays : (y : ℕ) → y < 2 ^ length columns → product inverse y < 2 ^ length columns
+  pub lossless : (y : ℕ) → y < 2 ^ length columns → product inverse y ≡ 0 → y ≡ 0
+
+-- the first columns have one bit each, in order
+abbrev pub HasUnits : List ℕ → ℕ → Type 0
+HasUnits columns count = (i : ℕ) → i < count → get_or columns i 0 ≡ 2 ^ i
 
 -- how far the elimination has come
 pub record Reduces (columns reduced inverse : List ℕ) (index : ℕ) : Type 0 where
@@ -248,6 +262,107 @@ row_inside column bits row below set =
 
 pub bit_at-upper : (n j k : ℕ) → bit_at n (j + k) ≡ bit_at (n / 2 ^ j) k
 bit_at-upper n j k = ap (λ m. m % 2) (sym (shr-shr n j k))
+
+-- the lowest row from `index` on in which a column has a bit
+abbrev pub pivot_row : ℕ → ℕ → ℕ
+pivot_row column index = index + trailing_zeros w64 (column / 2 ^ index)
+
+upper_fits : (column bits index : ℕ) → column < 2 ^ bits → bits ≤ 62 → column / 2 ^ index < 2 ^ 64
+upper_fits column bits index below few =
+    let most : 2 ^ bits ≤ 2 ^ 62 = pow_mono few in
+    let shifted : column / 2 ^ index ≤ column = shr_le column index in
+    omega arith
+
+pub pivot_row-set : (column bits index : ℕ) → column < 2 ^ bits → bits ≤ 62 → 0 < column / 2 ^ index
+    → bit_at column (pivot_row column index) ≡ 1
+pivot_row-set column bits index below few some =
+    bit_at-upper column index (trailing_zeros w64 (column / 2 ^ index))
+    ∙ (bit_at-trailing_zeros w64 (column / 2 ^ index) some (upper_fits column bits index below few)).1
+
+pub pivot_row-lowest : (column bits index : ℕ) → column < 2 ^ bits → bits ≤ 62 → 0 < column / 2 ^ index
+    → (i : ℕ) → index ≤ i → i < pivot_row column index → bit_at column i ≡ 0
+pivot_row-lowest column bits index below few some i from before =
+    let split : i ≡ index + (i - index) = omega arith in
+    ap (bit_at column) split
+    ∙ bit_at-upper column index (i - index)
+    ∙ (bit_at-trailing_zeros w64 (column / 2 ^ index) some (upper_fits column bits index below few)).2 (i - index) (omega arith)
+
+-- a column without a bit from the index on
+pub low_column : (column index : ℕ) → column / 2 ^ index ≡ 0 → column < 2 ^ index
+low_column column index no_upper =
+    let step : column < column / 2 ^ index * 2 ^ index + 2 ^ index = lt-div-mul-add (pow_pos index) in
+    let none : column / 2 ^ index * 2 ^ index ≡ 0 = ap (λ q. q * 2 ^ index) no_upper ∙ zero-mul (2 ^ index) in
+    let below : column < 0 + 2 ^ index = subst (λ n. column < n + 2 ^ index) none step in
+    omega (arith, below)
+
+-- the row in which a column has its lowest bit from the index on
+pub record HasPivot (columns reduced inverse : List ℕ) (index column : ℕ) : Type 0 where
+  pub so_far : Reduces columns reduced inverse index
+  pub inner : index < length reduced
+  pub is : column ≡ get_or reduced index 0
+  pub below : column < 2 ^ length reduced
+  pub few : length reduced ≤ 62
+  pub some : 0 < column / 2 ^ index
+
+-- the columns before the index are units, and the bit of the index is set in its column
+pub record IsPivoted (columns reduced inverse : List ℕ) (index : ℕ) : Type 0 where
+  pub so_far : Reduces columns reduced inverse index
+  pub set : bit_at (get_or reduced index 0) index ≡ 1
+
+pub pivot_inside : (columns reduced inverse : List ℕ) (index column : ℕ) → HasPivot columns reduced inverse index column
+    → pivot_row column index < length reduced
+pivot_inside columns reduced inverse index column h =
+    row_inside column (length reduced) (pivot_row column index) h.below
+    (pivot_row-set column (length reduced) index h.below h.few h.some)
+
+pub pivoted_as_is : (columns reduced inverse : List ℕ) (index column : ℕ) → HasPivot columns reduced inverse index column
+    → index + trailing_zeros w64 (column / 2 ^ index) ≡ index → IsPivoted columns reduced inverse index
+pivoted_as_is columns reduced inverse index column h here = record {
+  so_far = h.so_far;
+  set = ap (λ n. bit_at n index) (sym h.is) ∙ ap (bit_at column) (sym here)
+      ∙ pivot_row-set column (length reduced) index h.below h.few h.some;
+}
+
+pub pivoted_by_row : (columns reduced inverse : List ℕ) (index column rows : ℕ) → HasPivot columns reduced inverse index column
+    → rows ≡ 2 ^ index → (index + trailing_zeros w64 (column / 2 ^ index) ≡ index → ⊥)
+    → IsPivoted columns (map (row_added (pivot_row column index) rows) reduced) (map (row_added (pivot_row column index) rows) inverse) index
+pivoted_by_row columns reduced inverse index column rows h one apart =
+    let row = pivot_row column index in
+    let above : index < index + trailing_zeros w64 (column / 2 ^ index) = omega arith in
+    let from : index ≤ index + trailing_zeros w64 (column / 2 ^ index) = omega arith in
+    let inner : index < length reduced = h.inner in
+    rw one
+    (record {
+      so_far = record {
+        reduction = reduction_more columns reduced inverse row (2 ^ index) (bit_at-pow_other index row (λ e. omega arith))
+            (pow_below index (length reduced) h.inner) h.so_far.reduction;
+        units = units_kept reduced index row (2 ^ index) h.so_far.units from (omega arith);
+      };
+      set = pivot_set reduced index row h.inner
+          (ap (λ n. bit_at n row) (sym h.is) ∙ pivot_row-set column (length reduced) index h.below h.few h.some)
+          (ap (λ n. bit_at n index) (sym h.is)
+          ∙ pivot_row-lowest column (length reduced) index h.below h.few h.some index (omega arith) above);
+    })
+
+pub pivoted-same : (columns reduced inverse : List ℕ) (index : ℕ) (made_reduced made_inverse : List ℕ)
+    → made_reduced ≡ reduced → made_inverse ≡ inverse → IsPivoted columns reduced inverse index
+    → IsPivoted columns made_reduced made_inverse index
+pivoted-same columns reduced inverse index made_reduced made_inverse same_reduced same_inverse h =
+    subst (λ r. IsPivoted columns r made_inverse index) (sym same_reduced)
+    (subst (λ i. IsPivoted columns reduced i index) (sym same_inverse) h)
+
+-- the column's other bits are cleared by the row of the index
+pub column_reduced : (columns reduced inverse : List ℕ) (index column rows : ℕ) → IsPivoted columns reduced inverse index
+    → index < length reduced → column ≡ get_or reduced index 0 → column < 2 ^ length reduced → rows ≡ bit_xor column (2 ^ index)
+    → Reduces columns (map (row_added index rows) reduced) (map (row_added index rows) inverse) (index + 1)
+column_reduced columns reduced inverse index column rows h inner is below rows_are =
+    let set : bit_at column index ≡ 1 = ap (λ n. bit_at n index) is ∙ h.set in
+    rw rows_are
+    (record {
+      reduction = reduction_more columns reduced inverse index (bit_xor column (2 ^ index)) (others_apart column index set)
+          (xor_lt (length reduced) column (2 ^ index) below (pow_below index (length reduced) inner)) h.so_far.reduction;
+      units = cleared_units reduced index column h.so_far.units inner is set;
+    })
 
 -- ---- the array of columns in a loop that adds the row
 

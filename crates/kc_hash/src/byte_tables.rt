@@ -1,9 +1,9 @@
 //! A matrix in tables, for loops over many numbers.
 
-ghost use Rattle.std.specs.Prelude.{◌≡◌, ℕ, ◌+◌, ◌*◌, ◌^◌, ◌<◌, ◌≤◌, List, length, slice_index, bit_xor};
+ghost use Rattle.std.specs.Prelude.{◌≡◌, ℕ, ◌+◌, ◌^◌, ◌<◌, ◌≤◌, List, length, slice_index, bit_xor};
 ghost use Rattle.kc_hash.specs.Matrix.{AreBelow};
 ghost use Rattle.kc_hash.specs.Product.{product};
-ghost use Rattle.kc_hash.specs.Tables.{IsByteTable, AreTables};
+ghost use Rattle.kc_hash.specs.Tables.{AreTables};
 
 use crate::matrix::Matrix;
 use std::marker::Model;
@@ -31,28 +31,16 @@ impl Matrix {
     pub fn tables(&self) -> MatrixTables
         ensures { result ≡ self.now }
     {
-        // That the columns have so many bits is known where the number of bits is asked.
-        let _bits = self.bits();
         let mut tables = [[0; 256]; 8];
-        for position in 0..8 {
-            self.fill_table(position, &mut tables[position]);
+        for bit in 0..64 {
+            // Behind its columns a matrix has 0.
+            let column = self.columns.get(bit).copied().unwrap_or(0);
+            // The products with the bytes that have this bit as their highest.
+            add_column(&mut tables[bit / 8], 1 << (bit % 8), column);
         }
         MatrixTables {
             matrix: *self,
             tables,
-        }
-    }
-
-    /// Fills the table with the products with each byte at this byte position, counted from the lowest.
-    fn fill_table(&self, position: usize, table: &mut [u64; 256])
-        requires { position < 8 }
-        ensures { IsByteTable self.now position table.new }
-    {
-        let columns = self.columns();
-        table[0] = 0;
-        for bit in 0..8 {
-            let column = columns.get(8 * position + bit).copied().unwrap_or(0);
-            add_column(table, 1 << bit, column);
         }
     }
 }

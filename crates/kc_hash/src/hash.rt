@@ -89,28 +89,17 @@ impl Hash {
         ensures columns { result ≡ length self.now }
         ensures width { IsWidth result }
     {
-        self.matrix.bits()
+        self.matrix.bits
     }
 
-    /// A law: a hashed number has no more bits than the number.
-    pub fn stays_below(&self)
-        ensures { StaysBelow self.now }
+    /// A law: the hash is a permutation of the numbers of its bits. A hashed number has no more bits than the number,
+    /// different numbers have different hashed numbers, and each number is a hashed number.
+    pub fn is_permutation(&self)
+        ensures stays_below { StaysBelow self.now }
+        ensures one_to_one { IsOneToOne self.now }
+        ensures onto { IsOnto self.now }
     {
         // What a hash keeps is known where it is read.
-        let _matrix = &self.matrix;
-    }
-
-    /// A law: different numbers have different hashed numbers.
-    pub fn is_one_to_one(&self)
-        ensures { IsOneToOne self.now }
-    {
-        let _matrix = &self.matrix;
-    }
-
-    /// A law: each number is a hashed number.
-    pub fn is_onto(&self)
-        ensures { IsOnto self.now }
-    {
         let _matrix = &self.matrix;
     }
 
@@ -157,9 +146,9 @@ impl PartialEq for Hash {
 
     ghost laws = { partial_equiv_from_equiv nat_list_eq_equiv };
 
-    /// Two hashes are equal where their matrices are.
+    /// Two hashes are equal where their matrices have the same columns.
     fn eq(&self, other: &Hash) -> bool {
-        self.matrix == other.matrix
+        self.matrix.columns() == other.matrix.columns()
     }
 }
 

@@ -19,8 +19,8 @@ use std::marker::Model;
 /// of its columns, so two matrices are equal where their columns are.
 #[derive(Clone, Copy, Debug)]
 pub struct Matrix {
-    bits: u32,
-    columns: [u64; 62],
+    pub(crate) bits: u32,
+    pub(crate) columns: [u64; 62],
 }
 
 impl Model for Matrix {
@@ -120,16 +120,6 @@ impl Matrix {
             }
         }
         sum
-    }
-
-    /// The column at `index`.
-    pub(crate) fn column(&self, index: u32) -> u64
-        requires { index < length self.now }
-        ensures column { result ≡ slice_index self.now index }
-        ensures below { result < 2 ^ length self.now }
-        ensures width { IsWidth (length self.now) }
-    {
-        self.columns[index as usize]
     }
 
     /// Adds the row `row` to each of the rows that are the set bits of `rows`.

@@ -133,6 +133,35 @@ pub taken_failed : {old now next : Seen} {limit : ℕ} {xs : List ℕ} → Taken
 taken_failed {old} {now} {next} {limit} {xs} before read =
     (xs ++ [], taken_and_read before read, omega (arith, before.within, length-append xs []))
 
+-- ---- what one read did, before which nothing was taken
+
+pub one_some : (old new : Seen) (limit n : ℕ) (block : List ℕ) → 0 < length block → n ≤ length block → 0 < n → n ≤ limit
+    → Consumes old.left new.left (take n block) → new.history ≡ after old.history (Ok n) block
+    → TakenSoFar old new limit (take n block)
+one_some old new limit n block roomy inside some fits consumed e =
+    let long = length-take-le n block inside in
+    let read = read_some old new n block (λ none. omega (arith, none, some)) roomy consumed e in
+    taken_more (taken_none old limit) read (omega (arith, some, long)) (omega (arith, fits, long))
+
+pub one_end : (old new : Seen) (limit n : ℕ) (block : List ℕ) → 0 < length block → n ≡ 0
+    → Consumes old.left new.left (take n block) → (n ≡ 0 → 0 < length block → IsAtEnd new.left)
+    → new.history ≡ after old.history (Ok n) block → TakesAll old new limit []
+one_end old new limit n block roomy none consumed ends e =
+    taken_all (taken_none old limit) (read_end old new n block none roomy consumed e) (ends none roomy)
+
+pub one_too_long : (old new : Seen) (limit n : ℕ) (block : List ℕ) → 0 < length block → n ≤ length block → limit < n
+    → Consumes old.left new.left (take n block) → new.history ≡ after old.history (Ok n) block
+    → TakingFails old new limit TooLong
+one_too_long old new limit n block roomy inside over consumed e =
+    let long = length-take-le n block inside in
+    let read = read_some old new n block (λ none. omega (arith, none, over)) roomy consumed e in
+    taken_too_long (taken_none old limit) read (omega (arith, over, long))
+
+pub one_failed : (old new : Seen) (limit : ℕ) (fault : Failed) (block : List ℕ) → 0 < length block
+    → Keeps old.left new.left → new.history ≡ after old.history (Err fault) block → TakingFails old new limit Read
+one_failed old new limit fault block roomy kept e =
+    taken_failed (taken_none old limit) (read_failed old new fault block roomy kept e)
+
 -- what was taken before a growth was refused
 pub taken_in_vain : {old now : Seen} {limit : ℕ} {xs : List ℕ} → TakenSoFar old now limit xs → TakingFails old now limit Memory
 taken_in_vain {old} {now} {limit} {xs} so_far = (
@@ -318,3 +347,15 @@ fills-some old new before after count block taken some inside behind room =
     let both = length-append before.bytes (take count block) in
     let all = ap length behind in
     (record { more = take count block; taken = taken; behind = behind; room = omega (arith, long, within, room) }, omega (arith, some, long, both, all))
+
+-- ---- the bytes that are not used yet, once they stand at the front
+
+pub record IsUnread (used : ℕ) (items : List ℕ) (left : ℕ) (unread : Unread) : Type 0 where
+  pub front : used ≡ 0
+  pub bytes : items ≡ unread.bytes
+  pub room : left ≡ unread.room
+
+pub same_unread : (u v : Unread) → u.bytes ≡ v.bytes → u.room ≡ v.room → u ≡ v
+same_unread u v bytes room =
+    let first : u ≡ record { bytes = v.bytes; room = u.room } = ap (λ (b : List ℕ). record { bytes = b; room = u.room }) bytes in
+    first ∙ ap (λ (r : ℕ). record { bytes = v.bytes; room = r }) room

@@ -1,8 +1,8 @@
 //! The intake of a source's bytes block by block, for readers that use them as they come.
-ghost use Rattle.std.specs.Prelude.{◌≡◌, ◌≢◌, ◌+◌, ◌<◌, ◌≤◌, ◌++◌, List, ℕ, [], ◌∷◌, length, drop, take};
-ghost use Rattle.std.specs.Prelude.{IfOk, IfErr, OnOk, OnErr};
+ghost use Rattle.std.specs.Prelude.{◌≡◌, ◌≢◌, ◌+◌, ◌<◌, ◌≤◌, ◌++◌, List, ℕ, [], ◌∷◌, length, drop};
+ghost use Rattle.std.specs.Prelude.{IfOk, IfErr, OnErr};
 ghost use Rattle.kc_io.specs.declared.intakes.TakeFault.TheVariants.{Memory};
-ghost use Rattle.kc_io.specs.Intakes.{TakesAll, TakenSoFar, TakingFails, Fills, AsksFor, Skips};
+ghost use Rattle.kc_io.specs.Intakes.{TakesAll, TakingFails, Fills, AsksFor, Skips};
 
 use crate::block::BLOCK_SIZE;
 use crate::sources::Source;
@@ -69,7 +69,7 @@ impl Intake {
     pub fn new(alloc: Global, limit: u64) -> Result<Intake, AllocError>
         ensures { IfOk result (λ intake. intake ≡ record { bytes = []; room = limit }) }
     {
-        let block = new_block(alloc)?;
+        let block = vec![in alloc; 0u8; BLOCK_SIZE]?;
         Ok(Intake {
             bytes: Vec::new(alloc),
             used: 0,
@@ -105,17 +105,25 @@ impl Intake {
         ensures one_block { length self.new.bytes ≤ length self.old.bytes + BLOCK_SIZE }
         ensures refused { OnErr result (self.new ≡ self.old) }
     {
-        match read_within(source, self.block.as_mut_slice(), self.room) {
-            Ok(0) => Ok(false),
-            Ok(count) => {
-                let put = put_behind(&mut self.bytes, self.used, &self.block[..count]);
-                self.used = 0;
-                put?;
-                self.room -= count as u64;
-                Ok(true)
-            }
-            Err(why) => Err(why),
+        let Ok(count) = source.read(self.block.as_mut_slice()) else {
+            return Err(TakeFault::Read);
+        };
+        if count as u64 > self.room {
+            return Err(TakeFault::TooLong);
         }
+        if count == 0 {
+            return Ok(false);
+        }
+        // the bytes that were used make room for those that came
+        if self.used > 0 {
+            let len = self.bytes.len();
+            self.bytes.as_mut_slice().copy_within(self.used..len, 0);
+            self.bytes.truncate(len - self.used);
+            self.used = 0;
+        }
+        self.bytes.extend_from_slice(&self.block[..count])?;
+        self.room -= count as u64;
+        Ok(true)
     }
 
     /// Takes all that comes of the source by way of the block, forgets it, and answers how many bytes it was. It takes
@@ -134,60 +142,6 @@ impl Intake {
     }
 }
 
-// An empty block for a read to fill.
-fn new_block(alloc: Global) -> Result<Vec<u8>, AllocError>
-    ensures { IfOk result (λ block. length block.items ≡ BLOCK_SIZE) }
-{
-    vec![in alloc; 0u8; BLOCK_SIZE]
-}
-
-// Forgets the first bytes. The others move to the front.
-fn forget_front(bytes: &mut Vec<u8>, count: usize)
-    requires { count ≤ length bytes.old.items }
-    ensures { bytes.new.items ≡ drop count bytes.old.items }
-{
-    if count == 0 {
-        return;
-    }
-    let len = bytes.len();
-    bytes.as_mut_slice().copy_within(count..len, 0);
-    bytes.truncate(len - count);
-}
-
-// Forgets the first bytes, as many as were used, and puts more behind the others. After a refusal only the others are
-// there. Condition: at least `used` bytes are there.
-fn put_behind(bytes: &mut Vec<u8>, used: usize, more: &[u8]) -> Result<(), AllocError>
-    requires { used ≤ length bytes.old.items }
-    ensures put { OnOk result (bytes.new.items ≡ drop used bytes.old.items ++ more.now) }
-    ensures refused { OnErr result (bytes.new.items ≡ drop used bytes.old.items) }
-{
-    forget_front(bytes, used);
-    bytes.extend_from_slice(more)?;
-    Ok(())
-}
-
-// Takes a block of the source, by one read, and answers how many bytes came; 0 where the source told its end. The first
-// bytes of the block are those that came. Condition: the block has room for a byte.
-fn read_within<S: Source>(source: &mut S, block: &mut [u8], limit: u64) -> Result<usize, TakeFault>
-    requires { 0 < length block.old }
-    ensures within { IfOk result (λ count. count ≤ length block.new) }
-    ensures taken { IfOk result (λ count. 0 < count
-        → TakenSoFar (S.seen source.old) (S.seen source.new) limit (take count block.new)) }
-    ensures ended { IfOk result (λ count. count ≡ 0
-        → TakesAll (S.seen source.old) (S.seen source.new) limit []) }
-    ensures fault { IfErr result (TakingFails (S.seen source.old) (S.seen source.new) limit) }
-    ensures no_memory { IfErr result (λ fault. fault ≢ Memory) }
-    ensures asked { (S.seen source.new).history.asked ≡ (S.seen source.old).history.asked ++ length block.old ∷ [] }
-{
-    let Ok(count) = source.read(block) else {
-        return Err(TakeFault::Read);
-    };
-    if count as u64 > limit {
-        return Err(TakeFault::TooLong);
-    }
-    Ok(count)
-}
-
 // Takes all bytes of the source, by way of the block, and answers how many they were.
 fn skip_by_blocks<S: Source>(source: &mut S, limit: u64, block: &mut [u8]) -> Result<u64, TakeFault>
     requires { 0 < length block.old }
@@ -195,10 +149,15 @@ fn skip_by_blocks<S: Source>(source: &mut S, limit: u64, block: &mut [u8]) -> Re
 {
     let mut skipped = 0u64;
     'reading: loop {
-        match read_within(source, block, limit - skipped) {
-            Ok(0) => return Ok(skipped),
-            Ok(count) => skipped += count as u64,
-            Err(why) => return Err(why),
+        let Ok(count) = source.read(block) else {
+            return Err(TakeFault::Read);
+        };
+        if count as u64 > limit - skipped {
+            return Err(TakeFault::TooLong);
         }
+        if count == 0 {
+            return Ok(skipped);
+        }
+        skipped += count as u64;
     }
 }

@@ -3,7 +3,7 @@ ghost use Rattle.std.specs.Prelude.{◌≡◌, ◌≤◌, length, IfOk, IsOk, So
 ghost use Rattle.std.specs.Io.KnownBytes.{WriteAppends, Keeps};
 ghost use Rattle.kc_io.specs.History.{no_history, after, after_flush};
 ghost use Rattle.kc_io.specs.Sinks.{Written, write_answer};
-ghost use Rattle.kc_io.specs.Answers.{no_calls, most_tries, Settles};
+ghost use Rattle.kc_io.specs.Answers.{no_calls, Settles};
 
 use crate::failures::Failed;
 use crate::histories::Heard;
@@ -166,7 +166,12 @@ impl<W: Write> Sink for ToWrite<W> {
             ≡ after self.old.seen.history (write_answer result bytes.now) bytes.now }
         ensures settles { Settles self.old.calls self.new.calls result }
     {
-        write_settled(&mut self.recorded, bytes)
+        'writing: loop {
+            match self.recorded.write(bytes) {
+                Some(answer) => return answer,
+                None => {}
+            }
+        }
     }
 
     /// Flushes until a flush isn't interrupted.
@@ -178,40 +183,11 @@ impl<W: Write> Sink for ToWrite<W> {
         ensures history { self.new.seen.history ≡ after_flush self.old.seen.history result }
         ensures settles { Settles self.old.calls self.new.calls result }
     {
-        flush_settled(&mut self.recorded)
-    }
-}
-
-// Writes until a write isn't interrupted.
-fn write_settled<W: Write>(recorded: &mut Recorded<W>, bytes: &[u8]) -> Result<usize, Failed>
-    requires { recorded.old.tries ≡ most_tries }
-    ensures within { IfOk result (λ n. n ≤ length bytes.now) }
-    ensures appends { WriteAppends (W.contents recorded.old.stream) (W.contents recorded.new.stream) result bytes.now }
-    ensures history { recorded.new.heard.history
-        ≡ after recorded.old.heard.history (write_answer result bytes.now) bytes.now }
-    ensures settles { Settles recorded.old.asked.calls recorded.new.asked.calls result }
-    ensures tries { recorded.new.tries ≡ most_tries }
-{
-    'writing: loop {
-        match recorded.write(bytes) {
-            Some(answer) => return answer,
-            None => {}
-        }
-    }
-}
-
-// Flushes until a flush isn't interrupted.
-fn flush_settled<W: Write>(recorded: &mut Recorded<W>) -> Result<(), Failed>
-    requires { recorded.old.tries ≡ most_tries }
-    ensures keeps { Keeps (W.contents recorded.old.stream) (W.contents recorded.new.stream) }
-    ensures history { recorded.new.heard.history ≡ after_flush recorded.old.heard.history result }
-    ensures settles { Settles recorded.old.asked.calls recorded.new.asked.calls result }
-    ensures tries { recorded.new.tries ≡ most_tries }
-{
-    'flushing: loop {
-        match recorded.flush() {
-            Some(answer) => return answer,
-            None => {}
+        'flushing: loop {
+            match self.recorded.flush() {
+                Some(answer) => return answer,
+                None => {}
+            }
         }
     }
 }

@@ -3,7 +3,7 @@ ghost use Rattle.std.specs.Prelude.{◌≡◌, ◌≤◌, Some, Ok, length, min,
 ghost use Rattle.std.specs.Io.KnownBytes.{ReadConsumes};
 ghost use Rattle.kc_io.specs.History.{no_history, after};
 ghost use Rattle.kc_io.specs.Sources.{Seen};
-ghost use Rattle.kc_io.specs.Answers.{no_calls, most_tries, Settles};
+ghost use Rattle.kc_io.specs.Answers.{no_calls, Settles};
 
 use crate::failures::Failed;
 use crate::histories::Heard;
@@ -131,23 +131,11 @@ impl<R: Read> Source for FromRead<R> {
         ensures history { self.new.seen.history ≡ after self.old.seen.history result buffer.new }
         ensures settles { Settles self.old.calls self.new.calls result }
     {
-        read_settled(&mut self.recorded, buffer)
-    }
-}
-
-// Reads until a read isn't interrupted.
-fn read_settled<R: Read>(recorded: &mut Recorded<R>, buffer: &mut [u8]) -> Result<usize, Failed>
-    requires { recorded.old.tries ≡ most_tries }
-    ensures bound { IfOk result (λ n. n ≤ length buffer.new) }
-    ensures bytes { ReadConsumes (R.remaining recorded.old.stream) (R.remaining recorded.new.stream) result buffer.new }
-    ensures history { recorded.new.heard.history ≡ after recorded.old.heard.history result buffer.new }
-    ensures settles { Settles recorded.old.asked.calls recorded.new.asked.calls result }
-    ensures tries { recorded.new.tries ≡ most_tries }
-{
-    'reading: loop {
-        match recorded.read(buffer) {
-            Some(answer) => return answer,
-            None => {}
+        'reading: loop {
+            match self.recorded.read(buffer) {
+                Some(answer) => return answer,
+                None => {}
+            }
         }
     }
 }

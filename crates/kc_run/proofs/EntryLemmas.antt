@@ -1,5 +1,5 @@
 -- How many entries of each stripe stand among bookings.
-use Rattle.std.proofs.Common.{◌≡◌, ◌≢◌, ℕ, ◌+◌, List, [], ◌∷◌, ◌++◌, cond, eq-eqb, length, length-append, map, refl, sym, ap, ◌∙◌, subst, arith, ⊎_elim}
+use Rattle.std.proofs.Common.{◌≡◌, ◌≢◌, ℕ, ◌+◌, ◌≤◌, List, [], ◌∷◌, ◌++◌, cond, eq-eqb, length, length-append, map, refl, sym, ap, ◌∙◌, subst, arith, ⊎_elim}
 use Rattle.std.proofs.lemmas.Bool.{cases_lt, ne_eqb}
 use Rattle.kc_share.specs.declared.entry.Entry.{Entry}
 use Rattle.kc_share.specs.declared.entry.Booking.{Booking}
@@ -55,6 +55,18 @@ HaveMoreIn-more stripe at entry share new booked before =
 -- nothing booked yet
 pub HaveMoreIn-none : (from to : ℕ) (booked : List Booking) → HaveMoreIn from to 0 booked booked
 HaveMoreIn-none from to booked = record { there = λ stripe low high. omega arith; before = λ stripe less. refl; behind = λ stripe more. refl }
+
+-- booked into some stripes, and then into the next one
+pub HaveMoreIn-next : {from stripe n : ℕ} {old between new : List Booking} → from ≤ stripe
+    → HaveMoreIn from stripe n old between → HaveMoreIn stripe (stripe + 1) n between new → HaveMoreIn from (stripe + 1) n old new
+HaveMoreIn-next {from} {stripe} {n} {old} {between} {new} low one two = record {
+  there = λ other least less. ⊎_elim
+      (λ before. two.before other before ∙ one.there other least before)
+      (λ behind. two.there other behind less ∙ ap (λ m. m + n) (one.behind other behind))
+      (cases_lt other stripe);
+  before = λ other less. two.before other (omega (arith, low, less)) ∙ one.before other less;
+  behind = λ other more. two.behind other more ∙ one.behind other (omega (arith, more));
+}
 
 -- booked into the stripes from one on, and then into those before it
 pub HaveMoreIn-round : {first stripes n : ℕ} {old between new : List Booking}

@@ -11,17 +11,14 @@ use Rattle.kc_gather.specs.declared.gather_fault.GatherFault.TheVariants as gath
 use Rattle.kc_gather.specs.Gathering.{IsRefusal}
 use Rattle.kc_run.specs.declared.run_fault.RunFault.{RunFault}
 use Rattle.kc_run.specs.declared.run_fault.RunFault.TheVariants as run
-use Rattle.kc_run.specs.Runs.{booking_fault, IsOfBooking, IsOfGathering, IsWorkerFault, IsGatheringFault, IsRunFault}
-
-names_it : (stripes stripe : ℕ) (why : BookFault) → stripe < stripes → IsWorkerFault stripes (booking_fault stripe why)
-names_it stripes stripe book.Twice less = less
-names_it stripes stripe book.Stranger less = less
-names_it stripes stripe book.Full less = less
-names_it stripes stripe book.Memory less = tt
+use Rattle.kc_run.specs.Runs.{booking_fault, IsOfGathering, IsWorkerFault, IsGatheringFault, IsRunFault}
 
 -- what a refused booking into one of the stripes ends with
-pub fault_of_booking : (stripes stripe : ℕ) (fault : RunFault) → stripe < stripes → IsOfBooking stripe fault → IsWorkerFault stripes fault
-fault_of_booking stripes stripe fault less (why, is) = subst (IsWorkerFault stripes) (sym is) (names_it stripes stripe why less)
+pub fault_of_booking : (stripes stripe : ℕ) (why : BookFault) → stripe < stripes → IsWorkerFault stripes (booking_fault stripe why)
+fault_of_booking stripes stripe book.Twice less = less
+fault_of_booking stripes stripe book.Stranger less = less
+fault_of_booking stripes stripe book.Full less = less
+fault_of_booking stripes stripe book.Memory less = tt
 
 -- where there are more stripes
 pub fault_of_more : (few more : ℕ) (fault : RunFault) → few ≤ more → IsWorkerFault few fault → IsWorkerFault more fault

@@ -80,10 +80,6 @@ booking_fault stripe book.Stranger = run.Foreign stripe
 booking_fault stripe book.Full = run.Full stripe
 booking_fault stripe book.Memory = run.Memory
 
--- a booking into the stripe of this number was refused, and the fault says why
-abbrev pub IsOfBooking : ℕ → RunFault → Type 0
-IsOfBooking stripe fault = (why : BookFault) × (fault ≡ booking_fault stripe why)
-
 -- the fault with which a run ends whose gathering was refused for this; none of its stripes lacks a batch
 abbrev pub IsOfGathering : GatherFault → RunFault → Type 0
 IsOfGathering (gather.Foreign stripe) fault = fault ≡ run.Foreign stripe

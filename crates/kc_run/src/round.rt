@@ -1,8 +1,8 @@
 //! A round of a worker: batches that are cut up together, and then booked stripe by stripe, by one call each, so that
 //! the lines of a stripe that one batch has fetched are still near for the next.
-ghost use Rattle.std.specs.Prelude.{◌≡◌, ◌+◌, ◌*◌, ◌%◌, ◌^◌, ◌≤◌, ◌<◌, ◌⊎◌, OnOk, IfErr, length};
+ghost use Rattle.std.specs.Prelude.{◌≡◌, ◌*◌, ◌≤◌, ◌<◌, ◌⊎◌, OnOk, IfErr, length};
 ghost use Rattle.kc_booking.specs.Setup.{stripe_count};
-ghost use Rattle.kc_run.specs.Runs.{IsCutUp, HaveMoreIn, IsOfBooking, IsWorkerFault};
+ghost use Rattle.kc_run.specs.Runs.{IsCutUp, HaveMoreIn, IsWorkerFault};
 
 use crate::run_fault::RunFault;
 use kc_share::{Books, Share};
@@ -45,15 +45,6 @@ pub(crate) fn round_len(batches: &[Arc<Batch>], setup: &Setup, workers: u32) -> 
     wanted.min(most).max(1)
 }
 
-/// The stripe at which the rounds of a worker begin, where those of neighbouring workers begin so far apart.
-pub(crate) fn first_stripe(stripes: u32, apart: u32, number: u32) -> u32
-    requires { 1 ≤ stripes }
-    ensures value { result ≡ number * apart % 2 ^ 32 % stripes }
-    ensures below { result < stripes }
-{
-    number.wrapping_mul(apart) % stripes
-}
-
 /// Books the batches of a round into the stripes from one number to before another.
 ///
 /// The round was cut up for these stripes, and the numbers are some of theirs.
@@ -73,28 +64,10 @@ pub(crate) fn book_range<H: Wait, C: Counts, N: Books>(
     ensures refused { IfErr result (IsWorkerFault to) }
 {
     for stripe in from..to {
-        book_stripe(rt, stripes, round, stripe, share)?;
+        match stripes.book_all(rt, share, &round.cuts[stripe as usize]) {
+            Ok(()) => {}
+            Err(fault) => return Err(RunFault::of_booking(stripe, fault)),
+        }
     }
     Ok(())
-}
-
-// Books the batches of a round into the stripe of this number, with which a refusal ends the run.
-fn book_stripe<H: Wait, C: Counts, N: Books>(
-    rt: &H,
-    stripes: &Stripes<C, N>,
-    round: &Round,
-    stripe: u32,
-    share: &mut Share<N>,
-) -> Result<(), RunFault>
-    requires cut_up { IsCutUp stripes.now.setup round.now }
-    requires stripe { stripe < stripe_count stripes.now.setup }
-    ensures kept { (share.new.parts ≡ share.old.parts) × (share.new.plan ≡ share.old.plan) }
-    ensures booked { OnOk result (HaveMoreIn stripe (stripe + 1) (length round.now.batches.items)
-        share.old.booked share.new.booked) }
-    ensures refused { IfErr result (IsOfBooking stripe) }
-{
-    match stripes.book_all(rt, share, &round.cuts[stripe as usize]) {
-        Ok(()) => Ok(()),
-        Err(fault) => Err(RunFault::of_booking(stripe, fault)),
-    }
 }

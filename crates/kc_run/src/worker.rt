@@ -1,12 +1,11 @@
 //! One worker of a run: it draws numbers, and books the batch of each number into every stripe.
-ghost use Rattle.std.specs.Prelude.{◌≡◌, ◌+◌, ◌<◌, ◌≤◌, ◌⊎◌, IfOk, IfErr, IfSome, IsNone, MatchOption};
+ghost use Rattle.std.specs.Prelude.{◌≡◌, ◌+◌, ◌<◌, ◌≤◌, ◌⊎◌, IfOk, IfErr};
 ghost use Rattle.std.specs.Prelude.{length};
-ghost use Rattle.kc_booking.specs.Setup.{stripe_count};
 ghost use Rattle.kc_tickets.specs.Tickets.{IsSeatOf, IsDone, answers_of};
-ghost use Rattle.kc_run.specs.Runs.{IsJob, IsReady, HasWorked, IsCutUp, IsWorkerFault};
+ghost use Rattle.kc_run.specs.Runs.{IsJob, IsReady, HasWorked, IsWorkerFault};
 
 use crate::gate::Gate;
-use crate::round::{Round, book_range, first_stripe};
+use crate::round::{Round, book_range};
 use crate::run_fault::RunFault;
 use kc_share::{Books, Plan, Share};
 use kc_stripe::{Stripes, cut_up_all};
@@ -55,8 +54,12 @@ impl<N: Books> Worker<N> {
         ensures refused { IfErr result (IsWorkerFault job.now.plan.stripes) }
     {
         let stripes = job.stripes.setup().stripes();
-        let first = first_stripe(stripes, job.stripes_apart, number);
-        while let Some(drawn) = self.draw(job.tickets) {
+        // The rounds of neighbouring workers begin some stripes apart.
+        let first = number.wrapping_mul(job.stripes_apart) % stripes;
+        while !self.seat.is_done() {
+            let Some(drawn) = job.tickets.draw(&mut self.seat) else {
+                return Ok(self);
+            };
             let batches = self.draw_batches(alloc, job, drawn)?;
             let cuts = cut_up_all(alloc, job.stripes.setup(), &batches)?;
             let round = Round { batches, cuts };
@@ -68,24 +71,6 @@ impl<N: Books> Worker<N> {
         Ok(self)
     }
 
-    // The number of the next batch that nobody has drawn, or None once there is none left.
-    fn draw(&mut self, tickets: &Tickets) -> Option<u64>
-        requires { IsSeatOf tickets.now self.old.seat }
-        ensures own { IsSeatOf tickets.now self.new.seat }
-        ensures share { self.new.share ≡ self.old.share }
-        ensures done { IsNone result → IsDone self.new.seat }
-        ensures below { IfSome result (λ number. number < tickets.now.limit) }
-        ensures answered { MatchOption result
-            (length (answers_of self.new.seat) ≡ length (answers_of self.old.seat))
-            (λ _. (length (answers_of self.new.seat) ≡ length (answers_of self.old.seat) + 1)
-            × (length (answers_of self.new.seat) ≤ tickets.now.limit)) }
-    {
-        if self.seat.is_done() {
-            return None;
-        }
-        tickets.draw(&mut self.seat)
-    }
-
     // The batch of a number that was drawn, and those of as many more as a round has, or as there are.
     fn draw_batches<C: Counts, G: Gate>(
         &mut self,
@@ -94,6 +79,7 @@ impl<N: Books> Worker<N> {
         drawn: u64,
     ) -> Result<Vec<Arc<Batch>>, AllocError>
         requires own { IsSeatOf job.now.tickets.now self.old.seat }
+        requires more { ¬ IsDone self.old.seat }
         requires limit { job.now.tickets.now.limit ≡ length job.now.batches.now }
         requires drawn { drawn < length job.now.batches.now }
         ensures own { IsSeatOf job.now.tickets.now self.new.seat }
@@ -107,7 +93,7 @@ impl<N: Books> Worker<N> {
         let mut round = Vec::new(alloc);
         round.push(job.batches[drawn as usize].clone()?)?;
         for _ in 1..job.round_len {
-            let Some(drawn) = self.draw(job.tickets) else {
+            let Some(drawn) = job.tickets.draw(&mut self.seat) else {
                 return Ok(round);
             };
             round.push(job.batches[drawn as usize].clone()?)?;

@@ -37,6 +37,24 @@ pub record IsNoted {S : Type 0} (taken : Me S View) (entry : Entry) (booked left
   pub book : (booked ≡ (noted_view entry taken.0, taken.1)) × Knowledge (noted_view entry taken.0)
   pub goes : left ≡ (view_without_first booked.0, [])
 
+-- the keeper's view goes whole to the share
+pub taken_by : {S : Type 0} {v w : View} {it : KeptStripe} {slots : List (ℕ × S)} {all taken : Me S View}
+    → v.kept ≡ [] → w ≡ keeper_view it → slots ≡ [] → all ≡ (w, []) → taken ≡ (joined_view v all.0, slots)
+    → IsTaken v w it taken
+taken_by {S} {v} {w} share_keeps_none keeper_keeps empty is took = record {
+  share_keeps_none = share_keeps_none;
+  keeper_keeps = keeper_keeps;
+  took = took ∙ (λ k. (joined_view v (is k).0, empty k));
+}
+
+-- and is split off it again
+pub noted_by : {S : Type 0} {v w : View} {it : KeptStripe} {taken booked left : Me S View} {entry : Entry}
+    → IsTaken v w it taken → (booked ≡ (noted_view entry taken.0, taken.1)) × Knowledge (noted_view entry taken.0)
+    → left ≡ (view_without_first booked.0, booked.1) → IsNoted taken entry booked left
+noted_by {S} {v} {w} {it} {taken} {booked} taken_is book goes =
+    let none : booked.1 ≡ [] = ap (λ (m : Me S View). m.1) book.0 ∙ ap (λ (m : Me S View). m.1) taken_is.took in
+    record { book = book; goes = goes ∙ ap {B = Me S View} (λ slots. (view_without_first booked.0, slots)) none }
+
 module _ {S : Type 0} {v w : View} {it : KeptStripe} {taken : Me S View} (is : IsTaken v w it taken) where
   taken_view : taken.0 ≡ with_kept v it
   taken_view = ap (λ (m : Me S View). m.0) is.took ∙ taken_in v w it is.share_keeps_none is.keeper_keeps

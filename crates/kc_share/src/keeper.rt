@@ -1,7 +1,5 @@
 //! A keeper: behind a stripe's lock, what the sheet knows of the stripe's journal.
-ghost use Rattle.std.specs.Prelude.{◌≡◌, ◌<◌, []};
-ghost use Rattle.kc_share.specs.Share.{kept_stripe};
-ghost use Rattle.kc_share.specs.Rule.{keeper_view};
+ghost use Rattle.std.specs.Prelude.{◌≡◌};
 
 use crate::books::Books;
 use crate::sheet_rule::Token;
@@ -14,7 +12,7 @@ use std::marker::{Model, PhantomData};
 pub struct Keeper<N: Books> {
     pub(crate) token: Token,
     pub(crate) stripe: u32,
-    name: PhantomData<N>,
+    pub(crate) name: PhantomData<N>,
 }
 
 impl<N: Books> Model for Keeper<N> {
@@ -35,20 +33,6 @@ impl<N: Books> Model for Keeper<N> {
 }
 
 impl<N: Books> Keeper<N> {
-    // The keeper of a stripe in which nothing was booked.
-    pub(crate) fn of(token: Token, stripe: u32) -> Keeper<N>
-        requires table { token.table_id ≡ N.table }
-        requires view { token.me ≡ (keeper_view (kept_stripe stripe []), []) }
-        requires stripe { stripe < 64 }
-        ensures { result ≡ kept_stripe stripe [] }
-    {
-        Keeper {
-            token,
-            stripe,
-            name: PhantomData,
-        }
-    }
-
     /// The number of the stripe.
     pub fn stripe(&self) -> u32
         ensures { result ≡ self.now.stripe }

@@ -1,6 +1,6 @@
 //! A share: what one worker has booked, and how much of the whole it stands for.
-ghost use Rattle.std.specs.Prelude.{◌≡◌, ◌<◌, ◌≤◌, []};
-ghost use Rattle.kc_share.specs.Share.{share_of, word_total_in, entry_total_in};
+ghost use Rattle.std.specs.Prelude.{◌≡◌, ◌<◌};
+ghost use Rattle.kc_share.specs.Share.{word_total_in, entry_total_in};
 
 use crate::books::Books;
 use crate::sheet_rule::Token;
@@ -41,24 +41,6 @@ impl<N: Books> Model for Share<N> {
 }
 
 impl<N: Books> Share<N> {
-    // A share that has booked nothing.
-    pub(crate) fn of(token: Token, parts: u64) -> Share<N>
-        requires table { token.table_id ≡ N.table }
-        requires view { (token.me.0.parts ≡ parts) × (token.me.0.booked ≡ []) × (token.me.0.kept ≡ [])
-            × (token.me.1 ≡ []) }
-        requires parts { 0 < parts }
-        requires stripes { token.me.0.plan.stripes ≤ 64 }
-        ensures { result ≡ share_of token.me.0.plan parts [] }
-    {
-        Share {
-            token,
-            parts,
-            words: [0; 64],
-            entries: [0; 64],
-            name: PhantomData,
-        }
-    }
-
     /// How many of the parts it has.
     pub fn parts(&self) -> u64
         ensures { result ≡ self.now.parts }

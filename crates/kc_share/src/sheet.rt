@@ -129,13 +129,15 @@ impl<N: Books> OpenSheet<N> {
         ensures keeper { result ≡ kept_stripe opening.old.next [] }
         ensures opening { opening.new ≡ opening_of opening.old.plan (opening.old.next + 1) }
     {
+        let shared = &self.table.shared;
+        let token = shared.split_seat::<FirstKept>(&mut opening.token);
         let stripe = opening.next;
-        let token = self
-            .table
-            .shared
-            .split_seat::<FirstKept>(&mut opening.token);
         opening.next += 1;
-        Keeper::of(token, stripe)
+        Keeper {
+            token,
+            stripe,
+            name: PhantomData,
+        }
     }
 
     /// Makes the first share, which has all parts, once each stripe has its keeper.
@@ -149,6 +151,12 @@ impl<N: Books> OpenSheet<N> {
             next: _,
             name: _,
         } = opening;
-        Share::of(token, plan.parts)
+        Share {
+            token,
+            parts: plan.parts,
+            words: [0; 64],
+            entries: [0; 64],
+            name: PhantomData,
+        }
     }
 }

@@ -1,16 +1,15 @@
 //! The steps by which shares and keepers change: a share is split or joined, a batch is noted, a journal looked at.
-ghost use Rattle.std.specs.Prelude.{◌≡◌, ℕ, ◌+◌, ◌^◌, ◌<◌, ◌≤◌, [], length, slice_index};
+ghost use Rattle.std.specs.Prelude.{◌≡◌, ℕ, ◌+◌, ◌^◌, ◌<◌, ◌≤◌, length, slice_index};
 ghost use Rattle.kc_share.specs.Entries.{entry_of, entries_in, word_total, AreSame, AreAmong};
 ghost use Rattle.kc_share.specs.Share.{with_entry, with_booking, with_one_part_less, new_share, joined_shares};
-ghost use Rattle.kc_share.specs.Rule.{blank_view, joined_view, view_without_first, first_kept_view};
 
 use crate::books::Books;
 use crate::keeper::Keeper;
 use crate::share::{MOST, Share};
 use crate::sheet::OpenSheet;
-use crate::sheet_rule::{Book, Event, FirstKept, Look, OnePart, Together, Token, Whole};
+use crate::sheet_rule::{Book, Event, FirstKept, Look, OnePart, Together, Whole};
 use kc_word::Batch;
-use std::marker::Brand;
+use std::marker::{Brand, PhantomData};
 
 /// The cell: how many parts there are.
 const PARTS: usize = 0;
@@ -25,7 +24,13 @@ impl<N: Books> OpenSheet<N> {
     {
         let token = self.table.shared.split_seat::<OnePart>(&mut share.token);
         share.parts -= 1;
-        Share::of(token, 1)
+        Share {
+            token,
+            parts: 1,
+            words: [0; 64],
+            entries: [0; 64],
+            name: PhantomData,
+        }
     }
 
     /// Joins two shares: their parts and numbers are added up, and what one booked stands behind what the other did.
@@ -76,9 +81,12 @@ impl<N: Books> OpenSheet<N> {
         ensures keeper { keeper.new ≡ with_entry keeper.old (entry_of batch.now words) }
     {
         let stripe = keeper.stripe as usize;
-        self.take_in(&mut share.token, &mut keeper.token);
-        self.table.shared.load::<Book<E>>(&mut share.token, PARTS);
-        keeper.token = self.give_back(&mut share.token);
+        let shared = &self.table.shared;
+        // The share takes the keeper's view in, so that one atomic step can tell of both, and gives it back.
+        let all = shared.split_seat::<Whole>(&mut keeper.token);
+        shared.join_seat::<Together>(&mut share.token, all);
+        shared.load::<Book<E>>(&mut share.token, PARTS);
+        keeper.token = shared.split_seat::<FirstKept>(&mut share.token);
         share.words[stripe] += words;
         share.entries[stripe] += 1;
     }
@@ -92,30 +100,12 @@ impl<N: Books> OpenSheet<N> {
         ensures whole { share.old.parts ≡ share.old.plan.parts
             → AreSame (entries_in keeper.old.stripe share.old.booked) keeper.old.journal }
     {
-        self.take_in(&mut share.token, &mut keeper.token);
-        self.table.shared.load::<Look>(&mut share.token, PARTS);
-        keeper.token = self.give_back(&mut share.token);
-    }
-
-    // Joins a keeper's view with a share's, so that one atomic step can tell of both.
-    fn take_in(&self, share: &mut Token, keeper: &mut Token)
-        requires share { (share.old.table_id ≡ N.table) × (0 < share.old.me.0.parts) × (share.old.me.1 ≡ []) }
-        requires keeper { (keeper.old.table_id ≡ N.table) × (keeper.old.me.1 ≡ []) }
-        ensures share { (share.new.table_id ≡ N.table)
-            × (share.new.me ≡ (joined_view share.old.me.0 keeper.old.me.0, [])) }
-        ensures keeper { (keeper.new.table_id ≡ N.table) × (keeper.new.me ≡ (blank_view, [])) }
-    {
-        let all = self.table.shared.split_seat::<Whole>(keeper);
-        self.table.shared.join_seat::<Together>(share, all);
-    }
-
-    // Parts the keeper's view from the share's again.
-    fn give_back(&self, share: &mut Token) -> Token
-        requires { (share.old.table_id ≡ N.table) × (share.old.me.1 ≡ []) }
-        ensures share { (share.new.table_id ≡ N.table) × (share.new.me ≡ (view_without_first share.old.me.0, [])) }
-        ensures keeper { (result.table_id ≡ N.table) × (result.me ≡ (first_kept_view share.old.me.0, [])) }
-    {
-        self.table.shared.split_seat::<FirstKept>(share)
+        let shared = &self.table.shared;
+        // As in a booking, the share takes the keeper's view in, and gives it back.
+        let all = shared.split_seat::<Whole>(&mut keeper.token);
+        shared.join_seat::<Together>(&mut share.token, all);
+        shared.load::<Look>(&mut share.token, PARTS);
+        keeper.token = shared.split_seat::<FirstKept>(&mut share.token);
     }
 }
 

@@ -1,7 +1,7 @@
 -- Several batches that are booked into a stripe by one call, on the sheet of the shares.
-use Rattle.std.proofs.Common.{◌≡◌, ◌⊎◌, ℕ, ◌+◌, ◌^◌, ◌<◌, ◌≤◌, List, [], ◌∷◌, ◌++◌, All, length, get_or, map, take, append_assoc, Result, Ok, Err, OnOk, OnErr, refl, sym, ap, ap₂, ◌∙◌, subst, arith, ⊎_elim}
+use Rattle.std.proofs.Common.{◌≡◌, ◌⊎◌, ℕ, ◌+◌, ◌^◌, ◌<◌, ◌≤◌, List, [], ◌∷◌, ◌++◌, All, length, length-append, get_or, map, take, append_assoc, Result, Ok, Err, OnOk, OnErr, refl, sym, ap, ap₂, ◌∙◌, subst, arith, ⊎_elim}
 use Rattle.std.specs.List.{flat_map}
-use Rattle.std.proofs.lemmas.List.{length-map, get_or-map, map-append, map_push, take_more}
+use Rattle.std.proofs.lemmas.List.{length-map, length-take-le, get_or-map, map-append, map_push, take_more}
 use Rattle.std.proofs.lemmas.List.Concat.{length-flat_map}
 use Rattle.std.proofs.lemmas.List.Elements.{All-map}
 use Rattle.std.proofs.lemmas.List.Folds.{length-flat_map-take}
@@ -105,6 +105,19 @@ module _ {round : RoundCut} {i : ℕ} {batch : NumberedPieces} {words : ℕ} (no
         words_of_cut,
         ap (λ (cut : StripeCut). length (keys_of cut)) cut_is,
         length-flat_map-take keys_of (cuts_in round) i cut_of cut_within,
+      )
+
+  -- and so has one entry more
+  pub one_more_has_room : (it : KeptStripe) → length it.journal + length round.batches < 2 ^ 64
+      → length (with_entries it (take i (cuts_in round))).journal + 1 < 2 ^ 64
+  one_more_has_room it room =
+      omega (
+        arith,
+        room,
+        noted.within,
+        length-append it.journal (map cut_entry (take i (cuts_in round))),
+        length-map (take i (cuts_in round)) cut_entry,
+        length-take-le i (cuts_in round) (omega (arith, cut_within)),
       )
 
 -- ---- the stripe and its keeper

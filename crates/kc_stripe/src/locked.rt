@@ -1,30 +1,27 @@
 //! A stripe together with its keeper, as they lie behind the stripe's lock.
-ghost use Rattle.std.specs.Prelude.{◌≡◌, ◌+◌, ◌<◌, ◌≤◌, ◌^◌, ◌↔◌, ◌⊎◌, ◌++◌, ◌∷◌, [], length, All, IfOk, OnOk, OnErr};
-ghost use Rattle.kc_share.specs.Entries.{word_total};
-ghost use Rattle.std.specs.FinMap.{empty};
+ghost use Rattle.std.specs.Prelude.{◌≡◌, ◌+◌, ◌<◌, ◌≤◌, ◌^◌, ◌↔◌, ◌⊎◌, ◌++◌, ◌∷◌, [], length, IfOk, OnOk, OnErr};
 ghost use Rattle.kc_share.specs.Share.{with_booking};
-ghost use Rattle.kc_share.specs.Sheet.{opening_of};
-ghost use Rattle.kc_booking.specs.Setup.{word_count, stripe_count, key_bits};
+ghost use Rattle.kc_booking.specs.Setup.{word_count};
 ghost use Rattle.kc_booking.specs.Cut.{keys_of};
 ghost use Rattle.kc_booking.specs.Cuts.{cuts_in, all_keys_of, IsOwnRound, FirstIsBooked, FirstIsNew};
 ghost use Rattle.kc_booking.specs.Counted.{SomeMayBeFull, SomeMayBeFullInSomeOrder};
 ghost use Rattle.kc_booking.specs.Stripe.{IsBooked, IsOwnCut, IsUnchanged, NumbersDiffer};
-ghost use Rattle.kc_stripe.specs.Locked.{cut_entry, with_bookings, with_entries, IsAllOf};
+ghost use Rattle.kc_stripe.specs.Locked.{cut_entry, with_bookings};
 ghost use Rattle.kc_stripe.specs.Seen.{form_stripe, AreNamed, IsStripeOf};
 
 use crate::seen::Seen;
 use kc_booking::{BookFault, Cut, Cuts, Setup, Stripe};
-use kc_share::{Books, Keeper, OpenSheet, Opening, Share, share_laws};
+use kc_share::{Books, Keeper, OpenSheet, Share, share_laws};
 use kc_table::Counts;
 use kc_word::Word;
-use std::alloc::{AllocError, Global};
+use std::alloc::Global;
 use std::marker::Model;
 
 /// A stripe, and its keeper on the sheet of the shares, whose journal is the stripe's.
 #[derive(Drop)]
 pub(crate) struct Locked<C: Counts, N: Books> {
-    stripe: Stripe<C>,
-    keeper: Keeper<N>,
+    pub(crate) stripe: Stripe<C>,
+    pub(crate) keeper: Keeper<N>,
 }
 
 impl<C: Counts, N: Books> Model for Locked<C, N> {
@@ -36,29 +33,6 @@ impl<C: Counts, N: Books> Model for Locked<C, N> {
     ghost view = { λ l. l.stripe };
 
     ghost invariant = { λ l. IsOnSheet l.stripe l.keeper };
-}
-
-impl<C: Counts + Drop, N: Books> Locked<C, N> {
-    /// Makes the next stripe, in which nothing was booked, and its keeper.
-    ///
-    /// There is a stripe left; nothing is stored in the table, and its keys have the setup's `key_bits`.
-    pub(crate) fn make_next(
-        alloc: Global,
-        setup: &Setup,
-        table: C,
-        sheet: &OpenSheet<N>,
-        opening: &mut Opening<N>,
-    ) -> Result<Locked<C, N>, AllocError>
-        requires left { opening.old.next < opening.old.plan.stripes }
-        requires number { opening.old.next < stripe_count setup.now }
-        requires empty { C.counts table ≡ empty }
-        requires key_bits { C.bits table ≡ key_bits setup.now }
-        ensures { opening.new ≡ opening_of opening.old.plan (opening.old.next + 1) }
-    {
-        let keeper = sheet.next_keeper(opening);
-        let stripe = Stripe::new(alloc, setup, keeper.stripe(), table)?;
-        Ok(Locked { stripe, keeper })
-    }
 }
 
 impl<C: Counts, N: Books> Locked<C, N> {
@@ -119,7 +93,10 @@ impl<C: Counts, N: Books> Locked<C, N> {
         // For the proof: what is known of the sums, which stay small.
         let _total = self.stripe.total();
         let _length = self.stripe.journal().len();
-        note_all(sheet, share, &mut self.keeper, cuts);
+        let keeper = &mut self.keeper;
+        for i in 0..cuts.batches().len() {
+            sheet.note(share, keeper, &cuts.batches()[i], cuts.sizes()[i] as u64);
+        }
         Ok(())
     }
 
@@ -157,34 +134,5 @@ impl<C: Counts, N: Books> Locked<C, N> {
         share_laws::among_is_there();
         let seen = Seen::of(alloc, &self.stripe, word)?;
         Ok(seen)
-    }
-
-    /// The stripe. Where the share has all parts, what was booked with it is all of the stripe.
-    pub(crate) fn into_stripe(mut self, sheet: &OpenSheet<N>, share: &mut Share<N>) -> Stripe<C>
-        ensures stripe { result ≡ self }
-        ensures share { share.new ≡ share.old }
-        ensures whole { share.old.parts ≡ share.old.plan.parts → IsAllOf share.old.booked self }
-    {
-        sheet.look(share, &mut self.keeper);
-        let Locked { stripe, keeper: _ } = self;
-        stripe
-    }
-}
-
-// Notes the batches of one booking, each with how many words it has in the stripe.
-fn note_all<N: Books>(
-    sheet: &OpenSheet<N>,
-    share: &mut Share<N>,
-    keeper: &mut Keeper<N>,
-    cuts: &Cuts,
-)
-    requires stripe { All (λ cut. cut.stripe ≡ keeper.old.stripe) (cuts_in cuts.now) }
-    requires words { word_total keeper.old.journal + length (all_keys_of cuts.now) < 2 ^ 64 }
-    requires entries { length keeper.old.journal + length cuts.now.batches < 2 ^ 64 }
-    ensures share { share.new ≡ with_bookings share.old (cuts_in cuts.now) }
-    ensures keeper { keeper.new ≡ with_entries keeper.old (cuts_in cuts.now) }
-{
-    for i in 0..cuts.batches().len() {
-        sheet.note(share, keeper, &cuts.batches()[i], cuts.sizes()[i] as u64);
     }
 }

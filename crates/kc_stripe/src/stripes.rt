@@ -2,7 +2,6 @@
 ghost use Rattle.std.specs.Prelude.{◌≡◌, ◌<◌, ◌≤◌, [], All, IfOk, OnOk, OnErr, vec_len};
 ghost use Rattle.std.specs.FinMap.{empty};
 ghost use Rattle.kc_share.specs.Share.{share_of, with_booking, with_one_part_less, new_share, joined_shares};
-ghost use Rattle.kc_share.specs.Sheet.{opening_of};
 ghost use Rattle.kc_booking.specs.Setup.{word_count, stripe_count, key_bits};
 ghost use Rattle.kc_booking.specs.Cuts.{cuts_in};
 ghost use Rattle.kc_booking.specs.Stripe.{IsLawful};
@@ -12,7 +11,7 @@ ghost use Rattle.kc_stripe.specs.Seen.{form_stripe, AreNamed};
 use crate::locked::Locked;
 use crate::seen::Seen;
 use kc_booking::{BookFault, Cut, Cuts, Setup, Stripe};
-use kc_share::{Books, OpenSheet, Opening, Share, Sheet};
+use kc_share::{Books, OpenSheet, Share, Sheet};
 use kc_table::Counts;
 use kc_word::Word;
 use std::alloc::{AllocError, Global};
@@ -61,7 +60,12 @@ impl<C: Counts + Drop, N: Books> Stripes<C, N> {
     {
         let kept = setup.clone()?;
         let (sheet, mut opening) = sheet.open::<N>();
-        let locks = locked_stripes(alloc, setup, tables, &sheet, &mut opening)?;
+        let mut locks = Vec::with_capacity(alloc, tables.len())?;
+        for table in tables {
+            let keeper = sheet.next_keeper(&mut opening);
+            let stripe = Stripe::new(alloc, setup, keeper.stripe(), table)?;
+            locks.push(Mutex::new(Locked { stripe, keeper }))?;
+        }
         let share = sheet.first_share(opening);
         let stripes = Stripes {
             setup: kept,
@@ -90,7 +94,10 @@ impl<C: Counts + Drop, N: Books> Stripes<C, N> {
         } = self;
         let mut stripes = Vec::with_capacity(alloc, locks.len())?;
         for lock in locks {
-            stripes.push(lock.into_inner().into_stripe(&sheet, &mut share))?;
+            let Locked { stripe, mut keeper } = lock.into_inner();
+            // For the proof: what was booked with the share is all of the stripe, where the share has all parts.
+            sheet.look(&mut share, &mut keeper);
+            stripes.push(stripe)?;
         }
         Ok((stripes, share))
     }
@@ -181,28 +188,4 @@ impl<C: Counts, N: Books> Stripes<C, N> {
             .lock(rt)
             .look(alloc, &self.sheet, share, &self.setup, word)
     }
-}
-
-// The stripes in which nothing was booked, one for each table, each with its keeper behind a lock. No stripe has a
-// keeper yet.
-fn locked_stripes<C: Counts + Drop, N: Books>(
-    alloc: Global,
-    setup: &Setup,
-    tables: Vec<C>,
-    sheet: &OpenSheet<N>,
-    opening: &mut Opening<N>,
-) -> Result<Vec<Mutex<Locked<C, N>>>, AllocError>
-    requires first { opening.old.next ≡ 0 }
-    requires stripes { opening.old.plan.stripes ≡ stripe_count setup.now }
-    requires count { vec_len tables ≡ stripe_count setup.now }
-    requires tables { All (λ table. (C.counts table ≡ empty) × (C.bits table ≡ key_bits setup.now)) tables.items }
-    ensures count { IfOk result (λ locks. vec_len locks ≡ stripe_count setup.now) }
-    ensures opening { OnOk result (opening.new ≡ opening_of opening.old.plan (stripe_count setup.now)) }
-{
-    let mut locks = Vec::with_capacity(alloc, tables.len())?;
-    for table in tables {
-        let locked = Locked::make_next(alloc, setup, table, sheet, opening)?;
-        locks.push(Mutex::new(locked))?;
-    }
-    Ok(locks)
 }

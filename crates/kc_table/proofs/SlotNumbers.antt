@@ -103,6 +103,14 @@ number_put_fits low tag count few fits =
     (subst (λ n. n < 2 ^ (64 - low)) (sym (ap (λ n. n / m) same) ∙ back) (above_low (tag * m) low few fits))
     (mod-lt count (pow_pos low))
 
+-- the number of a slot with a tag and the low bits of a count, as it is put together
+pub number_put : (low tag count above : ℕ) → low ≤ 58 → above ≡ tag → tag * 2 ^ low < 2 ^ 64
+    → above * 2 ^ low % 2 ^ 64 + bit_and count (1 * 2 ^ low % 2 ^ 64 - 1) ≡ tag * 2 ^ low + count % 2 ^ low
+number_put low tag count above few is fits =
+    ap (λ n. n * 2 ^ low % 2 ^ 64 + bit_and count (1 * 2 ^ low % 2 ^ 64 - 1)) is
+    ∙ ap (λ n. n + bit_and count (1 * 2 ^ low % 2 ^ 64 - 1)) (mod-eq_of_lt fits)
+    ∙ ap (λ n. tag * 2 ^ low + n) (masked_low count low few)
+
 -- the low bits of a number, one more than which no more fit them, and else they are all 1
 pub low_room : (r low : ℕ) → (r + 1) / 2 ^ low ≡ 0 → r + 1 < 2 ^ low
 low_room r low none =

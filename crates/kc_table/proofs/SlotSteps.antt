@@ -1,9 +1,11 @@
 -- Slots and what they hold: what a slot that is written changes, what a found, a free and a crowded key say of the map.
-use Rattle.std.proofs.Common.{◌≡◌, ◌≢◌, ◌∙◌, ℕ, zero, suc, ◌+◌, ◌^◌, ◌<◌, ◌≤◌, true, false, cond, List, [], ◌∷◌, length}
+use Rattle.std.proofs.Common.{◌≡◌, ◌≢◌, ◌∙◌, ℕ, zero, suc, ◌+◌, ◌*◌, ◌%◌, ◌^◌, ◌<◌, ◌≤◌, true, false, cond, List, [], ◌∷◌, length}
 use Rattle.std.proofs.Common.{set, replicate, Some, None, Option, nat_eq, nat_cmp, get_or, refl, sym, ap, subst, arith}
 use Rattle.std.proofs.Common.{slice_get, inl, inr, zero-add, add-zero}
 use Rattle.std.proofs.Math.Nat.{min-le_left}
 use Rattle.std.proofs.lemmas.Bool.{cases_eq, cases_lt}
+use Rattle.std.proofs.lemmas.Nat.{one_shl}
+use Rattle.kc_table.specs.declared.slots.Slots.{Slots}
 use Rattle.std.proofs.lemmas.List.{get_or_past, get_or-replicate, length-replicate}
 use Rattle.std.proofs.lemmas.Option.{slice_get_within}
 use Rattle.std.proofs.lemmas.Grind.{common_steps}
@@ -216,6 +218,29 @@ tag_at-replicate n s = elim (cases_lt s n) [
       (get_or_past (replicate n empty_slot) s empty_slot
       (let all : length (replicate n empty_slot) ≡ n = length-replicate n empty_slot in omega arith))
 ]
+
+-- the number of slots, as it is computed
+pub slots_shifted : (table : Slots) → 1 * 2 ^ table.log % 2 ^ 64 ≡ 2 ^ table.log
+slots_shifted table = one_shl table.log 64 (omega (arith, table.sound.few_slots))
+
+-- where no slot has a tag
+pub sound-empty : {bits log : ℕ} (n : ℕ) (slots : List Slot) → slots ≡ replicate n empty_slot
+    → bits ≤ 62 → log ≤ 40 → log ≤ bits → bits ≤ log + 58 → IsSound bits log (tag_at slots)
+sound-empty n slots is few_bits few_slots no_wider fits =
+    let none : (s : ℕ) → tag_at slots s ≡ 0 = λ s. ap (λ rs. tag_at rs s) is ∙ tag_at-replicate n s in
+    record {
+      few_bits = few_bits;
+      few_slots = few_slots;
+      no_wider = no_wider;
+      remainder_fits = fits;
+      inside = λ s some. absurd (some (none s));
+      probed = λ s some. absurd (some (none s));
+      short = λ s some. absurd (some (none s));
+      reached = λ s j some. absurd (some (none s));
+      first = λ s j some. absurd (some (none s));
+      apart = λ s t some. absurd (some (none s));
+      at_home = λ home s some. absurd (some (none s));
+    }
 
 pub counts_of-empty : (log n : ℕ) (slots : List Slot) → slots ≡ replicate n empty_slot → counts_of log slots ≡ empty
 counts_of-empty log n slots is = same_counts _ _ (λ q.

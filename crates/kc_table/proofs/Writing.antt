@@ -1,6 +1,6 @@
 -- What a slot that is written changes in a table of fixed size.
-use Rattle.std.proofs.Common.{◌≡◌, ◌≢◌, ◌∙◌, ℕ, ◌^◌, ◌<◌, List, length, set, Option, Some, None, slice_get}
-use Rattle.std.proofs.Common.{sym, ap, subst, inl, inr, zero-add}
+use Rattle.std.proofs.Common.{◌≡◌, ◌≢◌, ◌∙◌, ℕ, ◌*◌, ◌^◌, ◌<◌, List, length, set, Option, Some, None, slice_get}
+use Rattle.std.proofs.Common.{sym, ap, subst, arith, inl, inr, zero-add}
 use Rattle.std.specs.FinMap.{insert}
 use Rattle.std.proofs.lemmas.Bool.{cases_eq}
 use Rattle.std.proofs.lemmas.Option.{slice_get_within}
@@ -14,7 +14,7 @@ use Rattle.kc_table.proofs.Places.{place-lt}
 use Rattle.kc_table.proofs.SlotSteps.{length-contents_from, contents_from-set, content_of_some, within_slots, empty_at}
 use Rattle.kc_table.proofs.SlotSteps.{slots_apart, holds_found, nowhere_free}
 use Rattle.kc_table.proofs.SlotNumbers.{tag_at-set_same, tag_at-set_other}
-use Rattle.kc_table.proofs.Soundness.{found_some, found_key, sound_put, sound_same}
+use Rattle.kc_table.proofs.Soundness.{tag_fits, found_some, found_key, sound_put, sound_same}
 
 contents_of-set : (log : ℕ) (slots : List Slot) (s : ℕ) (slot : Slot) (k : ℕ) → slot.tag ≢ 0 → key_in log s slot.tag ≡ k
     → contents_of log (set slots s slot) ≡ set (contents_of log slots) s (Some (k, slot.count))
@@ -26,17 +26,25 @@ module _ (table : Slots) (key index : ℕ) where
   -- a new key is put at its first free place
   module _ (new count : ℕ) (below : key < 2 ^ table.bits)
       (free : IsFree table.log (tag_at table.slots.items) key index new) where
-    fits : index < length table.slots.items
-    fits =
+    pub inside_slots : index < length table.slots.items
+    inside_slots =
         subst (λ n. index < n) (sym table.sized)
         (subst (λ s. s < 2 ^ table.log) (sym free.here) (place-lt key free.reprobe table.log))
+
+    pub tag_put_fits : new * 2 ^ table.slots.low < 2 ^ 64
+    tag_put_fits =
+        subst (λ t. t * 2 ^ table.slots.low < 2 ^ 64) (sym free.is)
+        (tag_fits table.sound table.slots.low key free.reprobe table.shared below free.small)
+
+    pub tag_put_some : new ≢ 0
+    tag_put_some none = absurd (omega (arith, free.is, none))
 
     pub sound_slot_put : IsSound table.bits table.log
         (tag_at (set table.slots.items index (record { tag = new; count = count })))
     sound_slot_put =
         sound_put table.sound key index new below free
         (tag_at (set table.slots.items index (record { tag = new; count = count })))
-        (tag_at-set_same table.slots.items index (record { tag = new; count = count }) fits)
+        (tag_at-set_same table.slots.items index (record { tag = new; count = count }) inside_slots)
         (tag_at-set_other table.slots.items index (record { tag = new; count = count }))
 
     pub contents_slot_put : contents_of table.log (set table.slots.items index (record { tag = new; count = count }))
@@ -47,10 +55,10 @@ module _ (table : Slots) (key index : ℕ) where
           reprobe = free.reprobe;
           small = free.small;
           here = free.here;
-          is = tag_at-set_same table.slots.items index (record { tag = new; count = count }) fits ∙ free.is;
+          is = tag_at-set_same table.slots.items index (record { tag = new; count = count }) inside_slots ∙ free.is;
         } in
         let after : tag_at (set table.slots.items index (record { tag = new; count = count })) index ≡ new =
-        tag_at-set_same table.slots.items index (record { tag = new; count = count }) fits in
+        tag_at-set_same table.slots.items index (record { tag = new; count = count }) inside_slots in
         contents_of-set table.log table.slots.items index (record { tag = new; count = count }) key
         (λ none. found_some sound_slot_put key index found (after ∙ none))
         (ap (key_in table.log index) (sym after) ∙ found_key sound_slot_put key index found)
@@ -61,8 +69,8 @@ module _ (table : Slots) (key index : ℕ) where
     counts_slot_put =
         ap counts_in contents_slot_put
         ∙ counts_in-set (contents_of table.log table.slots.items) index key count
-        (subst (λ n. index < n) (sym (length-contents_from table.log 0 table.slots.items)) fits)
-        (inl (empty_at table.log table.slots.items index fits free.empty))
+        (subst (λ n. index < n) (sym (length-contents_from table.log 0 table.slots.items)) inside_slots)
+        (inl (empty_at table.log table.slots.items index inside_slots free.empty))
         (λ t m apart held. nowhere_free table.slots.items table.sound key index new free t m held)
 
   -- the count of a stored key is written

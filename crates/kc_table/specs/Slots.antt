@@ -3,7 +3,7 @@ use Rattle.std.specs.Prelude.{ℕ, List, filter, nat_lt}
 use Rattle.kc_table.specs.declared.slots.Slots.{Slots}
 use Rattle.kc_table.specs.Counts.{KeyCounts}
 use Rattle.kc_table.specs.QuotientTable.{SlotList, entries_in}
-use Rattle.kc_table.specs.Slot.{tag_at, slot_count, contents_of, counts_of}
+use Rattle.kc_table.specs.Slot.{tag_at, contents_of, counts_of}
 
 -- what each slot of the table holds
 abbrev pub slot_list : Slots → SlotList
@@ -20,7 +20,3 @@ counted_entries table = filter (λ e. nat_lt 0 e.1) (entries_in (slot_list table
 -- the tag in each slot
 abbrev pub slot_tags : Slots → ℕ → ℕ
 slot_tags table = tag_at table.slots.items
-
--- the count in each slot
-abbrev pub slot_counts : Slots → ℕ → ℕ
-slot_counts table = slot_count table.slots.items

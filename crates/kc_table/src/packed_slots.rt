@@ -1,12 +1,10 @@
 //! The slots of a table packed into one number of 64 bits each, with the high bits of great counts beside them.
-ghost use Rattle.std.specs.Prelude.{◌≡◌, ◌≢◌, ℕ, ◌+◌, ◌*◌, ◌/◌, ◌%◌, ◌^◌, ◌<◌, ◌≤◌, max, length, replicate};
-ghost use Rattle.std.specs.Prelude.{IfOk, slice_set, slice_index_or, vec_capacity};
-ghost use Rattle.kc_table.specs.Sizes.{remainder_bits, count_bits};
-ghost use Rattle.kc_table.specs.Slot.{empty_slot, tag_at, slot_count};
+ghost use Rattle.std.specs.Prelude.{◌≡◌, ◌≢◌, ℕ, ◌+◌, ◌*◌, ◌^◌, ◌<◌, max, length};
+ghost use Rattle.std.specs.Prelude.{slice_set, slice_index_or, vec_capacity};
+ghost use Rattle.kc_table.specs.Sizes.{count_bits};
+ghost use Rattle.kc_table.specs.Slot.{tag_at, slot_count};
 
 use crate::tag::Tag;
-use kc_lemmas::zeros;
-use std::alloc::{AllocError, Global};
 use std::marker::Model;
 
 /// The slots of a table, one behind another. A slot's number has the tag in its high bits, and below it the `low` low
@@ -15,9 +13,9 @@ use std::marker::Model;
 /// call takes any.
 #[derive(Drop)]
 pub(crate) struct PackedSlots {
-    low: u32,
-    numbers: Vec<u64>,
-    high: Vec<u64>,
+    pub low: u32,
+    pub numbers: Vec<u64>,
+    pub high: Vec<u64>,
 }
 
 impl Model for PackedSlots {
@@ -32,32 +30,15 @@ impl Model for PackedSlots {
 }
 
 impl PackedSlots {
-    /// So many empty slots, with so many low bits of a count in each.
-    pub fn empty(alloc: Global, low: u32, size: usize) -> Result<PackedSlots, AllocError>
-        requires { low ≤ remainder_bits }
-        ensures low { IfOk result (λ p. p.low ≡ low) }
-        ensures empty { IfOk result (λ p. p.items ≡ replicate size empty_slot) }
-    {
-        let high = Vec::with_capacity(alloc, size)?;
-        let numbers = zeros(alloc, size)?;
-        Ok(PackedSlots { low, numbers, high })
-    }
-
-    /// How many slots there are.
-    #[inline(always)]
-    pub fn len(&self) -> usize
-        ensures { result ≡ length self.now.items }
-    {
-        self.numbers.len()
-    }
-
     /// The tag in a slot.
     #[inline(always)]
     pub fn tag(&self, index: usize) -> Tag
         requires { index < length self.now.items }
         ensures { result ≡ tag_at self.now.items index }
     {
-        Tag::of_number(self.numbers[index], self.low)
+        Tag {
+            number: self.numbers[index] >> self.low,
+        }
     }
 
     /// The count in a slot.
@@ -66,8 +47,8 @@ impl PackedSlots {
         requires { index < length self.now.items }
         ensures { result ≡ slot_count self.now.items index }
     {
-        let high = high_bits(&self.high, index);
-        (high << self.low) + low_bits(self.numbers[index], self.low)
+        let high = self.high.get(index).copied().unwrap_or(0);
+        (high << self.low) + (self.numbers[index] & ((1 << self.low) - 1))
     }
 
     /// Puts a tag and a count into an empty slot.
@@ -80,7 +61,7 @@ impl PackedSlots {
         ensures low { self.new.low ≡ self.old.low }
         ensures put { self.new.items ≡ slice_set self.old.items index (record { tag = tag; count = count }) }
     {
-        self.numbers[index] = tag.to_number(self.low) + low_bits(count, self.low);
+        self.numbers[index] = (tag.number << self.low) + (count & ((1 << self.low) - 1));
         let high = count >> self.low;
         if high > 0 {
             set_high_bits(&mut self.high, index, high);
@@ -100,7 +81,7 @@ impl PackedSlots {
     {
         let count = self.count(index) + 1;
         let number = self.numbers[index];
-        let below = low_bits(number, self.low);
+        let below = number & ((1 << self.low) - 1);
         if (below + 1) >> self.low == 0 {
             self.numbers[index] = number + 1;
         } else {
@@ -109,26 +90,6 @@ impl PackedSlots {
         }
         count
     }
-}
-
-// The lowest `low` bits of a count, which stand in the slot.
-#[inline(always)]
-fn low_bits(number: u64, low: u32) -> u64
-    requires { low ≤ remainder_bits }
-    ensures { result ≡ number % 2 ^ low }
-{
-    number & ((1 << low) - 1)
-}
-
-// The high bits of the count in a slot, 0 where none were written yet.
-#[inline(always)]
-fn high_bits(high: &Vec<u64>, index: usize) -> u64
-    ensures { result ≡ slice_index_or high.now.items index 0 }
-{
-    if index < high.len() {
-        return high[index];
-    }
-    0
 }
 
 // Adds one to the high bits of the count in a slot. They are read here and not handed over, so that the compiler can
@@ -144,7 +105,7 @@ fn carry_into(high: &mut Vec<u64>, index: usize)
     ensures others { (i : ℕ) → i ≢ index
         → slice_index_or high.new.items i 0 ≡ slice_index_or high.old.items i 0 }
 {
-    let carried = high_bits(high, index) + 1;
+    let carried = high.get(index).copied().unwrap_or(0) + 1;
     set_high_bits(high, index, carried);
 }
 

@@ -172,7 +172,7 @@ impl Counts for QuotientTable {
         match self.slots.reprobe(key, &mut Counter::zero()) {
             Reprobing::Found { .. } => Ok(()),
             Reprobing::Free { place, tag } => {
-                self.slots.put(key, place, tag, 0);
+                self.slots.slots.put(place, tag, 0);
                 Ok(())
             }
             Reprobing::Crowded => {
@@ -191,7 +191,7 @@ impl Counts for QuotientTable {
         match self.slots.reprobe(key, &mut Counter::zero()) {
             Reprobing::Found { place } => Ok(place as u64),
             Reprobing::Free { place, tag } => {
-                self.slots.put(key, place, tag, 0);
+                self.slots.slots.put(place, tag, 0);
                 Ok(place as u64)
             }
             Reprobing::Crowded => {
@@ -253,7 +253,7 @@ impl Counts for QuotientTable {
         ensures same_log { self.new.log ≡ self.old.log }
         ensures same_max_log { self.new.max_log ≡ self.old.max_log }
     {
-        self.slots.count_key(key, place as usize)
+        self.slots.slots.add_one(place as usize)
     }
 
     #[inline]
@@ -268,7 +268,7 @@ impl Counts for QuotientTable {
         ensures few { result < most_parts }
         ensures home { result ≡ home_part self.now.log key }
     {
-        let home = key as usize & (self.slots.slots.len() - 1);
+        let home = key as usize & ((1 << self.slots.log) - 1);
         (home >> self.slots.log.saturating_sub(PART_BITS)) as u32
     }
 

@@ -1,20 +1,20 @@
 //! A table of fixed size, whose slots hold a key's remainder, its number of reprobes and its count.
 ghost use Rattle.std.specs.Prelude.{◌≡◌, ◌≢◌, ℕ, ◌+◌, ◌-◌, ◌<◌, ◌≤◌, ◌^◌, length, true, false, None};
-ghost use Rattle.std.specs.Prelude.{IfOk, IfSome, IfNone, Some, slice_set};
+ghost use Rattle.std.specs.Prelude.{IfOk, IfSome, IfNone, Some};
 ghost use Rattle.std.specs.FinMap.{empty, insert, get};
 ghost use Rattle.std.specs.Vec.{vec_capacity};
 ghost use Rattle.kc_table.specs.Counts.{IsGreatestCount};
 ghost use Rattle.kc_table.specs.QuotientTable.{Holds, HasStoredCrowd, MayBeTooSmall};
-ghost use Rattle.kc_table.specs.Reprobing.{IsFound, IsFree, IsOut, IsReprobing};
-ghost use Rattle.kc_table.specs.Sizes.{most_bits, most_log, remainder_bits, count_bits};
+ghost use Rattle.kc_table.specs.Reprobing.{IsOut, IsReprobing};
+ghost use Rattle.kc_table.specs.Sizes.{most_bits, most_log, remainder_bits};
 ghost use Rattle.kc_table.specs.Slot.{key_in, IsSound, tag_at};
 
 use crate::packed_slots::PackedSlots;
 use crate::reprobes::Reprobing;
-use crate::sizes::{PLACES, REMAINDER_BITS};
+use crate::sizes::{PLACES, REMAINDER_BITS, TAG_STEP};
 use crate::table_fault::TableFault;
 use crate::tag::Tag;
-use kc_lemmas::Counter;
+use kc_lemmas::{Counter, zeros};
 use std::alloc::{AllocError, Global};
 
 /// A table of 2^log slots for keys of so many bits. The low bits of a count have what the tag leaves of a slot.
@@ -29,7 +29,7 @@ pub(crate) struct Slots {
 }
 
 impl Slots {
-    ghost use Rattle.kc_table.specs.Slots.{key_counts, slot_list, slot_tags, slot_counts, counted_entries};
+    ghost use Rattle.kc_table.specs.Slots.{key_counts, slot_list, slot_tags, counted_entries};
 
     /// A table whose slots are empty.
     pub fn empty(alloc: Global, bits: u32, log: u32) -> Result<Slots, AllocError>
@@ -41,19 +41,14 @@ impl Slots {
         ensures log { IfOk result (λ t. t.log ≡ log) }
         ensures empty { IfOk result (λ t. key_counts t ≡ empty) }
     {
-        let slots = PackedSlots::empty(alloc, REMAINDER_BITS + log - bits, 1 << log)?;
+        let high = Vec::with_capacity(alloc, 1 << log)?;
+        let numbers = zeros(alloc, 1 << log)?;
+        let slots = PackedSlots {
+            low: REMAINDER_BITS + log - bits,
+            numbers,
+            high,
+        };
         Ok(Slots { bits, log, slots })
-    }
-
-    /// The tag in a slot. Reprobing reads slots by this alone, so that `steps` counts each reading.
-    #[inline(always)]
-    fn read(&self, index: usize, steps: &mut Counter) -> Tag
-        requires { index < 2 ^ self.now.log }
-        ensures tag { result ≡ slot_tags self.now index }
-        ensures counted { steps.new.count ≡ steps.old.count + 1 }
-    {
-        steps.tick();
-        self.slots.tag(index)
     }
 
     /// Walks over the key's places up to the key itself or a free one. A slot is never emptied, so
@@ -63,13 +58,17 @@ impl Slots {
         requires { key < 2 ^ self.now.bits }
         ensures { IsReprobing self.now.log (slot_tags self.now) key (steps.new.count - steps.old.count) result }
     {
-        let mask = self.slots.len() - 1;
+        let mask = (1 << self.log) - 1;
         let remainder = key >> self.log;
         let mut place = key as usize & mask;
         for i in 0..PLACES {
             place = (place + i) & mask;
-            let wanted = Tag::of(remainder, i);
-            let tag = self.read(place, steps);
+            let wanted = Tag {
+                number: remainder * TAG_STEP + (i as u64 + 1),
+            };
+            // `steps` counts each reading of a tag.
+            steps.tick();
+            let tag = self.slots.tag(place);
             if tag == wanted {
                 return Reprobing::Found { place };
             }
@@ -80,34 +79,6 @@ impl Slots {
         Reprobing::Crowded
     }
 
-    /// Puts a new key at its first free place.
-    #[inline(always)]
-    pub fn put(&mut self, key: u64, place: usize, tag: Tag, count: u64)
-        requires in_range { key < 2 ^ self.old.bits }
-        requires free { IsFree self.old.log (slot_tags self.old) key place tag }
-        ensures bits { self.new.bits ≡ self.old.bits }
-        ensures log { self.new.log ≡ self.old.log }
-        ensures put { key_counts self.new ≡ insert (key_counts self.old) key count }
-        ensures slots { slot_list self.new ≡ slice_set (slot_list self.old) place (Some (key, count)) }
-    {
-        self.slots.put(place, tag, count);
-    }
-
-    /// Adds one to the count of the key in this slot, and tells the new count.
-    #[inline(always)]
-    pub fn count_key(&mut self, key: u64, place: usize) -> u64
-        requires found { IsFound self.old.log (slot_tags self.old) key place }
-        requires room { slot_counts self.old place < 2 ^ count_bits }
-        ensures bits { self.new.bits ≡ self.old.bits }
-        ensures log { self.new.log ≡ self.old.log }
-        ensures told { result ≡ slot_counts self.old place + 1 }
-        ensures counted { key_counts self.new ≡ insert (key_counts self.old) key (slot_counts self.old place + 1) }
-        ensures slots { slot_list self.new
-            ≡ slice_set (slot_list self.old) place (Some (key, slot_counts self.old place + 1)) }
-    {
-        self.slots.add_one(place)
-    }
-
     /// The key in a slot: its remainder, and the home from which its number of reprobes leads to the slot.
     #[inline(always)]
     pub fn key_at(&self, index: usize, tag: Tag) -> u64
@@ -116,7 +87,7 @@ impl Slots {
         ensures key { result ≡ key_in self.now.log index tag }
         ensures in_range { result < 2 ^ self.now.bits }
     {
-        let mask = self.slots.len() - 1;
+        let mask = (1 << self.log) - 1;
         let reprobes = tag.reprobes();
         let turn = reprobes * (reprobes + 1) / 2;
         // The home is `turn` slots before this one, round the start of the table. `mask` is one less than the number of
@@ -137,7 +108,7 @@ impl Slots {
     {
         match self.reprobe(key, &mut Counter::zero()) {
             Reprobing::Free { place, tag } => {
-                self.put(key, place, tag, count);
+                self.slots.put(place, tag, count);
                 true
             }
             Reprobing::Crowded => false,
@@ -157,7 +128,7 @@ impl Slots {
         ensures crowded { IfOk result (λ r. IfNone r (HasStoredCrowd log (key_counts self.now))) }
     {
         let mut table = Slots::empty(alloc, self.bits, log)?;
-        for old_index in 0..self.slots.len() {
+        for old_index in 0..1 << self.log {
             let tag = self.slots.tag(old_index);
             if tag.is_empty() {
                 continue;
@@ -207,7 +178,7 @@ impl Slots {
         ensures bounded { IfOk result (λ v. vec_capacity v ≤ length (counted_entries self.now)) }
     {
         let mut entries = Vec::with_capacity(alloc, self.counted())?;
-        for index in 0..self.slots.len() {
+        for index in 0..1 << self.log {
             let Some(entry) = self.entry(index) else {
                 continue;
             };
@@ -221,7 +192,7 @@ impl Slots {
         ensures { result ≡ length (counted_entries self.now) }
     {
         let mut counted = 0;
-        for index in 0..self.slots.len() {
+        for index in 0..1 << self.log {
             let Some(_) = self.entry(index) else {
                 continue;
             };
@@ -253,7 +224,7 @@ impl Slots {
         ensures { IsGreatestCount (key_counts self.now) result }
     {
         let mut greatest: u64 = 0;
-        for index in 0..self.slots.len() {
+        for index in 0..1 << self.log {
             let Some(entry) = self.entry(index) else {
                 continue;
             };

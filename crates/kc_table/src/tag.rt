@@ -1,7 +1,7 @@
 //! The tag of a slot: the remainder of its key and which of the key's places it is.
-ghost use Rattle.std.specs.Prelude.{◌≡◌, ℕ, ◌+◌, ◌*◌, ◌/◌, ◌%◌, ◌^◌, ◌<◌, ◌≤◌, ◌==◌};
+ghost use Rattle.std.specs.Prelude.{◌≡◌, ◌/◌, ◌%◌, ◌≤◌, ◌==◌};
 ghost use Rattle.kc_table.specs.Reprobing.{reprobe_of};
-ghost use Rattle.kc_table.specs.Sizes.{place_count, tag_step, remainder_bits};
+ghost use Rattle.kc_table.specs.Sizes.{tag_step};
 
 use crate::sizes::TAG_STEP;
 use std::marker::Model;
@@ -10,7 +10,7 @@ use std::marker::Model;
 /// one more than its number of reprobes.
 #[derive(Clone, Copy, Eq, PartialEq)]
 pub(crate) struct Tag {
-    number: u64,
+    pub number: u64,
 }
 
 impl Model for Tag {
@@ -24,39 +24,6 @@ impl Model for Tag {
 }
 
 impl Tag {
-    /// The tag of a key with this remainder, behind so many reprobes.
-    #[inline(always)]
-    pub fn of(remainder: u64, reprobes: usize) -> Tag
-        requires remainder_fits { remainder < 2 ^ remainder_bits }
-        requires few_reprobes { reprobes < place_count }
-        ensures { result ≡ remainder * tag_step + (reprobes + 1) }
-    {
-        Tag {
-            number: remainder * TAG_STEP + (reprobes as u64 + 1),
-        }
-    }
-
-    /// The tag in a slot, above so many low bits.
-    #[inline(always)]
-    pub fn of_number(number: u64, low: u32) -> Tag
-        requires { low ≤ remainder_bits }
-        ensures { result ≡ number / 2 ^ low }
-    {
-        Tag {
-            number: number >> low,
-        }
-    }
-
-    /// The slot that has this tag above so many low bits, which are 0.
-    #[inline(always)]
-    pub fn to_number(self, low: u32) -> u64
-        requires few { low ≤ remainder_bits }
-        requires fits { self * 2 ^ low < 2 ^ 64 }
-        ensures { result ≡ self * 2 ^ low }
-    {
-        self.number << low
-    }
-
     /// Whether the slot is empty.
     #[inline(always)]
     pub fn is_empty(self) -> bool

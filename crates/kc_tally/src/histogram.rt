@@ -1,7 +1,7 @@
 //! Histograms: how many words have which count.
 ghost use Rattle.std.specs.Prelude.{◌≡◌, ◌+◌, ◌%◌, ◌^◌, ◌<◌, ◌≤◌, ℕ, [], length, All, IfOk};
 ghost use Rattle.std.specs.List.{flat_map};
-ghost use Rattle.kc_tally.specs.Histogram.{last_bin, bin_of, bins_of, bin_at, gained, lost, counted_in, raised};
+ghost use Rattle.kc_tally.specs.Histogram.{last_bin, bin_of, bins_of, bin_at, counted_in, raised};
 ghost use Rattle.kc_tally.specs.Histogram.{joined_bins, counts_of};
 ghost use Rattle.kc_tally.specs.Tally.{total_of};
 
@@ -99,9 +99,9 @@ impl Histogram {
             return;
         }
         if count > 0 {
-            self.lose(count);
+            self.bins[count as usize - 1] -= 1;
         }
-        self.gain(count + 1);
+        self.bins[count as usize] += 1;
     }
 
     /// Adds the sizes of another histogram, bin by bin. Condition: the sums fit.
@@ -135,27 +135,7 @@ impl Histogram {
         ensures { self.new ≡ counted_in self.old count }
     {
         if count > 0 {
-            self.gain(count.min(LAST_BIN));
+            self.bins[count.min(LAST_BIN) as usize - 1] += 1;
         }
-    }
-
-    // The bin gets one word more.
-    fn gain(&mut self, bin: u64)
-        requires some { 1 ≤ bin }
-        requires within { bin ≤ last_bin }
-        requires fits { bin_at self.old bin + 1 < 2 ^ 64 }
-        ensures { self.new ≡ gained self.old bin }
-    {
-        self.bins[bin as usize - 1] += 1;
-    }
-
-    // The bin loses one of its words.
-    fn lose(&mut self, bin: u64)
-        requires some { 1 ≤ bin }
-        requires within { bin ≤ last_bin }
-        requires there { 1 ≤ bin_at self.old bin }
-        ensures { self.new ≡ lost self.old bin }
-    {
-        self.bins[bin as usize - 1] -= 1;
     }
 }

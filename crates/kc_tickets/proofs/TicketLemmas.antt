@@ -1,7 +1,7 @@
 -- Whether a seat is done, and what the seats' numbers are when all are.
 use Rattle.std.proofs.Common.{◌≡◌, ℕ, zero, suc, ◌+◌, ◌-◌, ◌<◌, ◌≤◌, List, [], ◌∷◌, ◌++◌, length, get_or, Bool, true}
 use Rattle.std.proofs.Common.{false, cond, eqb, ltb, refl, sym, ap, ◌∙◌, subst, arith, append-nil, lt_of_not-le}
-use Rattle.std.specs.Prelude.{All, filter, sum_by, Option, None, Some, ◌↔◌, IsNone, OnSome, MatchOption}
+use Rattle.std.specs.Prelude.{All, filter, sum_by, ◌↔◌, IsTrue}
 use Rattle.std.specs.List.{flat_map}
 use Rattle.std.specs.List.Sorted.{IsPermutation}
 use Rattle.std.proofs.lemmas.Bool.{lt-ltb, le-ltb}
@@ -16,7 +16,7 @@ use Rattle.std.proofs.lemmas.List.Sums.{sum_by-append, length-filter, count_by-l
 use Rattle.atomic_table.specs.Seated.{TableId}
 use Rattle.atomic_table.specs.Table.{Me}
 use Rattle.kc_tickets.specs.declared.tickets.View.{View}
-use Rattle.kc_tickets.specs.WholeDraws.{drawer_of, view_of, IsAnswer}
+use Rattle.kc_tickets.specs.WholeDraws.{seat_of, view_of}
 use Rattle.kc_tickets.specs.Tickets.{SeatSeen, IsDone, Draws, answers_of, numbers_below, AreNumbersBelow}
 use Rattle.kc_lemmas.proofs.Permutations.{IsPermutation-from_weights, IsPermutation-filter}
 use Rattle.kc_tickets.proofs.NumbersBelow.{length-numbers_below, numbers_below-zero, numbers_below-suc, below-from_Contains}
@@ -32,9 +32,13 @@ not_done seat below (k, number, within, is, later) =
     let less : get_or seat.drawn k number < seat.limit = below k number within in
     omega (arith, is)
 
+-- a seat that has drawn nothing is open
+pub fresh_is_open : (seat : SeatSeen) → seat.drawn ≡ [] → IsTrue false ↔ IsDone seat
+fresh_is_open seat fresh = (λ never. absurd (cc never), λ (k, number, within, is, later). absurd (omega (arith, within, ap length fresh)))
+
 -- A seat after the two steps of a draw: it found this number and this limit.
 pub record Stepped {S : Type 0} (table table' : TableId) (me me' : Me S View) (number limit : ℕ) : Type 0 where
-  pub drawn : Draws (drawer_of table me.0) (drawer_of table' me'.0) number
+  pub drawn : Draws (seat_of table me.0) (seat_of table' me'.0) number
   pub limit_is : limit ≡ me.0.limit
   pub weight : me'.0.weight ≡ me.0.weight
   pub slots : me'.1 ≡ me.1
@@ -52,7 +56,7 @@ pub two_steps : {S : Type 0} {t0 t1 t2 : TableId} {m0 m1 m2 : Me S View} {number
 two_steps steps =
     let me = steps.decided.0 ∙ steps.drew.0 in
     record {
-      drawn = λ k. drawer_of ((steps.decided_at ∙ steps.drew_at) k) (me k).0;
+      drawn = λ k. seat_of ((steps.decided_at ∙ steps.drew_at) k) (me k).0;
       limit_is = steps.decided.1 ∙ ap (λ m. m.0.limit) steps.drew.0;
       weight = ap (λ m. m.0.weight) me;
       slots = ap (λ m. m.1) me;
@@ -61,21 +65,21 @@ two_steps steps =
 
 module _ {S : Type 0} {table table' : TableId} {me me' : Me S View} {number limit : ℕ} (steps : Stepped table table' me me' number limit) where
   -- a number below the limit leaves the seat open
-  pub stays_open : ¬ IsDone (drawer_of table me.0) → number < limit → ¬ IsDone (drawer_of table' me'.0)
+  pub stays_open : ¬ IsDone (seat_of table me.0) → number < limit → ¬ IsDone (seat_of table' me'.0)
   stays_open more less =
       let below : number < me.0.limit = omega (arith, steps.limit_is) in
-      let all = All-push (λ n. n < me.0.limit) me.0.drawn number (all_below (drawer_of table me.0) more) below in
+      let all = All-push (λ n. n < me.0.limit) me.0.drawn number (all_below (seat_of table me.0) more) below in
       let after : SeatSeen = record { table = table; limit = me.0.limit; drawn = me.0.drawn ++ number ∷ [] } in
       subst (λ (d : SeatSeen). ¬ IsDone d) (sym steps.drawn) (not_done after all)
 
   -- a number at or past it ends the draws
-  pub ends : limit ≤ number → IsDone (drawer_of table' me'.0)
+  pub ends : limit ≤ number → IsDone (seat_of table' me'.0)
   ends later =
       let past : me.0.limit ≤ number = omega (arith, steps.limit_is) in
       subst IsDone (sym steps.drawn) (Any-push (λ n. me.0.limit ≤ n) me.0.drawn number past)
 
   -- a seat is answered no more numbers than there are
-  pub few_answers : number < limit → length (answers_of (drawer_of table' me'.0)) ≤ me.0.limit
+  pub few_answers : number < limit → length (answers_of (seat_of table' me'.0)) ≤ me.0.limit
   few_answers less =
       let same = ap (λ (d : SeatSeen). length d.drawn) steps.drawn in
       omega (
@@ -87,54 +91,6 @@ module _ {S : Type 0} {table table' : TableId} {me me' : Me S View} {number limi
         steps.limit_is,
         steps.few,
       )
-
-  -- what the draw is answered tells whether the seat is done, and what it drew
-  module _ (answer : Option ℕ) (is : IsAnswer limit number answer) where
-    pub answer-done : ¬ IsDone (drawer_of table me.0) → IsNone answer ↔ IsDone (drawer_of table' me'.0)
-    answer-done more = by answer is
-      where
-        by : (a : Option ℕ) → IsAnswer limit number a → IsNone a ↔ IsDone (drawer_of table' me'.0)
-        by None past = (λ _. ends past, λ _. refl)
-        by (Some n) below = (λ never. absurd (cc never), λ done. absurd (stays_open more below.1 done))
-
-    pub answer-drawn : MatchOption answer ((n : ℕ) × (limit ≤ n) × Draws (drawer_of table me.0) (drawer_of table' me'.0) n)
-        (λ n. (n < limit) × Draws (drawer_of table me.0) (drawer_of table' me'.0) n)
-    answer-drawn = by answer is
-      where
-        by : (a : Option ℕ) → IsAnswer limit number a → MatchOption a ((n : ℕ) × (limit ≤ n) × Draws (drawer_of table me.0) (drawer_of table' me'.0) n)
-            (λ n. (n < limit) × Draws (drawer_of table me.0) (drawer_of table' me'.0) n)
-        by None past = (number, past, steps.drawn)
-        by (Some n) below = (
-          subst (λ (m : ℕ). m < limit) (sym below.0) below.1,
-          subst (λ (m : ℕ). Draws (drawer_of table me.0) (drawer_of table' me'.0) m) (sym below.0) steps.drawn,
-        )
-
-    -- what it was answered before, and the answer
-    pub answer-more : MatchOption answer (answers_of (drawer_of table' me'.0) ≡ answers_of (drawer_of table me.0))
-        (λ n. answers_of (drawer_of table' me'.0) ≡ answers_of (drawer_of table me.0) ++ n ∷ [])
-    answer-more = by answer is
-      where
-        front : List ℕ
-        front = answers_of (drawer_of table me.0)
-
-        split : answers_of (drawer_of table' me'.0) ≡ front ++ cond (ltb number me.0.limit) (number ∷ []) []
-        split = ap answers_of steps.drawn ∙ filter-append (λ n. ltb n me.0.limit) me.0.drawn (number ∷ [])
-
-        by : (a : Option ℕ) → IsAnswer limit number a
-            → MatchOption a (answers_of (drawer_of table' me'.0) ≡ front) (λ n. answers_of (drawer_of table' me'.0) ≡ front ++ n ∷ [])
-        by None past =
-            split ∙ ap (λ b. front ++ cond b (number ∷ []) []) (le-ltb number me.0.limit (omega (arith, past, steps.limit_is)))
-            ∙ append-nil front
-        by (Some n) below =
-            split ∙ ap (λ b. front ++ cond b (number ∷ []) []) (lt-ltb number me.0.limit (omega (arith, below.1, steps.limit_is)))
-            ∙ ap (λ (m : ℕ). front ++ m ∷ []) (sym below.0)
-
-    pub answer-few : OnSome answer (length (answers_of (drawer_of table' me'.0)) ≤ limit)
-    answer-few = by answer is
-      where
-        by : (a : Option ℕ) → IsAnswer limit number a → OnSome a (length (answers_of (drawer_of table' me'.0)) ≤ limit)
-        by None past = tt
-        by (Some n) below = omega (arith, few_answers below.1, steps.limit_is)
 
 -- ---- the seats together
 

@@ -2,7 +2,7 @@
 -- threads take them, and what each step does to a view. It is this project's own.
 -- A cell is an atomic word of the table. Cell 0 has the next number, cell 1 the limit, and cell 2 the number of seats.
 use Rattle.std.specs.Prelude.{◌≡◌, ℕ, ◌+◌, ◌-◌, ◌^◌, ◌<◌, ◌≤◌, List, [], ◌∷◌, ◌++◌, length, take, filter, All, nat_le}
-use Rattle.std.specs.Prelude.{sum_by, Option, MatchOption}
+use Rattle.std.specs.Prelude.{sum_by}
 use Rattle.std.specs.List.{flat_map}
 use mathlib.Core.Option.{some}
 use lib.ListN.{get_elem?}
@@ -60,11 +60,6 @@ TakesNumber step me found now =
 abbrev pub FindsLimit : {S : Type 0} → Step S → Me S View → ℕ → Me S View → Type 0
 FindsLimit step me found now = (now ≡ me) × (found ≡ me.0.limit)
 
--- The draw is answered its number where that is below the limit, and else none.
-abbrev pub IsAnswer : ℕ → ℕ → Option ℕ → Type 0
-IsAnswer limit number answer =
-    MatchOption answer (limit ≤ number) (λ answered. (answered ≡ number) × (number < limit))
-
 -- A seat is made at one load of cell 0: the first seat's view has one unit of weight less, and the new one has it.
 abbrev pub lighter_view : View → View
 lighter_view view = view_of view.limit (view.weight - 1) view.drawn
@@ -80,5 +75,5 @@ abbrev pub spent_view : View
 spent_view = view_of 0 0 []
 
 -- a seat as callers see it
-abbrev pub drawer_of : TableId → View → SeatSeen
-drawer_of table view = record { table = table; limit = view.limit; drawn = view.drawn }
+abbrev pub seat_of : TableId → View → SeatSeen
+seat_of table view = record { table = table; limit = view.limit; drawn = view.drawn }

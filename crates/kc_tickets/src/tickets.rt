@@ -5,9 +5,7 @@
 ghost use Rattle.std.specs.Prelude.{◌≡◌, ◌<◌, ◌≤◌, ◌^◌, ◌↔◌, [], ◌∷◌, ◌++◌, ◌+◌, All, IfOk, IsNone, IsTrue};
 ghost use Rattle.std.specs.Prelude.{MatchOption, OnSome, length, sum_by, vec_len, ℕ};
 ghost use Rattle.std.specs.List.{flat_map};
-ghost use Rattle.std.specs.List.Sorted.{IsPermutation};
 ghost use Rattle.kc_tickets.specs.Tickets.{IsSeatOf, IsDone, Draws, answers_of, AreNumbersBelow};
-ghost use Rattle.kc_tickets.specs.WholeDraws.{lighter_view, drawer_of, view_of, IsAnswer};
 
 use atomic_table::{Join, Play, Split, Table, TableRule};
 use std::alloc::{AllocError, Global};
@@ -125,13 +123,13 @@ impl Model for Seat {
 
     ghost Value = { SeatSeen };
 
-    ghost use Rattle.kc_tickets.specs.WholeDraws.{drawer_of};
+    ghost use Rattle.kc_tickets.specs.WholeDraws.{seat_of};
 
-    ghost view = { λ s. drawer_of s.token.table_id s.token.me.0 };
+    ghost view = { λ s. seat_of s.token.table_id s.token.me.0 };
 
     ghost invariant = { λ s.
         (s.token.me.1 ≡ []) × (s.token.me.0.weight ≡ 1)
-        × (IsTrue s.done ↔ IsDone (drawer_of s.token.table_id s.token.me.0)) };
+        × (IsTrue s.done ↔ IsDone (seat_of s.token.table_id s.token.me.0)) };
 }
 
 impl Tickets {
@@ -147,55 +145,22 @@ impl Tickets {
         ensures own { IfOk result (λ made. All (IsSeatOf made.0) made.1.items) }
         ensures fresh { IfOk result (λ made. All (λ seat. seat.drawn ≡ []) made.1.items) }
     {
-        let (tickets, first) = Tickets::with_first(alloc, limit, seats)?;
-        let row = tickets.seats_of(alloc, first, seats)?;
-        Ok((tickets, row))
-    }
-
-    // Tickets, and the first seat, which stands for all seats that are not made yet.
-    fn with_first(alloc: Global, limit: u64, seats: u32) -> Result<(Tickets, Token), AllocError>
-        requires limit { limit ≤ 2 ^ 40 }
-        requires seats { (1 ≤ seats) × (seats ≤ 64) }
-        ensures limit { IfOk result (λ made. made.0.limit ≡ limit) }
-        ensures seats { IfOk result (λ made. made.0.seats ≡ seats) }
-        ensures own { IfOk result (λ made. made.1.table_id ≡ made.0.table) }
-        ensures view { IfOk result (λ made. made.1.me ≡ (view_of limit seats [], [])) }
-    {
         let plan = Plan {
             limit,
             seats: u64::from(seats),
         };
-        let (table, first) = Table::of_words(alloc, &[0, plan.limit, plan.seats], &plan)?;
-        Ok((Tickets { table }, first))
-    }
-
-    // The seats that the first one stands for, `seats` many.
-    fn seats_of(&self, alloc: Global, mut first: Token, seats: u32) -> Result<Vec<Seat>, AllocError>
-        requires some { 1 ≤ seats }
-        requires own { first.table_id ≡ self.now.table }
-        requires view { first.me ≡ (view_of self.now.limit seats [], []) }
-        ensures len { IfOk result (λ row. vec_len row ≡ seats) }
-        ensures own { IfOk result (λ row. All (IsSeatOf self.now) row.items) }
-        ensures fresh { IfOk result (λ row. All (λ seat. seat.drawn ≡ []) row.items) }
-    {
+        // The first seat stands for all that are not made yet.
+        let (table, mut first) = Table::of_words(alloc, &[0, plan.limit, plan.seats], &plan)?;
         let mut row = Vec::with_capacity(alloc, seats as usize)?;
         for _ in 1..seats {
-            row.push(self.split_off(&mut first))?;
+            let token = table.shared.split_seat::<OneSeat>(&mut first);
+            row.push(Seat { token, done: false })?;
         }
-        row.push(Seat::of(first))?;
-        Ok(row)
-    }
-
-    // Splits one seat off the first one, which stands for all seats that are not made yet.
-    fn split_off(&self, first: &mut Token) -> Seat
-        requires own { first.old.table_id ≡ self.now.table }
-        requires view { (1 < first.old.me.0.weight) × (first.old.me.0.drawn ≡ []) × (first.old.me.1 ≡ []) }
-        requires limit { first.old.me.0.limit ≡ self.now.limit }
-        ensures first { (first.new.table_id ≡ first.old.table_id) × (first.new.me ≡ (lighter_view first.old.me.0, [])) }
-        ensures own { IsSeatOf self.now result }
-        ensures fresh { result.drawn ≡ [] }
-    {
-        Seat::of(self.table.shared.split_seat::<OneSeat>(first))
+        row.push(Seat {
+            token: first,
+            done: false,
+        })?;
+        Ok((Tickets { table }, row))
     }
 
     /// Draws the next number, with no lock and no memory, and waits for nobody. The answer is `None` where the number
@@ -219,9 +184,11 @@ impl Tickets {
         let shared = &self.table.shared;
         let number = shared.fetch_add::<Draw>(&mut seat.token, NEXT, 1);
         let limit = shared.load::<Decide>(&mut seat.token, LIMIT);
-        let answer = answer_of(number, limit);
-        seat.done = answer.is_none();
-        answer
+        if number < limit {
+            return Some(number);
+        }
+        seat.done = true;
+        None
     }
 
     /// Ends the draws, with all the seats that `new` gave, and takes no memory.
@@ -229,70 +196,30 @@ impl Tickets {
     /// What the seats drew, taken together, are the numbers below some number, each once. Where every seat is done,
     /// what the draws were answered are the numbers below the limit, each once, so there were as many answers as the
     /// limit.
-    pub fn close(self, seats: Vec<Seat>)
+    pub fn close(self, mut seats: Vec<Seat>)
         requires own { All (IsSeatOf self) seats.items }
         requires all { vec_len seats ≡ self.seats }
         ensures drawn { (next : ℕ) × AreNumbersBelow next (flat_map (λ seat. seat.drawn) seats.items) }
         ensures answered { All IsDone seats.items → AreNumbersBelow self.limit (flat_map answers_of seats.items) }
         ensures count { All IsDone seats.items → sum_by (λ seat. length (answers_of seat)) seats.items ≡ self.limit }
     {
-        let whole = self.whole_of(seats);
         let Tickets { table } = self;
-        table.close_with(whole).free();
-    }
-
-    // Joins all the seats that `new` gave, and the lists of what they drew.
-    fn whole_of(&self, mut seats: Vec<Seat>) -> Token
-        requires some { 1 ≤ vec_len seats }
-        requires own { All (IsSeatOf self.now) seats.items }
-        requires all { vec_len seats ≡ self.now.seats }
-        ensures own { result.table_id ≡ self.now.table }
-        ensures weight { result.me.0.weight ≡ self.now.seats }
-        ensures drawn { IsPermutation (flat_map (λ seat. seat.drawn) seats.items) result.me.0.drawn }
-    {
         let Some(first) = seats.pop() else {
             unreachable!()
         };
-        let mut whole = first.into_token();
+        let mut whole = first.token;
         while let Some(seat) = seats.pop() {
-            self.table
-                .shared
-                .join_seat::<Return>(&mut whole, seat.into_token());
+            table.shared.join_seat::<Return>(&mut whole, seat.token);
         }
-        whole
+        table.close_with(whole).free();
     }
-}
-
-// What a draw answers that found this number: the number where it is below the limit, else None.
-fn answer_of(number: u64, limit: u64) -> Option<u64>
-    ensures { IsAnswer limit number result }
-{
-    if number < limit {
-        return Some(number);
-    }
-    None
 }
 
 impl Seat {
-    // A seat that has drawn nothing.
-    fn of(token: Token) -> Seat
-        requires { (token.me.0.weight ≡ 1) × (token.me.0.drawn ≡ []) × (token.me.1 ≡ []) }
-        ensures { result ≡ drawer_of token.table_id token.me.0 }
-    {
-        Seat { token, done: false }
-    }
-
     /// Whether a draw was answered `None`. Then the seat draws no more.
     pub fn is_done(&self) -> bool
         ensures { IsTrue result ↔ IsDone self.now }
     {
         self.done
-    }
-
-    fn into_token(self) -> Token
-        ensures { (drawer_of result.table_id result.me.0 ≡ self) × (result.me.0.weight ≡ 1) × (result.me.1 ≡ []) }
-    {
-        let Seat { token, done: _ } = self;
-        token
     }
 }

@@ -13,7 +13,7 @@ use Rattle.kc_word.specs.Cutting.{cleaned}
 use Rattle.kc_word.specs.OpenCutting.{OpenCutting, HasTaken}
 use Rattle.kc_kmer.specs.Rule.{CountingRule}
 use Rattle.kc_word.proofs.Cleaning.{length-cleaned}
-use Rattle.kc_tool.specs.Tallies.{CutsNext, CutsNone, CutsSources, FailsAt, RefusesSource, RefusesSources, TakesPiece, pieces_of}
+use Rattle.kc_tool.specs.Tallies.{CutsNext, CutsSources, FailsAt, RefusesSource, RefusesSources, pieces_of}
 use Rattle.kc_tool.specs.declared.counted_sources.ReadsInCutting.{ReadsInCutting}
 use Rattle.kc_tool.specs.declared.tool_faults.ToolFault.{ToolFault}
 use Rattle.kc_tool.specs.declared.tool_faults.ToolFault.TheVariants.{Fastx, BadHeader, BadRow, BadEnd, TableTooLong}
@@ -32,6 +32,15 @@ letters rule (read ∷ reads) =
     let pieces = sum_by-cons (λ piece. length piece) (cleaned rule read) (pieces_of rule reads) in
     let bases = sum_by-cons (λ (read : Read). length read.bases) read reads in
     pieces ∙ omega (arith, length-cleaned rule read, letters rule reads, bases)
+
+-- No source was read yet: nothing was cut, by this rule, and all bytes are left.
+pub record CutsNone (rule : CountingRule) (batch : ℕ) (cut : ReadsInCutting) : Type 0 where
+  pub length_of_words : cut.cutting.k ≡ rule.k
+  pub size : cut.cutting.size ≡ batch
+  pub none : HasTaken cut.cutting []
+  pub left : cut.left ≡ most_bytes
+  pub sources : cut.sources ≡ 0
+  pub reads : cut.reads ≡ 0
 
 -- The sources before this one were read, and their reads cleaned and cut.
 pub record CutSoFar (old new : List Seen) (rule : CountingRule) (batch : ℕ) (cut : ReadsInCutting) : Type 0 where
@@ -152,6 +161,12 @@ module _ (old new : Seen) {rule : CountingRule} {batch : ℕ} {cut : ReadsInCutt
       → RefusesSources (old ∷ []) (new ∷ []) fault
   one_refused fault refuses =
       refused_kept (λ seen. seen) (old ∷ []) {i = 0} old new refl (omega arith) is.sources (cutting_begun (old ∷ []) is) fault refuses
+
+-- A cutting took one piece more.
+pub record TakesPiece (old new : OpenCutting) (piece : List ℕ) : Type 0 where
+  pub length_of_words : new.k ≡ old.k
+  pub size : new.size ≡ old.size
+  pub more : (pieces : List (List ℕ)) → HasTaken old pieces → HasTaken new (pieces ++ piece ∷ [])
 
 -- A source was read so far: the pieces of its reads were cut behind those that were cut before.
 pub record PiecesSoFar (start now : Seen) (limit : ℕ) (rule : CountingRule) (before cutting : OpenCutting)

@@ -119,6 +119,14 @@ command_done {arguments} {old} {new} {outcome} {matches} {name} {rows} {command}
     let command_is : command ≡ taken.command = same_verb (is ∙ ap verb_named name_is ∙ verb_found taken.command) in
     (taken.command, taken.options, taken.asked, subst (λ v. EndsSo v taken.options old new outcome) command_is (subst (λ v. EndsSo command v old new outcome) rows_are ends))
 
+-- a name that `clap` takes is that of a command
+pub verb_known : {arguments : List Text} {matches : ArgMatches} {name : Text} → AreTaken arguments matches
+    → Some name ≡ subcommand_name_of matches → verb_named name ≡ None → ⊥
+verb_known {matches = matches} {name} taken named none =
+    let name_is : name ≡ name_of taken.command = same_name (name_of taken.command, taken.options) (named ∙ name_with_rows (out-ArgMatches matches).subcommand ∙ ap (option_map (λ p. p.0)) taken.entered) in
+    let found : verb_named name ≡ Some taken.command = ap verb_named name_is ∙ verb_found taken.command in
+    cc
+
 -- what a command answers, its fault as the end of a command line
 pub command_ended : {arguments : List Text} {old new : Surroundings} (outcome : Result Told ToolFault) (r : Result Told Ending)
     → MatchResult outcome (λ told. r ≡ Ok told) (λ fault. IsErrAnd r (λ ending. ending ≡ Fault fault)) → DoesCommand arguments old new outcome

@@ -1,9 +1,10 @@
 -- Sources whose reads were cut, and what is counted of them, with a list and without one.
-use Rattle.std.proofs.Common.{◌≡◌, ◌≤◌, ◌^◌, ◌∙◌, ℕ, List, [], ◌∷◌, length, refl, sym, ap, ap₂, subst, inl, inr}
+use Rattle.std.proofs.Common.{◌≡◌, ◌≤◌, ◌^◌, ◌∙◌, ℕ, List, [], ◌∷◌, length, length-append, arith, refl, sym, ap, ap₂, subst, inl, inr}
+use Rattle.std.specs.Io.KnownBytes.{Consumes}
 use Rattle.std.specs.Prelude.{Option, Some, None, is_some}
 use Rattle.std.specs.declared.alloc.Global.{Global}
 use Rattle.std.specs.declared.sync.Arc.{Arc}
-use Rattle.std.proofs.lemmas.List.{length-map}
+use Rattle.std.proofs.lemmas.List.{length-map, nil_from_length}
 use Rattle.kc_io.specs.Sources.{Seen}
 use Rattle.kc_fastx.specs.Parsing.{most_bytes}
 use Rattle.kc_fastx.specs.Reads.{Read}
@@ -20,11 +21,14 @@ use Rattle.kc_gather.specs.Gathering.{position_sum}
 use Rattle.kc_gather.specs.Laws.{TallyOfCutting}
 use Rattle.kc_report.specs.declared.origin.Origin.{Origin}
 use Rattle.kc_command.specs.Settings.{Settings, rule_of}
-use Rattle.kc_tool.specs.Tallies.{Counts, CutsSources, GivesList, IsCuttingOf, ListFailsIn, IsUncounted, RefusesCount, RefusesSource, RefusesSources, TableSeen, TalliesSources}
-use Rattle.kc_tool.specs.CountedTallies.{IsEnoughFor, Knows, KnowsOne}
-use Rattle.kc_tool.specs.Reports.{report_of}
+use Rattle.kc_tool.specs.Tallies.{Counts, CutsSources, GaveReads, GivesList, IsCuttingOf, ListFailsIn, RefusesCount, ReadsSources, RefusesSource, RefusesSources, TableSeen, TalliesSources}
+use Rattle.kc_tool.specs.CountedTallies.{Knows, KnowsOne}
+use Rattle.kc_tool.specs.Commands.{sources_from}
+use Rattle.kc_tool.specs.NamedSources.{names_of, seen_of}
+use Rattle.kc_tool.specs.declared.named_sources.NamedSource.{NamedSource}
 use Rattle.kc_tool.specs.declared.counted_tally.CountedTally.{CountedTally}
 use Rattle.kc_tool.specs.declared.counted_tally.CountedTally.TheVariants.{Rows}
+use Rattle.kc_tool.proofs.ReadCountLemmas.{read_count-within}
 use Rattle.kc_tool.proofs.TalliesLemmas.{few_batches, few_enough, small_cutting, small_enough}
 use Rattle.kc_tool.specs.Tallies.{Given, given, kept_to, origin_of, pieces_of, words_of}
 use Rattle.kc_tool.specs.declared.tool_faults.ToolFault.{ToolFault}
@@ -90,28 +94,11 @@ module _ {rule : CountingRule} {size : ℕ} {reads : List Read} {cut : OpenCutti
     holds = tally_kept law list rule size reads known.tally some room (rw (same, are) at known.holds);
   }
 
-module _ {old new : List Seen} (settings : Settings) {cutting : OpenCutting} {count : ℕ}
-    (cut : CutsSources old new (rule_of settings) settings.batch cutting count) where
-  -- Why it was not counted.
-  pub uncounted : (fault : ToolFault) → IsUncounted fault → RefusesSources old new fault
-  uncounted (Run fault) h = (cut.reads, cut.are)
-  uncounted Memory h = tt
-  uncounted (Fastx number fault) h = absurd h
-  uncounted BadHeader h = absurd h
-  uncounted (BadRow line) h = absurd h
-  uncounted BadEnd h = absurd h
-  uncounted TableTooLong h = absurd h
-  uncounted TableRead h = absurd h
-  uncounted (BadOption name) h = absurd h
-  uncounted (BadWord number) h = absurd h
-  uncounted Write h = absurd h
-  uncounted (OpenFailed name) h = absurd h
-  uncounted Unlike h = absurd h
-  uncounted TooLarge h = absurd h
-
+module _ {old new : List Seen} (settings : Settings) {batch : ℕ} {cutting : OpenCutting} {count : ℕ}
+    (cut : CutsSources old new (rule_of settings) batch cutting count) where
   -- What is known of that tally is known of one that is so.
   pub tally_known : (list : Option (List ℕ)) (counted : CountedTally) (origin : Origin)
-      → ((reads : List Read) → IsCuttingOf (rule_of settings) settings.batch reads cutting
+      → ((reads : List Read) → IsCuttingOf (rule_of settings) batch reads cutting
       → KnowsOne counted (IsTallyOf (kept_to list (rule_of settings)) reads))
       → origin ≡ origin_of settings list count
       → KnowsOne counted (λ tally. TalliesSources old new settings list (tally, Some origin))
@@ -123,18 +110,60 @@ module _ {old new : List Seen} (settings : Settings) {cutting : OpenCutting} {co
         holds = (cut.reads, cut.are, known.holds, ap Some (told ∙ ap (λ n. origin_of settings list n) cut.counted));
       }
 
--- The size of a batch says nothing of the tally.
-pub known_as : {old new : List Seen} (settings other : Settings) → other ≡ record settings { batch = other.batch }
-    → (list : Option (List ℕ)) (counted : CountedTally) (origin : Option Origin)
-    → KnowsOne counted (λ tally. TalliesSources old new other list (tally, origin))
-    → KnowsOne counted (λ tally. TalliesSources old new settings list (tally, origin))
-known_as {old} {new} settings other same list counted origin h =
-    subst (λ s. KnowsOne counted (λ tally. TalliesSources old new s list (tally, origin))) same h
+-- The size of a batch says nothing of the rule.
+pub cut_as : {old new : List Seen} (settings other : Settings) → other ≡ record settings { batch = other.batch }
+    → {cutting : OpenCutting} {count : ℕ} → CutsSources old new (rule_of other) other.batch cutting count
+    → CutsSources old new (rule_of settings) other.batch cutting count
+cut_as {old} {new} settings other same {cutting} {count} cut =
+    subst (λ s. CutsSources old new (rule_of s) other.batch cutting count) same cut
 
--- Nor of the report.
-pub enough_as : (settings other : Settings) → other ≡ record settings { batch = other.batch } → (counted : CountedTally)
-    → IsEnoughFor counted (report_of other) → IsEnoughFor counted (report_of settings)
-enough_as settings other same counted h = subst (λ s. IsEnoughFor counted (report_of s)) same h
+-- A source of no bytes gives no reads.
+none_consumed : (old new : Option (List ℕ)) (bytes : List ℕ) → Consumes old new bytes → old ≡ Some [] → length bytes ≡ 0
+none_consumed None new bytes h is = let no : ⊥ = cc in absurd no
+none_consumed (Some left) None bytes h is = absurd h
+none_consumed (Some left) (Some later) bytes h is =
+    let none : left ≡ [] = cc in
+    omega (arith, ap length none, ap length h, length-append bytes later)
+
+no_reads : (input after : Seen) → input.left ≡ Some [] → (inputs : List (List ℕ)) (reads : List Read)
+    → GaveReads (input ∷ []) (after ∷ []) inputs reads → reads ≡ []
+no_reads input after empty [] reads g = absurd g.gave
+no_reads input after empty (bytes ∷ []) reads g =
+    let none = none_consumed input.left after.left bytes g.gave.0.taken.consumed empty in
+    let has = g.has_reads in
+    nil_from_length reads (omega (arith, none, read_count-within bytes has.0 has.2, ap length has.3, ap length has.4, length-append has.0 has.1))
+no_reads input after empty (bytes ∷ other ∷ more) reads g = absurd g.gave.1
+
+-- Where an input of no bytes stands beside sources, what comes of both comes of the sources alone.
+module _ {S : Type 0} (seen : S → Seen) (input after : Seen) (empty : input.left ≡ Some []) where
+  pub tallied_alone : (files later : List (NamedSource S)) → names_of later ≡ names_of files → (settings : Settings)
+      (list : Option (List ℕ)) (table : TableSeen)
+      → TalliesSources (sources_from input (seen_of seen files)) (sources_from after (seen_of seen later)) settings list table
+      → TalliesSources (seen_of seen files) (seen_of seen later) settings list table
+  tallied_alone [] [] same settings list table h =
+      let none = no_reads input after empty h.1.0 h.0 h.1.1 in (
+        [],
+        ([], record { gave = tt; within = omega arith; has_reads = refl }),
+        subst (λ (reads : List Read). IsTallyOf (kept_to list (rule_of settings)) reads table.0) none h.2,
+        h.3 ∙ ap (λ (reads : List Read). Some (origin_of settings list (length reads))) none,
+      )
+  tallied_alone [] (source ∷ later) same settings list table h = let no : ⊥ = cc in absurd no
+  tallied_alone (file ∷ files) [] same settings list table h = let no : ⊥ = cc in absurd no
+  tallied_alone (file ∷ files) (source ∷ later) same settings list table h = h
+
+  pub refused_alone : (files later : List (NamedSource S)) → (files ≡ [] → ⊥) → names_of later ≡ names_of files → (fault : ToolFault)
+      → RefusesSources (sources_from input (seen_of seen files)) (sources_from after (seen_of seen later)) fault
+      → RefusesSources (seen_of seen files) (seen_of seen later) fault
+  refused_alone [] later some same fault h = absurd (some refl)
+  refused_alone (file ∷ files) [] some same fault h = let no : ⊥ = cc in absurd no
+  refused_alone (file ∷ files) (source ∷ later) some same fault h = h
+
+-- No source gave no reads.
+pub none_read : {S : Type 0} (seen : S → Seen) (files later : List (NamedSource S)) → files ≡ [] → names_of later ≡ names_of files
+    → (reads : List Read) × ReadsSources (seen_of seen files) (seen_of seen later) reads
+none_read seen [] [] none same = ([], ([], record { gave = tt; within = omega arith; has_reads = refl }))
+none_read seen [] (source ∷ later) none same = let no : ⊥ = cc in absurd no
+none_read seen (file ∷ files) later none same = let no : ⊥ = cc in absurd no
 
 -- The list, where one is given, was read, and then the sources were.
 module _ (list : Option (List ℕ)) (before after : Option Seen) (old new : List Seen) (settings : Settings)

@@ -57,18 +57,6 @@ pub record CutsSources (old new : List Seen) (rule : CountingRule) (batch : ℕ)
   pub counted : count ≡ length reads
   pub few : count ≤ most_bytes
 
--- why the words of a cutting were not counted: the run over it was refused, or memory was
-abbrev pub IsUncounted : ToolFault → Type 0
-IsUncounted (Run fault) = ⊤
-IsUncounted Memory = ⊤
-IsUncounted _ = ⊥
-
--- a cutting took one piece more
-pub record TakesPiece (old new : OpenCutting) (piece : List ℕ) : Type 0 where
-  pub length_of_words : new.k ≡ old.k
-  pub size : new.size ≡ old.size
-  pub more : (pieces : List (List ℕ)) → HasTaken old pieces → HasTaken new (pieces ++ piece ∷ [])
-
 -- the source gave `bytes` bytes with `count` reads, whose pieces were cut behind those that were cut before
 pub record CutsPieces (old new : Seen) (limit : ℕ) (rule : CountingRule) (bytes count : ℕ) (before after : OpenCutting)
     : Type 0 where
@@ -79,15 +67,6 @@ pub record CutsPieces (old new : Seen) (limit : ℕ) (rule : CountingRule) (byte
   pub length_of_words : after.k ≡ before.k
   pub size : after.size ≡ before.size
   pub behind : (pieces : List (List ℕ)) → HasTaken before pieces → HasTaken after (pieces ++ pieces_of rule reads)
-
--- no source was read yet: nothing was cut, by this rule, and all bytes are left
-pub record CutsNone (rule : CountingRule) (batch : ℕ) (cut : ReadsInCutting) : Type 0 where
-  pub length_of_words : cut.cutting.k ≡ rule.k
-  pub size : cut.cutting.size ≡ batch
-  pub none : HasTaken cut.cutting []
-  pub left : cut.left ≡ most_bytes
-  pub sources : cut.sources ≡ 0
-  pub reads : cut.reads ≡ 0
 
 -- one source more was read: it gave no more bytes than were left, and the pieces of its reads were cut
 pub record CutsNext (old new : Seen) (rule : CountingRule) (before after : ReadsInCutting) : Type 0 where

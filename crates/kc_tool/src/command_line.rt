@@ -1,15 +1,7 @@
 //! The command line: what its arguments ask for is carried out, over streams that the caller keeps.
 ghost use Rattle.std.specs.Prelude.{◌≡◌, ◌≤◌, IfErr, IfOk, List, map, string_bytes};
-ghost use Rattle.clap.specs.Faults.{fault_of};
-ghost use Rattle.clap.specs.Kinds.{HasKind};
 ghost use Rattle.clap.specs.Words.{Text};
-ghost use Rattle.kc_command.specs.Command.{kcount_app};
-ghost use Rattle.kc_tool.specs.CommandLine.{
-  AreTaken,
-  CarriesOut,
-  ShowsSo,
-  status_of,
-};
+ghost use Rattle.kc_tool.specs.CommandLine.{CarriesOut, ShowsSo, status_of};
 ghost use Rattle.kc_tool.specs.Commands.{Surroundings};
 ghost use Rattle.kc_tool.specs.Process.{Ends, EndsUnread, TellsUnread};
 ghost use Rattle.kc_tool.specs.declared.tool_faults.ToolFault.TheVariants.{Memory, Write};
@@ -21,7 +13,6 @@ use crate::counts_line::write_counts;
 use crate::fault_lines::write_fault;
 use crate::files::NamedFiles;
 use crate::tool_faults::ToolFault;
-use clap::ArgMatches;
 use clap::error::ErrorKind;
 use kc_command::command::command;
 use kc_io::{Failed, Sink, Source, write_out};
@@ -80,7 +71,10 @@ pub fn run<H: Threads + Wait + Sync, S: Files, R: Source, W: Sink, E: Sink, P: P
         Ok(arguments) => arguments,
         Err(error) => return tell_unread(error, errors),
     };
-    let matches = match parsed(alloc, arguments) {
+    let Ok(app) = command(alloc) else {
+        return tell_end(Err(Ending::Fault(ToolFault::Memory)), errors);
+    };
+    let matches = match app.try_get_matches_from(arguments) {
         Ok(matches) => matches,
         Err(error) => return tell_end(show(alloc, &error, output), errors),
     };
@@ -164,14 +158,6 @@ fn status_of(fault: &ToolFault) -> u8
         ToolFault::BadOption(_) => REFUSED,
         _ => FAULT,
     }
-}
-
-// What `clap` makes of the command line.
-fn parsed<'a>(alloc: Global, arguments: &'a [String]) -> Result<ArgMatches<'a>, clap::Error>
-    ensures taken { IfOk result (AreTaken (map string_bytes arguments.now)) }
-    ensures refused { IfErr result (HasKind (fault_of kcount_app (map string_bytes arguments.now))) }
-{
-    command(alloc)?.try_get_matches_from(arguments)
 }
 
 // Help and the version go to the output, and nothing is told. Any other text refuses the command line.

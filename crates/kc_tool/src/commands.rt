@@ -1,5 +1,5 @@
 //! The commands: what a command is to do, the files that it reads, and what it writes.
-ghost use Rattle.std.specs.Prelude.{◌≡◌, ◌≤◌, ◌⊎◌, [], ◌∷◌, drop, length, map, option_map, string_bytes, take};
+ghost use Rattle.std.specs.Prelude.{◌≡◌, ◌≤◌, ◌⊎◌, [], ◌∷◌, drop, length, map, string_bytes};
 ghost use Rattle.std.specs.Prelude.{unwrap_or};
 ghost use Rattle.std.specs.Prelude.{IfErr, IfOk, None};
 ghost use Rattle.clap.specs.Words.{all_of, found_of, rows_of};
@@ -27,7 +27,6 @@ ghost use Rattle.kc_tool.specs.Commands.{
   told_of,
   verb_named,
 };
-ghost use Rattle.kc_tool.specs.Files.{files_named, output_of};
 ghost use Rattle.kc_report.specs.Table.{MaySay};
 ghost use Rattle.kc_tally.specs.Tally.{TallySeen};
 
@@ -140,7 +139,7 @@ pub(crate) fn run_command<
     let task = task_of(alloc, verb, matches)?;
     let names = file_names(alloc, verb, matches)?;
     let mut sources = open_files(alloc, files, &names)?;
-    match output_name(matches) {
+    match text_of(matches, "output") {
         None => {
             let outcome = answer(rt, alloc, &task, &mut sources, input, output, progress);
             take_sources(files, sources);
@@ -148,13 +147,6 @@ pub(crate) fn run_command<
         }
         Some(name) => answer_into(rt, alloc, &task, files, sources, input, name, progress),
     }
-}
-
-// The name of the file that is written, where `--output` names one.
-fn output_name<'a>(matches: &ArgMatches<'a>) -> Option<&'a str>
-    ensures { option_map (λ name. name.now) result ≡ output_of (rows_of (found_of matches.now)) }
-{
-    text_of(matches, "output")
 }
 
 // Does a task with files that were opened, or with the given input where no source is a file, and gives the files back.
@@ -316,53 +308,29 @@ fn file_names<'a>(
         ≡ files_of verb (rows_of (found_of matches.now))) }
 {
     match verb {
-        Verb::Count => counted_files(alloc, matches),
-        Verb::Merge => merged_tables(alloc, matches),
-        Verb::Select => selected_files(alloc, matches),
-        _ => first_file(alloc, matches),
+        Verb::Count => {
+            let files = texts_of(alloc, matches, "file")?;
+            match text_of(matches, "only") {
+                None => Ok(files),
+                Some(list) => behind(alloc, list, &files),
+            }
+        }
+        Verb::Select => {
+            let files = texts_of(alloc, matches, "file")?;
+            behind(alloc, text_of(matches, "table").unwrap_or(""), &files)
+        }
+        Verb::Merge => {
+            let mut names = Vec::with_capacity(alloc, 2)?;
+            names.push(text_of(matches, "first").unwrap_or(""))?;
+            names.push(text_of(matches, "second").unwrap_or(""))?;
+            Ok(names)
+        }
+        _ => {
+            let mut names = texts_of(alloc, matches, "file")?;
+            names.truncate(1);
+            Ok(names)
+        }
     }
-}
-
-// The names of the list of a count, where there is one, and of its files.
-fn counted_files<'a>(alloc: Global, matches: &ArgMatches<'a>) -> Result<Vec<&'a str>, AllocError>
-    ensures { IfOk result (λ names. map (λ name. name.now) names.items
-        ≡ files_of Verb.Count (rows_of (found_of matches.now))) }
-{
-    let files = texts_of(alloc, matches, "file")?;
-    match text_of(matches, "only") {
-        None => Ok(files),
-        Some(list) => behind(alloc, list, &files),
-    }
-}
-
-// The names of the two tables of a sum.
-fn merged_tables<'a>(alloc: Global, matches: &ArgMatches<'a>) -> Result<Vec<&'a str>, AllocError>
-    ensures { IfOk result (λ names. map (λ name. name.now) names.items
-        ≡ files_of Verb.Merge (rows_of (found_of matches.now))) }
-{
-    let mut names = Vec::with_capacity(alloc, 2)?;
-    names.push(text_of(matches, "first").unwrap_or(""))?;
-    names.push(text_of(matches, "second").unwrap_or(""))?;
-    Ok(names)
-}
-
-// The names of the table of a selection and of its files.
-fn selected_files<'a>(alloc: Global, matches: &ArgMatches<'a>) -> Result<Vec<&'a str>, AllocError>
-    ensures { IfOk result (λ names. map (λ name. name.now) names.items
-        ≡ files_of Verb.Select (rows_of (found_of matches.now))) }
-{
-    let files = texts_of(alloc, matches, "file")?;
-    behind(alloc, text_of(matches, "table").unwrap_or(""), &files)
-}
-
-// The name of the first file, where there is one.
-fn first_file<'a>(alloc: Global, matches: &ArgMatches<'a>) -> Result<Vec<&'a str>, AllocError>
-    ensures { IfOk result (λ names. map (λ name. name.now) names.items
-        ≡ take 1 (files_named (rows_of (found_of matches.now)))) }
-{
-    let mut names = texts_of(alloc, matches, "file")?;
-    names.truncate(1);
-    Ok(names)
 }
 
 // The name, and the others behind it.

@@ -111,7 +111,11 @@ impl<'a, C: Clock, T: Print + IsTerminal> ProgressLine<'a, C, T> {
 
     // Writes the line where that is due, or where all batches were counted, since what follows tells nothing.
     fn show(&self, is_last: bool) {
-        let Some(passed) = self.passed() else {
+        let Some(began) = self.began else {
+            return;
+        };
+        // where the clock can't be read, nothing is shown
+        let Ok(passed) = began.elapsed(self.clock) else {
             return;
         };
         if !self.takes_turn(passed, is_last) {
@@ -128,14 +132,6 @@ impl<'a, C: Clock, T: Print + IsTerminal> ProgressLine<'a, C, T> {
         self.is_shown.store(true, Ordering::SeqCst);
         // a line that can't be shown is no fault of the count
         let _ = self.terminal.write_all(line.as_slice());
-    }
-
-    // The time since the count began; None where there is nothing to show or the clock can't be read.
-    fn passed(&self) -> Option<Duration> {
-        match self.began {
-            Some(began) => began.elapsed(self.clock).ok(),
-            None => None,
-        }
     }
 
     // Whether a line is due. Of workers that ask at the same time one is answered so.

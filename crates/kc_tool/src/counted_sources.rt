@@ -1,33 +1,22 @@
 //! The tally of the reads of all sources: they are read, cleaned and cut into batches, and the words of the batches are
 //! counted by as many threads as are asked for, all of them or those of a list. Of the tally no more is gathered than
 //! the report is about.
-ghost use Rattle.std.specs.Prelude.{◌≡◌, ◌≤◌, ◌<◌, ◌+◌, ℕ, List, [], ◌∷◌, IfOk, IfErr, IfSome, None, OnOk};
-ghost use Rattle.std.specs.Prelude.{length, max, option_map};
-ghost use Rattle.kc_io.specs.Sources.{Seen};
+ghost use Rattle.std.specs.Prelude.{◌≡◌, ◌≤◌, ◌<◌, ◌+◌, IfOk, IfErr, IfSome, OnOk};
+ghost use Rattle.std.specs.Prelude.{max};
 ghost use Rattle.kc_fastx.specs.Parsing.{most_bytes};
-ghost use Rattle.kc_fastx.specs.Reading.{MeetsFault};
 ghost use Rattle.kc_booking.specs.Setup.{stripe_count};
 ghost use Rattle.kc_tool.specs.CountedTallies.{IsEnoughFor, KnowsOne};
 ghost use Rattle.kc_tool.specs.Commands.{KeepsInput, sources_from};
 ghost use Rattle.kc_tool.specs.NamedSources.{names_of, seen_of};
 ghost use Rattle.kc_tool.specs.Reports.{report_of};
-ghost use Rattle.kc_fastx.specs.Reads.{Read};
-ghost use Rattle.kc_tally.specs.Tally.{IsTallyOf};
 ghost use Rattle.kc_report.specs.Table.{IsOrigin, MaySay};
-ghost use Rattle.kc_word.specs.Cutting.{cleaned};
-ghost use Rattle.kc_word.specs.Only.{WordList};
 ghost use Rattle.kc_tool.specs.Tallies.{
   CutsNext,
-  CutsNone,
-  CutsPieces,
   CutsSources,
   GivesWords,
-  IsCuttingOf,
   IsListUnder,
-  IsUncounted,
   RefusesSource,
   RefusesSources,
-  TakesPiece,
   TalliesSources,
   kept_to,
   origin_of,
@@ -40,9 +29,10 @@ use crate::counted_tally::CountedTally;
 use crate::named_sources::NamedSource;
 use crate::tool_faults::ToolFault;
 use kc_command::{Options, Print};
-use kc_fastx::{FastxFault, Reading, SeqRead, Source, read_all};
+use kc_fastx::{FastxFault, Reading, Source, read_all};
 use kc_gather::gather_laws;
 use kc_hash::Hash;
+use kc_io::FromBytes;
 use kc_report::Origin;
 use kc_run::{quotient_tables, run, run_histogram, run_statistics};
 use kc_stripe::Setup;
@@ -89,43 +79,16 @@ pub(crate) fn read_list<R: Source, P: Progress>(
     }
 }
 
-/// Counts the words of the reads of all sources, in order, as the options say, or those of the list alone, and answers
-/// as much of their tally as the report needs, and its origin. How many bytes each read gave is told, how many batches
-/// there are, and each that was booked. The sources keep their names. Condition: the list is one under the rule of the
-/// options.
+/// Counts the words of the reads of these files, in order, or, where there are none, of the given input, as the options
+/// say, or those of the list alone, by as many threads as are asked for. It answers as much of their tally as the
+/// report needs, and its origin. How many bytes each read gave is told, how many batches there are, and each that was
+/// booked. The files keep their names, and the input is as it was where there is a file. Condition: the list is one
+/// under the rule of the options.
 ///
 /// # Errors
 /// `Fastx` with the fault of the first source that has one, and its number from 1; the sources behind it are as they
 /// were. `Run` where a thread, a place in a table or memory for them was refused. `Memory` where a growth was refused
 /// elsewhere.
-pub(crate) fn count_sources<H: Threads + Wait + Sync, R: Source, P: Progress + Sync>(
-    rt: &H,
-    alloc: Global,
-    list: Option<Only>,
-    sources: &mut [NamedSource<'_, R>],
-    options: &Options,
-    progress: &P,
-) -> Result<(CountedTally, Option<Origin>), ToolFault>
-    requires list { IfSome list (IsListUnder (rule_of options.now)) }
-    ensures tally { let Tallies = TalliesSources (seen_of R.seen sources.old) (seen_of R.seen sources.new) options.now
-        in IfOk result (λ table. KnowsOne table.0 (λ tally. Tallies (words_of list) (tally, table.1))) }
-    ensures enough { IfOk result (λ table. IsEnoughFor table.0 (report_of options.now)) }
-    ensures origin { IfOk result (λ table. MaySay table.1) }
-    ensures fault { IfErr result (RefusesSources (seen_of R.seen sources.old) (seen_of R.seen sources.new)) }
-    ensures names { names_of sources.new ≡ names_of sources.old }
-{
-    let is_listed = list.is_some();
-    let settings = batches_for(options, &list);
-    let (cutting, count) = cut_sources(alloc, sources, &settings, progress)?;
-    let counted = count_cutting(rt, alloc, cutting, list, &settings, progress)?;
-    Ok((counted, Some(origin_of(&settings, count, is_listed))))
-}
-
-/// What `count_sources` answers, of the reads of these files or, where there are none, of the given input. The input is
-/// as it was where there is a file.
-///
-/// # Errors
-/// Those of `count_sources` over the files, or over the input alone.
 pub(crate) fn count_given<H: Threads + Wait + Sync, R: Source, F: Source, P: Progress + Sync>(
     rt: &H,
     alloc: Global,
@@ -149,8 +112,65 @@ pub(crate) fn count_given<H: Threads + Wait + Sync, R: Source, F: Source, P: Pro
     let is_listed = list.is_some();
     let settings = batches_for(options, &list);
     let (cutting, count) = cut_given(alloc, files, input, &settings, progress)?;
-    let counted = count_cutting(rt, alloc, cutting, list, &settings, progress)?;
-    Ok((counted, Some(origin_of(&settings, count, is_listed))))
+    let origin = origin_of(options, count, is_listed);
+    // for the proof: what is known of a length, of the size of a batch, and of the tally of a cutting
+    let _bases = options.rule().k().get();
+    let _positions = settings.batch();
+    gather_laws::tally_of_cutting();
+    let batches = cutting.finish(alloc)?;
+    progress.counting_begins(batches.len() as u64);
+    let setup = setup_of(alloc, list, options)?;
+    let tables = quotient_tables(alloc, &setup, options.size())?;
+    let workers = options.workers();
+    let gate = ToldGate { progress };
+    match options.print() {
+        Print::Histo if options.high() <= GREATEST_BIN => {
+            let bins = run_histogram(rt, alloc, &batches, &setup, tables, workers, &gate)?;
+            Ok((CountedTally::Bins(bins), Some(origin)))
+        }
+        Print::Stats => {
+            let numbers = run_statistics(rt, alloc, &batches, &setup, tables, workers, &gate)?;
+            Ok((CountedTally::Numbers(numbers), Some(origin)))
+        }
+        _ => {
+            let tally = run(rt, alloc, &batches, &setup, tables, workers, &gate)?;
+            Ok((CountedTally::Rows(tally), Some(origin)))
+        }
+    }
+}
+
+/// What `count_given` answers, of the reads of these sources alone, which may be none.
+///
+/// # Errors
+/// Those of `count_given`.
+pub(crate) fn count_sources<H: Threads + Wait + Sync, R: Source, P: Progress + Sync>(
+    rt: &H,
+    alloc: Global,
+    list: Option<Only>,
+    sources: &mut [NamedSource<'_, R>],
+    options: &Options,
+    progress: &P,
+) -> Result<(CountedTally, Option<Origin>), ToolFault>
+    requires list { IfSome list (IsListUnder (rule_of options.now)) }
+    ensures tally { let Tallies = TalliesSources (seen_of R.seen sources.old) (seen_of R.seen sources.new) options.now
+        in IfOk result (λ table. KnowsOne table.0 (λ tally. Tallies (words_of list) (tally, table.1))) }
+    ensures enough { IfOk result (λ table. IsEnoughFor table.0 (report_of options.now)) }
+    ensures origin { IfOk result (λ table. MaySay table.1) }
+    ensures fault { IfErr result (RefusesSources (seen_of R.seen sources.old) (seen_of R.seen sources.new)) }
+    ensures names { names_of sources.new ≡ names_of sources.old }
+{
+    let is_empty = sources.is_empty();
+    let mut nothing = FromBytes::new(b"");
+    let counted = count_given(rt, alloc, list, options, sources, &mut nothing, progress);
+    if !is_empty {
+        return counted;
+    }
+    // where there is no source, the run alone can be refused, or memory
+    match counted {
+        Ok(counted) => Ok(counted),
+        Err(ToolFault::Run(fault)) => Err(ToolFault::Run(fault)),
+        Err(_) => Err(ToolFault::Memory),
+    }
 }
 
 // The same options, with larger batches where a list is long: each booking of a batch compares the lists, and so this
@@ -182,77 +202,10 @@ fn origin_of(options: &Options, reads: u64, listed: bool) -> Origin
     }
 }
 
-// Counts the words of the reads whose pieces were cut, or those of the list alone, by as many threads as are asked for,
-// and answers as much of their tally as the report needs. Conditions: the cutting is that of some reads, and the list
-// is one under the rule of the options.
-fn count_cutting<H: Threads + Wait + Sync, P: Progress + Sync>(
-    rt: &H,
-    alloc: Global,
-    cutting: Cutting,
-    list: Option<Only>,
-    options: &Options,
-    progress: &P,
-) -> Result<CountedTally, ToolFault>
-    requires cut { (reads : List Read) × IsCuttingOf (rule_of options.now) options.now.batch reads cutting }
-    requires list { IfSome list (IsListUnder (rule_of options.now)) }
-    ensures tally { IfOk result (λ counted. (reads : List Read)
-        → IsCuttingOf (rule_of options.now) options.now.batch reads cutting
-        → KnowsOne counted (IsTallyOf (kept_to (words_of list) (rule_of options.now)) reads)) }
-    ensures enough { IfOk result (λ counted. IsEnoughFor counted (report_of options.now)) }
-    ensures fault { IfErr result IsUncounted }
-{
-    let rule = options.rule();
-    // for the proof: what is known of a length, of the size of a batch, and of the tally of a cutting
-    let _bases = rule.k().get();
-    let _positions = options.batch();
-    gather_laws::tally_of_cutting();
-    let batches = cutting.finish(alloc)?;
-    progress.counting_begins(batches.len() as u64);
-    let setup = setup_of(alloc, list, options)?;
-    let tables = quotient_tables(alloc, &setup, options.size())?;
-    let workers = options.workers();
-    let gate = ToldGate { progress };
-    match options.print() {
-        Print::Histo if options.high() <= GREATEST_BIN => {
-            let bins = run_histogram(rt, alloc, &batches, &setup, tables, workers, &gate)?;
-            Ok(CountedTally::Bins(bins))
-        }
-        Print::Stats => {
-            let numbers = run_statistics(rt, alloc, &batches, &setup, tables, workers, &gate)?;
-            Ok(CountedTally::Numbers(numbers))
-        }
-        _ => {
-            let tally = run(rt, alloc, &batches, &setup, tables, workers, &gate)?;
-            Ok(CountedTally::Rows(tally))
-        }
-    }
-}
-
-// The cutting of the reads of all sources, in order, and how many reads there are. Each source is read whole before the
-// next one, and each read is cleaned and cut before the next one is read, so that the text of one read is in memory at
-// a time. A fault is that of the first source that has one, with its number from 1, or `Memory` where a growth was
-// refused outside the reading.
-fn cut_sources<R: Source, P: Progress>(
-    alloc: Global,
-    sources: &mut [NamedSource<'_, R>],
-    options: &Options,
-    progress: &P,
-) -> Result<(Cutting, u64), ToolFault>
-    ensures cut { let Cuts = CutsSources (seen_of R.seen sources.old) (seen_of R.seen sources.new) in
-        IfOk result (λ cut. Cuts (rule_of options.now) options.now.batch cut.0 cut.1) }
-    ensures fault { IfErr result (RefusesSources (seen_of R.seen sources.old) (seen_of R.seen sources.new)) }
-    ensures names { names_of sources.new ≡ names_of sources.old }
-{
-    let rule = options.rule();
-    let mut cut = ReadsInCutting::none(alloc, options);
-    let _fits = sources.len();
-    for source in sources.iter_mut() {
-        cut.take(alloc, &mut source.source, &rule, progress)?;
-    }
-    Ok((cut.cutting, cut.reads))
-}
-
-// The cutting of the reads of these files or, where there are none, of the given input, and how many they are.
+// The cutting of the reads of these files, in order, or, where there are none, of the given input, and how many reads
+// there are. Each source is read whole before the next one, and each read is cleaned and cut before the next one is
+// read, so that the text of one read is in memory at a time. A fault is that of the first source that has one, with its
+// number from 1, or `Memory` where a growth was refused outside the reading.
 fn cut_given<R: Source, F: Source, P: Progress>(
     alloc: Global,
     files: &mut [NamedSource<'_, F>],
@@ -268,12 +221,21 @@ fn cut_given<R: Source, F: Source, P: Progress>(
     ensures input { KeepsInput (seen_of F.seen files.old) (R.seen input.old) (R.seen input.new) }
     ensures names { names_of files.new ≡ names_of files.old }
 {
-    if !files.is_empty() {
-        return cut_sources(alloc, files, options, progress);
-    }
     let rule = options.rule();
-    let mut cut = ReadsInCutting::none(alloc, options);
-    cut.take(alloc, input, &rule, progress)?;
+    let mut cut = ReadsInCutting {
+        cutting: Cutting::new(alloc, rule.k(), options.batch()),
+        left: MOST_BYTES,
+        sources: 0,
+        reads: 0,
+    };
+    if files.is_empty() {
+        cut.take(alloc, input, &rule, progress)?;
+        return Ok((cut.cutting, cut.reads));
+    }
+    let _fits = files.len();
+    for file in files.iter_mut() {
+        cut.take(alloc, &mut file.source, &rule, progress)?;
+    }
     Ok((cut.cutting, cut.reads))
 }
 
@@ -290,20 +252,9 @@ struct ReadsInCutting {
 }
 
 impl ReadsInCutting {
-    // No source was read yet.
-    fn none(alloc: Global, options: &Options) -> ReadsInCutting
-        ensures { CutsNone (rule_of options.now) options.now.batch result }
-    {
-        ReadsInCutting {
-            cutting: Cutting::new(alloc, options.rule().k(), options.batch()),
-            left: MOST_BYTES,
-            sources: 0,
-            reads: 0,
-        }
-    }
-
-    // Reads the next source whole, and cuts the pieces of its reads behind those that were cut. A fault is that of the
-    // source, with its number.
+    // Reads the next source whole, and cuts the pieces of its reads behind those that were cut. It tells of the bytes
+    // that came, read by read. A fault is that of the source, with its number, and one of the lines is answered only
+    // after the rest was read.
     fn take<R: Source, P: Progress>(
         &mut self,
         alloc: Global,
@@ -318,119 +269,40 @@ impl ReadsInCutting {
             (RefusesSource (R.seen source.old) (R.seen source.new) (self.old.sources + 1) self.old.left) }
     {
         self.sources += 1;
-        let cutting = &mut self.cutting;
-        let taken = cut_source(
-            alloc,
-            source,
-            self.sources,
-            self.left,
-            rule,
-            cutting,
-            progress,
-        )?;
-        self.left -= taken.bytes;
-        self.reads += taken.reads;
-        Ok(())
-    }
-}
-
-// What a source gave.
-#[derive(Clone, Copy, Debug)]
-struct Taken {
-    bytes: u64,
-    reads: u64,
-}
-
-// Reads this source whole and cuts the pieces of its reads behind those that were cut. It answers what the source gave,
-// and tells of its bytes read by read. A fault of the lines is told where the rest was read too.
-fn cut_source<R: Source, P: Progress>(
-    alloc: Global,
-    source: &mut R,
-    number: u64,
-    limit: u64,
-    rule: &Rule,
-    cutting: &mut Cutting,
-    progress: &P,
-) -> Result<Taken, ToolFault>
-    requires { limit ≤ most_bytes }
-    ensures pieces { let Cuts = CutsPieces (R.seen source.old) (R.seen source.new) limit rule.now in
-        IfOk result (λ taken. Cuts taken.bytes taken.reads cutting.old cutting.new) }
-    ensures fault { IfErr result (RefusesSource (R.seen source.old) (R.seen source.new) number limit) }
-{
-    let mut reading = match Reading::new(alloc, limit) {
-        Ok(reading) => reading,
-        Err(_) => {
+        let number = self.sources;
+        let Ok(mut reading) = Reading::new(alloc, self.left) else {
             return Err(ToolFault::Fastx {
                 source: number,
                 fault: FastxFault::Memory,
             });
-        }
-    };
-    let mut told = 0u64;
-    let mut count = 0u64;
-    'reads: loop {
-        match reading.next_read(alloc, source) {
-            Ok(Some(read)) => {
-                told = tell_bytes(progress, told, reading.byte_count());
-                cut_read(alloc, read, rule, cutting)?;
-                count += 1;
+        };
+        let mut told = 0u64;
+        let mut count = 0u64;
+        'reads: loop {
+            let read = match reading.next_read(alloc, source) {
+                Ok(read) => read,
+                Err(fault) => {
+                    return Err(ToolFault::Fastx {
+                        source: number,
+                        fault: reading.settle(source, fault),
+                    });
+                }
+            };
+            let bytes = reading.byte_count();
+            if told < bytes {
+                progress.bytes_read(bytes - told);
+                told = bytes;
             }
-            Ok(None) => return Ok(taken_of(&reading, count, progress, told)),
-            Err(fault) => return Err(fault_of(reading, source, number, fault)),
+            let Some(read) = read else {
+                self.left -= bytes;
+                self.reads += count;
+                return Ok(());
+            };
+            let piece = clean(alloc, &read, rule)?;
+            self.cutting.push(alloc, &piece)?;
+            count += 1;
         }
     }
-}
-
-// Cuts the piece of a read behind those that were cut.
-fn cut_read(
-    alloc: Global,
-    read: SeqRead,
-    rule: &Rule,
-    cutting: &mut Cutting,
-) -> Result<(), AllocError>
-    ensures { OnOk result (TakesPiece cutting.old cutting.new (cleaned rule.now read)) }
-{
-    let piece = clean(alloc, &read, rule)?;
-    cutting.push(alloc, &piece)
-}
-
-// What a source gave that was read to its end, with so many reads. Tells `progress` of its last bytes. Condition: the
-// reading has not failed.
-fn taken_of<P: Progress>(reading: &Reading, reads: u64, progress: &P, told: u64) -> Taken
-    requires { reading.now.failed ≡ None }
-    ensures bytes { result.bytes ≡ reading.now.used + length reading.now.unread.bytes }
-    ensures reads { result.reads ≡ reads }
-{
-    let bytes = tell_bytes(progress, told, reading.byte_count());
-    Taken { bytes, reads }
-}
-
-// The fault of the source of this number, where its reading met this fault. A fault of the lines is answered only after
-// the rest was read.
-fn fault_of<R: Source>(
-    reading: Reading,
-    source: &mut R,
-    number: u64,
-    fault: FastxFault,
-) -> ToolFault
-    ensures { (start : Seen) (limit : ℕ) → MeetsFault start (R.seen source.old) limit reading fault
-        → RefusesSource start (R.seen source.new) number limit result }
-{
-    ToolFault::Fastx {
-        source: number,
-        fault: reading.settle(source, fault),
-    }
-}
-
-// Tells of the bytes that came since the last call, where some did: so many were told of, and so many were read. It
-// answers how many were read.
-fn tell_bytes<P: Progress>(progress: &P, told: u64, count: u64) -> u64
-    ensures { result ≡ count }
-{
-    if told < count {
-        progress.bytes_read(count - told);
-    }
-    count
 }
 
 // The setup that the options ask for: how words are divided among the stripes, and which count. Condition: the list is
@@ -440,7 +312,11 @@ fn setup_of(alloc: Global, list: Option<Only>, options: &Options) -> Result<Setu
     ensures rule { IfOk result (λ setup. setup.rule ≡ kept_to (words_of list) (rule_of options.now)) }
     ensures stripes { IfOk result (λ setup. stripe_count setup ≡ options.now.stripes) }
 {
-    let setup = unlisted_setup_of(options);
+    let rule = options.rule();
+    let hash = Hash::seeded(2 * rule.k().get(), SEED);
+    let Some(setup) = Setup::new(rule, hash, options.stripes()) else {
+        unreachable!()
+    };
     let Some(list) = list else {
         return Ok(setup);
     };
@@ -448,17 +324,4 @@ fn setup_of(alloc: Global, list: Option<Only>, options: &Options) -> Result<Setu
         unreachable!()
     };
     Ok(setup)
-}
-
-// The setup that the options ask for where all words count.
-fn unlisted_setup_of(options: &Options) -> Setup
-    ensures rule { result.rule ≡ rule_of options.now }
-    ensures stripes { stripe_count result ≡ options.now.stripes }
-{
-    let rule = options.rule();
-    let hash = Hash::seeded(2 * rule.k().get(), SEED);
-    let Some(setup) = Setup::new(rule, hash, options.stripes()) else {
-        unreachable!()
-    };
-    setup
 }

@@ -3,7 +3,7 @@ use Rattle.std.proofs.Common.{◌≡◌, ◌≢◌, ℕ, ◌+◌, ◌-◌, ◌*�
 use Rattle.std.proofs.Common.{get_or, take, drop, set, refl, ap, sym, ◌∙◌, subst, arith, bit_or, append_assoc}
 use Rattle.std.proofs.lemmas.Bool.{cases_eq}
 use Rattle.std.proofs.lemmas.Nat.{or_shr, or_mod}
-use Rattle.std.proofs.lemmas.List.{get_or-set_same, get_or-set_other, length-set, length-append}
+use Rattle.std.proofs.lemmas.List.{get_or-set_same, get_or-set_other, length-set, length-append, append-nil}
 use Rattle.std.proofs.lemmas.List.FromFn.{length-map-range_with_len}
 use Rattle.std.specs.Int.Bits.{or_zero_l, or_zero_r}
 use Rattle.std.specs.List.{range_with_len}
@@ -123,6 +123,11 @@ codes_in-split number first rest h =
 pub length-codes_in : (number n : ℕ) → length (codes_in number n) ≡ n
 unfolding codes_in
 length-codes_in number n = length-map-range_with_len (λ i. code_in number i) 0 n
+
+-- no code more leaves the codes as they are
+pub none-appended : (before : List ℕ) (number count : ℕ) → count ≡ 0 → before ≡ before ++ codes_in number count
+unfolding codes_in
+none-appended before number count e = sym (ap (λ n. before ++ codes_in number n) e ∙ append-nil before)
 
 -- the codes once the last number is full, and then once the rest stands in the next one
 pub record SplitStep (before : List ℕ) (number count : ℕ) : Type 0 where

@@ -7,9 +7,9 @@ use Rattle.std.proofs.lemmas.List.{get_or-take, get_or-drop, ext_get_or, get_or_
 use Rattle.std.proofs.lemmas.List.Concat.{flat_map-cons, flat_map-append}
 use Rattle.std.specs.List.{flat_map}
 use Rattle.kc_word.specs.declared.runs.Run.{Run}
-use Rattle.kc_word.specs.Runs.{run_end, is_in_run, is_in_runs, AreRuns, ArePassed, AreClipped}
+use Rattle.kc_word.specs.Runs.{run_end, is_in_run, is_in_runs, AreRuns, ArePassed, AreGrown}
 use Rattle.kc_word.proofs.RunLemmas.{inside-run, before-run, behind-run, is_in_runs-cons, is_in_runs-none}
-use Rattle.kc_word.proofs.RunLemmas.{AreRuns-lower, AreRuns-tail, IsRunAt}
+use Rattle.kc_word.proofs.RunLemmas.{AreRuns-lower, AreRuns-tail, AreRuns-front, IsRunAt, AreJoined, AreJoined-none, AreJoined-more, JoinStep, join-stands}
 use Rattle.kc_kmer.specs.Letter.{base}
 use Rattle.kc_word.specs.Cutting.{unusable}
 use Rattle.kc_word.specs.PackedPiece.{bytes_of, IsPiece}
@@ -101,7 +101,7 @@ in-clipped from to i (run ∷ runs) within =
     (cases_lt (max run.start from) (min (run_end run) to))
 
 -- what the code finds of a run
-pub clip-pushed : (from to start end : ℕ) (run : Run) → start ≡ max run.start from → end ≡ min (run_end run) to
+clip-pushed : (from to start end : ℕ) (run : Run) → start ≡ max run.start from → end ≡ min (run_end run) to
     → start < end
     → clip from to run ≡ record { start = start - from; length = end - start } ∷ []
 unfolding clipped-run
@@ -110,7 +110,7 @@ clip-pushed from to start end run low high h =
     let second : min (run_end run) to - max run.start from ≡ end - start = omega (arith, low, high) in
     clip-some from to run (omega (arith, low, high, h)) ∙ (λ i. record { start = first i; length = second i } ∷ [])
 
-pub clip-left : (from to start end : ℕ) (run : Run) → start ≡ max run.start from → end ≡ min (run_end run) to
+clip-left : (from to start end : ℕ) (run : Run) → start ≡ max run.start from → end ≡ min (run_end run) to
     → end ≤ start → clip from to run ≡ []
 clip-left from to start end run low high h = clip-none from to run (omega (arith, low, high, h))
 
@@ -130,7 +130,7 @@ pub record IsClipping (runs clipped : List Run) (first n from to : ℕ) : Type 0
   pub passed : ArePassed runs first from
   pub taken : clipped ≡ flat_map (λ run. clip from to run) (take (n - first) (drop first runs))
 
-pub clipping-more : {runs clipped : List Run} {first n from to : ℕ} (next : List Run) (run : Run) → IsRunAt runs n run
+clipping-more : {runs clipped : List Run} {first n from to : ℕ} (next : List Run) (run : Run) → IsRunAt runs n run
     → IsClipping runs clipped first n from to → next ≡ clipped ++ clip from to run
     → IsClipping runs next first (n + 1) from to
 clipping-more {runs} {clipped} {first} {n} {from} {to} next run here before e =
@@ -152,6 +152,33 @@ clipping-more {runs} {clipped} {first} {n} {from} {to} next run here before e =
           (clipped-cons from to run [] ∙ append-nil (clip from to run)));
     }
 
+clipping-none : (runs : List Run) (first from to : ℕ) → ArePassed runs first from → IsClipping runs [] first first from to
+clipping-none runs first from to passed =
+    let none : 0 ≡ first - first = omega arith in
+    record { order = omega arith; passed = passed; taken = ap (λ n. flat_map (λ run. clip from to run) (take n (drop first runs))) none }
+
+-- with one run more they rise too
+clipping-rises : {runs clipped : List Run} {first n from to : ℕ} (run : Run) → IsRunAt runs n run
+    → IsClipping runs clipped first n from to → AreRuns 0 (to - from) (clipped ++ clip from to run)
+clipping-rises {runs} {clipped} {first} {n} {from} {to} run here before =
+    let next = clipping-more (clipped ++ clip from to run) run here before refl in
+    let rising = before.passed.rising in
+    subst (AreRuns 0 (to - from)) (sym next.taken)
+    (AreRuns-lower (0 - from) (to - from) 0 _ (omega arith)
+    (AreRuns-clipped 0 rising.0 from to (take (n + 1 - first) (drop first runs))
+    (AreRuns-front 0 rising.0 (n + 1 - first) (drop first runs) rising.1)))
+
+-- what of the runs lies from one index to before another, counted from the first
+pub record AreClipped (runs clipped : List Run) (from to : ℕ) : Type 0 where
+  pub rising : AreRuns 0 (to - from) clipped
+  pub same : (i : ℕ) → i < to - from → is_in_runs clipped i ≡ is_in_runs runs (from + i)
+
+-- the runs with that behind them which lies of others from one index to before another, counted from an index
+pub record AreAppended (runs others next : List Run) (at from to : ℕ) : Type 0 where
+  pub clipped : List Run
+  pub clipped_are : AreClipped others clipped from to
+  pub joined : AreJoined runs clipped next at
+
 clipped-all : (runs clipped : List Run) (first from to : ℕ) → ArePassed runs first from
     → clipped ≡ flat_map (λ run. clip from to run) (drop first runs) → AreClipped runs clipped from to
 clipped-all runs clipped first from to passed e = record {
@@ -162,7 +189,7 @@ clipped-all runs clipped first from to passed e = record {
 }
 
 -- behind the last run
-pub clipping-end : (runs clipped : List Run) (first n from to : ℕ) → length runs ≤ n
+clipping-end : (runs clipped : List Run) (first n from to : ℕ) → length runs ≤ n
     → IsClipping runs clipped first n from to → AreClipped runs clipped from to
 clipping-end runs clipped first n from to h before =
     let long = length-drop first runs in
@@ -171,7 +198,7 @@ clipping-end runs clipped first n from to h before =
     ∙ ap (flat_map (λ r. clip from to r)) (take_all (n - first) (drop first runs) (omega (arith, long, h))))
 
 -- at a run that begins behind the last index
-pub clipping-past : {runs clipped : List Run} {first n from to : ℕ} {run : Run} → IsRunAt runs n run
+clipping-past : {runs clipped : List Run} {first n from to : ℕ} {run : Run} → IsRunAt runs n run
     → IsClipping runs clipped first n from to → to ≤ run.start → AreClipped runs clipped from to
 clipping-past {runs} {clipped} {first} {n} {from} {to} {run} found before low =
     let h = found.within in
@@ -191,6 +218,83 @@ clipping-past {runs} {clipped} {first} {n} {from} {to} {run} found before low =
     ∙ clipped-past run.start before.passed.rising.0 from to (run ∷ drop (n - first + 1) (drop first runs)) low (omega arith, tail.1, tail.2, tail.3)))
     ∙ sym (flat_map-append (λ r. clip from to r) (take (n - first) (drop first runs)) (drop (n - first) (drop first runs)))
     ∙ ap (flat_map (λ r. clip from to r)) (take-append-drop (n - first) (drop first runs)))
+
+-- ---- the runs with those behind them that are clipped so far
+
+pub record IsAppending (runs others now : List Run) (at first n from to : ℕ) : Type 0 where
+  pub clipped : List Run
+  pub clipping : IsClipping others clipped first n from to
+  pub joined : AreJoined runs clipped now at
+
+pub appending-none : {runs others : List Run} {at first from to : ℕ} → AreRuns 0 at runs → ArePassed others first from
+    → IsAppending runs others runs at first first from to
+appending-none {runs} {others} {at} {first} {from} {to} rising passed = record {
+  clipped = [];
+  clipping = clipping-none others first from to passed;
+  joined = AreJoined-none at runs rising;
+}
+
+-- where of a run something lies between the indices
+pub record ClipStep (others : List Run) (n from to : ℕ) : Type 0 where
+  pub run : Run
+  pub start : ℕ
+  pub end : ℕ
+  pub here : IsRunAt others n run
+  pub start_is : start ≡ max run.start from
+  pub end_is : end ≡ min (run_end run) to
+
+appending-step : {runs others now : List Run} {at first n from to : ℕ} (s : ClipStep others n from to)
+    → s.start < s.end → (a : IsAppending runs others now at first n from to) → JoinStep runs a.clipped at
+appending-step {runs} {others} {now} {at} {first} {n} {from} {to} s some a = record {
+  run = record { start = s.start - from; length = s.end - s.start };
+  before = now;
+  end = to - from;
+  rising = subst (λ rs. AreRuns 0 (to - from) (a.clipped ++ rs)) (clip-pushed from to s.start s.end s.run s.start_is s.end_is some)
+      (clipping-rises s.run s.here a.clipping);
+  joined = a.joined;
+}
+
+pub appending-rising : {runs others now : List Run} {at first n from to : ℕ} (s : ClipStep others n from to)
+    → s.start < s.end → IsAppending runs others now at first n from to → AreRuns 0 (at + (s.start - from)) now
+unfolding appending-step
+appending-rising s some a = (join-stands (appending-step s some a)).0
+
+pub appending-more : {runs others now : List Run} {at first n from to : ℕ} (next : List Run) (s : ClipStep others n from to)
+    → s.start < s.end → IsAppending runs others now at first n from to
+    → AreGrown now next (at + (s.start - from)) (s.end - s.start) → IsAppending runs others next at first (n + 1) from to
+unfolding appending-step
+appending-more {runs} {others} {now} {at} {first} {n} {from} {to} next s some a grown = record {
+  clipped = a.clipped ++ record { start = s.start - from; length = s.end - s.start } ∷ [];
+  clipping = clipping-more _ s.run s.here a.clipping
+      (ap (λ rs. a.clipped ++ rs) (sym (clip-pushed from to s.start s.end s.run s.start_is s.end_is some)));
+  joined = AreJoined-more next (appending-step s some a) grown;
+}
+
+pub appending-left : {runs others now : List Run} {at first n from to : ℕ} (s : ClipStep others n from to)
+    → s.end ≤ s.start → IsAppending runs others now at first n from to → IsAppending runs others now at first (n + 1) from to
+appending-left {runs} {others} {now} {at} {first} {n} {from} {to} s none a = record {
+  clipped = a.clipped;
+  clipping = clipping-more _ s.run s.here a.clipping
+      (sym (append-nil a.clipped) ∙ ap (λ rs. a.clipped ++ rs) (sym (clip-left from to s.start s.end s.run s.start_is s.end_is none)));
+  joined = a.joined;
+}
+
+-- behind the last run, and at a run that begins behind the last index
+pub appending-end : {runs others now : List Run} {at first n from to : ℕ} → length others ≤ n
+    → IsAppending runs others now at first n from to → AreAppended runs others now at from to
+appending-end {runs} {others} {now} {at} {first} {n} {from} {to} h a = record {
+  clipped = a.clipped;
+  clipped_are = clipping-end others a.clipped first n from to h a.clipping;
+  joined = a.joined;
+}
+
+pub appending-past : {runs others now : List Run} {at first n from to : ℕ} {run : Run} → IsRunAt others n run
+    → to ≤ run.start → IsAppending runs others now at first n from to → AreAppended runs others now at from to
+appending-past {runs} {others} {now} {at} {first} {n} {from} {to} {run} here low a = record {
+  clipped = a.clipped;
+  clipped_are = clipping-past here a.clipping low;
+  joined = a.joined;
+}
 
 -- ---- a part of a piece
 

@@ -1,19 +1,28 @@
 -- Two pieces joined, as they are kept: the codes of both, and the runs of both.
 use Rattle.std.proofs.Common.{◌≡◌, ℕ, ◌+◌, ◌-◌, ◌<◌, ◌≤◌, ⊎_elim, true, cond, List, [], ◌++◌, length, get_or, take, drop}
-use Rattle.std.proofs.Common.{refl, ap, sym, ◌∙◌, subst, arith}
+use Rattle.std.proofs.Common.{refl, ap, sym, ◌∙◌, subst, arith, lit<}
 use Rattle.std.proofs.lemmas.Bool.{cases_lt}
 use Rattle.std.proofs.lemmas.List.{length-append, get_or_append_left, get_or-append-add, ext_get_or}
 use Rattle.kc_word.specs.declared.runs.Run.{Run}
-use Rattle.kc_word.specs.Runs.{is_in_runs, AreRuns, AreJoined, AreClipped}
+use Rattle.kc_word.specs.Runs.{is_in_runs, AreRuns}
 use Rattle.kc_kmer.specs.Letter.{base}
 use Rattle.kc_word.specs.Cutting.{unusable}
 use Rattle.kc_word.specs.PackedPiece.{bytes_of, IsPiece}
 use Rattle.kc_word.proofs.PieceLemmas.{length-bytes_of, get_or-bytes_of}
-use Rattle.kc_word.proofs.Clipping.{clipped-piece}
+use Rattle.kc_word.proofs.RunLemmas.{AreJoined}
+use Rattle.kc_word.proofs.Clipping.{AreClipped, clipped-piece}
 
 pub bytes_of-none : (runs : List Run) → bytes_of [] runs ≡ []
 unfolding bytes_of
 bytes_of-none runs = refl
+
+pub IsPiece-none : (codes : List ℕ) (runs : List Run) → codes ≡ [] → runs ≡ [] → IsPiece codes runs
+IsPiece-none codes runs no_codes no_runs =
+    subst (λ cs. IsPiece cs runs) (sym no_codes) (subst (IsPiece []) (sym no_runs) (record {
+      rising = tt;
+      below = λ i. lit< tt;
+      clear = λ i h. refl;
+    }))
 
 -- the bytes of a piece with those of another behind them
 pub record IsJoined (bytes behind codes : List ℕ) (runs : List Run) : Type 0 where

@@ -1,11 +1,12 @@
 -- Runs that rise: where no index lies in one, what one index more changes, and that runs with the same indices are the same.
-use Rattle.std.proofs.Common.{◌≡◌, ◌≢◌, ℕ, zero, suc, ◌+◌, ◌<◌, ◌≤◌, ⊎_elim, Bool, true, false, ◌&&◌, ◌||◌, leb, List, [], ◌∷◌, ◌++◌, length, get_or, take, drop, set, refl, ap, sym, ◌∙◌, subst, arith, true≢false, Decides, eqb, eqb-true, eq-eqb}
-use Rattle.std.proofs.lemmas.Bool.{cases_lt, and_parts, and_from, and_left, and_right, or_left, or_right, le-leb, lt-leb, lt-ltb, le-ltb}
+use Rattle.std.proofs.Common.{◌≡◌, ◌≢◌, ℕ, zero, suc, ◌+◌, ◌-◌, ◌<◌, ◌≤◌, ⊎_elim, Bool, true, false, ◌&&◌, ◌||◌, leb, List, [], ◌∷◌, ◌++◌, length, get_or, take, drop, set, refl, ap, sym, ◌∙◌, subst, arith, true≢false, Decides, eqb, eqb-true, eq-eqb}
+use Rattle.std.proofs.lemmas.Bool.{cases_lt, and_parts, and_from, and_left, and_right, or_left, or_right, le-leb, leb-true, leb-false, lt-leb, lt-ltb, le-ltb}
 use Rattle.std.proofs.lemmas.List.{take_more, take_all, set_at, length-take-le, drop_all, drop_more, get_or_default}
 use Rattle.std.proofs.lemmas.List.Folds.{list_any-append, list_any_at}
 use Rattle.std.specs.List.{list_any}
+use Rattle.std.specs.List.Sorted.{IsPartitionPoint, IsPartitionedBy}
 use Rattle.kc_word.specs.declared.runs.Run.{Run}
-use Rattle.kc_word.specs.Runs.{run_end, is_in_run, is_in_runs, AreRuns, AreExtended, AreGrown, AreJoined, EndBehind, ArePassed, AreFree}
+use Rattle.kc_word.specs.Runs.{run_end, is_in_run, is_in_runs, AreRuns, AreExtended, AreGrown, EndBehind, ArePassed}
 
 -- ---- whether an index lies in a run
 
@@ -231,6 +232,12 @@ AreExtended-grown at runs next grown = record {
 
 -- ---- runs behind runs
 
+-- the runs with others behind them, which are counted from an index
+pub record AreJoined (runs others next : List Run) (at : ℕ) : Type 0 where
+  pub rising : (end : ℕ) → AreRuns 0 end others → AreRuns 0 (at + end) next
+  pub before : (i : ℕ) → i < at → is_in_runs next i ≡ is_in_runs runs i
+  pub behind : (i : ℕ) → is_in_runs next (at + i) ≡ is_in_runs others i
+
 pub AreJoined-none : (at : ℕ) (runs : List Run) → AreRuns 0 at runs → AreJoined runs [] runs at
 AreJoined-none at runs rising = record {
   rising = λ end none. AreRuns-wider 0 at (at + end) runs (omega arith) rising;
@@ -254,55 +261,38 @@ AreRuns-front from to (suc n) [] rising = tt
 AreRuns-front from to (suc n) (run ∷ runs) rising =
     (rising.0, rising.1, rising.2, AreRuns-front (run_end run + 1) to n runs rising.3)
 
--- a run of the others, and what the runs are once it is appended
+-- one run more of the others, and what the runs are once it is appended
 pub record JoinStep (runs others : List Run) (at : ℕ) : Type 0 where
-  pub index : ℕ
   pub run : Run
   pub before : List Run
-  pub next : List Run
   pub end : ℕ
-  pub within : index < length others
-  pub run_is : run ≡ get_or others index run
-  pub rising : AreRuns 0 end others
-  pub joined : AreJoined runs (take index others) before at
-
-join-front : (runs others : List Run) (at : ℕ) (s : JoinStep runs others at) → AreRuns 0 s.end (take s.index others ++ s.run ∷ [])
-join-front runs others at s =
-    subst (AreRuns 0 s.end) (take_more others s.index s.run s.within ∙ ap (λ r. take s.index others ++ r ∷ []) (sym s.run_is))
-    (AreRuns-front 0 s.end (s.index + 1) others s.rising)
+  pub rising : AreRuns 0 end (others ++ run ∷ [])
+  pub joined : AreJoined runs others before at
 
 -- where the run begins, how long it is, and that it ends within
-pub join-stands : (runs others : List Run) (at : ℕ) (s : JoinStep runs others at)
+pub join-stands : {runs others : List Run} {at : ℕ} (s : JoinStep runs others at)
     → AreRuns 0 (at + s.run.start) s.before × (1 ≤ s.run.length) × (run_end s.run ≤ s.end)
-join-stands runs others at s =
-    let front = AreRuns-before 0 s.end (take s.index others) s.run (join-front runs others at s) in
+join-stands {runs} {others} {at} s =
+    let front = AreRuns-before 0 s.end others s.run s.rising in
     (s.joined.rising s.run.start front.0, front.2, front.1)
 
-pub AreJoined-more : (runs others : List Run) (at : ℕ) (s : JoinStep runs others at) → AreGrown s.before s.next (at + s.run.start) s.run.length
-    → AreJoined runs (take (s.index + 1) others) s.next at
-AreJoined-more runs others at s grown =
-    subst (λ rs. AreJoined runs rs s.next at)
-    (sym (take_more others s.index s.run s.within ∙ ap (λ r. take s.index others ++ r ∷ []) (sym s.run_is))) (record {
-      rising = λ end rising. let front = (AreRuns-before 0 end (take s.index others) s.run rising).1 in
-          AreRuns-wider 0 (at + s.run.start + s.run.length) (at + end) s.next (omega (arith, front)) grown.rising;
-      before = λ i h. grown.below i (omega (arith, h)) ∙ s.joined.before i h;
-      behind = λ i. ⊎_elim
-          (λ h. grown.below (at + i) (omega (arith, h)) ∙ s.joined.behind i
-          ∙ sym (pushed i ∙ or-first (is_in_runs (take s.index others) i) _ (before-run s.run i h)))
-          (λ h. ⊎_elim
-          (λ l. grown.inside (at + i) (omega (arith, h)) (omega (arith, l))
-          ∙ sym (pushed i ∙ or_right (is_in_runs (take s.index others) i) _ (inside-run s.run i h l)))
-          (λ l. grown.above (at + i) (omega (arith, l)) ∙ s.joined.behind i
-          ∙ sym (pushed i ∙ or-first (is_in_runs (take s.index others) i) _ (behind-run s.run i l)))
-          (cases_lt i (run_end s.run)))
-          (cases_lt i s.run.start);
-    })
-  where
-    pushed : (i : ℕ) → is_in_runs (take s.index others ++ s.run ∷ []) i ≡ (is_in_runs (take s.index others) i || is_in_run s.run i)
-    pushed i = is_in_runs-push (take s.index others) s.run i
-
-pub AreJoined-all : (runs others next : List Run) (at n : ℕ) → length others ≤ n → AreJoined runs (take n others) next at → AreJoined runs others next at
-AreJoined-all runs others next at n h joined = subst (λ rs. AreJoined runs rs next at) (take_all n others h) joined
+pub AreJoined-more : {runs others : List Run} {at : ℕ} (next : List Run) (s : JoinStep runs others at)
+    → AreGrown s.before next (at + s.run.start) s.run.length → AreJoined runs (others ++ s.run ∷ []) next at
+AreJoined-more {runs} {others} {at} next s grown = record {
+  rising = λ end rising. let front = (AreRuns-before 0 end others s.run rising).1 in
+      AreRuns-wider 0 (at + s.run.start + s.run.length) (at + end) next (omega (arith, front)) grown.rising;
+  before = λ i h. grown.below i (omega (arith, h)) ∙ s.joined.before i h;
+  behind = λ i. ⊎_elim
+      (λ h. grown.below (at + i) (omega (arith, h)) ∙ s.joined.behind i
+      ∙ sym (is_in_runs-push others s.run i ∙ or-first (is_in_runs others i) _ (before-run s.run i h)))
+      (λ h. ⊎_elim
+      (λ l. grown.inside (at + i) (omega (arith, h)) (omega (arith, l))
+      ∙ sym (is_in_runs-push others s.run i ∙ or_right (is_in_runs others i) _ (inside-run s.run i h l)))
+      (λ l. grown.above (at + i) (omega (arith, l)) ∙ s.joined.behind i
+      ∙ sym (is_in_runs-push others s.run i ∙ or-first (is_in_runs others i) _ (behind-run s.run i l)))
+      (cases_lt i (run_end s.run)))
+      (cases_lt i s.run.start);
+}
 
 -- ---- runs with the same indices
 
@@ -454,6 +444,11 @@ behind-next runs next at run passed h is end =
 
 -- ---- indices before the next run
 
+-- none of so many indices from an index on lies in a run, and the same runs are passed behind them
+pub record AreFree (runs : List Run) (next at n : ℕ) : Type 0 where
+  pub passed : ArePassed runs next (at + n)
+  pub free : (i : ℕ) → at ≤ i → i < at + n → is_in_runs runs i ≡ false
+
 pub free-behind : (runs : List Run) (next at n : ℕ) → ArePassed runs next at → next ≡ length runs → AreFree runs next at n
 free-behind runs next at n passed e =
     let none : drop next runs ≡ [] = drop_all next runs (omega (arith, e)) in
@@ -487,6 +482,18 @@ free-before runs next at n run passed here low =
       free = λ i l m. sym (passed.same i l) ∙ ap (λ rs. is_in_runs rs i) ahead.split
           ∙ before-runs run.start ahead.to i (run ∷ drop (next + 1) runs) (omega (arith, m, low)) (omega arith, rising.1, rising.2, rising.3);
     }
+
+-- as many indices as come before the run, or none where it has begun
+pub free-most : (runs : List Run) (next at n : ℕ) (run : Run) → ArePassed runs next at → IsRunAt runs next run
+    → n ≤ run.start - at → AreFree runs next at n
+free-most runs next at n run passed here most =
+    ⊎_elim
+    (λ h. free-before runs next at n run passed here (omega (arith, h, most)))
+    (λ h. let same : at ≡ at + n = omega (arith, h, most) in record {
+      passed = subst (ArePassed runs next) same passed;
+      free = λ i l m. absurd (omega (arith, l, m, same));
+    })
+    (cases_lt at run.start)
 
 -- ---- the indices that a loop looks at
 
@@ -596,32 +603,49 @@ dropped-with {run} from to (suc n) at (r ∷ runs) rising here end =
       omega (arith, above, start),
     )
 
--- ---- a search for the first run that ends behind an index
+-- ---- the first run that ends behind an index
 
-pub record IsSearch (runs : List Run) (low high at : ℕ) : Type 0 where
-  pub rising : (to : ℕ) × AreRuns 0 to runs
-  pub dropped : AreDropped runs low at
-  pub order : low ≤ high
-  pub within : high ≤ length runs
-  pub ends : (run : Run) → high < length runs → run ≡ get_or runs high run → at < run_end run
+ends-above : (from to j : ℕ) (d : Run) (runs : List Run) → AreRuns from to runs → j < length runs → from ≤ run_end (get_or runs j d)
+ends-above from to j d [] rising h = absurd (omega (arith, h))
+ends-above from to zero d (run ∷ runs) rising h = let start = rising.0 in omega (arith, start)
+ends-above from to (suc j) d (run ∷ runs) rising h =
+    let start = rising.0 in
+    let rest = ends-above (run_end run + 1) to j d runs rising.3 (omega (arith, h)) in
+    omega (arith, start, rest)
 
-pub search-above : {runs : List Run} {low high middle at : ℕ} {run : Run} → IsSearch runs low high at → middle < high
-    → IsRunAt runs middle run → run_end run ≤ at → IsSearch runs (middle + 1) high at
-search-above {runs} {low} {high} {middle} {at} {run} before h here end = record {
-  rising = before.rising;
-  dropped = (dropped-with 0 before.rising.0 middle at runs before.rising.1 here end).0;
-  order = omega (arith, h);
-  within = before.within;
-  ends = before.ends;
-}
+ends-rise : (from to i j : ℕ) (d : Run) (runs : List Run) → AreRuns from to runs → i ≤ j → j < length runs
+    → run_end (get_or runs i d) ≤ run_end (get_or runs j d)
+ends-rise from to i j d [] rising l h = absurd (omega (arith, h))
+ends-rise from to zero zero d (run ∷ runs) rising l h = omega arith
+ends-rise from to zero (suc j) d (run ∷ runs) rising l h =
+    let rest = ends-above (run_end run + 1) to j d runs rising.3 (omega (arith, h)) in
+    omega (arith, rest)
+ends-rise from to (suc i) zero d (run ∷ runs) rising l h = absurd (omega (arith, l))
+ends-rise from to (suc i) (suc j) d (run ∷ runs) rising l h =
+    ends-rise (run_end run + 1) to i j d runs rising.3 (omega (arith, l)) (omega (arith, h))
 
-pub search-done : (runs : List Run) (low high at : ℕ) → IsSearch runs low high at → high ≤ low → ArePassed runs low at
-search-done runs low high at before h =
-    let order = before.order in
-    let within = before.within in
-    let same : high ≡ low = omega (arith, order, h) in
+-- the runs that end by an index come before the others
+pub runs-parted : (runs : List Run) (at : ℕ) → ((to : ℕ) × AreRuns 0 to runs) → IsPartitionedBy (λ (run : Run). leb (run_end run) at) runs
+runs-parted runs at rising = λ i j d l h e.
+    let rise = ends-rise 0 rising.0 i j d runs rising.1 l h in
+    let end = leb-true (run_end (get_or runs j d)) at e in
+    le-leb (run_end (get_or runs i d)) at (omega (arith, rise, end))
+
+dropped-at : (runs : List Run) (n at : ℕ) → ((to : ℕ) × AreRuns 0 to runs) → n ≤ length runs
+    → ((i : ℕ) → i < n → leb (run_end (get_or runs i (record { start = 0; length = 0 }))) at ≡ true) → AreDropped runs n at
+dropped-at runs zero at rising h end = AreDropped-none runs at rising
+dropped-at runs (suc n) at rising h end =
+    let here = run-at runs n (omega (arith, h)) in
+    let count : n + 1 ≡ suc n = omega arith in
+    subst (λ m. AreDropped runs m at) count
+    (dropped-with 0 rising.0 n at runs rising.1 here (leb-true _ at (end n (omega arith)))).0
+
+pub passed-at : (runs : List Run) (n at : ℕ) → ((to : ℕ) × AreRuns 0 to runs) → n ≤ length runs
+    → IsPartitionPoint (λ (run : Run). leb (run_end run) at ≡ true) (λ run. leb (run_end run) at ≡ false) runs n → ArePassed runs n at
+passed-at runs n at rising h point =
+    let dropped = dropped-at runs n at rising h (λ i l. point.0 i (record { start = 0; length = 0 }) (omega arith) (omega (arith, l))) in
     ⊎_elim
-    (λ l. AreDropped-here runs low at _ l (read-run runs low l)
-    (subst (λ m. (run : Run) → m < length runs → run ≡ get_or runs m run → at < run_end run) same before.ends _ l (read-run runs low l)) before.dropped)
-    (λ l. AreDropped-all runs low at (omega (arith, l, same, within)) before.dropped)
-    (cases_lt low (length runs))
+    (λ l. AreDropped-here runs n at _ l (read-run runs n l)
+    (leb-false _ at (point.1 n (record { start = 0; length = 0 }) (omega arith) (omega (arith, l)))) dropped)
+    (λ l. AreDropped-all runs n at (omega (arith, l, h)) dropped)
+    (cases_lt n (length runs))

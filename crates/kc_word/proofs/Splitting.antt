@@ -1,5 +1,5 @@
 -- Pieces that are kept one behind another, and where each of them ends.
-use Rattle.std.proofs.Common.{◌≡◌, ℕ, zero, suc, ◌+◌, ◌-◌, ◌<◌, ◌≤◌, ⊎_elim, Bool, false, List, [], ◌∷◌, ◌++◌, length, get_or, take, drop}
+use Rattle.std.proofs.Common.{◌≡◌, ◌≢◌, ℕ, zero, suc, ◌+◌, ◌-◌, ◌<◌, ◌≤◌, ⊎_elim, Bool, false, List, [], ◌∷◌, ◌++◌, length, get_or, take, drop}
 use Rattle.std.proofs.Common.{map, slice_range, refl, ap, sym, ◌∙◌, subst, arith}
 use Rattle.std.proofs.lemmas.Bool.{cases_lt, cases_Bool}
 use Rattle.std.proofs.lemmas.Bool.Decides.{Decides-like, same_from_decides}
@@ -34,8 +34,15 @@ pub AreEnds-none : AreEnds [] 0
 AreEnds-none = record { rising = λ i h. absurd (omega (arith, h)); last = refl }
 
 -- what stands at the next place of the starts is the end
-start-next : (ends : List ℕ) (i : ℕ) → start_of ends (i + 1) ≡ get_or ends i 0
+pub start-next : (ends : List ℕ) (i : ℕ) → start_of ends (i + 1) ≡ get_or ends i 0
 start-next ends i = let next : i + 1 ≡ suc i = omega arith in ap (start_of ends) next
+
+-- where a piece begins: at 0, or at the end of the one before
+pub start-first : (ends : List ℕ) (i : ℕ) → i ≡ 0 → 0 ≡ start_of ends i
+start-first ends i e = ap (start_of ends) (sym e)
+
+pub start-later : (ends : List ℕ) (i : ℕ) → i ≢ 0 → get_or ends (i - 1) 0 ≡ start_of ends i
+start-later ends i some = let place : i - 1 + 1 ≡ i = omega (arith, some) in sym (start-next ends (i - 1)) ∙ ap (start_of ends) place
 
 -- each piece begins and ends within
 starts-from : (ends : List ℕ) (n m i : ℕ) → AreEnds ends n → i + m ≡ length ends → start_of ends i ≤ n

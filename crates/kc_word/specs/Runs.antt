@@ -1,6 +1,6 @@
 -- Runs of N in a piece: where each starts, and how long it is.
 -- Source: this project's own.
-use Rattle.std.specs.Prelude.{◌≡◌, ◌≢◌, ℕ, Bool, true, false, ◌+◌, ◌-◌, ◌<◌}
+use Rattle.std.specs.Prelude.{◌≡◌, ◌≢◌, ℕ, Bool, true, ◌+◌, ◌<◌}
 use Rattle.std.specs.Prelude.{◌≤◌, ◌&&◌, nat_le, nat_lt, List, [], ◌∷◌, length, drop}
 use Rattle.std.specs.List.{list_any}
 use Rattle.kc_word.specs.declared.runs.Run.{Run}
@@ -22,11 +22,6 @@ AreRuns from to [] = Unit {0}
 AreRuns from to (run ∷ runs) =
     (from ≤ run.start) × (1 ≤ run.length) × (run_end run ≤ to) × AreRuns (run_end run + 1) to runs
 
--- what of the runs lies from one index to before another, counted from the first
-pub record AreClipped (runs clipped : List Run) (from to : ℕ) : Type 0 where
-  pub rising : AreRuns 0 (to - from) clipped
-  pub same : (i : ℕ) → i < to - from → is_in_runs clipped i ≡ is_in_runs runs (from + i)
-
 -- the runs with one index more, behind all that they have
 pub record AreExtended (runs next : List Run) (at : ℕ) : Type 0 where
   pub rising : AreRuns 0 (at + 1) next
@@ -40,12 +35,6 @@ pub record AreGrown (runs next : List Run) (at count : ℕ) : Type 0 where
   pub below : (i : ℕ) → i < at → is_in_runs next i ≡ is_in_runs runs i
   pub above : (i : ℕ) → at + count ≤ i → is_in_runs next i ≡ is_in_runs runs i
 
--- the runs with others behind them, which are counted from an index
-pub record AreJoined (runs others next : List Run) (at : ℕ) : Type 0 where
-  pub rising : (end : ℕ) → AreRuns 0 end others → AreRuns 0 (at + end) next
-  pub before : (i : ℕ) → i < at → is_in_runs next i ≡ is_in_runs runs i
-  pub behind : (i : ℕ) → is_in_runs next (at + i) ≡ is_in_runs others i
-
 -- whether the first of the runs ends at an index or behind it
 abbrev pub EndBehind : ℕ → List Run → Type 0
 EndBehind at [] = Unit {0}
@@ -57,8 +46,3 @@ pub record ArePassed (runs : List Run) (next at : ℕ) : Type 0 where
   pub rising : (to : ℕ) × AreRuns 0 to (drop next runs)
   pub same : (i : ℕ) → at ≤ i → is_in_runs (drop next runs) i ≡ is_in_runs runs i
   pub ahead : EndBehind at (drop next runs)
-
--- none of so many indices from an index on lies in a run, and the same runs are passed behind them
-pub record AreFree (runs : List Run) (next at n : ℕ) : Type 0 where
-  pub passed : ArePassed runs next (at + n)
-  pub free : (i : ℕ) → at ≤ i → i < at + n → is_in_runs runs i ≡ false

@@ -1,5 +1,5 @@
 //! Batches: the numbered parts of an input that workers count one by one.
-ghost use Rattle.std.specs.Prelude.{◌≡◌, ◌≤◌, length};
+ghost use Rattle.std.specs.Prelude.{◌≡◌};
 ghost use Rattle.kc_word.specs.Cutting.{position_total, as_reads};
 ghost use Rattle.kc_kmer.specs.Occurrences.{words_of};
 
@@ -12,8 +12,8 @@ use std::marker::Model;
 /// A batch: a numbered part of the input, which is counted by itself. It has a number, and pieces.
 #[derive(Debug, Drop)]
 pub struct Batch {
-    number: u64,
-    pieces: Pieces,
+    pub(crate) number: u64,
+    pub(crate) pieces: Pieces,
 }
 
 impl Model for Batch {
@@ -28,14 +28,6 @@ impl Model for Batch {
 }
 
 impl Batch {
-    /// A batch of these pieces. Condition: there is one.
-    pub(crate) fn new(number: u64, pieces: Pieces) -> Batch
-        requires { 1 ≤ length pieces }
-        ensures { result ≡ record { number = number; pieces = pieces } }
-    {
-        Batch { number, pieces }
-    }
-
     /// The number of the batch in its cutting, from 0.
     pub fn number(&self) -> u64
         ensures { result ≡ self.now.number }
@@ -47,14 +39,14 @@ impl Batch {
     pub fn position_count(&self, k: K) -> usize
         ensures { result ≡ position_total k self.now.pieces }
     {
-        self.pieces.position_count(k)
-    }
-
-    /// The pieces of the batch, in order, as they are kept.
-    pub(crate) fn packed(&self) -> &Pieces
-        ensures { result.now ≡ self.now.pieces }
-    {
-        &self.pieces
+        let pieces = &self.pieces;
+        let mut count = 0;
+        let mut start = 0;
+        for end in &pieces.ends {
+            count += k.positions(*end - start);
+            start = *end;
+        }
+        count
     }
 
     /// The pieces of the batch, in order, each seen as its bytes. It takes no memory.

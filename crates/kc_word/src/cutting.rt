@@ -75,7 +75,7 @@ impl Cutting {
         ensures refused { OnErr result ((pieces : List (List ℕ))
             → HasTaken self.old pieces → HasTakenFront self.new pieces piece.now) }
     {
-        let count = piece.position_count(self.k);
+        let count = self.k.positions(piece.len() as usize);
         let mut position = 0;
         while position < count {
             position += self.take(alloc, piece, position, count - position)?;
@@ -93,19 +93,20 @@ impl Cutting {
             → HasTaken self pieces → KeepsWords self.k pieces (values batches.items)) }
     {
         let _some = self.k.get();
-        let mut batches = self.batches;
-        if self.begun.len() == 0 {
-            return Ok(batches);
-        }
-        let begun = packed(alloc, &self.begun)?;
-        let last = numbered(alloc, batches.len() as u64, begun)?;
-        batches.push(last)?;
+        let mut cutting = self;
+        let Some(last) = cutting.begun.pop() else {
+            return Ok(cutting.batches);
+        };
+        let batch = cutting.whole(alloc, &last, 0, last.len() as usize)?;
+        let mut batches = cutting.batches;
+        batches.push(batch)?;
         Ok(batches)
     }
 
     // Takes `left` positions of the piece from `position` on, or as many as the batch that is begun has room for, and
-    // answers how many. After a refusal the cutting is as it was. Conditions: `left` is at least 1, and the piece has
-    // these positions.
+    // answers how many: their bytes become the last part of that batch, which is put behind the whole ones where it is
+    // whole then. After a refusal the cutting is as it was. Conditions: `left` is at least 1, and the piece has these
+    // positions.
     fn take(
         &mut self,
         alloc: Global,
@@ -125,42 +126,22 @@ impl Cutting {
         let taken = (left as u64).min(self.size - self.filled) as usize;
         let bases = self.k.get() as usize;
         let end = position + taken + (bases - 1);
-        self.push_part(alloc, piece, position, end, taken as u64)?;
-        Ok(taken)
-    }
-
-    // Puts the bytes of the piece from `from` to before `to`, which have `count` positions, behind the parts of the
-    // batch that is begun, and this behind the whole ones where it is whole then. After a refusal the cutting is as it
-    // was. Conditions: the bytes are in order, and at most the piece's, and the batch has room for the positions.
-    fn push_part(
-        &mut self,
-        alloc: Global,
-        piece: &Piece,
-        from: usize,
-        to: usize,
-        count: u64,
-    ) -> Result<(), AllocError>
-        requires ordered { from ≤ to }
-        requires within { to ≤ length piece.now }
-        requires room { self.old.filled + count ≤ self.old.size }
-        ensures pushed { OnOk result (self.new ≡ with_part self.old (slice_range piece.now from to) count) }
-        ensures refused { OnErr result (self.new ≡ self.old) }
-    {
-        let filled = self.filled + count;
+        let filled = self.filled + taken as u64;
         if filled < self.size {
-            self.begun.push(piece.part(alloc, from, to)?)?;
+            let part = Piece::new(alloc).and_part(piece, position, end)?;
+            self.begun.push(part)?;
             self.filled = filled;
         } else {
-            let batch = self.whole(alloc, piece, from, to)?;
+            let batch = self.whole(alloc, piece, position, end)?;
             self.batches.push(batch)?;
             self.begun.clear();
             self.filled = 0;
         }
-        Ok(())
+        Ok(taken)
     }
 
-    // The batch that is begun, with the bytes of the piece from `from` to before `to` as its last part. Conditions:
-    // these are in order, and at most the piece's.
+    // The batch that is begun, with the bytes of the piece from `from` to before `to` as its last part: all its parts,
+    // packed one behind another. Conditions: these bytes are in order, and at most the piece's.
     fn whole(
         &self,
         alloc: Global,
@@ -175,9 +156,20 @@ impl Cutting {
           pieces = self.now.begun ++ slice_range piece.now from to ∷ [];
         }) }
     {
-        let begun = packed(alloc, &self.begun)?;
-        let begun = begun.and_part(alloc, piece, from, to)?;
-        numbered(alloc, self.batches.len() as u64, begun)
+        let mut pieces = Pieces {
+            bytes: Piece::new(alloc),
+            ends: Vec::new(alloc),
+        };
+        for part in &self.begun {
+            pieces = pieces.and_part(part, 0, part.len() as usize)?;
+        }
+        pieces = pieces.and_part(piece, from, to)?;
+        // without spare room
+        pieces.bytes.bases.numbers.shrink_to_fit();
+        pieces.bytes.runs.shrink_to_fit();
+        pieces.ends.shrink_to_fit();
+        let number = self.batches.len() as u64;
+        Ok(Arc::new(alloc, Batch { number, pieces })?)
     }
 }
 
@@ -201,23 +193,4 @@ pub fn cut(
         cutting.push(alloc, piece)?;
     }
     cutting.finish(alloc)
-}
-
-// The pieces, kept as one behind another.
-fn packed(alloc: Global, pieces: &[Piece]) -> Result<Pieces, AllocError>
-    ensures { IfOk result (λ packed. packed ≡ pieces.now) }
-{
-    let mut packed = Pieces::new(alloc);
-    for piece in pieces {
-        packed = packed.and_part(alloc, piece, 0, piece.len() as usize)?;
-    }
-    Ok(packed)
-}
-
-// The batch with this number and these pieces, without spare room. Condition: there is a piece.
-fn numbered(alloc: Global, number: u64, pieces: Pieces) -> Result<Arc<Batch>, AllocError>
-    requires { 1 ≤ length pieces }
-    ensures { IfOk result (λ batch. batch.value ≡ record { number = number; pieces = pieces }) }
-{
-    Ok(Arc::new(alloc, Batch::new(number, pieces.fitted()))?)
 }

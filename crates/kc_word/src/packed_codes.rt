@@ -1,9 +1,9 @@
 //! Codes of bases packed into numbers of 64 bits, 32 in each.
-ghost use Rattle.std.specs.Prelude.{◌≡◌, ℕ, ◌+◌, ◌-◌, ◌%◌, ◌^◌, ◌<◌, ◌≤◌, ◌++◌, [], OnOk, length};
+ghost use Rattle.std.specs.Prelude.{◌≡◌, ℕ, ◌+◌, ◌-◌, ◌%◌, ◌^◌, ◌<◌, ◌≤◌, ◌++◌, OnOk, length};
 ghost use Rattle.std.specs.Prelude.{slice_index, slice_range};
 ghost use Rattle.kc_word.specs.Packed.{code_in, codes_in};
 
-use std::alloc::{AllocError, Global};
+use std::alloc::AllocError;
 use std::marker::Model;
 
 /// How many bases stand in a number of 64 bits.
@@ -13,8 +13,8 @@ pub(crate) const BASES: usize = 32;
 /// the last one are 0, so that equal lists have equal numbers.
 #[derive(Debug, Drop)]
 pub(crate) struct Packed {
-    numbers: Vec<u64>,
-    len: usize,
+    pub(crate) numbers: Vec<u64>,
+    pub(crate) len: usize,
 }
 
 impl Model for Packed {
@@ -29,42 +29,6 @@ impl Model for Packed {
 }
 
 impl Packed {
-    /// No codes.
-    pub(crate) fn new(alloc: Global) -> Packed
-        ensures { result ≡ [] }
-    {
-        Packed {
-            numbers: Vec::new(alloc),
-            len: 0,
-        }
-    }
-
-    /// No codes, to be kept in the room of a vector. Condition: the vector is empty.
-    pub(crate) fn in_room(numbers: Vec<u64>) -> Packed
-        requires { numbers.items ≡ [] }
-        ensures { result ≡ [] }
-    {
-        Packed { numbers, len: 0 }
-    }
-
-    /// The number of codes.
-    #[inline(always)]
-    pub(crate) fn len(&self) -> usize
-        ensures { result ≡ length self.now }
-    {
-        self.len
-    }
-
-    /// The code at index `i`. Condition: `i` is below the length.
-    #[inline(always)]
-    pub(crate) fn code(&self, i: usize) -> u64
-        requires { i < length self.now }
-        ensures value { result ≡ slice_index self.now i }
-        ensures below { result < 4 }
-    {
-        (self.numbers[i / BASES] >> (62 - 2 * (i % BASES))) & 3
-    }
-
     /// The 32 codes from index `at` on, or all that are left, in one number. Condition: `at` is below the length.
     #[inline(always)]
     pub(crate) fn window(&self, at: usize) -> u64
@@ -98,29 +62,17 @@ impl Packed {
         for j in 0..count.div_ceil(BASES) {
             let taken = j * BASES;
             let number = other.window(from + taken);
-            self.push_codes(number, (count - taken).min(BASES))?;
+            let more = (count - taken).min(BASES);
+            // as many codes as the last number has room for, and the others in a number of their own
+            let filled = more.min((BASES - self.len % BASES) % BASES);
+            if filled > 0 {
+                self.fill_number(number, filled);
+            }
+            if filled < more {
+                self.push_number(number << (2 * filled), more - filled)?;
+            }
         }
         Ok(())
-    }
-
-    /// Appends the first `count` codes of a number. Conditions: the count is 1 to 32, and the length stays below 2^64.
-    pub(crate) fn push_codes(&mut self, number: u64, count: usize) -> Result<(), AllocError>
-        requires some { 1 ≤ count }
-        requires most { count ≤ 32 }
-        requires fits { length self.old + count < 2 ^ 64 }
-        ensures { OnOk result (self.new ≡ self.old ++ codes_in number count) }
-    {
-        let used = self.len() % BASES;
-        if used == 0 {
-            return self.push_number(number, count);
-        }
-        let room = BASES - used;
-        if count <= room {
-            self.fill_number(number, count);
-            return Ok(());
-        }
-        self.fill_number(number, room);
-        self.push_number(number << (2 * room), count - room)
     }
 
     // Appends the first `count` codes of a number within the last number. Conditions: that one has a code, and room for
@@ -138,18 +90,6 @@ impl Packed {
         let last = self.len / BASES;
         self.numbers[last] |= front >> (2 * (self.len % BASES));
         self.len += count;
-    }
-
-    /// These codes, without the spare room of the vector.
-    pub(crate) fn fitted(self) -> Packed
-        ensures { result ≡ self }
-    {
-        let mut numbers = self.numbers;
-        numbers.shrink_to_fit();
-        Packed {
-            numbers,
-            len: self.len,
-        }
     }
 
     /// Appends the first `count` codes of a number, behind whole numbers. Conditions: the count is 1 to 32, the length

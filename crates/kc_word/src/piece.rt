@@ -1,17 +1,15 @@
 //! Reads cleaned into pieces.
 ghost use Rattle.std.specs.Prelude.{◌≡◌, ◌^◌, ◌<◌, ◌↔◌, ◌++◌, [], length, slice_index, slice_range, ◌≤◌, IfOk, IsTrue};
-ghost use Rattle.kc_kmer.specs.Occurrences.{position_count};
 ghost use Rattle.std.specs.Vec.{vec_capacity};
 ghost use Rattle.kc_word.specs.Cutting.{cleaned, is_piece_byte};
 ghost use Rattle.kc_word.specs.Packed.{number_count};
 
-use crate::codes::Codes;
 use crate::packed_codes::{BASES, Packed};
-use crate::runs::{Run, append_runs, clip_runs, is_in_runs};
+use crate::runs::{Run, is_in_runs, push_run};
 use crate::usable_codes::{block_of, mark_gaps};
 use kc_fastx::SeqRead;
+use kc_kmer::Rule;
 use kc_kmer::letter::base_of;
-use kc_kmer::{K, Rule};
 use std::alloc::{AllocError, Global};
 use std::marker::Model;
 
@@ -23,8 +21,8 @@ const UNUSABLE: u8 = b'N';
 /// pieces are kept alike.
 #[derive(Debug, Drop)]
 pub struct Piece {
-    bases: Packed,
-    runs: Vec<Run>,
+    pub(crate) bases: Packed,
+    pub(crate) runs: Vec<Run>,
 }
 
 impl Model for Piece {
@@ -44,7 +42,10 @@ impl Piece {
         ensures { result ≡ [] }
     {
         Piece {
-            bases: Packed::new(alloc),
+            bases: Packed {
+                numbers: Vec::new(alloc),
+                len: 0,
+            },
             runs: Vec::new(alloc),
         }
     }
@@ -53,7 +54,7 @@ impl Piece {
     pub fn len(&self) -> u64
         ensures { result ≡ length self.now }
     {
-        self.bases.len() as u64
+        self.bases.len as u64
     }
 
     /// Whether there is no byte.
@@ -73,31 +74,17 @@ impl Piece {
         if is_in_runs(&self.runs, at) {
             return UNUSABLE;
         }
-        base_of(self.bases.code(at))
-    }
-
-    /// How many positions the piece has: the words of k bases begin at 0 to n - k.
-    pub(crate) fn position_count(&self, k: K) -> usize
-        ensures value { result ≡ position_count k (length self.now) }
-        ensures fits { length self.now < 2 ^ 64 }
-    {
-        k.positions(self.len() as usize)
+        base_of((self.bases.numbers[at / BASES] >> (62 - 2 * (at % BASES))) & 3)
     }
 
     /// This piece, and behind it the bytes of another one from `from` to before `to`. Conditions: these are in order,
     /// and at most the other's length. Where the bytes would be 2^64 or more, which no memory holds, it is refused.
-    pub(crate) fn and_part(
-        self,
-        alloc: Global,
-        other: &Piece,
-        from: usize,
-        to: usize,
-    ) -> Result<Piece, AllocError>
+    pub(crate) fn and_part(self, other: &Piece, from: usize, to: usize) -> Result<Piece, AllocError>
         requires ordered { from ≤ to }
         requires within { to ≤ length other.now }
         ensures { IfOk result (λ more. more ≡ self ++ slice_range other.now from to) }
     {
-        let at = self.bases.len();
+        let at = self.bases.len;
         if to - from > usize::MAX - at {
             return Err(AllocError);
         }
@@ -105,42 +92,20 @@ impl Piece {
             mut bases,
             mut runs,
         } = self;
-        let clipped = clip_runs(alloc, &other.runs, from, to)?;
-        append_runs(&mut runs, at, &clipped)?;
         bases.push_part(&other.bases, from, to)?;
-        Ok(Piece { bases, runs })
-    }
-
-    /// The bytes from index `from` to before `to`, as a piece. Conditions: these are in order, and at most the length.
-    pub(crate) fn part(&self, alloc: Global, from: usize, to: usize) -> Result<Piece, AllocError>
-        requires ordered { from ≤ to }
-        requires within { to ≤ length self.now }
-        ensures { IfOk result (λ part. part ≡ slice_range self.now from to) }
-    {
-        Piece::new(alloc).and_part(alloc, self, from, to)
-    }
-
-    /// This piece, without the spare room of its vectors.
-    pub(crate) fn fitted(self) -> Piece
-        ensures { result ≡ self }
-    {
-        let Piece { bases, mut runs } = self;
-        runs.shrink_to_fit();
-        Piece {
-            bases: bases.fitted(),
-            runs,
+        let others = other.runs.as_slice();
+        for n in others.partition_point(|run| run.ends_by(from))..others.len() {
+            let run = others[n];
+            if run.start >= to {
+                break;
+            }
+            let start = run.start.max(from);
+            let end = run.start.saturating_add(run.length).min(to);
+            if start < end {
+                push_run(&mut runs, at + (start - from), end - start)?;
+            }
         }
-    }
-
-    /// The codes of the bytes from index `from` to before `to`. Conditions: these are in order, and at most the length.
-    #[inline(always)]
-    pub(crate) fn codes(&self, from: usize, to: usize) -> Codes<'_>
-        requires ordered { from ≤ to }
-        requires within { to ≤ length self.now }
-        ensures place { result ≡ record { bytes = slice_range self.now from to; taken = 0 } }
-        ensures fits { length self.now < 2 ^ 64 }
-    {
-        Codes::new(&self.bases, &self.runs, from, to)
+        Ok(Piece { bases, runs })
     }
 }
 
@@ -171,8 +136,8 @@ pub fn clean(alloc: Global, read: &SeqRead, rule: &Rule) -> Result<Piece, AllocE
     ensures long { IfOk result (λ piece. length piece ≡ length read.now.bases) }
 {
     let count = read.bases().len();
-    let room = room_for_bases(alloc, read)?;
-    let mut bases = Packed::in_room(room);
+    let numbers = room_for_bases(alloc, read)?;
+    let mut bases = Packed { numbers, len: 0 };
     let mut runs = Vec::new(alloc);
     for j in 0..count.div_ceil(BASES) {
         let from = j * BASES;

@@ -1,20 +1,22 @@
 //! Several pieces kept as one, each behind the one before, with the places at which they end.
-ghost use Rattle.std.specs.Prelude.{◌≡◌, ◌^◌, ◌<◌, ◌≤◌, ◌++◌, ◌∷◌, ◌==◌, [], length, slice_index_or, slice_range, IfOk};
-ghost use Rattle.kc_word.specs.Cutting.{position_total};
-ghost use Rattle.kc_word.specs.PackedBatch.{start_of};
+ghost use Rattle.std.specs.Prelude.{◌≡◌, ◌<◌, ◌≤◌, ◌++◌, ◌∷◌, ◌==◌, [], None, length};
+ghost use Rattle.std.specs.Prelude.{slice_index_or, slice_range, IfOk};
+ghost use Rattle.kc_fastx.specs.Reads.{read_of};
+ghost use Rattle.kc_kmer.specs.Occurrences.{words_in};
+ghost use Rattle.kc_word.specs.Walking.{words_left};
 
-use crate::codes::Codes;
 use crate::piece::Piece;
 use crate::piece_views::PieceView;
-use kc_kmer::K;
-use std::alloc::{AllocError, Global};
+use crate::roll::Roll;
+use kc_kmer::Rule;
+use std::alloc::AllocError;
 use std::marker::Model;
 
 /// Pieces, in order. They are kept as one piece that has the bytes of all of them, and where each of them ends in it.
 #[derive(Debug, Drop)]
 pub(crate) struct Pieces {
-    bytes: Piece,
-    ends: Vec<usize>,
+    pub(crate) bytes: Piece,
+    pub(crate) ends: Vec<usize>,
 }
 
 impl Model for Pieces {
@@ -29,16 +31,6 @@ impl Model for Pieces {
 }
 
 impl Pieces {
-    /// No pieces.
-    pub(crate) fn new(alloc: Global) -> Pieces
-        ensures { result ≡ [] }
-    {
-        Pieces {
-            bytes: Piece::new(alloc),
-            ends: Vec::new(alloc),
-        }
-    }
-
     /// How many there are.
     #[inline(always)]
     pub(crate) fn len(&self) -> usize
@@ -47,14 +39,15 @@ impl Pieces {
         self.ends.len()
     }
 
-    /// The codes of piece `i`. Condition: there is such a piece.
+    /// The words of piece `i`, to be taken. Condition: there is such a piece.
     #[inline(always)]
-    pub(crate) fn codes(&self, i: usize) -> Codes<'_>
+    pub(crate) fn roll(&self, i: usize, rule: Rule) -> Roll<'_>
         requires { i < length self.now }
-        ensures place { result ≡ record { bytes = slice_index_or self.now i []; taken = 0 } }
-        ensures fits { length (slice_index_or self.now i []) < 2 ^ 64 }
+        ensures place { result ≡ record { rule = rule; bytes = slice_index_or self.now i []; taken = 0 } }
+        ensures words { words_left result ≡ words_in rule (read_of (slice_index_or self.now i []) None) }
     {
-        self.bytes.codes(start_of(&self.ends, i), self.ends[i])
+        let start = if i == 0 { 0 } else { self.ends[i - 1] };
+        Roll::new(&self.bytes, start, self.ends[i], rule)
     }
 
     /// Piece `i`. Condition: there is such a piece.
@@ -62,25 +55,14 @@ impl Pieces {
         requires { i < length self.now }
         ensures { result ≡ slice_index_or self.now i [] }
     {
-        PieceView::new(&self.bytes, start_of(&self.ends, i), self.ends[i])
-    }
-
-    /// How many positions the pieces have.
-    pub(crate) fn position_count(&self, k: K) -> usize
-        ensures { result ≡ position_total k self.now }
-    {
-        let mut count = 0;
-        for i in 0..self.ends.len() {
-            count += k.positions(self.ends[i] - start_of(&self.ends, i));
-        }
-        count
+        let start = if i == 0 { 0 } else { self.ends[i - 1] };
+        PieceView::new(&self.bytes, start, self.ends[i])
     }
 
     /// These pieces, and behind them, as one more, the bytes of a piece from `from` to before `to`. Conditions: these
     /// are in order, and at most the piece's length.
     pub(crate) fn and_part(
         self,
-        alloc: Global,
         piece: &Piece,
         from: usize,
         to: usize,
@@ -89,20 +71,10 @@ impl Pieces {
         requires within { to ≤ length piece.now }
         ensures { IfOk result (λ more. more ≡ self ++ slice_range piece.now from to ∷ []) }
     {
-        let bytes = self.bytes.and_part(alloc, piece, from, to)?;
+        let bytes = self.bytes.and_part(piece, from, to)?;
         let mut ends = self.ends;
         ends.push(bytes.len() as usize)?;
         Ok(Pieces { bytes, ends })
-    }
-
-    /// These pieces, without the spare room of their vectors.
-    pub(crate) fn fitted(self) -> Pieces
-        ensures { result ≡ self }
-    {
-        let bytes = self.bytes.fitted();
-        let mut ends = self.ends;
-        ends.shrink_to_fit();
-        Pieces { bytes, ends }
     }
 }
 
@@ -127,13 +99,4 @@ impl Eq for Pieces {
     ghost use Rattle.std.specs.Cmp.Lexicographic.{lists_equiv, nat_list_eq_equiv};
 
     ghost laws = { lists_equiv nat_list_eq_equiv };
-}
-
-// where piece `i` begins
-#[inline(always)]
-fn start_of(ends: &[usize], i: usize) -> usize
-    requires { i < length ends.now }
-    ensures { result ≡ start_of ends.now i }
-{
-    if i == 0 { 0 } else { ends[i - 1] }
 }

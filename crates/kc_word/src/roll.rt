@@ -1,5 +1,5 @@
 //! The words of pieces, rolled along their bytes.
-ghost use Rattle.std.specs.Prelude.{◌≡◌, ◌^◌, ◌<◌, ◌≤◌, ◌++◌, ◌+◌, ◌∷◌, nat_le, [], None, length};
+ghost use Rattle.std.specs.Prelude.{◌≡◌, ◌^◌, ◌<◌, ◌≤◌, ◌++◌, ◌+◌, ◌∷◌, [], None, length, slice_range};
 ghost use Rattle.std.specs.Prelude.{IfSome, IfNone, IfOk, OnOk, All};
 ghost use Rattle.std.specs.Vec.{vec_capacity};
 ghost use Rattle.kc_fastx.specs.Reads.{read_of};
@@ -9,8 +9,8 @@ ghost use Rattle.kc_word.specs.Walking.{words_left};
 
 use crate::batch::Batch;
 use crate::codes::Codes;
+use crate::packed_codes::BASES;
 use crate::piece::{Piece, clean};
-use crate::pieces::Pieces;
 use kc_fastx::SeqRead;
 use kc_kmer::letter::NO_BASE;
 use kc_kmer::{K, Rule};
@@ -26,7 +26,7 @@ pub fn read_words(alloc: Global, read: &SeqRead, rule: &Rule) -> Result<Vec<u64>
     let piece = clean(alloc, read, rule)?;
     let count = piece.len() as usize;
     let mut words = room_for_piece(alloc, &piece, rule.k())?;
-    push_words(piece.codes(0, count), *rule, &mut words)?;
+    push_words(Roll::new(&piece, 0, count, *rule), &mut words)?;
     Ok(words)
 }
 
@@ -37,10 +37,12 @@ pub fn words(alloc: Global, batch: &Batch, rule: &Rule) -> Result<Vec<u64>, Allo
     ensures below { IfOk result (λ words. All (λ word. word < 4 ^ rule.now.k) words.items) }
     ensures short { IfOk result (λ words. length words.items ≤ position_total rule.now.k batch.now.pieces) }
 {
-    let pieces = batch.packed();
-    let mut words = room_for_words(alloc, pieces, rule.k())?;
-    for i in 0..pieces.len() {
-        push_words(pieces.codes(i), *rule, &mut words)?;
+    let pieces = &batch.pieces;
+    let mut words = room_for_words(alloc, batch, rule.k())?;
+    let mut start = 0;
+    for end in &pieces.ends {
+        push_words(Roll::new(&pieces.bytes, start, *end, *rule), &mut words)?;
+        start = *end;
     }
     Ok(words)
 }
@@ -50,27 +52,23 @@ fn room_for_piece(alloc: Global, piece: &Piece, k: K) -> Result<Vec<u64>, AllocE
     ensures empty { IfOk result (λ room. room.items ≡ []) }
     ensures bounded { IfOk result (λ room. vec_capacity room ≤ position_count k (length piece.now)) }
 {
-    Vec::with_capacity(alloc, piece.position_count(k))
+    Vec::with_capacity(alloc, k.positions(piece.len() as usize))
 }
 
-// No words yet, with room for as many as the pieces have positions.
-fn room_for_words(alloc: Global, pieces: &Pieces, k: K) -> Result<Vec<u64>, AllocError>
+// No words yet, with room for as many as the batch has positions.
+fn room_for_words(alloc: Global, batch: &Batch, k: K) -> Result<Vec<u64>, AllocError>
     ensures empty { IfOk result (λ room. room.items ≡ []) }
-    ensures bounded { IfOk result (λ room. vec_capacity room ≤ position_total k pieces.now) }
+    ensures bounded { IfOk result (λ room. vec_capacity room ≤ position_total k batch.now.pieces) }
 {
-    Vec::with_capacity(alloc, pieces.position_count(k))
+    Vec::with_capacity(alloc, batch.position_count(k))
 }
 
-// Appends the words of a piece. Conditions: none of its bytes was taken, and they are fewer than 2^64.
-fn push_words(codes: Codes<'_>, rule: Rule, words: &mut Vec<u64>) -> Result<(), AllocError>
-    requires front { codes.taken ≡ 0 }
-    requires fits { length codes.bytes < 2 ^ 64 }
-    ensures words { OnOk result (words.new.items ≡ words.old.items ++ words_in rule (read_of codes.entry.bytes None)) }
-    ensures some { 1 ≤ rule.k }
+// Appends the words that are left.
+fn push_words(roll: Roll<'_>, words: &mut Vec<u64>) -> Result<(), AllocError>
+    ensures { OnOk result (words.new.items ≡ words.old.items ++ words_left roll.entry) }
 {
-    let _some = rule.k().get();
-    let mut roll = Roll::new(codes, rule);
-    while !roll.is_done() {
+    let mut roll = roll;
+    while !roll.codes.is_done() {
         if let Some(word) = roll.step() {
             words.push(word)?;
         }
@@ -102,16 +100,28 @@ impl<'a> Model for Roll<'a> {
 }
 
 impl<'a> Roll<'a> {
-    /// At the front of a piece. Conditions: none of its bytes was taken, and they are fewer than 2^64.
+    /// At the front of the bytes of the piece from index `from` to before `to`. Conditions: these are in order, and at
+    /// most the piece's length.
     #[inline(always)]
-    pub(crate) fn new(codes: Codes<'a>, rule: Rule) -> Roll<'a>
-        requires front { codes.taken ≡ 0 }
-        requires fits { length codes.bytes < 2 ^ 64 }
-        ensures place { result ≡ record { rule = rule; bytes = codes.entry.bytes; taken = 0 } }
-        ensures words { words_left result ≡ words_in rule (read_of codes.entry.bytes None) }
+    pub(crate) fn new(piece: &'a Piece, from: usize, to: usize, rule: Rule) -> Roll<'a>
+        requires ordered { from ≤ to }
+        requires within { to ≤ length piece.now }
+        ensures place { result ≡ record { rule = rule; bytes = slice_range piece.now from to; taken = 0 } }
+        ensures words { words_left result ≡ words_in rule (read_of (slice_range piece.now from to) None) }
+        ensures some { 1 ≤ rule.k }
     {
         rule.has_no_list();
         let k = rule.k().get();
+        let _count = piece.len();
+        let runs = piece.runs.as_slice();
+        let codes = Codes {
+            bases: &piece.bases,
+            runs,
+            next: runs.partition_point(|run| run.ends_by(from)),
+            from,
+            at: from,
+            to,
+        };
         Roll {
             codes,
             rule,
@@ -126,14 +136,6 @@ impl<'a> Roll<'a> {
         ensures { result ≡ self.now.rule }
     {
         self.rule
-    }
-
-    /// Whether all bytes were taken.
-    #[inline(always)]
-    pub(crate) fn is_done(&self) -> bool
-        ensures { result ≡ nat_le (length self.now.bytes) self.now.taken }
-    {
-        self.codes.is_done()
     }
 
     /// Takes the next byte, and answers the word that ends in it, if one does. Condition: not all bytes were taken.
@@ -175,7 +177,7 @@ impl<'a> Roll<'a> {
         ensures words { IfOk result (λ next.
             words.new.items ++ words_left next ≡ words.old.items ++ words_left self.entry) }
     {
-        if self.is_done() {
+        if self.codes.is_done() {
             return Ok(self);
         }
         let rule = self.rule;
@@ -186,9 +188,16 @@ impl<'a> Roll<'a> {
         let mut backward = self.backward;
         let mut run = self.run;
         let mut codes = self.codes;
-        let stretch = codes.take_bases();
-        for i in 0..stretch.count {
-            let digit = (stretch.number >> (62 - 2 * i)) & 3;
+        let at = codes.at;
+        let mut count = (codes.to - at).min(BASES);
+        // none where the next run has begun
+        if codes.next < codes.runs.len() {
+            count = count.min(codes.runs[codes.next].start.saturating_sub(at));
+        }
+        let number = codes.bases.window(at);
+        codes.at = at + count;
+        for i in 0..count {
+            let digit = (number >> (62 - 2 * i)) & 3;
             forward = (forward * 4 + digit) & mask;
             backward = (backward >> 2) + ((3 - digit) << (2 * (k - 1)));
             run += 1;
@@ -212,7 +221,7 @@ impl<'a> Roll<'a> {
         ensures word { IfSome result (λ word. words_left self.old ≡ word ∷ words_left self.new) }
         ensures none { IfNone result ((words_left self.old ≡ []) × (words_left self.new ≡ [])) }
     {
-        while !self.is_done() {
+        while !self.codes.is_done() {
             if let Some(word) = self.step() {
                 return Some(word);
             }

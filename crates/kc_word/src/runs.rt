@@ -1,15 +1,14 @@
 //! Runs of N in a piece.
-ghost use Rattle.std.specs.Prelude.{◌≡◌, ℕ, ◌+◌, ◌^◌, ◌<◌, ◌≤◌, ◌≢◌, length, nat_le, OnOk, OnErr, IfOk};
-ghost use Rattle.kc_word.specs.Runs.{AreRuns, AreExtended, AreGrown, AreJoined, ArePassed, AreFree};
-ghost use Rattle.kc_word.specs.Runs.{AreClipped, is_in_run, is_in_runs};
+ghost use Rattle.std.specs.Prelude.{◌≡◌, ◌+◌, ◌^◌, ◌<◌, ◌≤◌, nat_le, OnOk, OnErr};
+ghost use Rattle.kc_word.specs.Runs.{AreRuns, AreExtended, AreGrown, is_in_run, is_in_runs};
 
-use std::alloc::{AllocError, Global};
+use std::alloc::AllocError;
 
 /// A run of N: where it starts, and how long it is.
 #[derive(Clone, Copy, PartialEq, Eq, Debug)]
 pub(crate) struct Run {
-    start: usize,
-    length: usize,
+    pub(crate) start: usize,
+    pub(crate) length: usize,
 }
 
 impl Run {
@@ -30,8 +29,9 @@ impl Run {
         self.start <= i && i - self.start < self.length
     }
 
-    // whether the run ends at the index or before it
-    fn ends_by(self, i: usize) -> bool
+    /// Whether the run ends at the index or before it.
+    #[inline(always)]
+    pub(crate) fn ends_by(self, i: usize) -> bool
         ensures { result ≡ nat_le (self.start + self.length) i }
     {
         self.start <= i && i - self.start >= self.length
@@ -49,9 +49,9 @@ pub(crate) fn extend_runs(runs: &mut Vec<Run>, at: usize) -> Result<(), AllocErr
     push_run(runs, at, 1)
 }
 
-// Takes `count` indices from `at` on, behind all that the runs have, into the last run where that one ends there, and
-// else into a new one.
-fn push_run(runs: &mut Vec<Run>, at: usize, count: usize) -> Result<(), AllocError>
+/// Takes `count` indices from `at` on, behind all that the runs have, into the last run where that one ends there, and
+/// else into a new one.
+pub(crate) fn push_run(runs: &mut Vec<Run>, at: usize, count: usize) -> Result<(), AllocError>
     requires rising { AreRuns 0 at runs.old.items }
     requires some { 1 ≤ count }
     requires fits { at + count < 2 ^ 64 }
@@ -70,48 +70,6 @@ fn push_run(runs: &mut Vec<Run>, at: usize, count: usize) -> Result<(), AllocErr
     Ok(())
 }
 
-/// Appends runs, counted from the index `at`, behind all that the first ones have: the runs of two pieces of which the
-/// second one stands behind the first.
-pub(crate) fn append_runs(runs: &mut Vec<Run>, at: usize, others: &[Run]) -> Result<(), AllocError>
-    requires rising { AreRuns 0 at runs.old.items }
-    requires fits { (end : ℕ) × AreRuns 0 end others.now × (at + end < 2 ^ 64) }
-    ensures { OnOk result (AreJoined runs.old.items others.now runs.new.items at) }
-{
-    for other in others {
-        push_run(runs, at + other.start, other.length)?;
-    }
-    Ok(())
-}
-
-/// What of the runs lies from `from` to before `to`, counted from `from`.
-pub(crate) fn clip_runs(
-    alloc: Global,
-    runs: &[Run],
-    from: usize,
-    to: usize,
-) -> Result<Vec<Run>, AllocError>
-    requires { (end : ℕ) × AreRuns 0 end runs.now }
-    ensures { IfOk result (λ clipped. AreClipped runs.now clipped.items from to) }
-{
-    let mut clipped = Vec::new(alloc);
-    let first = runs_before(runs, from);
-    for n in first..runs.len() {
-        let run = runs[n];
-        if run.start >= to {
-            break;
-        }
-        let start = run.start.max(from);
-        let end = run.start.saturating_add(run.length).min(to);
-        if start < end {
-            clipped.push(Run {
-                start: start - from,
-                length: end - start,
-            })?;
-        }
-    }
-    Ok(clipped)
-}
-
 /// Whether the index lies in one of the runs.
 pub(crate) fn is_in_runs(runs: &[Run], i: usize) -> bool
     ensures { result ≡ is_in_runs runs.now i }
@@ -121,64 +79,5 @@ pub(crate) fn is_in_runs(runs: &[Run], i: usize) -> bool
             return true;
         }
     }
-    false
-}
-
-/// How many runs end at the index `at` or before it.
-pub(crate) fn runs_before(runs: &[Run], at: usize) -> usize
-    requires { (to : ℕ) × AreRuns 0 to runs.now }
-    ensures { ArePassed runs.now result at }
-{
-    let mut low = 0;
-    let mut high = runs.len();
-    while low < high {
-        let middle = low + (high - low) / 2;
-        if runs[middle].ends_by(at) {
-            low = middle + 1;
-        } else {
-            high = middle;
-        }
-    }
-    low
-}
-
-/// How many of the `most` indices from `at` on come before the first one that lies in a run, or fewer where the run
-/// with number `next`, as in `is_next_in_runs`, has already begun.
-#[inline(always)]
-pub(crate) fn free_of_runs(runs: &[Run], next: usize, at: usize, most: usize) -> usize
-    requires { ArePassed runs.now next at }
-    ensures most { result ≤ most }
-    ensures free { AreFree runs.now next at result }
-{
-    if next == runs.len() {
-        return most;
-    }
-    let start = runs[next].start;
-    if start <= at {
-        return 0;
-    }
-    most.min(start - at)
-}
-
-/// Whether the index `at` lies in a run, for callers who ask index by index: `next` is the number of the first run that
-/// ends behind the index before, and then of the first one that ends behind this one.
-#[inline(always)]
-pub(crate) fn is_next_in_runs(runs: &[Run], next: &mut usize, at: usize) -> bool
-    requires passed { ArePassed runs.now next.old at }
-    requires fits { at + 1 < 2 ^ 64 }
-    ensures value { result ≡ is_in_runs runs.now at }
-    ensures passed { ArePassed runs.now next.new (at + 1) }
-{
-    if *next == runs.len() {
-        return false;
-    }
-    let run = runs[*next];
-    if run.start > at {
-        return false;
-    }
-    if at - run.start < run.length {
-        return true;
-    }
-    *next += 1;
     false
 }

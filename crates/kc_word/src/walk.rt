@@ -34,7 +34,7 @@ impl<'a> Walk<'a> {
         ensures { result ≡ words_of rule (as_reads pieces.now) }
     {
         Walk {
-            roll: Roll::new(pieces.codes(0), rule),
+            roll: pieces.roll(0, rule),
             pieces,
             next: 1,
         }
@@ -59,7 +59,7 @@ impl<'a> Iterator for Walk<'a> {
             if self.next >= self.pieces.len() {
                 return None;
             }
-            self.roll = Roll::new(self.pieces.codes(self.next), self.roll.rule());
+            self.roll = self.pieces.roll(self.next, self.roll.rule());
             self.next += 1;
         }
     }

@@ -7,19 +7,18 @@ use std::{env, io};
 
 fn main(rt: HostRuntime) -> ExitCode {
     let errors = rt.stderr();
+    let arguments = match env::args(&rt) {
+        Ok(arguments) => arguments.collect(rt.alloc()).map_err(io::Error::from),
+        Err(error) => Err(error),
+    };
     let status = kc_tool::program_showing(
         &rt,
         rt.alloc(),
-        arguments(&rt),
+        arguments,
         rt.stdin(),
         rt.stdout(),
         errors,
         &ProgressLine::new(&rt, &errors),
     );
     ExitCode::from(status)
-}
-
-// The arguments, as std gives them.
-fn arguments(rt: &HostRuntime) -> io::Result<Vec<String>> {
-    Ok(env::args(rt)?.collect(rt.alloc())?)
 }

@@ -21,6 +21,6 @@ bounds-sizes-stripe c = stripe-below_64 c.args.stripe_bits c.loop-stripe.stripe 
 pub loop-stripe-preserved : goal.loop-stripe-preserved
 loop-stripe-preserved c = record {
   empty = empty-more c.args.stripe_bits c.loop-stripe.stripe _ _ _ c.in_ok-push.ensures.items c.in_ok-with_capacity.ensures.items c.loop-stripe.invariant.empty;
-  room = room-more c.args.stripe_bits c.loop-stripe.stripe c.args.codes.now _ _ _ c.in_ok-push.ensures.items
+  room = room-more c.args.stripe_bits c.loop-stripe.stripe c.args.hash_values.now _ _ _ c.in_ok-push.ensures.items
       (c.in_ok-with_capacity.ensures.exact ∙ c.part_sizes-sizes.ensures c.loop-stripe.stripe) c.loop-stripe.invariant.room;
 }

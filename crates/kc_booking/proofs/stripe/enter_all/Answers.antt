@@ -1,17 +1,36 @@
-use Rattle.std.proofs.Common.{◌≡◌, ◌∙◌, ◌++◌, List, ap, arith, length, nat_eq, subst, sym}
+use Rattle.std.proofs.Common.{◌≡◌, ◌∙◌, ◌++◌, ◌∷◌, [], List, ap, append_assoc, append-nil, arith, length, nat_eq, subst, sym, take}
 use Rattle.std.proofs.lemmas.List.{map-append}
 use Rattle.std.specs.HashSet.{contains}
 use Rattle.kc_word.specs.Cutting.{NumberedPieces}
 use Rattle.kc_word.specs.Shared.{values}
 use Rattle.kc_booking.specs.Stripe.{KnowsNumbers}
-use Rattle.kc_booking.proofs.RoundLemmas.{length-values}
+use Rattle.kc_booking.proofs.RoundLemmas.{IsSharedAt, length-values, values-more, values-all, known-then}
 use Rattle.kc_booking.proofs.stripe.enter_all.Goals as goal
 
-pub remember-requires : goal.remember-requires
-remember-requires c =
+pub loop-batch-init : goal.loop-batch-init
+loop-batch-init c =
     let asked : length c.in_ok-more.more.items ≡ length c.args.batches.now =
     sym (length-values c.in_ok-more.more.items) ∙ ap length c.in_ok-more.ensures ∙ length-values c.args.batches.now in
-    omega (arith, asked, c.len.ensures, c.in_ok-reserve.ensures.ok)
+    record {
+      room = omega (arith, asked, c.len.ensures, c.in_ok-reserve.ensures.ok);
+      known = subst (KnowsNumbers (contains nat_eq c.reserve.new.self)) (sym (append-nil (values c.args.journal.now.items)))
+          (λ n. c.in_ok-reserve.ensures.keys.2 n ∙ c.requires n);
+    }
+
+pub loop-batch-preserved : goal.loop-batch-preserved
+loop-batch-preserved c =
+    let at : IsSharedAt c.args.batches.now c.loop-batch.batch-index c.batch-item.result = record { within = c.loop-batch-test.true; is = c.batch-item.is } in
+    let number : c.number.result ≡ c.batch-item.result.value.number = c.number.ensures ∙ ap (λ (b : NumberedPieces). b.number) c.deref.ensures in
+    let journal : List NumberedPieces = values c.args.journal.now.items in
+    let front : List NumberedPieces = take c.loop-batch.batch-index (values c.args.batches.now) in
+    let batch : NumberedPieces = c.batch-item.result.value in
+    record {
+      room = omega (arith, c.loop-batch.invariant.room, c.in-Ok.ensures.spare);
+      known = subst (λ (more : List NumberedPieces). KnowsNumbers (contains nat_eq c.insert.new.self) (journal ++ more)) (sym (values-more at))
+          (subst (KnowsNumbers (contains nat_eq c.insert.new.self)) (append_assoc journal front (batch ∷ []))
+          (known-then (journal ++ front) batch c.number.result (contains nat_eq c.loop-batch.booked) (contains nat_eq c.insert.new.self)
+          c.loop-batch.invariant.known number c.in-Ok.ensures.updates.0));
+    }
 
 pub returns-clause-entered : goal.returns-clause-entered
 returns-clause-entered c =
@@ -20,8 +39,10 @@ returns-clause-entered c =
 
 pub returns-clause-known : goal.returns-clause-known
 returns-clause-known c =
-    let journal : values c.append.new.self.items ≡ values c.args.journal.now.items ++ values c.args.batches.now =
+    let old : List NumberedPieces = values c.args.journal.now.items in
+    let journal : values c.append.new.self.items ≡ old ++ values c.args.batches.now =
     ap values c.in_ok-append.ensures.items ∙ map-append _ c.args.journal.now.items c.in_ok-more.more.items
-    ∙ ap (λ (more : List NumberedPieces). values c.args.journal.now.items ++ more) c.in_ok-more.ensures in
-    subst (KnowsNumbers (contains nat_eq c.remember.new.booked)) (sym journal)
-    (c.remember.ensures (values c.args.journal.now.items) (λ n. c.in_ok-reserve.ensures.keys.2 n ∙ c.requires n))
+    ∙ ap (λ (more : List NumberedPieces). old ++ more) c.in_ok-more.ensures in
+    subst (KnowsNumbers (contains nat_eq c.loop-batch.booked))
+    (ap (λ (more : List NumberedPieces). old ++ more) (values-all c.args.batches.now c.loop-batch.batch-index c.loop-batch-test.false) ∙ sym journal)
+    c.loop-batch.invariant.known

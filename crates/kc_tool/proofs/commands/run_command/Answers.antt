@@ -22,7 +22,7 @@ answer-outcome-requires-clause-files g c κs within =
 pub returns-in-None : goal.returns-in-None
 returns-in-None g c =
     let named = ap (map (λ (name : Bor (List ℕ)). name.now)) c.deref.ensures.value ∙ c.in_ok-names.ensures in
-    let unnamed = rw c.in-None.is at c.output_name.ensures in
+    let unnamed = rw c.in-None.is at c.text_of.ensures in
     let answer = rw c.deref_mut.ensures.value at c.answer-outcome.ensures in
     let sources = c.in_ok-sources.sources in
     let whole = lent_back c.answer-outcome.new.files sources.items sources.len answer.names sources.ok.0 in
@@ -40,6 +40,6 @@ answer_into-requires-clause-files g c κs within =
 pub returns : goal.returns
 returns g c =
     let named = ap (map (λ (name : Bor (List ℕ)). name.now)) c.deref.ensures.value ∙ c.in_ok-names.ensures in
-    let output = rw c.in-Some.is at c.output_name.ensures in
+    let output = rw c.in-Some.is at c.text_of.ensures in
     command_ends c.args.verb (rows_of (found_of c.args.matches.now)) c.in_ok-task.task {output = Some c.in-Some.name.now} c.in_ok-task.ensures.asked c.in_ok-task.ensures.lawful named (sym output)
     (inl (_, c.in_ok-sources.sources.items, c.in_ok-sources.ensures.opened, (refl, c.answer_into.ensures)))

@@ -1,15 +1,41 @@
-use Rattle.std.proofs.Common.{◌∙◌, ap, Bool, Some}
+use Rattle.std.proofs.Common.{◌∙◌, ap, sym, refl}
+use Rattle.std.proofs.lemmas.Result.{IfErr-weaker, IfOk-weaker}
+use Rattle.kc_io.specs.Sources.{Seen}
 use Rattle.kc_tool.specs.Tallies.{words_of}
-use Rattle.kc_tool.proofs.SourcesLemmas.{enough_as, known_as, listed_or_not, tally_known}
+use Rattle.kc_tool.proofs.CommandsLemmas.{nothing_named, something_named}
+use Rattle.kc_tool.proofs.SourcesLemmas.{none_read, refused_alone, tallied_alone}
 use Rattle.kc_tool.proofs.counted_sources.count_sources.Goals as goal
 
-pub returns-clause-tally : goal.returns-clause-tally
-returns-clause-tally g c =
-    known_as c.args.options.now c.batches_for-settings.result c.batches_for-settings.ensures.others (words_of c.args.list) c.in_ok-counted.counted (Some c.origin_of.result)
-    (tally_known c.batches_for-settings.result c.in_ok-cutting.ensures.cut (words_of c.args.list) c.in_ok-counted.counted c.origin_of.result
-    c.in_ok-counted.ensures.tally (c.origin_of.ensures.told ∙ ap (λ (listed : Bool). record { floor = c.batches_for-settings.result.floor; reads = c.in_ok-cutting.count; listed = listed })
-    (c.is_some-is_listed.ensures ∙ listed_or_not c.args.list)))
+pub returns-then-not-is_empty-clause-tally : goal.returns-then-not-is_empty-clause-tally
+returns-then-not-is_empty-clause-tally g c =
+    let empty = ap (λ (s : Seen). s.left) c.new-nothing.ensures in
+    IfOk-weaker c.count_given-counted.result _ _ (λ table h. record {
+      tally = h.tally;
+      knows = h.knows;
+      holds = tallied_alone g.R.Source.seen c.new-nothing.result c.count_given-counted.new.input empty c.args.sources.now c.count_given-counted.new.files
+          c.count_given-counted.ensures.names c.args.options.now (words_of c.args.list) (h.tally, table.1) h.holds;
+    }) c.count_given-counted.ensures.tally
 
-pub returns-clause-enough : goal.returns-clause-enough
-returns-clause-enough g c =
-    enough_as c.args.options.now c.batches_for-settings.result c.batches_for-settings.ensures.others c.in_ok-counted.counted c.in_ok-counted.ensures.enough
+pub returns-then-not-is_empty-clause-fault : goal.returns-then-not-is_empty-clause-fault
+returns-then-not-is_empty-clause-fault g c =
+    let empty = ap (λ (s : Seen). s.left) c.new-nothing.ensures in
+    let some = something_named c.args.sources.now _ (sym c.is_empty-is_empty.ensures ∙ c.if-not-is_empty.true) refl in
+    IfErr-weaker c.count_given-counted.result _ _ (λ fault h.
+    refused_alone g.R.Source.seen c.new-nothing.result c.count_given-counted.new.input empty c.args.sources.now c.count_given-counted.new.files
+    some c.count_given-counted.ensures.names fault h) c.count_given-counted.ensures.fault
+
+pub returns-in-Ok-clause-tally : goal.returns-in-Ok-clause-tally
+returns-in-Ok-clause-tally g c =
+    let empty = ap (λ (s : Seen). s.left) c.new-nothing.ensures in
+    let known = c.in-Ok.ensures.tally in
+    record {
+      tally = known.tally;
+      knows = known.knows;
+      holds = tallied_alone g.R.Source.seen c.new-nothing.result c.count_given-counted.new.input empty c.args.sources.now c.count_given-counted.new.files
+          c.count_given-counted.ensures.names c.args.options.now (words_of c.args.list) (known.tally, c.in-Ok.counted.1) known.holds;
+    }
+
+pub returns-in-Err-Run-clause-fault : goal.returns-in-Err-Run-clause-fault
+returns-in-Err-Run-clause-fault g c =
+    let none = nothing_named c.args.sources.now _ (sym c.is_empty-is_empty.ensures ∙ c.if-not-is_empty.false) refl in
+    none_read g.R.Source.seen c.args.sources.now c.count_given-counted.new.files none c.count_given-counted.ensures.names

@@ -1,6 +1,8 @@
 use Rattle.std.proofs.Common.{◌≡◌, ◌+◌, ◌*◌, ◌^◌, ◌<◌, min, length, List, ap, sym, ◌∙◌, subst, arith, rules}
 use Rattle.kc_word.specs.declared.runs.Run.{Run}
 use Rattle.kc_word.specs.UsableCodes.{AreGaps}
+use Rattle.kc_word.specs.Packed.{codes_of}
+use Rattle.kc_word.proofs.PackedLemmas.{codes_of-none}
 use Rattle.kc_word.proofs.Cleaning.{length-cleaned}
 use Rattle.kc_word.proofs.UsableLemmas.{AreUsableCodes, usable-none, length-usable, codes-block, gaps-block, usable-all}
 use Rattle.kc_word.proofs.piece.clean.Goals as goal
@@ -9,8 +11,8 @@ use Rattle.kc_word.proofs.piece.clean.Goals.{then-block+in_ok-mark_gaps, else-bl
 pub loop-j-init : goal.loop-j-init
 loop-j-init c =
     let none : 0 ≡ min 0 (length c.bases-count.result.now) = omega arith in
-    subst (λ n. AreUsableCodes c.args.rule.now c.args.read.now n c.in_room-bases.result c.new-runs.result.items) none
-    (usable-none c.args.rule.now c.args.read.now c.in_room-bases.result c.new-runs.result.items c.in_room-bases.ensures c.new-runs.ensures.items)
+    subst (λ n. AreUsableCodes c.args.rule.now c.args.read.now n (codes_of c.in_ok-numbers.numbers.items 0) c.new-runs.result.items) none
+    (usable-none c.args.rule.now c.args.read.now (codes_of c.in_ok-numbers.numbers.items 0) c.new-runs.result.items (codes_of-none c.in_ok-numbers.numbers.items) c.new-runs.ensures.items)
 
 pub push_number-requires-clause-whole : goal.push_number-requires-clause-whole
 push_number-requires-clause-whole c =

@@ -1,4 +1,4 @@
-use Rattle.kc_booking.proofs.Codes.{word-fits, high-bits}
+use Rattle.kc_booking.proofs.HashValues.{word-fits, high-bits}
 use Rattle.kc_booking.proofs.setup.Setup.key_of.Goals as goal
 
 pub forward-requires : goal.forward-requires

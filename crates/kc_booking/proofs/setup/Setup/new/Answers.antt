@@ -1,5 +1,5 @@
 use Rattle.std.proofs.Common.{◌≡◌, ◌*◌, ◌∙◌, true, false, refl, sym, ap, arith, rules}
-use Rattle.kc_booking.proofs.Codes.{IsLookedAt, no_setup-hash, no_setup-power, no_setup-few, is_setup, few_stripe_bits}
+use Rattle.kc_booking.proofs.HashValues.{IsLookedAt, no_setup-hash, no_setup-power, no_setup-few, is_setup, few_stripe_bits}
 use Rattle.kc_booking.proofs.setup.Setup.new.Goals as goal
 use Rattle.kc_booking.proofs.setup.Setup.new.Goals.{then-bits-word_bits-via-then-bits-word_bits, then-bits-word_bits-via-else-bits-word_bits+then-stripes-stripe_bits, then-bits-word_bits-via-else-bits-word_bits+else-stripes-stripe_bits+then-stripe_bits-word_bits}
 

@@ -1,5 +1,5 @@
 use Rattle.std.proofs.Common.{◌%◌, ◌^◌, ◌∙◌, ap}
-use Rattle.kc_booking.proofs.Codes.{word-fits, low-bits}
+use Rattle.kc_booking.proofs.HashValues.{word-fits, low-bits}
 use Rattle.kc_booking.proofs.setup.Setup.stripe_of.Goals as goal
 
 pub forward-requires : goal.forward-requires

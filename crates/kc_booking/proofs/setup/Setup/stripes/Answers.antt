@@ -1,5 +1,5 @@
 use Rattle.std.proofs.Common.{arith}
-use Rattle.kc_booking.proofs.Codes.{stripes-shifted, stripes-few}
+use Rattle.kc_booking.proofs.HashValues.{stripes-shifted, stripes-few}
 use Rattle.kc_booking.proofs.setup.Setup.stripes.Goals as goal
 
 pub returns-clause-at_most : goal.returns-clause-at_most

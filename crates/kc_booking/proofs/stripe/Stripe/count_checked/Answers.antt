@@ -1,6 +1,7 @@
 use Rattle.std.proofs.Common.{◌≡◌, ◌∙◌, ◌+◌, ◌++◌, [], ◌∷◌, ℕ, List, eqb, nat_eq, count_by, Err, refl, ap, ap₂, subst}
 use Rattle.std.proofs.lemmas.Result.{err_from_is_err_and}
 use Rattle.std.specs.HashSet.{contains}
+use Rattle.kc_kmer.proofs.WordCounts.{All-words_of, occurrences-append, times-words_of}
 use Rattle.kc_word.specs.Cutting.{NumberedPieces}
 use Rattle.kc_word.specs.Shared.{values}
 use Rattle.kc_booking.specs.declared.booking_fault.BookFault.TheVariants as book
@@ -16,7 +17,7 @@ ready_all-requires g c =
     let kept = c.self.invariant.1 in
     let own = rw (← c.self.view_is) at c.requires.own in
     rw (c.keys.ensures, own_keys c.self.inside.setup c.self.inside.number c.args.cut.now.batch c.args.cut.now own.0 own.1 refl)
-    (keys-fit c.self.inside.setup c.self.inside.number _ c.args.cut.now.batch c.words_of_reads.ensures.below kept.divided kept.bits_are)
+    (keys-fit c.self.inside.setup c.self.inside.number _ c.args.cut.now.batch All-words_of kept.divided kept.bits_are)
 
 pub returns-in_err-places-clause-full : goal.returns-in_err-places-clause-full
 returns-in_err-places-clause-full g c = λ is.
@@ -31,7 +32,7 @@ add_all-requires-clause-in_range g c =
     let kept = c.self.invariant.1 in
     let own = rw (← c.self.view_is) at c.requires.own in
     rw (c.keys-2.ensures, own_keys c.self.inside.setup c.self.inside.number c.args.cut.now.batch c.args.cut.now own.0 own.1 refl)
-    (keys-fit c.self.inside.setup c.self.inside.number _ c.args.cut.now.batch c.words_of_reads.ensures.below kept.divided (c.in_ok-places.ensures.limits.same_bits ∙ kept.bits_are))
+    (keys-fit c.self.inside.setup c.self.inside.number _ c.args.cut.now.batch All-words_of kept.divided (c.in_ok-places.ensures.limits.same_bits ∙ kept.bits_are))
 
 pub invariant_of-self-2 : goal.invariant_of-self-2
 invariant_of-self-2 g c =
@@ -55,7 +56,7 @@ invariant_of-self-2 g c =
     } in
     let lawful = IsLawful-from kept c.add_all.ensures.counted (numbers_differ-more old batch before.numbers_differ new)
     (CountsWords-more setup c.self.inside.number old (g.C.Counts.counts c.self.inside.counted.table) (g.C.Counts.counts c.add_all.new.self.table) batch
-    (record { counted = c.counted_words.ensures; joined = c.joined_occurrences.ensures; below = c.words_of_reads.ensures.below })
+    (record { counted = times-words_of; joined = occurrences-append; below = All-words_of })
     (record {
       divided = held.divided;
       before = before.counts_are;

@@ -3,6 +3,7 @@ use Rattle.std.proofs.lemmas.List.{take_all}
 use Rattle.kc_word.specs.Shared.{values}
 use Rattle.kc_table.specs.Counts.{AreRowsOf}
 use Rattle.kc_tally.specs.declared.row.Row.{Row}
+use Rattle.kc_booking.specs.Setup.{HasBits}
 use Rattle.kc_booking.proofs.StripeRows.{row_of, rows-more, TellsRows, AreStripeRows-turned}
 use Rattle.kc_booking.proofs.stripe.Stripe.rows.Goals as goal
 
@@ -19,8 +20,8 @@ returns g c =
     let entries : List (ℕ × ℕ) = c.in_ok-counted.counted.items in
     let table : c.table.result.now ≡ c.self.inside.counted.table = c.table.ensures in
     let tells : TellsRows c.self.inside.setup c.self.inside.number (values c.self.inside.journal.items) (g.C.Counts.counts c.self.inside.counted.table) entries = record {
-      bits = c.stripe_bits-bits.ensures.bits;
-      divided = c.divides_words.ensures;
+      bits = subst (λ s. HasBits s.rule.k s.hash s.stripe_bits) c.setup.view_is c.setup.invariant.0;
+      divided = held.divided;
       own = held.own;
       counted = c.self.invariant.0.counts_are;
       rows = subst (λ (t : g.row.C.Denot). AreRowsOf (g.C.Counts.counts t) entries) table c.in_ok-counted.ensures.told;

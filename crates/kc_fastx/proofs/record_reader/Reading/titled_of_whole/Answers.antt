@@ -1,12 +1,13 @@
-use Rattle.std.proofs.Common.{rules, ◌≡◌, ◌-◌, true, ap, ◌∙◌, sym, subst, inl, inr, ◌⊎◌, Some, length, arith, ◌+◌, ◌++◌, refl}
+use Rattle.std.proofs.Common.{rules, ◌≡◌, ◌-◌, true, ap, ◌∙◌, sym, subst, inl, inr, ◌⊎◌, Ok, Some, [], ◌∷◌, ◌++◌, length, arith, ◌+◌, refl}
 use Rattle.std.proofs.lemmas.Result.{err_from_is_err_and}
 use Rattle.kc_fastx.specs.Faults.{UnlessMemory}
-use Rattle.kc_fastx.specs.Lines.{lines, line_count, skip_blanks}
-use Rattle.kc_fastx.specs.Reading.{Stand, IsSure, IsNext, NextFails}
-use Rattle.kc_fastx.specs.Titles.{title_at}
+use Rattle.kc_fastx.specs.Lines.{Cursor, lines, line_count, skip_blanks}
+use Rattle.kc_fastx.specs.Reading.{Stand, HasGiven, IsSure, IsNext, NextFails}
+use Rattle.kc_fastx.specs.declared.record_reader.Next.TheVariants.{Given}
+use Rattle.kc_fastx.specs.Titles.{TellsRecord, title_at}
 use Rattle.kc_fastx.proofs.TailLemmas.{skip_blanks-again}
 use Rattle.kc_fastx.proofs.TitlesLemmas.{record_read}
-use Rattle.kc_fastx.proofs.ReadingLemmas.{ArePassed, IsRead, given_fault, given_more, reaches, uses_some}
+use Rattle.kc_fastx.proofs.ReadingLemmas.{ArePassed, IsRead, behind_is, given_fault, given_more, reaches, uses_some}
 use Rattle.kc_fastx.proofs.record_reader.Reading.titled_of_whole.Goals as goal
 use Rattle.kc_fastx.proofs.record_reader.Reading.titled_of_whole.Goals.{else-not-self-via-then-not-self+else-not-is_sure}
 use Rattle.kc_fastx.proofs.record_reader.Reading.titled_of_whole.Goals.{else-not-self-via-else-not-self}
@@ -14,7 +15,7 @@ use Rattle.kc_fastx.proofs.record_reader.Reading.titled_of_whole.Goals.{else-not
 pub next_record-next-requires : goal.next_record-next-requires
 next_record-next-requires c =
     let left = c.pass_blanks.ensures.left in
-    ap skip_blanks left ∙ skip_blanks-again c.behind-lines.result.left ∙ sym left
+    ap skip_blanks left ∙ skip_blanks-again (lines c.whole_lines-whole.result.now) ∙ sym left
 
 pub returns-in_err-read-clause-tells : goal.returns-in_err-read-clause-tells
 returns-in_err-read-clause-tells c = λ start now limit reads h.
@@ -26,15 +27,12 @@ returns-in_err-read-clause-tells c = λ start now limit reads h.
       | else-not-self-via-then-not-self+else-not-is_sure w ↦ inr (w.is_sure.ensures (search rules))
       | else-not-self-via-else-not-self w ↦ inl (search rules)
     ] in
-    let blank_left : c.pass_blanks.new.self.left ≡ skip_blanks (lines whole) = c.pass_blanks.ensures.left
-    ∙ ap skip_blanks c.behind-lines.ensures.left in
+    let blank_left : c.pass_blanks.new.self.left ≡ skip_blanks (lines whole) = c.pass_blanks.ensures.left in
     let is_fastq = ap (λ (s : Stand). s.is_fastq) c.self.view_is in
     let count : line_count c.pass_blanks.new.self ≡ stand.lines_used + length (lines whole) =
-    let taken : c.behind-lines.result.taken ≡ stand.lines_used = c.behind-lines.ensures.taken
-    ∙ ap (λ (s : Stand). s.lines_used) c.self.view_is in
-    let long = ap length c.behind-lines.ensures.left in
+    let taken = ap (λ (s : Stand). s.lines_used) c.self.view_is in
     let same = c.pass_blanks.ensures.counted in
-    omega (arith, taken, long, same) in
+    omega (arith, taken, same) in
     let fails = subst (λ v. UnlessMemory (NextFails stand.is_fastq v (skip_blanks
     (lines whole))) c.in_err-read.field-0.0) count
     (subst (λ v. UnlessMemory (NextFails stand.is_fastq (line_count c.pass_blanks.new.self) v)
@@ -48,17 +46,17 @@ pub returns-clause-tells : goal.returns-clause-tells
 returns-clause-tells c = λ start now limit reads h.
     let stand = c.args.self.now in
     let whole = c.whole_lines-whole.result.now in
-    let first = c.behind-lines.result in
+    let first : Cursor = record { taken = c.self.inside.lines_used; left = lines whole; bytes = whole } in
     let blank = c.pass_blanks.new.self in
     let after = c.next_record-next.new.lines in
     let sure : (stand.ended ≡ true) ⊎ IsSure c.next_record-next.result after.left = elim c.else-not-self.branch [
       | else-not-self-via-then-not-self+else-not-is_sure w ↦ inr (w.is_sure.ensures (search rules))
       | else-not-self-via-else-not-self w ↦ inl (search rules)
     ] in
-    let left : after.left ≡ lines after.bytes = c.rest.ensures.lines ∙ ap lines c.rest.ensures.bytes in
+    let rest = ap (λ (s : Cursor). s.bytes) c.lines-2.view_is in
+    let left : after.left ≡ lines after.bytes = sym (ap (λ (s : Cursor). s.left) c.lines-2.view_is) ∙ ap lines rest in
     let is_fastq = ap (λ (s : Stand). s.is_fastq) c.self.view_is in
-    let taken : first.taken ≡ stand.lines_used = c.behind-lines.ensures.taken
-    ∙ ap (λ (s : Stand). s.lines_used) c.self.view_is in
+    let taken : first.taken ≡ stand.lines_used = ap (λ (s : Stand). s.lines_used) c.self.view_is in
     let passed : ArePassed stand first blank after = record {
       taken = taken;
       counted_blank = c.pass_blanks.ensures.counted;
@@ -66,36 +64,38 @@ returns-clause-tells c = λ start now limit reads h.
       counted = c.in_ok-read.ensures.counted;
       passes = c.in_ok-read.ensures.passes;
     } in
-    let blank_left : blank.left ≡ skip_blanks (lines whole) = c.pass_blanks.ensures.left
-    ∙ ap skip_blanks c.behind-lines.ensures.left in
+    let blank_left : blank.left ≡ skip_blanks (lines whole) = c.pass_blanks.ensures.left in
     let next = subst (λ q. IsNext q (skip_blanks (lines whole)) (Some
     (c.in-Some.read, c.in-Some.is_fastq)) after.left) is_fastq
     (rw (blank_left, c.in-Some.is) at c.in_ok-read.ensures.ok) in
     let one : IsRead stand whole after (c.in-Some.read, c.in-Some.is_fastq)
-    (length whole - length c.rest.result.now) = record {
+    (length whole - length c.lines-2.inside.left.now) = record {
       has_whole = c.whole_lines-whole.ensures;
-      reaches = reaches passed whole c.behind-lines.ensures.left c.behind-lines.ensures.bytes left;
+      reaches = reaches passed whole refl refl left;
       one = next;
       sure = rw (c.in_ok-read.was, c.in-Some.is) at sure;
-      used = ap (λ v. length whole - length v) c.rest.ensures.bytes;
+      used = ap (λ v. length whole - length v) rest;
     } in
-    rw (c.use_up.ensures, c.taken-lines_used.ensures) (given_more one start now limit reads h)
+    let behind = behind_is (length whole - length c.lines-2.inside.left.now) c.in-Some.is_fastq c.self.view_is
+    c.use_up.ensures (ap (λ (s : Cursor). s.taken) c.lines-2.view_is) in
+    subst (λ v. HasGiven start now limit (reads ++ c.in-Some.read ∷ []) v) (sym behind)
+    (given_more one start now limit reads h)
 
 pub returns-clause-titled : goal.returns-clause-titled
 returns-clause-titled c =
     let stand = c.args.self.now in
     let whole = c.whole_lines-whole.result.now in
-    let first = c.behind-lines.result in
+    let first : Cursor = record { taken = c.self.inside.lines_used; left = lines whole; bytes = whole } in
     let blank = c.pass_blanks.new.self in
     let after = c.next_record-next.new.lines in
     let sure : (stand.ended ≡ true) ⊎ IsSure c.next_record-next.result after.left = elim c.else-not-self.branch [
       | else-not-self-via-then-not-self+else-not-is_sure w ↦ inr (w.is_sure.ensures (search rules))
       | else-not-self-via-else-not-self w ↦ inl (search rules)
     ] in
-    let left : after.left ≡ lines after.bytes = c.rest.ensures.lines ∙ ap lines c.rest.ensures.bytes in
+    let rest = ap (λ (s : Cursor). s.bytes) c.lines-2.view_is in
+    let left : after.left ≡ lines after.bytes = sym (ap (λ (s : Cursor). s.left) c.lines-2.view_is) ∙ ap lines rest in
     let is_fastq = ap (λ (s : Stand). s.is_fastq) c.self.view_is in
-    let taken : first.taken ≡ stand.lines_used = c.behind-lines.ensures.taken
-    ∙ ap (λ (s : Stand). s.lines_used) c.self.view_is in
+    let taken : first.taken ≡ stand.lines_used = ap (λ (s : Stand). s.lines_used) c.self.view_is in
     let passed : ArePassed stand first blank after = record {
       taken = taken;
       counted_blank = c.pass_blanks.ensures.counted;
@@ -103,32 +103,34 @@ returns-clause-titled c =
       counted = c.in_ok-read.ensures.counted;
       passes = c.in_ok-read.ensures.passes;
     } in
-    let blank_left : blank.left ≡ skip_blanks (lines whole) = c.pass_blanks.ensures.left
-    ∙ ap skip_blanks c.behind-lines.ensures.left in
+    let blank_left : blank.left ≡ skip_blanks (lines whole) = c.pass_blanks.ensures.left in
     let next = subst (λ q. IsNext q (skip_blanks (lines whole)) (Some
     (c.in-Some.read, c.in-Some.is_fastq)) after.left) is_fastq
     (rw (blank_left, c.in-Some.is) at c.in_ok-read.ensures.ok) in
     let one : IsRead stand whole after (c.in-Some.read, c.in-Some.is_fastq)
-    (length whole - length c.rest.result.now) = record {
+    (length whole - length c.lines-2.inside.left.now) = record {
       has_whole = c.whole_lines-whole.ensures;
-      reaches = reaches passed whole c.behind-lines.ensures.left c.behind-lines.ensures.bytes left;
+      reaches = reaches passed whole refl refl left;
       one = next;
       sure = rw (c.in_ok-read.was, c.in-Some.is) at sure;
-      used = ap (λ v. length whole - length v) c.rest.ensures.bytes;
+      used = ap (λ v. length whole - length v) rest;
     } in
     let is : c.extend_from_slice.new.self.items ≡ title_at (skip_blanks (lines whole)) =
     c.in_ok-extend_from_slice.ensures.items ∙ ap (λ v. v ++ c.title-line.result.now) c.clear.ensures.items
     ∙ c.title-line.ensures ∙ ap title_at blank_left in
-    rw c.use_up.ensures (refl, λ more none. record_read one _ is more none)
+    let behind = behind_is (length whole - length c.lines-2.inside.left.now) c.in-Some.is_fastq c.self.view_is
+    c.use_up.ensures (ap (λ (s : Cursor). s.taken) c.lines-2.view_is) in
+    subst (λ v. TellsRecord stand v c.extend_from_slice.new.self.items (Ok (Given c.in-Some.read))) (sym behind)
+    (refl, λ more none. record_read one _ is more none)
 
 pub returns-clause-moves : goal.returns-clause-moves
 returns-clause-moves c =
     let stand = c.args.self.now in
-    let first = c.behind-lines.result in
+    let whole = c.whole_lines-whole.result.now in
+    let first : Cursor = record { taken = c.self.inside.lines_used; left = lines whole; bytes = whole } in
     let blank = c.pass_blanks.new.self in
     let after = c.next_record-next.new.lines in
-    let taken : first.taken ≡ stand.lines_used = c.behind-lines.ensures.taken
-    ∙ ap (λ (s : Stand). s.lines_used) c.self.view_is in
+    let taken : first.taken ≡ stand.lines_used = ap (λ (s : Stand). s.lines_used) c.self.view_is in
     let next = rw c.in-Some.is at c.in_ok-read.ensures.ok in
     let passed : ArePassed stand first blank after = record {
       taken = taken;
@@ -139,6 +141,6 @@ returns-clause-moves c =
     } in
     let some = uses_some passed c.self.inside.is_fastq (c.in-Some.read, c.in-Some.is_fastq) c.pass_blanks.ensures.left
     next in
-    let whole = ap length c.behind-lines.ensures.bytes in
-    let rest = ap length c.rest.ensures.bytes in
-    rw c.use_up.ensures (omega (arith, some, whole, rest))
+    let rest = ap (λ (s : Cursor). length s.bytes) c.lines-2.view_is in
+    let used = ap (λ (s : Stand). s.used) c.self.view_is in
+    omega (arith, some, rest, used)

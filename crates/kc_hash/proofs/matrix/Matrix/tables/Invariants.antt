@@ -1,5 +1,5 @@
 use Rattle.kc_hash.proofs.Bytes.{FillsTables}
 use Rattle.kc_hash.proofs.matrix.Matrix.tables.Given as goal
 
-abbrev pub invariant-loop-position : goal.invariant-loop-position
-invariant-loop-position l = FillsTables l.self l.tables l.position
+abbrev pub invariant-loop-bit : goal.invariant-loop-bit
+invariant-loop-bit l = FillsTables l.self l.tables l.bit

@@ -1,5 +1,8 @@
-use Rattle.std.proofs.Common.{◌≡◌, ℕ, List, length, filter, nat_lt, ap, sym, ◌∙◌, subst, arith, rules}
+use Rattle.std.proofs.Common.{◌≡◌, ◌*◌, ◌%◌, ◌^◌, ◌<◌, ℕ, List, length, filter, nat_lt, ap, sym, ◌∙◌, subst, arith, rules}
+use Rattle.std.proofs.Math.Nat.{mod-lt}
+use Rattle.std.proofs.lemmas.List.{length_push}
 use Rattle.std.proofs.lemmas.Result.{err_from_is_err_and}
+use Rattle.kc_tickets.specs.Tickets.{answers_of}
 use Rattle.kc_share.specs.Share.{ShareSeen, entry_total_in}
 use Rattle.kc_booking.specs.Setup.{stripe_count}
 use Rattle.kc_run.proofs.EntryLemmas.{HaveMoreIn-round, no_entries}
@@ -7,8 +10,8 @@ use Rattle.kc_run.proofs.FaultLemmas.{fault_of_more}
 use Rattle.kc_run.specs.Runs.{IsWorkerFault}
 use Rattle.kc_run.proofs.worker.Worker.work.Goals as goal
 
-pub loop-drawn-init : goal.loop-drawn-init
-loop-drawn-init g c =
+pub loop-alloc-init : goal.loop-alloc-init
+loop-alloc-init g c =
     let seat = c.args.self.seat in
     let ready = c.requires.ready in
     record {
@@ -19,20 +22,22 @@ loop-drawn-init g c =
           ∙ sym (ap (λ (drawn : List ℕ). length (filter (λ number. nat_lt number seat.limit) drawn)) ready.seat_fresh.fresh);
     }
 
-pub loop-drawn-preserved : goal.loop-drawn-preserved
-loop-drawn-preserved g c =
-    let i = c.loop-drawn.invariant in
+pub loop-alloc-preserved : goal.loop-alloc-preserved
+loop-alloc-preserved g c =
+    let i = c.loop-alloc.invariant in
     let stripes : c.stripes-stripes.result ≡ stripe_count c.args.job.now.stripes.now.setup = search rules in
-    let same : c.draw_batches.new.self.share ≡ c.loop-drawn.self.share = c.draw_batches.ensures.share ∙ c.draw.ensures.share in
+    let same : c.draw_batches.new.self.share ≡ c.loop-alloc.self.share = c.draw_batches.ensures.share in
     record {
       own = c.draw_batches.ensures.own;
-      one_part = c.book_range-in-Some.ensures.kept.0 ∙ c.book_range.ensures.kept.0 ∙ ap (λ (share : ShareSeen). share.parts) same ∙ i.one_part;
-      same_plan = c.book_range-in-Some.ensures.kept.1 ∙ c.book_range.ensures.kept.1 ∙ ap (λ (share : ShareSeen). share.plan) same ∙ i.same_plan;
+      one_part = c.book_range-in-loop-alloc.ensures.kept.0 ∙ c.book_range.ensures.kept.0 ∙ ap (λ (share : ShareSeen). share.parts) same ∙ i.one_part;
+      same_plan = c.book_range-in-loop-alloc.ensures.kept.1 ∙ c.book_range.ensures.kept.1 ∙ ap (λ (share : ShareSeen). share.plan) same ∙ i.same_plan;
       booked = λ stripe less.
           let more = HaveMoreIn-round c.in_ok-book_range.ensures.booked c.in_ok-book_range-2.ensures.booked stripe (omega (arith, less, stripes, c.requires.job.stripes)) in
           let before = ap (λ (share : ShareSeen). entry_total_in stripe share.booked) same in
-          let long = ap length c.deref-in-Some.ensures.value in
-          omega (arith, more, before, long, i.booked stripe less, c.in-Some.ensures.answered.0, c.in_ok-batches.ensures.answered);
+          let drew = ap length c.in-Some.ensures.answered in
+          let one_more = length_push (answers_of c.loop-alloc.self.seat) c.in-Some.drawn in
+          let long = ap length c.deref-in-loop-alloc.ensures.value in
+          omega (arith, more, before, long, i.booked stripe less, drew, one_more, c.in_ok-batches.ensures.answered);
     }
 
 pub returns-in_err-batches-clause-refused : goal.returns-in_err-batches-clause-refused
@@ -56,6 +61,8 @@ pub returns-in_err-book_range-2-clause-refused : goal.returns-in_err-book_range-
 returns-in_err-book_range-2-clause-refused g c =
     let p = err_from_is_err_and c.from_residual-in_err-book_range-2.result c.from_residual-in_err-book_range-2.ensures.1 in
     let stripes : c.stripes-stripes.result ≡ stripe_count c.args.job.now.stripes.now.setup = search rules in
+    let some : 0 < c.stripes-stripes.result = search rules in
+    let less = mod-lt (c.args.number * c.args.job.now.stripes_apart % 2 ^ 32) some in
     rw (p.1, p.2)
-    (fault_of_more c.first_stripe-first.result c.args.job.now.plan.stripes c.in_err-book_range-2.field-0.0
-    (omega (arith, c.first_stripe-first.ensures.below, stripes, c.requires.job.stripes)) c.in_err-book_range-2.ensures.refused)
+    (fault_of_more _ c.args.job.now.plan.stripes c.in_err-book_range-2.field-0.0
+    (omega (arith, less, stripes, c.requires.job.stripes)) c.in_err-book_range-2.ensures.refused)

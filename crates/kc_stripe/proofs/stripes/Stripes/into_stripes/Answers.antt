@@ -4,6 +4,7 @@ use Rattle.kc_share.specs.Share.{ShareSeen}
 use Rattle.kc_stripe.specs.Locked.{IsAllOf}
 use Rattle.std.proofs.lemmas.Iterator.Adapters.{YieldsList-from_vec}
 use Rattle.std.proofs.lemmas.Iterator.Consumers.{YieldsList-end}
+use Rattle.kc_stripe.proofs.LockedLemmas.{all_of}
 use Rattle.kc_stripe.proofs.stripes.Stripes.into_stripes.Goals as goal
 
 pub returns-clause-count : goal.returns-clause-count
@@ -16,11 +17,13 @@ pub loop-lock-preserved : goal.loop-lock-preserved
 loop-lock-preserved g c =
     let i = c.loop-lock.invariant in
     let items = c.in_ok-push.ensures.items in
-    let booked : ShareSeen → Type 0 = λ share. IsAllOf share.booked c.into_stripe.result in
+    let booked : ShareSeen → Type 0 = λ share. IsAllOf share.booked c.stripe.inside.stripe in
     record {
-      same = c.into_stripe.ensures.share ∙ i.same;
-      counted = omega (arith, ap length items, length-append c.loop-lock.stripes.items (c.into_stripe.result ∷ []), length-append c.loop-lock.yielded (c.in-Some.lock ∷ []), i.counted);
+      same = c.look.ensures.share ∙ i.same;
+      counted = omega (arith, ap length items, length-append c.loop-lock.stripes.items (c.stripe.inside.stripe ∷ []), length-append c.loop-lock.yielded (c.in-Some.lock ∷ []), i.counted);
       whole = λ all. All-same (λ stripe. IsAllOf c.args.share.booked stripe) c.push.new.self.items _ items
-          (All-push (λ stripe. IsAllOf c.args.share.booked stripe) c.loop-lock.stripes.items c.into_stripe.result (i.whole all)
-          (subst booked i.same (subst (λ stripe. IsAllOf c.loop-lock.share.booked stripe) (sym c.into_stripe.ensures.stripe) (c.into_stripe.ensures.whole (subst (λ (share : ShareSeen). share.parts ≡ share.plan.parts) (sym i.same) all)))));
+          (All-push (λ stripe. IsAllOf c.args.share.booked stripe) c.loop-lock.stripes.items c.stripe.inside.stripe (i.whole all)
+          (subst booked i.same
+          (all_of c.stripe.inside.stripe c.stripe.inside.keeper c.stripe.invariant c.loop-lock.share.booked
+          (c.look.ensures.whole (subst (λ (share : ShareSeen). share.parts ≡ share.plan.parts) (sym i.same) all)))));
     }

@@ -1,8 +1,9 @@
 use Rattle.std.proofs.Common.{◌≡◌, ◌≢◌, ◌<◌, ◌≤◌, ◌∙◌, ◌+◌, ◌/◌, ◌%◌, ◌^◌, ap, length, arith, subst, sym, ◌-◌, refl}
-use Rattle.std.proofs.Common.{set, get_or}
+use Rattle.std.proofs.Common.{set, get_or, ◌*◌}
+use Rattle.std.specs.Prelude.{bit_and}
 use Rattle.kc_table.specs.Packing.{Packed, slots_of, slot_of}
 use Rattle.kc_table.specs.Slot.{tag_at, slot_count}
-use Rattle.kc_table.proofs.SlotNumbers.{number_there, raised_fits, place_of, row, Write, IsWrite, written, written_packed}
+use Rattle.kc_table.proofs.SlotNumbers.{masked_low, number_there, raised_fits, place_of, row, Write, IsWrite, written, written_packed}
 use Rattle.kc_table.proofs.SlotNumbers.{raised, raised_within, raised_carried, high_le}
 use Rattle.kc_table.proofs.packed_slots.PackedSlots.add_one.Goals as goal
 
@@ -15,7 +16,7 @@ index-number-requires c =
 pub overflow_add-number : goal.overflow_add-number
 overflow_add-number c =
     let room : (c.index-number.result.now % 2 ^ c.self.inside.low + 1) / 2 ^ c.self.inside.low ≡ 0 =
-    ap (λ n. (n + 1) / 2 ^ c.self.inside.low) (sym c.low_bits-below.ensures) ∙ c.if-below-self-eq0.true in
+    ap (λ n. (n + 1) / 2 ^ c.self.inside.low) (sym (masked_low c.index-number.result.now c.self.inside.low c.self.invariant.few_low)) ∙ c.if-below-self-eq0.true in
     let fits : c.index-number.result.now + 1 < 2 ^ 64 =
     raised_fits c.self.inside.low c.index-number.result.now 0 room c.self.invariant.few_low c.type_inv.number.fits in
     omega arith
@@ -52,7 +53,7 @@ invariant_of-self c =
     let below : c.args.index < length c.self.inside.numbers.items =
     number_there _ _ _ _ _ c.self.view_is c.requires.in_range in
     let room : (c.index-number.result.now % 2 ^ p.low + 1) / 2 ^ p.low ≡ 0 =
-    ap (λ n. (n + 1) / 2 ^ p.low) (sym c.low_bits-below.ensures) ∙ c.if-below-self-eq0.true in
+    ap (λ n. (n + 1) / 2 ^ p.low) (sym (masked_low c.index-number.result.now c.self.inside.low c.self.invariant.few_low)) ∙ c.if-below-self-eq0.true in
     let put : Write = record { place = p; number = c.index-number.result.now + 1; after = p.high; slot = raised p } in
     let is : IsWrite put = record {
       below = below;
@@ -71,7 +72,7 @@ returns-then-below-self-eq0-clause-counted c =
     let below : c.args.index < length c.self.inside.numbers.items =
     number_there _ _ _ _ _ c.self.view_is c.requires.in_range in
     let room : (c.index-number.result.now % 2 ^ p.low + 1) / 2 ^ p.low ≡ 0 =
-    ap (λ n. (n + 1) / 2 ^ p.low) (sym c.low_bits-below.ensures) ∙ c.if-below-self-eq0.true in
+    ap (λ n. (n + 1) / 2 ^ p.low) (sym (masked_low c.index-number.result.now c.self.inside.low c.self.invariant.few_low)) ∙ c.if-below-self-eq0.true in
     let put : Write = record { place = p; number = c.index-number.result.now + 1; after = p.high; slot = raised p } in
     let is : IsWrite put = record {
       below = below;
@@ -88,13 +89,13 @@ invariant_of-self-else-below-self-eq0 c =
     let below : c.args.index < length c.self.inside.numbers.items =
     number_there _ _ _ _ _ c.self.view_is c.requires.in_range in
     let full : (c.index-number.result.now % 2 ^ p.low + 1) / 2 ^ p.low ≢ 0 =
-    λ none. c.if-below-self-eq0.false (ap (λ n. (n + 1) / 2 ^ p.low) c.low_bits-below.ensures ∙ none) in
+    λ none. c.if-below-self-eq0.false (ap (λ n. (n + 1) / 2 ^ p.low) (masked_low c.index-number.result.now c.self.inside.low c.self.invariant.few_low) ∙ none) in
     let high = c.carry_into.new.high.items in
     let put : Write =
-    record { place = p; number = c.index-number.result.now - c.low_bits-below.result; after = high; slot = raised p } in
+    record { place = p; number = c.index-number.result.now - bit_and c.index-number.result.now (1 * 2 ^ c.self.inside.low % 2 ^ 64 - 1); after = high; slot = raised p } in
     let is : IsWrite put = record {
       below = below;
-      here = ap (λ n. slot_of p.low (c.index-number.result.now - n) (get_or high c.args.index 0)) c.low_bits-below.ensures
+      here = ap (λ n. slot_of p.low (c.index-number.result.now - n) (get_or high c.args.index 0)) (masked_low c.index-number.result.now c.self.inside.low c.self.invariant.few_low)
           ∙ raised_carried p _ (record { below = below; read = c.index-number.ensures }) full _ c.carry_into.ensures.here;
       others = c.carry_into.ensures.others;
     } in
@@ -113,13 +114,13 @@ returns-else-below-self-eq0-clause-counted c =
     let below : c.args.index < length c.self.inside.numbers.items =
     number_there _ _ _ _ _ c.self.view_is c.requires.in_range in
     let full : (c.index-number.result.now % 2 ^ p.low + 1) / 2 ^ p.low ≢ 0 =
-    λ none. c.if-below-self-eq0.false (ap (λ n. (n + 1) / 2 ^ p.low) c.low_bits-below.ensures ∙ none) in
+    λ none. c.if-below-self-eq0.false (ap (λ n. (n + 1) / 2 ^ p.low) (masked_low c.index-number.result.now c.self.inside.low c.self.invariant.few_low) ∙ none) in
     let high = c.carry_into.new.high.items in
     let put : Write =
-    record { place = p; number = c.index-number.result.now - c.low_bits-below.result; after = high; slot = raised p } in
+    record { place = p; number = c.index-number.result.now - bit_and c.index-number.result.now (1 * 2 ^ c.self.inside.low % 2 ^ 64 - 1); after = high; slot = raised p } in
     let is : IsWrite put = record {
       below = below;
-      here = ap (λ n. slot_of p.low (c.index-number.result.now - n) (get_or high c.args.index 0)) c.low_bits-below.ensures
+      here = ap (λ n. slot_of p.low (c.index-number.result.now - n) (get_or high c.args.index 0)) (masked_low c.index-number.result.now c.self.inside.low c.self.invariant.few_low)
           ∙ raised_carried p _ (record { below = below; read = c.index-number.ensures }) full _ c.carry_into.ensures.here;
       others = c.carry_into.ensures.others;
     } in

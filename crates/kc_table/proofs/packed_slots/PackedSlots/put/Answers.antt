@@ -1,18 +1,20 @@
-use Rattle.std.proofs.Common.{◌≡◌, ◌<◌, ◌≤◌, ◌∙◌, ◌+◌, ◌*◌, ◌/◌, ◌%◌, ◌^◌, ap, length, arith, subst, sym, refl, set}
+use Rattle.std.proofs.Common.{◌≡◌, ◌<◌, ◌≤◌, ◌∙◌, ◌+◌, ◌*◌, ◌/◌, ◌%◌, ◌^◌, ◌-◌, ap, length, arith, subst, sym, refl, set}
+use Rattle.std.specs.Prelude.{bit_and}
 use Rattle.kc_table.specs.Packing.{Packed}
 use Rattle.kc_table.specs.Slot.{tag_at}
-use Rattle.kc_table.proofs.SlotNumbers.{number_there, number_put_fits, slot_put, place_of, Write, IsWrite, written}
+use Rattle.kc_table.proofs.SlotNumbers.{number_there, number_put, number_put_fits, slot_put, place_of, Write, IsWrite, written}
 use Rattle.kc_table.proofs.SlotNumbers.{written_packed}
 use Rattle.kc_table.proofs.SlotNumbers.{no_high_bits}
 use Rattle.kc_table.proofs.packed_slots.PackedSlots.put.Goals as goal
 
-pub overflow_add-to_number : goal.overflow_add-to_number
-overflow_add-to_number c =
+pub overflow_add-tag-inside : goal.overflow_add-tag-inside
+overflow_add-tag-inside c =
     let fits : c.args.tag * 2 ^ c.self.inside.low < 2 ^ 64 =
     subst (λ (p : Packed). c.args.tag * 2 ^ p.low < 2 ^ 64) (sym c.self.view_is) c.requires.fits in
     let sum : c.args.tag * 2 ^ c.self.inside.low + c.args.count % 2 ^ c.self.inside.low < 2 ^ 64 =
     number_put_fits c.self.inside.low c.args.tag c.args.count c.self.invariant.few_low fits in
-    omega (arith, c.to_number.ensures, c.low_bits.ensures)
+    let is = number_put c.self.inside.low c.args.tag c.args.count c.tag.inside.number c.self.invariant.few_low c.tag.view_is fits in
+    omega (arith, sum, is)
 
 pub index_mut-requires : goal.index_mut-requires
 index_mut-requires c =
@@ -31,15 +33,18 @@ invariant_of-self c =
     let p = place_of c.self.inside.low c.self.inside.numbers.items c.self.inside.high.items c.args.index in
     let below : c.args.index < length c.self.inside.numbers.items =
     number_there _ _ _ _ _ c.self.view_is c.requires.in_range in
+    let fits : c.args.tag * 2 ^ c.self.inside.low < 2 ^ 64 =
+    subst (λ (p : Packed). c.args.tag * 2 ^ p.low < 2 ^ 64) (sym c.self.view_is) c.requires.fits in
     let put : Write = record {
       place = p;
-      number = c.to_number.result + c.low_bits.result;
+      number = c.tag.inside.number * 2 ^ c.self.inside.low % 2 ^ 64 + bit_and c.args.count (1 * 2 ^ c.self.inside.low % 2 ^ 64 - 1);
       after = c.set_high_bits.new.high.items;
       slot = record { tag = c.args.tag; count = c.args.count };
     } in
     let is : IsWrite put = record {
       below = below;
-      here = slot_put p.low c.args.tag c.args.count _ _ (omega (arith, c.to_number.ensures, c.low_bits.ensures))
+      here = slot_put p.low c.args.tag c.args.count _ _
+          (number_put p.low c.args.tag c.args.count c.tag.inside.number c.self.invariant.few_low c.tag.view_is fits)
           c.set_high_bits.ensures.here;
       others = c.set_high_bits.ensures.others;
     } in
@@ -52,15 +57,18 @@ returns-then-high-gt0-clause-put c =
     let p = place_of c.self.inside.low c.self.inside.numbers.items c.self.inside.high.items c.args.index in
     let below : c.args.index < length c.self.inside.numbers.items =
     number_there _ _ _ _ _ c.self.view_is c.requires.in_range in
+    let fits : c.args.tag * 2 ^ c.self.inside.low < 2 ^ 64 =
+    subst (λ (p : Packed). c.args.tag * 2 ^ p.low < 2 ^ 64) (sym c.self.view_is) c.requires.fits in
     let put : Write = record {
       place = p;
-      number = c.to_number.result + c.low_bits.result;
+      number = c.tag.inside.number * 2 ^ c.self.inside.low % 2 ^ 64 + bit_and c.args.count (1 * 2 ^ c.self.inside.low % 2 ^ 64 - 1);
       after = c.set_high_bits.new.high.items;
       slot = record { tag = c.args.tag; count = c.args.count };
     } in
     let is : IsWrite put = record {
       below = below;
-      here = slot_put p.low c.args.tag c.args.count _ _ (omega (arith, c.to_number.ensures, c.low_bits.ensures))
+      here = slot_put p.low c.args.tag c.args.count _ _
+          (number_put p.low c.args.tag c.args.count c.tag.inside.number c.self.invariant.few_low c.tag.view_is fits)
           c.set_high_bits.ensures.here;
       others = c.set_high_bits.ensures.others;
     } in
@@ -72,9 +80,11 @@ invariant_of-self-else-high-gt0 c =
     let below : c.args.index < length c.self.inside.numbers.items =
     number_there _ _ _ _ _ c.self.view_is c.requires.in_range in
     let none : c.args.count / 2 ^ p.low ≡ 0 = omega arith in
+    let fits : c.args.tag * 2 ^ c.self.inside.low < 2 ^ 64 =
+    subst (λ (p : Packed). c.args.tag * 2 ^ p.low < 2 ^ 64) (sym c.self.view_is) c.requires.fits in
     let put : Write = record {
       place = p;
-      number = c.to_number.result + c.low_bits.result;
+      number = c.tag.inside.number * 2 ^ c.self.inside.low % 2 ^ 64 + bit_and c.args.count (1 * 2 ^ c.self.inside.low % 2 ^ 64 - 1);
       after = p.high;
       slot = record { tag = c.args.tag; count = c.args.count };
     } in
@@ -83,7 +93,8 @@ invariant_of-self-else-high-gt0 c =
     (ap (λ (s : Packed). tag_at s.items c.args.index) c.self.view_is ∙ c.requires.empty) in
     let is : IsWrite put = record {
       below = below;
-      here = slot_put p.low c.args.tag c.args.count _ _ (omega (arith, c.to_number.ensures, c.low_bits.ensures))
+      here = slot_put p.low c.args.tag c.args.count _ _
+          (number_put p.low c.args.tag c.args.count c.tag.inside.number c.self.invariant.few_low c.tag.view_is fits)
           (no_high_bits p.low c.args.index _ _ below empty ∙ sym none);
       others = λ i apart. refl;
     } in
@@ -95,9 +106,11 @@ returns-else-high-gt0-clause-put c =
     let below : c.args.index < length c.self.inside.numbers.items =
     number_there _ _ _ _ _ c.self.view_is c.requires.in_range in
     let none : c.args.count / 2 ^ p.low ≡ 0 = omega arith in
+    let fits : c.args.tag * 2 ^ c.self.inside.low < 2 ^ 64 =
+    subst (λ (p : Packed). c.args.tag * 2 ^ p.low < 2 ^ 64) (sym c.self.view_is) c.requires.fits in
     let put : Write = record {
       place = p;
-      number = c.to_number.result + c.low_bits.result;
+      number = c.tag.inside.number * 2 ^ c.self.inside.low % 2 ^ 64 + bit_and c.args.count (1 * 2 ^ c.self.inside.low % 2 ^ 64 - 1);
       after = p.high;
       slot = record { tag = c.args.tag; count = c.args.count };
     } in
@@ -106,7 +119,8 @@ returns-else-high-gt0-clause-put c =
     (ap (λ (s : Packed). tag_at s.items c.args.index) c.self.view_is ∙ c.requires.empty) in
     let is : IsWrite put = record {
       below = below;
-      here = slot_put p.low c.args.tag c.args.count _ _ (omega (arith, c.to_number.ensures, c.low_bits.ensures))
+      here = slot_put p.low c.args.tag c.args.count _ _
+          (number_put p.low c.args.tag c.args.count c.tag.inside.number c.self.invariant.few_low c.tag.view_is fits)
           (no_high_bits p.low c.args.index _ _ below empty ∙ sym none);
       others = λ i apart. refl;
     } in

@@ -12,6 +12,5 @@ index-requires c =
 pub returns : goal.returns
 returns c =
     let below : c.args.index < length c.self.inside.numbers.items = number_there _ _ _ _ _ c.self.view_is c.requires in
-    c.of_number.ensures
-    ∙ tag_read c.self.inside.low c.self.inside.numbers.items c.self.inside.high.items c.args.index _ below c.index.ensures
+    tag_read c.self.inside.low c.self.inside.numbers.items c.self.inside.high.items c.args.index _ below c.index.ensures
     ∙ ap (λ (p : Packed). tag_at p.items c.args.index) c.self.view_is

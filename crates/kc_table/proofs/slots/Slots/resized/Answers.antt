@@ -1,12 +1,12 @@
-use Rattle.std.proofs.Common.{◌≡◌, ◌≢◌, ◌<◌, ◌≤◌, ◌∙◌, sym, ap, length, rules}
+use Rattle.std.proofs.Common.{◌≡◌, ◌≢◌, ◌<◌, ◌≤◌, ◌∙◌, sym, ap, length, rules, arith}
 use Rattle.kc_table.specs.Slot.{key_in}
 use Rattle.kc_table.proofs.Resizing.{carried_new, carried_empty, carried_held, carried_all, carried_out, carried_narrow}
-use Rattle.kc_table.proofs.SlotSteps.{IsSlotOf, held_slot, empty_at}
+use Rattle.kc_table.proofs.SlotSteps.{slots_shifted, IsSlotOf, held_slot, empty_at}
 use Rattle.kc_table.proofs.slots.Slots.resized.Goals as goal
 
 pub loop-old_index-preserved-then-is_empty : goal.loop-old_index-preserved-then-is_empty
 loop-old_index-preserved-then-is_empty c =
-    let below : c.loop-old_index.old_index < length c.args.self.now.slots.items = search rules in
+    let below : c.loop-old_index.old_index < length c.args.self.now.slots.items = omega (arith, c.args.self.now.sized, slots_shifted c.args.self.now) in
     let none : c.tag-tag.result ≡ 0 = search rules in
     carried_empty _ _ _ _ c.loop-old_index.invariant
     (empty_at c.args.self.now.log c.args.self.now.slots.items c.loop-old_index.old_index below
@@ -65,5 +65,5 @@ loop-old_index-preserved c =
 
 pub returns-clause-same : goal.returns-clause-same
 returns-clause-same c =
-    let all : length c.args.self.now.slots.items ≤ c.loop-old_index.old_index = search rules in
+    let all : length c.args.self.now.slots.items ≤ c.loop-old_index.old_index = omega (arith, c.args.self.now.sized, slots_shifted c.args.self.now) in
     carried_all _ _ _ _ c.loop-old_index.invariant all

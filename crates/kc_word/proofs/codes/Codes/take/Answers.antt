@@ -1,20 +1,16 @@
-use Rattle.std.proofs.Common.{◌-◌, cond, length, get_or, take, drop, ap, sym, ◌∙◌, arith}
+use Rattle.std.proofs.Common.{vec_len, ◌≡◌, ◌+◌, ◌-◌, ◌*◌, ◌/◌, ◌%◌, ◌^◌, ◌<◌, false, cond, length, get_or, bit_and, take, drop, slice_range, ap, sym, ◌∙◌, subst, arith}
 use Rattle.std.specs.Char.{to_ascii_uppercase}
+use Rattle.std.proofs.lemmas.Nat.{and_mask}
+use Rattle.std.proofs.lemmas.List.{get_or_read_under}
 use Rattle.kc_kmer.specs.Letter.{is_base, code}
-use Rattle.kc_word.specs.PackedPiece.{bytes_of}
+use Rattle.kc_word.specs.Runs.{is_in_runs}
+use Rattle.kc_word.specs.PackedPiece.{bytes_of, IsReading}
+use Rattle.kc_word.proofs.PackedLemmas.{length-codes_of, get_or-codes_of}
 use Rattle.kc_word.proofs.PieceLemmas.{code-of-byte, code-of-gap}
+use Rattle.kc_word.proofs.RunLemmas.{past-all, before-next, in-next, behind-next, read-run}
 use Rattle.kc_word.proofs.Readings.{reading-long, reading-byte}
 use Rattle.kc_word.proofs.codes.Codes.take.Goals as goal
-
-pub is_next_in_runs-is_gap-requires-clause-fits : goal.is_next_in_runs-is_gap-requires-clause-fits
-is_next_in_runs-is_gap-requires-clause-fits c =
-    let long = sym (reading-long c.self.invariant) ∙ ap (λ r. length r.bytes) c.self.view_is in
-    let begun = c.self.invariant.begun in
-    let inside = c.self.invariant.inside in
-    let at = ap (λ r. r.taken) c.self.view_is in
-    let below = c.requires in
-    let fits = c.self.invariant.fits in
-    omega (arith, long, at, below, begun, inside, fits)
+use Rattle.kc_word.proofs.codes.Codes.take.Goals.{then-self+then-self-at+else-at-run, else-self, else-self-via-then-self+else-self-at, else-self-via-else-self}
 
 pub overflow_add-self : goal.overflow_add-self
 overflow_add-self c =
@@ -33,38 +29,51 @@ invariant_of-self c =
     let inside = c.self.invariant.inside in
     let at = ap (λ r. r.taken) c.self.view_is in
     let below = c.requires in
+    let low = c.if-self-at.true in
+    let high = c.if-at-run.true in
     record {
       piece = c.self.invariant.piece;
-      passed = c.is_next_in_runs-is_gap.ensures.passed;
+      passed = (in-next c.self.inside.runs.now c.self.inside.next c.self.inside.at _ c.self.invariant.passed c.if-self.true
+          (read-run c.self.inside.runs.now c.self.inside.next c.if-self.true) (low, omega (arith, low, high))).1;
       begun = omega (arith, begun);
       within = omega (arith, long, at, below, begun, inside);
       inside = inside;
       fits = c.self.invariant.fits;
     }
 
-pub returns-then-is_gap-clause-value : goal.returns-then-is_gap-clause-value
-returns-then-is_gap-clause-value c =
+pub returns-then-at-run-clause-value : goal.returns-then-at-run-clause-value
+returns-then-at-run-clause-value c =
     let long = sym (reading-long c.self.invariant) ∙ ap (λ r. length r.bytes) c.self.view_is in
     let begun = c.self.invariant.begun in
     let inside = c.self.invariant.inside in
     let at = ap (λ r. r.taken) c.self.view_is in
     let below = c.requires in
+    let low = c.if-self-at.true in
+    let high = c.if-at-run.true in
     code-of-gap c.self.inside.bases.now c.self.inside.runs.now c.self.inside.at (omega (arith, long, at, below, begun, inside))
-    (sym c.is_next_in_runs-is_gap.ensures.value ∙ c.if-is_gap.true)
+    (sym (in-next c.self.inside.runs.now c.self.inside.next c.self.inside.at _ c.self.invariant.passed c.if-self.true
+    (read-run c.self.inside.runs.now c.self.inside.next c.if-self.true) (low, omega (arith, low, high))).0)
     ∙ ap (λ b. cond (is_base (to_ascii_uppercase b)) (code (to_ascii_uppercase b)) 4)
     (ap (λ j. get_or (bytes_of c.self.inside.bases.now c.self.inside.runs.now) j 0) (omega arith)
     ∙ reading-byte c.self.invariant 0 (omega (arith, long, at, below, begun, inside))
     ∙ ap (λ j. get_or (take (c.self.inside.to - c.self.inside.from) (drop c.self.inside.from (bytes_of c.self.inside.bases.now c.self.inside.runs.now))) j 0) (omega arith))
     ∙ ap (λ r. cond (is_base (to_ascii_uppercase (get_or r.bytes r.taken 0))) (code (to_ascii_uppercase (get_or r.bytes r.taken 0))) 4) c.self.view_is
 
-pub code-requires : goal.code-requires
-code-requires c =
+pub index-requires : goal.index-requires
+index-requires c =
     let long = sym (reading-long c.self.invariant) ∙ ap (λ r. length r.bytes) c.self.view_is in
     let begun = c.self.invariant.begun in
     let inside = c.self.invariant.inside in
     let at = ap (λ r. r.taken) c.self.view_is in
     let below = c.requires in
-    omega (arith, long, at, below, begun, inside)
+    let same : length c.if-self.self-inside.bases.now ≡ length c.self.inside.bases.now = elim c.if-self.branch [
+      | then-self+then-self-at+else-at-run w ↦ ap (λ s. length s.bases.now) w.self-inside-is
+      | else-self w ↦ ap (λ s. length s.bases.now) w.self-inside-is
+    ] in
+    let count = sym (length-codes_of c.bases.inside.numbers.items c.bases.inside.len) ∙ ap length c.bases.view_is in
+    let exact = c.bases.invariant.exact in
+    let numbers = c.bases.inside.numbers.ok.0 in
+    omega (arith, long, at, below, begun, inside, same, count, exact, numbers)
 
 pub invariant_of-self-2 : goal.invariant_of-self-2
 invariant_of-self-2 c =
@@ -73,14 +82,38 @@ invariant_of-self-2 c =
     let inside = c.self.invariant.inside in
     let at = ap (λ r. r.taken) c.self.view_is in
     let below = c.requires in
-    record {
-      piece = c.self.invariant.piece;
-      passed = c.is_next_in_runs-is_gap.ensures.passed;
-      begun = omega (arith, begun);
-      within = omega (arith, long, at, below, begun, inside);
-      inside = inside;
-      fits = c.self.invariant.fits;
-    }
+    let passed = c.self.invariant.passed in
+    elim c.if-self.branch [
+      | then-self+then-self-at+else-at-run w ↦
+          let low = w.if-self-at.true in
+          let high = w.if-at-run.false in
+          subst (λ s. IsReading s.bases.now s.runs.now s.next s.from s.at s.to) (sym w.self-inside-is) (record {
+            piece = c.self.invariant.piece;
+            passed = (behind-next c.self.inside.runs.now c.self.inside.next c.self.inside.at _ passed w.if-self.true
+                (read-run c.self.inside.runs.now c.self.inside.next w.if-self.true) (omega (arith, low, high))).1;
+            begun = omega (arith, begun);
+            within = omega (arith, long, at, below, begun, inside);
+            inside = inside;
+            fits = c.self.invariant.fits;
+          })
+      | else-self w ↦
+          subst (λ s. IsReading s.bases.now s.runs.now s.next s.from s.at s.to) (sym w.self-inside-is) (record {
+            piece = c.self.invariant.piece;
+            passed = elim w.else-self.branch [
+              | else-self-via-then-self+else-self-at v ↦
+                  (before-next c.self.inside.runs.now c.self.inside.next c.self.inside.at _ passed v.if-self.true
+                  (read-run c.self.inside.runs.now c.self.inside.next v.if-self.true) v.if-self-at.false).1
+              | else-self-via-else-self v ↦
+                  let most = passed.within in
+                  let end = v.if-self.false in
+                  (past-all c.self.inside.runs.now c.self.inside.next c.self.inside.at passed (omega (arith, most, end))).1
+            ];
+            begun = omega (arith, begun);
+            within = omega (arith, long, at, below, begun, inside);
+            inside = inside;
+            fits = c.self.invariant.fits;
+          })
+    ]
 
 pub returns-clause-value : goal.returns-clause-value
 returns-clause-value c =
@@ -89,10 +122,63 @@ returns-clause-value c =
     let inside = c.self.invariant.inside in
     let at = ap (λ r. r.taken) c.self.view_is in
     let below = c.requires in
-    code-of-byte c.self.inside.bases.now c.self.inside.runs.now c.self.inside.at c.code.result c.self.invariant.piece (omega (arith, long, at, below, begun, inside))
-    (sym c.is_next_in_runs-is_gap.ensures.value ∙ c.if-is_gap.false) c.code.ensures.value
+    let passed = c.self.invariant.passed in
+    let same : get_or c.if-self.self-inside.bases.now c.self.inside.at 0 ≡ get_or c.self.inside.bases.now c.self.inside.at 0 =
+    elim c.if-self.branch [
+      | then-self+then-self-at+else-at-run w ↦ ap (λ s. get_or s.bases.now c.self.inside.at 0) w.self-inside-is
+      | else-self w ↦ ap (λ s. get_or s.bases.now c.self.inside.at 0) w.self-inside-is
+    ] in
+    let outside : is_in_runs c.self.inside.runs.now c.self.inside.at ≡ false =
+    elim c.if-self.branch [
+      | then-self+then-self-at+else-at-run w ↦
+          let low = w.if-self-at.true in
+          let high = w.if-at-run.false in
+          sym (behind-next c.self.inside.runs.now c.self.inside.next c.self.inside.at _ passed w.if-self.true
+          (read-run c.self.inside.runs.now c.self.inside.next w.if-self.true) (omega (arith, low, high))).0
+      | else-self w ↦ elim w.else-self.branch [
+        | else-self-via-then-self+else-self-at v ↦
+            sym (before-next c.self.inside.runs.now c.self.inside.next c.self.inside.at _ passed v.if-self.true
+            (read-run c.self.inside.runs.now c.self.inside.next v.if-self.true) v.if-self-at.false).0
+        | else-self-via-else-self v ↦
+            let most = passed.within in
+            let end = v.if-self.false in
+            sym (past-all c.self.inside.runs.now c.self.inside.next c.self.inside.at passed (omega (arith, most, end))).0
+      ]
+    ] in
+    let count = sym (length-codes_of c.bases.inside.numbers.items c.bases.inside.len) ∙ ap length c.bases.view_is in
+    let exact = c.bases.invariant.exact in
+    let numbers = c.bases.inside.numbers.ok.0 in
+    let size : length c.if-self.self-inside.bases.now ≡ length c.self.inside.bases.now = elim c.if-self.branch [
+      | then-self+then-self-at+else-at-run w ↦ ap (λ s. length s.bases.now) w.self-inside-is
+      | else-self w ↦ ap (λ s. length s.bases.now) w.self-inside-is
+    ] in
+    let within : c.self.inside.at < c.bases.inside.len = omega (arith, long, at, below, begun, inside, size, count) in
+    let here : c.self.inside.at / 32 < vec_len c.bases.inside.numbers = omega (arith, within, exact, numbers) in
+    let found : bit_and (c.index.result.now / 2 ^ (62 - 2 * (c.self.inside.at % 32))) 3 ≡ get_or c.self.inside.bases.now c.self.inside.at 0 =
+    and_mask (c.index.result.now / 2 ^ (62 - 2 * (c.self.inside.at % 32))) 2
+    ∙ ap (λ w. w / 2 ^ (62 - 2 * (c.self.inside.at % 32)) % 4)
+    (get_or_read_under c.bases.inside.numbers.items (c.self.inside.at / 32) _ _ 0 c.index.ensures here c.bases.inside.numbers.ok.0)
+    ∙ sym (get_or-codes_of c.bases.inside.numbers.items c.bases.inside.len c.self.inside.at 0 (omega (arith, within)))
+    ∙ ap (λ cs. get_or cs c.self.inside.at 0) c.bases.view_is ∙ same in
+    code-of-byte c.self.inside.bases.now c.self.inside.runs.now c.self.inside.at _ c.self.invariant.piece (omega (arith, long, at, below, begun, inside))
+    outside found
     ∙ ap (λ b. cond (is_base (to_ascii_uppercase b)) (code (to_ascii_uppercase b)) 4)
     (ap (λ j. get_or (bytes_of c.self.inside.bases.now c.self.inside.runs.now) j 0) (omega arith)
     ∙ reading-byte c.self.invariant 0 (omega (arith, long, at, below, begun, inside))
     ∙ ap (λ j. get_or (take (c.self.inside.to - c.self.inside.from) (drop c.self.inside.from (bytes_of c.self.inside.bases.now c.self.inside.runs.now))) j 0) (omega arith))
     ∙ ap (λ r. cond (is_base (to_ascii_uppercase (get_or r.bytes r.taken 0))) (code (to_ascii_uppercase (get_or r.bytes r.taken 0))) 4) c.self.view_is
+
+pub returns-clause-taken : goal.returns-clause-taken
+returns-clause-taken c =
+    let begun = c.self.invariant.begun in
+    let at = ap (λ r. r.taken) c.self.view_is in
+    let bytes = ap (λ r. r.bytes) c.self.view_is in
+    let taken : c.self.inside.at + 1 - c.self.inside.from ≡ c.args.self.now.taken + 1 = omega (arith, at, begun) in
+    elim c.if-self.branch [
+      | then-self+then-self-at+else-at-run w ↦
+          ap (λ s. record { bytes = slice_range (bytes_of s.bases.now s.runs.now) s.from s.to; taken = s.at - s.from }) w.self-inside-is
+          ∙ (λ i. record { bytes = bytes i; taken = taken i })
+      | else-self w ↦
+          ap (λ s. record { bytes = slice_range (bytes_of s.bases.now s.runs.now) s.from s.to; taken = s.at - s.from }) w.self-inside-is
+          ∙ (λ i. record { bytes = bytes i; taken = taken i })
+    ]

@@ -25,7 +25,7 @@ returns-in_err-position-clause-size c = ap (λ (w : OpenCutting). w.size) c.in_e
 pub returns-in_err-position-clause-refused : goal.returns-in_err-position-clause-refused
 returns-in_err-position-clause-refused c =
     let before = c.loop-position.invariant in
-    let value = c.position_count-count.ensures.value in
+    let value = c.positions-count.ensures.value ∙ ap (position_count c.self.inside.k) c.len.ensures in
     let same = ap (λ (w : OpenCutting). w.k) c.self.view_is in
     let most = before.within in
     let within : c.loop-position.position ≤ position_count c.args.self.now.k (length c.args.piece.now) = omega (arith, most, value, same) in
@@ -51,9 +51,9 @@ loop-position-preserved c =
     let some = c.in_ok-position.ensures.some in
     let test = c.loop-position-test.true in
     let count = c.in_ok-position.ensures.count in
-    let value = c.position_count-count.ensures.value in
+    let value = c.positions-count.ensures.value ∙ ap (position_count c.self.inside.k) c.len.ensures in
     let same = ap (λ (w : OpenCutting). w.k) c.self.view_is in
-    let within : c.loop-position.position + c.in_ok-position.field-0 ≤ c.position_count-count.result = omega (arith, test, count) in
+    let within : c.loop-position.position + c.in_ok-position.field-0 ≤ c.positions-count.result = omega (arith, test, count) in
     let started : (c.loop-position.position ≡ 0) ⊎ (c.loop-position.self.filled ≡ 0) =
     ⊎_elim (λ e. inl e) (λ o. ⊎_elim (λ e. inr e) (λ e. absurd (omega (arith, e, test))) o) before.alone in
     record {
@@ -64,7 +64,7 @@ loop-position-preserved c =
           (λ h. inr (omega (arith, h, test, count)))
           (λ h. inl (ap (λ (w : OpenCutting). w.filled) c.in_ok-position.ensures.taken
           ∙ filled-up c.loop-position.self _ c.in_ok-position.field-0 (omega (arith, h, some, count))))
-          (cases_lt (c.position_count-count.result - c.loop-position.position - 1) c.in_ok-position.field-0));
+          (cases_lt (c.positions-count.result - c.loop-position.position - 1) c.in_ok-position.field-0));
       cut = λ pieces taken.
           subst (λ s. HasCut s (pieces ++ c.args.piece.now ∷ []) (position_total c.args.self.now.k pieces + (c.loop-position.position + c.in_ok-position.field-0)))
           (sym c.in_ok-position.ensures.taken)

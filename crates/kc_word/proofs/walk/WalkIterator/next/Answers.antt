@@ -1,4 +1,4 @@
-use Rattle.std.proofs.Common.{◌+◌, ◌≤◌, ◌++◌, None, drop, length, ap, sym, ◌∙◌, arith}
+use Rattle.std.proofs.Common.{◌+◌, ◌≤◌, ◌++◌, [], None, get_or, drop, length, ap, sym, ◌∙◌, arith}
 use Rattle.kc_fastx.specs.Reads.{read_of}
 use Rattle.kc_kmer.specs.Occurrences.{words_in, words_of}
 use Rattle.kc_word.specs.Cutting.{as_reads}
@@ -25,12 +25,12 @@ loop-word-preserved c =
     let rule = c.rule.ensures ∙ c.in_default.ensures.rule in
     let count = c.len.ensures in
     let test = c.if-self-len.false in
-    ap (λ r. words_left c.new-self-inside.result ++ words_of r (as_reads (drop (c.loop-word.self-inside.next + 1) c.loop-word.self-inside.pieces.now)))
-    (ap (λ w. w.rule) c.new-self-inside.ensures.place ∙ rule)
+    ap (λ r. words_left c.roll-self-inside.result ++ words_of r (as_reads (drop (c.loop-word.self-inside.next + 1) c.loop-word.self-inside.pieces.now)))
+    (ap (λ w. w.rule) c.roll-self-inside.ensures.place ∙ rule)
     ∙ words_of-at c.loop-word.self-inside.roll.rule c.loop-word.self-inside.pieces.now c.loop-word.self-inside.next
-    (words_left c.new-self-inside.result) (omega (arith, count, test))
-    (c.new-self-inside.ensures.words ∙ ap (λ r. words_in r (read_of c.codes.result.bytes None)) rule
-    ∙ ap (λ r. words_in c.loop-word.self-inside.roll.rule (read_of r.bytes None)) c.codes.ensures.place)
+    (words_left c.roll-self-inside.result) (omega (arith, count, test))
+    (c.roll-self-inside.ensures.words
+    ∙ ap (λ r. words_in r (read_of (get_or c.loop-word.self-inside.pieces.now c.loop-word.self-inside.next []) None)) rule)
     ∙ sym (ap (λ xs. xs ++ words_of c.loop-word.self-inside.roll.rule (as_reads (drop c.loop-word.self-inside.next c.loop-word.self-inside.pieces.now)))
     c.in_default.ensures.none.0)
     ∙ c.loop-word.invariant

@@ -1,0 +1,16 @@
+use Rattle.std.proofs.Common.{◌≡◌, ◌+◌, ◌-◌}
+use Rattle.kc_tool.proofs.CleaningLemmas.{PiecesSoFar}
+use Rattle.kc_tool.proofs.counted_sources.ReadsInCutting.take.Given as goal
+
+abbrev pub invariant-reads : goal.invariant-reads
+invariant-reads g l =
+    let seen = g.R.Source.seen in
+    record {
+      so_far : PiecesSoFar (seen l.fn.source) (seen l.source) l.fn.self.left l.rule l.fn.self.cutting l.self.cutting l.reading l.count;
+      left : l.self.left ≡ l.fn.self.left;
+      sources : l.self.sources ≡ l.fn.self.sources + 1;
+      reads : l.self.reads ≡ l.fn.self.reads;
+    }
+
+abbrev pub decreases-reads : goal.decreases-reads
+decreases-reads g l = l.fn.self.left - l.reading.used
