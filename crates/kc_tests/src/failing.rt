@@ -161,6 +161,7 @@ const SOURCES: &[(&[&str], &str)] = &[
     (&[">a\nAC\n", ">b\nCG\n", ""], "AC 1\nCG 1\n"),
     (&[">a\nAC\n", "@q\nCG\n+\nII\n", ""], "AC 1\nCG 1\n"),
     (&["", ">a\nAC", ">b\nAC\n"], "AC 2\n"),
+    (&[], ""),
 ];
 
 #[test]
@@ -169,6 +170,20 @@ fn sources_are_read_in_order(rt: HostRuntime) -> Result<(), Fail> {
     for (row, (inputs, text)) in SOURCES.iter().enumerate() {
         let counted = count(&rt, *inputs, &options)?;
         assert_counted(&rt, row, &counted, &Ok(()), text.as_bytes());
+    }
+    Ok(())
+}
+
+// The statistics of no reads, from the worked rows of the command line.
+const FOUR_ZEROS: &str = "Unique:    0\nDistinct:  0\nTotal:     0\nMax_count: 0\n";
+
+// A count of no source is one of no reads.
+#[test]
+fn no_source_gives_no_reads(rt: HostRuntime) -> Result<(), Fail> {
+    let options = columns(2)?.with_print(Print::Stats);
+    for (row, inputs) in [[].as_slice(), [""].as_slice()].iter().enumerate() {
+        let counted = count(&rt, *inputs, &options)?;
+        assert_counted(&rt, row, &counted, &Ok(()), FOUR_ZEROS.as_bytes());
     }
     Ok(())
 }

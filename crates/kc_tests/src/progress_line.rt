@@ -1,7 +1,7 @@
 //! What is told while a count works, and the line that shows it.
 use crate::command_lines::words_of;
 use crate::written_bytes::{assert_bytes, assert_same};
-use kc_tool::{NoProgress, Progress, ProgressLine, program_showing};
+use kc_tool::{Gate, NoProgress, Progress, ProgressLine, program_showing};
 use std::alloc::{AllocError, Global};
 use std::cell::RefCell;
 use std::fmt::Display;
@@ -105,8 +105,8 @@ fn tell<P: Progress>(progress: &P, told: Told) {
     match told {
         Told::Read(count) => progress.bytes_read(count),
         Told::Begins(batches) => progress.counting_begins(batches),
-        Told::Turns => progress.batch_begins(),
-        Told::Counted => progress.batch_counted(),
+        Told::Turns => progress.before_book(0, 0),
+        Told::Counted => progress.after_book(0, 0),
         Told::Ends => progress.ends(),
     }
 }
@@ -187,7 +187,7 @@ fn a_line_is_written_eight_times_a_second(rt: HostRuntime) -> Result<(), Fail> {
     let line = ProgressLine::new(&clock, &screen);
     for millis in 1..=3_000 {
         clock.millis.store(millis, Ordering::SeqCst);
-        line.batch_counted();
+        line.after_book(0, 0);
         let is_written = !screen.taken(&rt)?.is_empty();
         assert_same(&rt, millis, &is_written, &(millis % 125 == 0));
     }
@@ -260,6 +260,16 @@ impl Heard {
     }
 }
 
+impl Gate for Heard {
+    fn before_book(&self, _worker: u32, _batch: u64) {
+        self.hear(&self.begun, 1);
+    }
+
+    fn after_book(&self, _worker: u32, _batch: u64) {
+        self.hear(&self.counted, 1);
+    }
+}
+
 impl Progress for Heard {
     fn bytes_read(&self, count: u64) {
         self.hear(&self.bytes, count);
@@ -267,14 +277,6 @@ impl Progress for Heard {
 
     fn counting_begins(&self, batches: u64) {
         self.hear(&self.batches, batches);
-    }
-
-    fn batch_begins(&self) {
-        self.hear(&self.begun, 1);
-    }
-
-    fn batch_counted(&self) {
-        self.hear(&self.counted, 1);
     }
 
     fn ends(&self) {

@@ -52,6 +52,17 @@ pub record CutSoFar (old new : List Seen) (rule : CountingRule) (batch : ℕ) (c
   pub counted : cut.reads ≡ length reads
   pub few : cut.reads + cut.left ≤ most_bytes
 
+pub nothing_cut : (rule : CountingRule) (batch : ℕ) {cutting : OpenCutting} → cutting.k ≡ rule.k → cutting.size ≡ batch
+    → HasTaken cutting [] → CutsNone rule batch (record { cutting = cutting; left = most_bytes; sources = 0; reads = 0 })
+nothing_cut rule batch long large none = record {
+  length_of_words = long;
+  size = large;
+  none = none;
+  left = refl;
+  sources = refl;
+  reads = refl;
+}
+
 pub cutting_begun : (sources : List Seen) {rule : CountingRule} {batch : ℕ} {cut : ReadsInCutting}
     → CutsNone rule batch cut → CutSoFar sources sources rule batch cut
 cutting_begun sources {cut = cut} is = record {

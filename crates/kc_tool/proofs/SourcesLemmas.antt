@@ -1,27 +1,33 @@
 -- Sources whose reads were cut, and what is counted of them, with a list and without one.
-use Rattle.std.proofs.Common.{◌≡◌, ◌≤◌, ◌^◌, ◌∙◌, ℕ, List, [], ◌∷◌, length, length-append, arith, refl, sym, ap, ap₂, subst, inl, inr}
+use Rattle.std.proofs.Common.{◌≡◌, ◌≤◌, ◌-◌, ◌^◌, ◌∙◌, ℕ, List, [], ◌∷◌, ◌++◌, length, length-append, arith, refl, sym, ap, ap₂, subst, inl, inr}
 use Rattle.std.specs.Io.KnownBytes.{Consumes}
-use Rattle.std.specs.Prelude.{Option, Some, None, is_some}
+use Rattle.std.specs.Prelude.{Option, Some, None, false, true}
+use Rattle.std.specs.List.{concat}
 use Rattle.std.specs.declared.alloc.Global.{Global}
 use Rattle.std.specs.declared.sync.Arc.{Arc}
 use Rattle.std.proofs.lemmas.List.{length-map, nil_from_length}
 use Rattle.kc_io.specs.Sources.{Seen}
-use Rattle.kc_fastx.specs.Parsing.{most_bytes}
+use Rattle.kc_io.specs.Intakes.{TakesAll}
+use Rattle.kc_fastx.specs.declared.read_faults.FastxFault.{FastxFault}
+use Rattle.kc_fastx.specs.declared.read_faults.FastxFault.TheVariants.{BadStart, BadBase, BadQuality, LongQuality, Truncated}
+use Rattle.kc_fastx.specs.declared.read_faults.FastxFault.TheVariants.{TooLong, Read as ReadFailed, Memory as LacksMemory}
+use Rattle.kc_fastx.specs.Lines.{Line, skip_blanks}
+use Rattle.kc_fastx.specs.Fastq.{FastqFails}
+use Rattle.kc_fastx.specs.Parsing.{HasFault, RefusesFor, most_bytes}
 use Rattle.kc_fastx.specs.Reads.{Read}
-use Rattle.kc_word.specs.Cutting.{cleaned, cutting}
+use Rattle.kc_word.specs.Cutting.{NumberedPieces, cleaned, cutting}
 use Rattle.kc_word.specs.OpenCutting.{OpenCutting, HasTaken}
 use Rattle.kc_word.specs.Shared.{values}
 use Rattle.kc_word.specs.declared.batch.Batch.{Batch}
-use Rattle.kc_word.specs.Only.{WordList}
 use Rattle.kc_kmer.specs.Rule.{CountingRule, with_list}
 use Rattle.kc_kmer.specs.Occurrences.{is_usable}
 use Rattle.kc_tally.specs.Tally.{IsTallyOf, TallySeen}
 use Rattle.kc_booking.specs.Stripe.{reads_in}
 use Rattle.kc_gather.specs.Gathering.{position_sum}
-use Rattle.kc_gather.specs.Laws.{TallyOfCutting}
+use Rattle.kc_gather.proofs.LawLemmas.{cutting_tally}
 use Rattle.kc_report.specs.declared.origin.Origin.{Origin}
 use Rattle.kc_command.specs.Settings.{Settings, rule_of}
-use Rattle.kc_tool.specs.Tallies.{Counts, CutsSources, GaveReads, GivesList, IsCuttingOf, ListFailsIn, RefusesCount, ReadsSources, RefusesSource, RefusesSources, TableSeen, TalliesSources}
+use Rattle.kc_tool.specs.Tallies.{Counts, CutsBatches, FailsAt, GaveReads, GivesList, IsCuttingOf, ListFailsIn, RefusesCount, ReadsSources, RefusesSource, RefusesSources, TableSeen, TalliesSources}
 use Rattle.kc_tool.specs.CountedTallies.{Knows, KnowsOne}
 use Rattle.kc_tool.specs.Commands.{sources_from}
 use Rattle.kc_tool.specs.NamedSources.{names_of, seen_of}
@@ -30,14 +36,9 @@ use Rattle.kc_tool.specs.declared.counted_tally.CountedTally.{CountedTally}
 use Rattle.kc_tool.specs.declared.counted_tally.CountedTally.TheVariants.{Rows}
 use Rattle.kc_tool.proofs.ReadCountLemmas.{read_count-within}
 use Rattle.kc_tool.proofs.TalliesLemmas.{few_batches, few_enough, small_cutting, small_enough}
-use Rattle.kc_tool.specs.Tallies.{Given, given, kept_to, origin_of, pieces_of, words_of}
+use Rattle.kc_tool.specs.Tallies.{Given, given, kept_to, origin_of, pieces_of, reader_lacks_memory}
 use Rattle.kc_tool.specs.declared.tool_faults.ToolFault.{ToolFault}
 use Rattle.kc_tool.specs.declared.tool_faults.ToolFault.TheVariants.{Fastx, BadHeader, BadRow, BadEnd, TableTooLong, TableRead, Memory, BadOption, BadWord, Write, Run, OpenFailed, Unlike, TooLarge}
-
--- A list has its words.
-pub listed_or_not : (list : Option WordList) → is_some list ≡ is_some (words_of list)
-listed_or_not None = refl
-listed_or_not (Some list) = refl
 
 -- A list changes neither the length of the words nor the pieces.
 k-kept : (list : Option (List ℕ)) (rule : CountingRule) → (kept_to list rule).k ≡ rule.k
@@ -55,67 +56,55 @@ pieces_of-kept words rule (read ∷ reads) =
     ap₂ (λ piece pieces. piece ∷ pieces) (cleaned-kept words rule read) (pieces_of-kept words rule reads)
 
 -- The tally of a cutting is that of the reads, under a list or not.
-tally_kept : TallyOfCutting → (list : Option (List ℕ)) (rule : CountingRule) (size : ℕ) (reads : List Read)
+tally_kept : (list : Option (List ℕ)) (rule : CountingRule) (size : ℕ) (reads : List Read)
     (tally : TallySeen) → 1 ≤ rule.k → 1 ≤ size
     → IsTallyOf (kept_to list rule) (reads_in (cutting rule.k size (pieces_of rule reads))) tally
     → IsTallyOf (kept_to list rule) reads tally
-tally_kept law None rule size reads tally some room h = law rule size reads tally some room h
-tally_kept law (Some words) rule size reads tally some room h =
+tally_kept None rule size reads tally some room h = cutting_tally rule size reads tally some room h
+tally_kept (Some words) rule size reads tally some room h =
     let listed = with_list rule words in
-    law listed size reads tally some room
+    cutting_tally listed size reads tally some room
     (subst (λ pieces. IsTallyOf listed (reads_in (cutting rule.k size pieces)) tally) (sym (pieces_of-kept words rule reads)) h)
 
--- The batches of a cutting of reads are few and small enough for a run, with a list and without one, and what is known
--- of their tally is known of that of the reads.
+-- The batches of a cutting of reads are few and small enough for a run.
 module _ {rule : CountingRule} {size : ℕ} {reads : List Read} {cut : OpenCutting} (some : 1 ≤ rule.k) (room : 1 ≤ size)
     (is : IsCuttingOf rule size reads cut) (batches : List (Arc Batch Global))
     (finished : (pieces : List (List ℕ)) → HasTaken cut pieces → values batches ≡ cutting cut.k cut.size pieces) where
-  are : values batches ≡ cutting rule.k size (pieces_of rule reads)
-  are = let raw = finished (pieces_of rule reads) is.taken in rw (is.length_of_words, is.size) at raw
+  pub batches_are : values batches ≡ cutting rule.k size (pieces_of rule reads)
+  batches_are = let raw = finished (pieces_of rule reads) is.taken in rw (is.length_of_words, is.size) at raw
 
   pub few_for_run : length batches ≤ 2 ^ 40
   few_for_run =
-      let counted = sym (length-map batches (λ batch. batch.value)) ∙ ap length are in
+      let counted = sym (length-map batches (λ batch. batch.value)) ∙ ap length batches_are in
       let few = few_batches rule.k size (pieces_of rule reads) some room in
       rw counted (few_enough _ _ few is.few)
 
-  pub small_for_run : (list : Option (List ℕ)) (kept : CountingRule) → kept ≡ kept_to list rule
-      → position_sum kept.k (values batches) ≤ 2 ^ 62
-  small_for_run list kept same =
+  pub small_for_run : position_sum rule.k (values batches) ≤ 2 ^ 62
+  small_for_run =
       let small = small_cutting rule.k size (pieces_of rule reads) some room in
-      rw (same, k-kept list rule, are) (small_enough _ _ small is.few)
+      rw batches_are (small_enough _ _ small is.few)
 
-  pub known_of_reads : TallyOfCutting → (list : Option (List ℕ)) (kept : CountingRule) → kept ≡ kept_to list rule
-      → (counted : CountedTally) → KnowsOne counted (IsTallyOf kept (reads_in (values batches)))
-      → KnowsOne counted (IsTallyOf (kept_to list rule) reads)
-  known_of_reads law list kept same counted known = record {
-    tally = known.tally;
-    knows = known.knows;
-    holds = tally_kept law list rule size reads known.tally some room (rw (same, are) at known.holds);
-  }
+-- A list changes no positions.
+pub small_kept : (list : Option (List ℕ)) (settings : Settings) (rule : CountingRule) → rule ≡ kept_to list (rule_of settings)
+    → (batches : List NumberedPieces) → position_sum settings.k batches ≤ 2 ^ 62 → position_sum rule.k batches ≤ 2 ^ 62
+small_kept list settings rule same batches small = rw (same, k-kept list (rule_of settings)) small
 
-module _ {old new : List Seen} (settings : Settings) {batch : ℕ} {cutting : OpenCutting} {count : ℕ}
-    (cut : CutsSources old new (rule_of settings) batch cutting count) where
-  -- What is known of that tally is known of one that is so.
-  pub tally_known : (list : Option (List ℕ)) (counted : CountedTally) (origin : Origin)
-      → ((reads : List Read) → IsCuttingOf (rule_of settings) batch reads cutting
-      → KnowsOne counted (IsTallyOf (kept_to list (rule_of settings)) reads))
-      → origin ≡ origin_of settings list count
-      → KnowsOne counted (λ tally. TalliesSources old new settings list (tally, Some origin))
-  tally_known list counted origin h told =
-      let known = h cut.reads cut.cut in
-      record {
-        tally = known.tally;
-        knows = known.knows;
-        holds = (cut.reads, cut.are, known.holds, ap Some (told ∙ ap (λ n. origin_of settings list n) cut.counted));
-      }
-
--- The size of a batch says nothing of the rule.
-pub cut_as : {old new : List Seen} (settings other : Settings) → other ≡ record settings { batch = other.batch }
-    → {cutting : OpenCutting} {count : ℕ} → CutsSources old new (rule_of other) other.batch cutting count
-    → CutsSources old new (rule_of settings) other.batch cutting count
-cut_as {old} {new} settings other same {cutting} {count} cut =
-    subst (λ s. CutsSources old new (rule_of s) other.batch cutting count) same cut
+-- What is known of the tally of the batches is known of that of the reads, with its origin.
+pub tally_known : {old new : List Seen} {settings : Settings} {list : Option (List ℕ)} {batches : List NumberedPieces} {origin : Origin}
+    → (cut : CutsBatches old new settings list batches origin) → (rule : CountingRule) → rule ≡ kept_to list (rule_of settings)
+    → (counted : CountedTally) → KnowsOne counted (IsTallyOf rule (reads_in batches))
+    → KnowsOne counted (λ tally. TalliesSources old new settings list (tally, Some origin))
+tally_known {settings = settings} {list = list} cut rule same counted known =
+    record {
+      tally = known.tally;
+      knows = known.knows;
+      holds = (
+        cut.reads,
+        cut.are,
+        tally_kept list (rule_of settings) cut.size cut.reads known.tally cut.long cut.some (rw (same, cut.cut) at known.holds),
+        ap Some cut.told,
+      );
+    }
 
 -- A source of no bytes gives no reads.
 none_consumed : (old new : Option (List ℕ)) (bytes : List ℕ) → Consumes old new bytes → old ≡ Some [] → length bytes ≡ 0
@@ -134,6 +123,60 @@ no_reads input after empty (bytes ∷ []) reads g =
     nil_from_length reads (omega (arith, none, read_count-within bytes has.0 has.2, ap length has.3, ap length has.4, length-append has.0 has.1))
 no_reads input after empty (bytes ∷ other ∷ more) reads g = absurd g.gave.1
 
+-- A text of no bytes has no fault, since no record begins in it.
+none_begins : (ls : List Line) → ls ≡ [] → (line : Line) (more : List Line) → skip_blanks ls ≡ line ∷ more → ⊥
+none_begins [] none line more is = let no : ⊥ = cc in no
+none_begins (first ∷ ls) none line more is = let no : ⊥ = cc in no
+
+no_fastq_fault : (count : ℕ) (ls : List Line) → ls ≡ [] → (fault : FastxFault) → FastqFails count ls fault → ⊥
+no_fastq_fault count ls none (BadStart number) h = none_begins ls none h.1.line h.0 h.1.whole
+no_fastq_fault count ls none (BadBase number) h = none_begins ls none h.1.title h.0 h.1.whole
+no_fastq_fault count ls none (BadQuality number) h = none_begins ls none h.1.title h.0 h.1.whole
+no_fastq_fault count ls none (LongQuality number) h = none_begins ls none h.1.title h.0 h.1.whole
+no_fastq_fault count ls none (Truncated number) h = none_begins ls none h.1.title h.0 h.1.whole
+no_fastq_fault count ls none TooLong h = none_begins ls none h.1.title h.0 h.1.whole
+no_fastq_fault count ls none ReadFailed h = none_begins ls none h.1.title h.0 h.1.whole
+no_fastq_fault count ls none LacksMemory h = none_begins ls none h.1.title h.0 h.1.whole
+
+no_fault : (fault : FastxFault) → HasFault [] fault → ⊥
+no_fault fault ([], here, records, fails) = no_fastq_fault 0 here (sym records) fault fails
+no_fault fault (read ∷ reads, here, records, fails) =
+    let title = records.1.title in none_begins [] refl title.title records.1.body title.whole
+
+-- A source of no bytes of which no read failed is refused for want of memory alone.
+faultless : (old new : Seen) → old.left ≡ Some [] → (limit : ℕ) (fault : FastxFault)
+    → ((bytes : List ℕ) × TakesAll old new limit bytes × HasFault bytes fault) → ⊥
+faultless old new empty limit fault h =
+    let none = nil_from_length h.0 (none_consumed old.left new.left h.0 h.1.taken.consumed empty) in
+    no_fault fault (subst (λ (bytes : List ℕ). HasFault bytes fault) none h.2)
+
+lacks_memory : (old new : Seen) → old.left ≡ Some [] → old.history.failures ≡ 0 → new.history.failures ≡ 0 → (limit : ℕ)
+    (fault : FastxFault) → RefusesFor old new limit fault → fault ≡ LacksMemory
+lacks_memory old new empty unfailed still limit TooLong h =
+    let none = none_consumed old.left new.left h.0 h.1.consumed empty in
+    let no : ⊥ = omega (arith, none, h.2) in absurd no
+lacks_memory old new empty unfailed still limit ReadFailed h =
+    let no : ⊥ = omega (arith, unfailed, still, h.1.failures) in absurd no
+lacks_memory old new empty unfailed still limit LacksMemory h = refl
+lacks_memory old new empty unfailed still limit (BadStart number) h = absurd (faultless old new empty limit (BadStart number) h)
+lacks_memory old new empty unfailed still limit (BadBase number) h = absurd (faultless old new empty limit (BadBase number) h)
+lacks_memory old new empty unfailed still limit (BadQuality number) h = absurd (faultless old new empty limit (BadQuality number) h)
+lacks_memory old new empty unfailed still limit (LongQuality number) h = absurd (faultless old new empty limit (LongQuality number) h)
+lacks_memory old new empty unfailed still limit (Truncated number) h = absurd (faultless old new empty limit (Truncated number) h)
+
+-- No source gave no reads.
+pub none_read : {S : Type 0} (seen : S → Seen) (files later : List (NamedSource S)) → files ≡ [] → names_of later ≡ names_of files
+    → (reads : List Read) × ReadsSources (seen_of seen files) (seen_of seen later) reads
+none_read seen [] [] none same = ([], ([], record { gave = tt; within = omega arith; has_reads = refl }))
+none_read seen [] (source ∷ later) none same = let no : ⊥ = cc in absurd no
+none_read seen (file ∷ files) later none same = let no : ⊥ = cc in absurd no
+
+-- Of a list of one, what stands between two parts is that one.
+only_one : {S : Type 0} (one : S) (before : List S) (here : S) (behind : List S) → one ∷ [] ≡ before ++ here ∷ behind → one ≡ here
+only_one one [] here behind is = cc
+only_one one (first ∷ before) here behind is =
+    let no : ⊥ = omega (arith, ap length is, length-append before (here ∷ behind)) in absurd no
+
 -- Where an input of no bytes stands beside sources, what comes of both comes of the sources alone.
 module _ {S : Type 0} (seen : S → Seen) (input after : Seen) (empty : input.left ≡ Some []) where
   pub tallied_alone : (files later : List (NamedSource S)) → names_of later ≡ names_of files → (settings : Settings)
@@ -151,19 +194,45 @@ module _ {S : Type 0} (seen : S → Seen) (input after : Seen) (empty : input.le
   tallied_alone (file ∷ files) [] same settings list table h = let no : ⊥ = cc in absurd no
   tallied_alone (file ∷ files) (source ∷ later) same settings list table h = h
 
+  -- Where no read of it failed either, and there are no sources, its reader can only have lacked memory.
+  refused_nothing : (files later : List (NamedSource S)) → files ≡ [] → names_of later ≡ names_of files
+      → input.history.failures ≡ 0 → after.history.failures ≡ 0 → (number : ℕ) (fault : FastxFault)
+      → FailsAt (sources_from input (seen_of seen files)) (sources_from after (seen_of seen later)) number fault → fault ≡ LacksMemory
+  refused_nothing [] [] none same unfailed still number fault h =
+      let was = only_one input h.before h.here h.behind h.were in
+      let is = only_one after h.given h.left h.behind h.are in
+      lacks_memory input after empty unfailed still (most_bytes - length (concat h.inputs)) fault (rw (was, is) h.fails)
+  refused_nothing [] (source ∷ later) none same unfailed still number fault h = let no : ⊥ = cc in absurd no
+  refused_nothing (file ∷ files) later none same unfailed still number fault h = let no : ⊥ = cc in absurd no
+
+  pub refused_without : (files later : List (NamedSource S)) → files ≡ [] → names_of later ≡ names_of files
+      → input.history.failures ≡ 0 → after.history.failures ≡ 0 → (fault : ToolFault) → reader_lacks_memory fault ≡ false
+      → RefusesSources (sources_from input (seen_of seen files)) (sources_from after (seen_of seen later)) fault
+      → RefusesSources (seen_of seen files) (seen_of seen later) fault
+  refused_without files later none same unfailed still (Fastx number fault) other h =
+      let is = refused_nothing files later none same unfailed still number fault h in
+      let lacks : reader_lacks_memory (Fastx number fault) ≡ true = rw is refl in
+      let no : ⊥ = cc in absurd no
+  refused_without files later none same unfailed still Memory other h = tt
+  refused_without files later none same unfailed still (Run fault) other h = none_read seen files later none same
+  refused_without files later none same unfailed still BadHeader other h = absurd h
+  refused_without files later none same unfailed still (BadRow line) other h = absurd h
+  refused_without files later none same unfailed still BadEnd other h = absurd h
+  refused_without files later none same unfailed still TableTooLong other h = absurd h
+  refused_without files later none same unfailed still TableRead other h = absurd h
+  refused_without files later none same unfailed still (BadOption name) other h = absurd h
+  refused_without files later none same unfailed still (BadWord at) other h = absurd h
+  refused_without files later none same unfailed still Write other h = absurd h
+  refused_without files later none same unfailed still (OpenFailed name) other h = absurd h
+  refused_without files later none same unfailed still Unlike other h = absurd h
+  refused_without files later none same unfailed still TooLarge other h = absurd h
+
   pub refused_alone : (files later : List (NamedSource S)) → (files ≡ [] → ⊥) → names_of later ≡ names_of files → (fault : ToolFault)
       → RefusesSources (sources_from input (seen_of seen files)) (sources_from after (seen_of seen later)) fault
       → RefusesSources (seen_of seen files) (seen_of seen later) fault
   refused_alone [] later some same fault h = absurd (some refl)
   refused_alone (file ∷ files) [] some same fault h = let no : ⊥ = cc in absurd no
   refused_alone (file ∷ files) (source ∷ later) some same fault h = h
-
--- No source gave no reads.
-pub none_read : {S : Type 0} (seen : S → Seen) (files later : List (NamedSource S)) → files ≡ [] → names_of later ≡ names_of files
-    → (reads : List Read) × ReadsSources (seen_of seen files) (seen_of seen later) reads
-none_read seen [] [] none same = ([], ([], record { gave = tt; within = omega arith; has_reads = refl }))
-none_read seen [] (source ∷ later) none same = let no : ⊥ = cc in absurd no
-none_read seen (file ∷ files) later none same = let no : ⊥ = cc in absurd no
 
 -- The list, where one is given, was read, and then the sources were.
 module _ (list : Option (List ℕ)) (before after : Option Seen) (old new : List Seen) (settings : Settings)

@@ -1,13 +1,14 @@
 -- The reads of all sources of one count, the words of its list, and their tally: source, our formats page.
-use Rattle.std.specs.Prelude.{◌≡◌, ◌≤◌, ◌⊎◌, ◌+◌, ◌-◌, ℕ, List, [], ◌∷◌, ◌++◌, length, map, sum_by, ⊤}
-use Rattle.std.specs.Prelude.{Option, Some, None, IfSome, is_some, option_map}
+use Rattle.std.specs.Prelude.{◌≡◌, ◌≤◌, ◌⊎◌, ◌+◌, ◌-◌, ℕ, List, [], ◌∷◌, ◌++◌, length, map, max, sum_by, ⊤}
+use Rattle.std.specs.Prelude.{Bool, true, false, Option, Some, None, IfSome, is_some, option_map}
 use Rattle.std.specs.List.{concat}
 use Rattle.kc_io.specs.Sources.{Seen}
 use Rattle.kc_io.specs.Intakes.{TakesAll}
 use Rattle.kc_fastx.specs.Parsing.{GivesReads, HaveReads, RefusesFor, most_bytes}
 use Rattle.kc_fastx.specs.Reads.{Read}
 use Rattle.kc_fastx.specs.declared.read_faults.FastxFault.{FastxFault}
-use Rattle.kc_word.specs.Cutting.{cleaned}
+use Rattle.kc_fastx.specs.declared.read_faults.FastxFault.TheVariants.{Memory as NoMemory}
+use Rattle.kc_word.specs.Cutting.{NumberedPieces, cleaned, cutting}
 use Rattle.kc_word.specs.OpenCutting.{OpenCutting, HasTaken}
 use Rattle.kc_word.specs.Only.{WordList, IsListOf}
 use Rattle.kc_kmer.specs.Rule.{CountingRule, with_list}
@@ -107,6 +108,11 @@ RefusesSources old new (Run fault) = (reads : List Read) × ReadsSources old new
 RefusesSources old new Memory = ⊤
 RefusesSources old new _ = ⊥
 
+-- there was no memory for the reader of a source
+abbrev pub reader_lacks_memory : ToolFault → Bool
+reader_lacks_memory (Fastx source NoMemory) = true
+reader_lacks_memory _ = false
+
 -- a tally, and what it was counted from where that is told
 abbrev pub TableSeen : Type 0
 TableSeen = TallySeen × Option Origin
@@ -134,6 +140,20 @@ abbrev pub TalliesSources : List Seen → List Seen → Settings → Option (Lis
 TalliesSources old new settings list table = (reads : List Read) × ReadsSources old new reads
     × IsTallyOf (kept_to list (rule_of settings)) reads table.0
     × (table.1 ≡ Some (origin_of settings list (length reads)))
+
+-- the sources gave reads, and these are the batches of their pieces, of at least as many positions as were asked for and
+-- of no more than that or 4,000,000; this is told of a count of them
+pub record CutsBatches (old new : List Seen) (settings : Settings) (list : Option (List ℕ))
+    (batches : List NumberedPieces) (origin : Origin) : Type 0 where
+  pub reads : List Read
+  pub are : ReadsSources old new reads
+  pub size : ℕ
+  pub some : 1 ≤ size
+  pub at_least : settings.batch ≤ size
+  pub at_most : size ≤ max settings.batch 4000000
+  pub long : 1 ≤ settings.k
+  pub cut : batches ≡ cutting settings.k size (pieces_of (rule_of settings) reads)
+  pub told : origin ≡ origin_of settings list (length reads)
 
 -- ---- a list
 

@@ -1,5 +1,5 @@
-//! How far a count has come: what tells it (the sources as they are read, and the gate of the workers), what is told
-//! it, and the line on a terminal that shows it.
+//! How far a count has come: who is told it, as the sources are read and as the workers book, and the line on a terminal
+//! that shows it.
 ghost use Rattle.std.specs.Prelude.{◌≡◌, ◌≤◌, ◌+◌, ◌++◌, length};
 ghost use Rattle.kc_tool.specs.Progress.{batches_text, progress_text};
 
@@ -9,19 +9,14 @@ use std::io::{IsTerminal, Print};
 use std::sync::atomic::{AtomicBool, AtomicU64, Ordering};
 use std::time::{Clock, Duration, Instant};
 
-/// Whoever is told how far a count has come. The workers of a count may tell it at the same time.
-pub trait Progress {
+/// Whoever is told how far a count has come. It is the gate of the workers too, who tell of each batch, before they book
+/// it and after, and may do so at the same time.
+pub trait Progress: Gate {
     /// So many more bytes of the sources were read.
     fn bytes_read(&self, count: u64);
 
     /// All sources were read, and so many batches are to be counted.
     fn counting_begins(&self, batches: u64);
-
-    /// A worker turns to one more batch.
-    fn batch_begins(&self);
-
-    /// One more batch was counted.
-    fn batch_counted(&self);
 
     /// All was told; of a command that reads a table this alone is told. What is shown is taken away, and nothing is
     /// shown from now on.
@@ -32,33 +27,18 @@ pub trait Progress {
 #[derive(Clone, Copy, Debug)]
 pub struct NoProgress;
 
+impl Gate for NoProgress {
+    fn before_book(&self, _worker: u32, _batch: u64) {}
+
+    fn after_book(&self, _worker: u32, _batch: u64) {}
+}
+
 impl Progress for NoProgress {
     fn bytes_read(&self, _count: u64) {}
 
     fn counting_begins(&self, _batches: u64) {}
 
-    fn batch_begins(&self) {}
-
-    fn batch_counted(&self) {}
-
     fn ends(&self) {}
-}
-
-/// The gate that tells of each batch, before it is booked and after.
-#[derive(Drop)]
-pub(crate) struct ToldGate<'a, P: Progress> {
-    /// What is told.
-    pub progress: &'a P,
-}
-
-impl<P: Progress> Gate for ToldGate<'_, P> {
-    fn before_book(&self, _worker: u32, _batch: u64) {
-        self.progress.batch_begins();
-    }
-
-    fn after_book(&self, _worker: u32, _batch: u64) {
-        self.progress.batch_counted();
-    }
 }
 
 // The least time from one line to the next, in milliseconds. It leaves room for one line that comes before its time.
@@ -145,6 +125,17 @@ impl<'a, C: Clock, T: Print + IsTerminal> ProgressLine<'a, C, T> {
     }
 }
 
+impl<C: Clock, T: Print + IsTerminal> Gate for ProgressLine<'_, C, T> {
+    fn before_book(&self, _worker: u32, _batch: u64) {
+        self.show(false);
+    }
+
+    fn after_book(&self, _worker: u32, _batch: u64) {
+        let before = self.counted.fetch_add(1, Ordering::SeqCst);
+        self.show(before.wrapping_add(1) == self.batches.load(Ordering::SeqCst));
+    }
+}
+
 impl<C: Clock, T: Print + IsTerminal> Progress for ProgressLine<'_, C, T> {
     fn bytes_read(&self, count: u64) {
         self.bytes.fetch_add(count, Ordering::SeqCst);
@@ -154,15 +145,6 @@ impl<C: Clock, T: Print + IsTerminal> Progress for ProgressLine<'_, C, T> {
     fn counting_begins(&self, batches: u64) {
         self.batches.store(batches, Ordering::SeqCst);
         self.show(false);
-    }
-
-    fn batch_begins(&self) {
-        self.show(false);
-    }
-
-    fn batch_counted(&self) {
-        let before = self.counted.fetch_add(1, Ordering::SeqCst);
-        self.show(before.wrapping_add(1) == self.batches.load(Ordering::SeqCst));
     }
 
     fn ends(&self) {

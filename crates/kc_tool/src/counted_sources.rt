@@ -1,16 +1,18 @@
 //! The tally of the reads of all sources: they are read, cleaned and cut into batches, and the words of the batches are
 //! counted by as many threads as are asked for, all of them or those of a list. Of the tally no more is gathered than
 //! the report is about.
-ghost use Rattle.std.specs.Prelude.{◌≡◌, ◌≤◌, ◌<◌, ◌+◌, IfOk, IfErr, IfSome, OnOk};
-ghost use Rattle.std.specs.Prelude.{max};
+ghost use Rattle.std.specs.Prelude.{◌≡◌, ◌≤◌, ◌<◌, ◌+◌, ◌^◌, length, IfOk, IfErr, IfSome, OnOk};
 ghost use Rattle.kc_fastx.specs.Parsing.{most_bytes};
+ghost use Rattle.kc_word.specs.Shared.{values};
 ghost use Rattle.kc_booking.specs.Setup.{stripe_count};
+ghost use Rattle.kc_gather.specs.Gathering.{position_sum};
 ghost use Rattle.kc_tool.specs.CountedTallies.{IsEnoughFor, KnowsOne};
 ghost use Rattle.kc_tool.specs.Commands.{KeepsInput, sources_from};
 ghost use Rattle.kc_tool.specs.NamedSources.{names_of, seen_of};
 ghost use Rattle.kc_tool.specs.Reports.{report_of};
 ghost use Rattle.kc_report.specs.Table.{IsOrigin, MaySay};
 ghost use Rattle.kc_tool.specs.Tallies.{
+  CutsBatches,
   CutsNext,
   CutsSources,
   GivesWords,
@@ -19,24 +21,23 @@ ghost use Rattle.kc_tool.specs.Tallies.{
   RefusesSources,
   TalliesSources,
   kept_to,
-  origin_of,
+  reader_lacks_memory,
   words_of,
 };
 ghost use Rattle.kc_command.specs.Settings.{rule_of};
 
-use crate::count_progress::{Progress, ToldGate};
+use crate::count_progress::Progress;
 use crate::counted_tally::CountedTally;
 use crate::named_sources::NamedSource;
 use crate::tool_faults::ToolFault;
 use kc_command::{Options, Print};
 use kc_fastx::{FastxFault, Reading, Source, read_all};
-use kc_gather::gather_laws;
 use kc_hash::Hash;
 use kc_io::FromBytes;
 use kc_report::Origin;
 use kc_run::{quotient_tables, run, run_histogram, run_statistics};
 use kc_stripe::Setup;
-use kc_word::{Cutting, Only, Rule, clean};
+use kc_word::{Batch, Cutting, Only, Rule, clean};
 use std::alloc::{AllocError, Global};
 use std::sync::{Arc, Wait};
 use std::thread::Threads;
@@ -109,31 +110,22 @@ pub(crate) fn count_given<H: Threads + Wait + Sync, R: Source, F: Source, P: Pro
     ensures input { KeepsInput (seen_of F.seen files.old) (R.seen input.old) (R.seen input.new) }
     ensures names { names_of files.new ≡ names_of files.old }
 {
-    let is_listed = list.is_some();
-    let settings = batches_for(options, &list);
-    let (cutting, count) = cut_given(alloc, files, input, &settings, progress)?;
-    let origin = origin_of(options, count, is_listed);
-    // for the proof: what is known of a length, of the size of a batch, and of the tally of a cutting
-    let _bases = options.rule().k().get();
-    let _positions = settings.batch();
-    gather_laws::tally_of_cutting();
-    let batches = cutting.finish(alloc)?;
+    let (batches, origin) = batches_given(alloc, &list, options, files, input, progress)?;
     progress.counting_begins(batches.len() as u64);
     let setup = setup_of(alloc, list, options)?;
     let tables = quotient_tables(alloc, &setup, options.size())?;
     let workers = options.workers();
-    let gate = ToldGate { progress };
     match options.print() {
         Print::Histo if options.high() <= GREATEST_BIN => {
-            let bins = run_histogram(rt, alloc, &batches, &setup, tables, workers, &gate)?;
+            let bins = run_histogram(rt, alloc, &batches, &setup, tables, workers, progress)?;
             Ok((CountedTally::Bins(bins), Some(origin)))
         }
         Print::Stats => {
-            let numbers = run_statistics(rt, alloc, &batches, &setup, tables, workers, &gate)?;
+            let numbers = run_statistics(rt, alloc, &batches, &setup, tables, workers, progress)?;
             Ok((CountedTally::Numbers(numbers), Some(origin)))
         }
         _ => {
-            let tally = run(rt, alloc, &batches, &setup, tables, workers, &gate)?;
+            let tally = run(rt, alloc, &batches, &setup, tables, workers, progress)?;
             Ok((CountedTally::Rows(tally), Some(origin)))
         }
     }
@@ -165,76 +157,105 @@ pub(crate) fn count_sources<H: Threads + Wait + Sync, R: Source, P: Progress + S
     if !is_empty {
         return counted;
     }
-    // where there is no source, the run alone can be refused, or memory
-    match counted {
-        Ok(counted) => Ok(counted),
-        Err(ToolFault::Run(fault)) => Err(ToolFault::Run(fault)),
-        Err(_) => Err(ToolFault::Memory),
-    }
-}
-
-// The same options, with larger batches where a list is long: each booking of a batch compares the lists, and so this
-// takes little time beside counting.
-fn batches_for(options: &Options, list: &Option<Only>) -> Options
-    ensures others { result ≡ record options.now { batch = result.batch } }
-    ensures at_least { options.now.batch ≤ result.batch }
-    ensures at_most { result.batch ≤ max options.now.batch 4000000 }
-{
-    let words = match list {
-        None => 0,
-        Some(list) => list.words().len() as u64,
+    // for the proof: no read of it failed
+    let _rest = nothing.as_slice();
+    let fault = match counted {
+        Ok(counted) => return Ok(counted),
+        Err(fault) => fault,
     };
-    let positions = words.saturating_mul(POSITIONS_A_WORD).min(LISTED_POSITIONS);
-    options.with_batch(positions.max(options.batch()))
+    // no bytes have no fault, so their reader can only have lacked memory
+    if reader_lacks_memory(&fault) {
+        return Err(ToolFault::Memory);
+    }
+    Err(fault)
 }
 
-// What is told of a count of so many reads. Condition: they are at most 2^36.
-fn origin_of(options: &Options, reads: u64, listed: bool) -> Origin
-    requires { reads ≤ most_bytes }
-    ensures told { result ≡ record { floor = options.now.floor; reads = reads; listed = listed } }
-    ensures lawful { IsOrigin result }
+// Whether there was no memory for the reader of a source.
+fn reader_lacks_memory(fault: &ToolFault) -> bool
+    ensures { result ≡ reader_lacks_memory fault.now }
 {
-    let floor = options.rule().floor();
-    Origin {
-        floor,
-        reads,
-        listed,
+    match fault {
+        ToolFault::Fastx { source: _, fault } => *fault == FastxFault::Memory,
+        _ => false,
     }
 }
 
-// The cutting of the reads of these files, in order, or, where there are none, of the given input, and how many reads
-// there are. Each source is read whole before the next one, and each read is cleaned and cut before the next one is
-// read, so that the text of one read is in memory at a time. A fault is that of the first source that has one, with its
-// number from 1, or `Memory` where a growth was refused outside the reading.
-fn cut_given<R: Source, F: Source, P: Progress>(
+// The batches of the reads of these files, in order, or, where there are none, of the given input, and what is told of
+// a count of them. They have as many positions as the options say, and more where a list is long: each booking of a
+// batch compares the lists, and so this takes little time beside counting. A fault is one of `cut_given`.
+fn batches_given<R: Source, F: Source, P: Progress>(
     alloc: Global,
+    list: &Option<Only>,
+    options: &Options,
     files: &mut [NamedSource<'_, F>],
     input: &mut R,
-    options: &Options,
     progress: &P,
-) -> Result<(Cutting, u64), ToolFault>
-    ensures cut { let Cuts = CutsSources (sources_from (R.seen input.old) (seen_of F.seen files.old))
+) -> Result<(Vec<Arc<Batch>>, Origin), ToolFault>
+    ensures cut { let Cuts = CutsBatches (sources_from (R.seen input.old) (seen_of F.seen files.old))
         (sources_from (R.seen input.new) (seen_of F.seen files.new)) in
-        IfOk result (λ cut. Cuts (rule_of options.now) options.now.batch cut.0 cut.1) }
+        IfOk result (λ cut. Cuts options.now (words_of list.now) (values cut.0.items) cut.1) }
+    ensures few { IfOk result (λ cut. length cut.0.items ≤ 2 ^ 40) }
+    ensures small { IfOk result (λ cut. position_sum options.now.k (values cut.0.items) ≤ 2 ^ 62) }
+    ensures origin { IfOk result (λ cut. IsOrigin cut.1) }
     ensures fault { let Refuses = RefusesSources (sources_from (R.seen input.old) (seen_of F.seen files.old)) in
         IfErr result (Refuses (sources_from (R.seen input.new) (seen_of F.seen files.new))) }
     ensures input { KeepsInput (seen_of F.seen files.old) (R.seen input.old) (R.seen input.new) }
     ensures names { names_of files.new ≡ names_of files.old }
 {
+    let words = match list {
+        None => 0,
+        Some(list) => list.words().len() as u64,
+    };
+    let wanted = words.saturating_mul(POSITIONS_A_WORD).min(LISTED_POSITIONS);
+    let size = wanted.max(options.batch());
     let rule = options.rule();
+    let (cutting, reads) = cut_given(alloc, files, input, &rule, size, progress)?;
+    let batches = cutting.finish(alloc)?;
+    // for the proof: what is known of a length
+    let _bases = rule.k().get();
+    let origin = Origin {
+        floor: rule.floor(),
+        reads,
+        listed: list.is_some(),
+    };
+    Ok((batches, origin))
+}
+
+// The cutting of the reads of these files, in order, or, where there are none, of the given input, into batches of
+// `size` positions, and how many reads there are. Each source is read whole before the next one, and each read is
+// cleaned and cut before the next one is read, so that the text of one read is in memory at a time. A fault is that of
+// the first source that has one, with its number from 1, or `Memory` where a growth was refused outside the reading.
+// Condition: the size is at least 1.
+fn cut_given<R: Source, F: Source, P: Progress>(
+    alloc: Global,
+    files: &mut [NamedSource<'_, F>],
+    input: &mut R,
+    rule: &Rule,
+    size: u64,
+    progress: &P,
+) -> Result<(Cutting, u64), ToolFault>
+    requires { 1 ≤ size }
+    ensures cut { let Cuts = CutsSources (sources_from (R.seen input.old) (seen_of F.seen files.old))
+        (sources_from (R.seen input.new) (seen_of F.seen files.new)) in
+        IfOk result (λ cut. Cuts rule.now size cut.0 cut.1) }
+    ensures fault { let Refuses = RefusesSources (sources_from (R.seen input.old) (seen_of F.seen files.old)) in
+        IfErr result (Refuses (sources_from (R.seen input.new) (seen_of F.seen files.new))) }
+    ensures input { KeepsInput (seen_of F.seen files.old) (R.seen input.old) (R.seen input.new) }
+    ensures names { names_of files.new ≡ names_of files.old }
+{
     let mut cut = ReadsInCutting {
-        cutting: Cutting::new(alloc, rule.k(), options.batch()),
+        cutting: Cutting::new(alloc, rule.k(), size),
         left: MOST_BYTES,
         sources: 0,
         reads: 0,
     };
     if files.is_empty() {
-        cut.take(alloc, input, &rule, progress)?;
+        cut.take(alloc, input, rule, progress)?;
         return Ok((cut.cutting, cut.reads));
     }
     let _fits = files.len();
     for file in files.iter_mut() {
-        cut.take(alloc, &mut file.source, &rule, progress)?;
+        cut.take(alloc, &mut file.source, rule, progress)?;
     }
     Ok((cut.cutting, cut.reads))
 }

@@ -49,7 +49,7 @@ pub use kc_report::{
     Dump, GREATEST_HIGH, Origin, ReportFault, merge, query, read_table, write_dump, write_histo,
     write_stats, write_table,
 };
-pub use kc_run::RunFault;
+pub use kc_run::{Gate, RunFault};
 pub use kc_tally::{Row, Tally};
 pub use kc_word::K;
 pub use process::{program, program_showing};

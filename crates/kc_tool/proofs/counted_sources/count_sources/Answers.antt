@@ -3,7 +3,7 @@ use Rattle.std.proofs.lemmas.Result.{IfErr-weaker, IfOk-weaker}
 use Rattle.kc_io.specs.Sources.{Seen}
 use Rattle.kc_tool.specs.Tallies.{words_of}
 use Rattle.kc_tool.proofs.CommandsLemmas.{nothing_named, something_named}
-use Rattle.kc_tool.proofs.SourcesLemmas.{none_read, refused_alone, tallied_alone}
+use Rattle.kc_tool.proofs.SourcesLemmas.{refused_alone, refused_without, tallied_alone}
 use Rattle.kc_tool.proofs.counted_sources.count_sources.Goals as goal
 
 pub returns-then-not-is_empty-clause-tally : goal.returns-then-not-is_empty-clause-tally
@@ -35,7 +35,11 @@ returns-in-Ok-clause-tally g c =
           c.count_given-counted.ensures.names c.args.options.now (words_of c.args.list) (known.tally, c.in-Ok.counted.1) known.holds;
     }
 
-pub returns-in-Err-Run-clause-fault : goal.returns-in-Err-Run-clause-fault
-returns-in-Err-Run-clause-fault g c =
+pub returns-clause-fault : goal.returns-clause-fault
+returns-clause-fault g c =
+    let nothing = c.new-nothing.result in
+    let empty = ap (λ (s : Seen). s.left) c.new-nothing.ensures in
+    let unfailed = ap (λ (s : Seen). s.history.failures) c.new-nothing.ensures in
     let none = nothing_named c.args.sources.now _ (sym c.is_empty-is_empty.ensures ∙ c.if-not-is_empty.false) refl in
-    none_read g.R.Source.seen c.args.sources.now c.count_given-counted.new.files none c.count_given-counted.ensures.names
+    refused_without g.R.Source.seen nothing c.count_given-counted.new.input empty c.args.sources.now c.count_given-counted.new.files none
+    c.count_given-counted.ensures.names unfailed c.as_slice-rest.ensures.unfailed c.in-Err.fault (sym c.reader_lacks_memory.ensures ∙ c.if-reader_lacks_memory.false) c.in-Err.ensures.fault

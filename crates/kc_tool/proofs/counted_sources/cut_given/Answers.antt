@@ -1,14 +1,11 @@
-use Rattle.std.proofs.Common.{◌∙◌, ◌≤◌, ◌<◌, ◌+◌, List, [], ◌∷◌, length, get_or, set, ap, arith, refl, subst, sym}
+use Rattle.std.proofs.Common.{◌∙◌, ◌≤◌, ◌<◌, ◌+◌, List, length, get_or, set, ap, arith, refl, sym}
 use Rattle.std.proofs.lemmas.List.{length-map}
 use Rattle.std.proofs.lemmas.Result.{err_from_is_err_and}
 use Rattle.std.proofs.Math.Seq.{map-set_same}
 use Rattle.kc_io.specs.Sources.{Seen}
-use Rattle.kc_fastx.specs.Parsing.{most_bytes}
-use Rattle.kc_kmer.specs.Rule.{CountingRule}
-use Rattle.kc_command.specs.Settings.{rule_of}
 use Rattle.kc_tool.specs.NamedSources.{seen_of}
 use Rattle.kc_tool.specs.Tallies.{CutsSources, RefusesSources}
-use Rattle.kc_tool.proofs.CleaningLemmas.{CutsNone, all_cut, cutting_begun, one_cut, one_more_kept, one_refused, refused_kept}
+use Rattle.kc_tool.proofs.CleaningLemmas.{all_cut, cutting_begun, nothing_cut, one_cut, one_more_kept, one_refused, refused_kept}
 use Rattle.kc_tool.proofs.CommandsLemmas.{from_files, from_input, nothing_named, something_named}
 use Rattle.kc_tool.proofs.counted_sources.cut_given.Goals as goal
 
@@ -19,14 +16,7 @@ returns-in_err-take-clause-fault g c =
     let empty = nothing_named files _ (sym c.is_empty.ensures ∙ c.if-is_empty.true) refl in
     let input = g.R.Source.seen c.args.input.now in
     let later = g.R.Source.seen c.take.new.source in
-    let none : CutsNone c.rule-rule.result c.args.options.now.batch (record { cutting = c.new.result; left = most_bytes; sources = 0; reads = 0 }) = record {
-      length_of_words = c.new.ensures.k ∙ c.k.ensures;
-      size = c.new.ensures.size ∙ c.batch.ensures.value;
-      none = c.new.ensures.none;
-      left = refl;
-      sources = refl;
-      reads = refl;
-    } in
+    let none = nothing_cut c.args.rule.now c.args.size (c.new.ensures.k ∙ c.k.ensures) c.new.ensures.size c.new.ensures.none in
     let refused = one_refused input later none c.in_err-take.field-0.0 c.in_err-take.ensures.fault in
     rw (p.1, p.2) (from_input g.F.Source.seen input later files files (λ (old new : List Seen). RefusesSources old new c.in_err-take.field-0.0) empty refl refused)
 
@@ -37,28 +27,13 @@ returns-then-is_empty-clause-cut g c =
     let input = g.R.Source.seen c.args.input.now in
     let later = g.R.Source.seen c.take.new.source in
     let cut = c.take.new.self in
-    let none : CutsNone c.rule-rule.result c.args.options.now.batch (record { cutting = c.new.result; left = most_bytes; sources = 0; reads = 0 }) = record {
-      length_of_words = c.new.ensures.k ∙ c.k.ensures;
-      size = c.new.ensures.size ∙ c.batch.ensures.value;
-      none = c.new.ensures.none;
-      left = refl;
-      sources = refl;
-      reads = refl;
-    } in
-    let cuts = subst (λ (rule : CountingRule). CutsSources (input ∷ []) (later ∷ []) rule c.args.options.now.batch cut.cutting cut.reads) c.rule-rule.ensures
-    (one_cut input later none c.in_ok-take.ensures.next) in
-    from_input g.F.Source.seen input later files files (λ (old new : List Seen). CutsSources old new (rule_of c.args.options.now) c.args.options.now.batch cut.cutting cut.reads) empty refl cuts
+    let none = nothing_cut c.args.rule.now c.args.size (c.new.ensures.k ∙ c.k.ensures) c.new.ensures.size c.new.ensures.none in
+    from_input g.F.Source.seen input later files files (λ (old new : List Seen). CutsSources old new c.args.rule.now c.args.size cut.cutting cut.reads) empty refl
+    (one_cut input later none c.in_ok-take.ensures.next)
 
 pub loop-file-init : goal.loop-file-init
 loop-file-init g c =
-    let none : CutsNone c.rule-rule.result c.args.options.now.batch (record { cutting = c.new.result; left = most_bytes; sources = 0; reads = 0 }) = record {
-      length_of_words = c.new.ensures.k ∙ c.k.ensures;
-      size = c.new.ensures.size ∙ c.batch.ensures.value;
-      none = c.new.ensures.none;
-      left = refl;
-      sources = refl;
-      reads = refl;
-    } in
+    let none = nothing_cut c.args.rule.now c.args.size (c.new.ensures.k ∙ c.k.ensures) c.new.ensures.size c.new.ensures.none in
     record {
       so_far = cutting_begun (seen_of g.F.Source.seen c.args.files.now) none;
       counted = refl;
@@ -118,5 +93,5 @@ returns-clause-cut g c =
     let all : length (seen_of seen loop.files) ≤ loop.cut.sources =
     rw (length-map loop.files (λ file. seen file.source), loop.invariant.counted) (omega arith) in
     from_files seen input input files loop.files
-    (λ (old new : List Seen). CutsSources old new (rule_of c.args.options.now) c.args.options.now.batch loop.cut.cutting loop.cut.reads)
-    some loop.invariant.names (rw (← c.rule-rule.ensures) (all_cut loop.invariant.so_far all))
+    (λ (old new : List Seen). CutsSources old new c.args.rule.now c.args.size loop.cut.cutting loop.cut.reads)
+    some loop.invariant.names (all_cut loop.invariant.so_far all)

@@ -7,7 +7,7 @@ abbrev pub invariant-loop-file : goal.invariant-loop-file
 invariant-loop-file g l =
     let seen = seen_of g.F.Source.seen in
     record {
-      so_far : CutSoFar (seen l.fn.files) (seen l.files) l.rule l.options.batch l.cut;
+      so_far : CutSoFar (seen l.fn.files) (seen l.files) l.rule l.size l.cut;
       counted : l.cut.sources ≡ l.file-index;
       names : names_of l.files ≡ names_of l.fn.files;
     }
