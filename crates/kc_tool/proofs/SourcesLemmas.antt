@@ -143,13 +143,13 @@ no_fault fault ([], here, records, fails) = no_fastq_fault 0 here (sym records) 
 no_fault fault (read ∷ reads, here, records, fails) =
     let title = records.1.title in none_begins [] refl title.title records.1.body title.whole
 
--- A source of no bytes of which no read failed is refused for want of memory alone.
 faultless : (old new : Seen) → old.left ≡ Some [] → (limit : ℕ) (fault : FastxFault)
     → ((bytes : List ℕ) × TakesAll old new limit bytes × HasFault bytes fault) → ⊥
 faultless old new empty limit fault h =
     let none = nil_from_length h.0 (none_consumed old.left new.left h.0 h.1.taken.consumed empty) in
     no_fault fault (subst (λ (bytes : List ℕ). HasFault bytes fault) none h.2)
 
+-- A source of no bytes of which no read failed is refused for want of memory alone.
 lacks_memory : (old new : Seen) → old.left ≡ Some [] → old.history.failures ≡ 0 → new.history.failures ≡ 0 → (limit : ℕ)
     (fault : FastxFault) → RefusesFor old new limit fault → fault ≡ LacksMemory
 lacks_memory old new empty unfailed still limit TooLong h =

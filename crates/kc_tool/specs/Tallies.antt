@@ -141,8 +141,8 @@ TalliesSources old new settings list table = (reads : List Read) × ReadsSources
     × IsTallyOf (kept_to list (rule_of settings)) reads table.0
     × (table.1 ≡ Some (origin_of settings list (length reads)))
 
--- the sources gave reads, and these are the batches of their pieces, of at least as many positions as were asked for and
--- of no more than that or 4,000,000; this is told of a count of them
+-- the sources gave reads, and these are the batches of their pieces, of at least as many positions as were asked for
+-- and of no more than that or 4,000,000; this is told of a count of them
 pub record CutsBatches (old new : List Seen) (settings : Settings) (list : Option (List ℕ))
     (batches : List NumberedPieces) (origin : Origin) : Type 0 where
   pub reads : List Read

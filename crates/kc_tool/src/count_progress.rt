@@ -1,5 +1,5 @@
-//! How far a count has come: who is told it, as the sources are read and as the workers book, and the line on a terminal
-//! that shows it.
+//! How far a count has come: who is told it, as the sources are read and as the workers book, and the line on a
+//! terminal that shows it.
 ghost use Rattle.std.specs.Prelude.{◌≡◌, ◌≤◌, ◌+◌, ◌++◌, length};
 ghost use Rattle.kc_tool.specs.Progress.{batches_text, progress_text};
 
@@ -9,8 +9,8 @@ use std::io::{IsTerminal, Print};
 use std::sync::atomic::{AtomicBool, AtomicU64, Ordering};
 use std::time::{Clock, Duration, Instant};
 
-/// Whoever is told how far a count has come. It is the gate of the workers too, who tell of each batch, before they book
-/// it and after, and may do so at the same time.
+/// Whoever is told how far a count has come. It is the gate of the workers too, who tell of each batch before they
+/// book it and after, and may do so at the same time.
 pub trait Progress: Gate {
     /// So many more bytes of the sources were read.
     fn bytes_read(&self, count: u64);
