@@ -1,5 +1,5 @@
 -- A lawful stripe: when nothing was booked, and when one batch more is booked.
-use Rattle.std.proofs.Common.{◌≡◌, ◌≢◌, ℕ, ◌+◌, ◌<◌, ◌^◌, Bool, true, false, cond, ◌||◌, eqb, nat_eq, List, [], ◌∷◌, ◌++◌, get_or, filter, sum, sum_by, count_by, All, append-nil, refl, ap, sym, ◌∙◌, arith, ⊎_elim}
+use Rattle.std.proofs.Common.{◌≡◌, ◌≢◌, ℕ, ◌+◌, ◌<◌, ◌^◌, Bool, true, false, cond, ◌||◌, eqb, nat_eq, List, [], ◌∷◌, ◌++◌, get_or, filter, sum, sum_by, count_by, All, append-nil, refl, ap, sym, subst, ◌∙◌, arith, ⊎_elim}
 use Rattle.std.specs.List.{range_with_len, list_any, IsDistinct}
 use Rattle.std.proofs.lemmas.Bool.{eqb-true, eq-eqb, ne_eqb, cases_eq}
 use Rattle.std.proofs.lemmas.Bool.Decides.{eqb_tells}
@@ -234,12 +234,15 @@ pub numbers_differ-more : (journal : List NumberedPieces) (batch : NumberedPiece
 numbers_differ-more journal batch distinct new =
     rw (numbers_of-push journal batch) (IsDistinct-push_new nat_eq eqb_tells (numbers_of journal) batch.number distinct new)
 
--- what the test of a number tells
-pub IsBooked-found : (journal : List NumberedPieces) (n : ℕ) (found : Bool) → found ≡ list_any (nat_eq n) (numbers_of journal) → found ≡ true → IsBooked journal n
-IsBooked-found journal n found is there = Contains-from_any eqb-true n (numbers_of journal) (sym is ∙ there)
+-- what the test of a batch's number tells
+pub IsBooked-found : (journal : List NumberedPieces) {n number : ℕ} {found : Bool} → found ≡ list_any (nat_eq n) (numbers_of journal) → n ≡ number
+    → found ≡ true → IsBooked journal number
+IsBooked-found journal {n} {number} {found} is same there = subst (IsBooked journal) same (Contains-from_any eqb-true n (numbers_of journal) (sym is ∙ there))
 
-pub IsBooked-missing : (journal : List NumberedPieces) (n : ℕ) (found : Bool) → found ≡ list_any (nat_eq n) (numbers_of journal) → found ≡ false → ¬ IsBooked journal n
-IsBooked-missing journal n found is absent stands =
+pub IsBooked-missing : (journal : List NumberedPieces) {n number : ℕ} {found : Bool} → found ≡ list_any (nat_eq n) (numbers_of journal) → n ≡ number
+    → found ≡ false → ¬ IsBooked journal number
+IsBooked-missing journal {n} {number} {found} is same absent booked =
+    let stands = subst (IsBooked journal) (sym same) booked in
     let never : false ≡ true = sym absent ∙ is ∙ list_any-from_Contains nat_eq_equiv n (numbers_of journal) stands in
     absurd (cc)
 
@@ -250,6 +253,12 @@ pub own_keys : (setup : StripeSetup) (number : ℕ) (batch : NumberedPieces) (cu
 own_keys setup number batch cut same_setup same_stripe same_batch =
     let same : cut ≡ cut_at setup batch number = λ i. record { setup = same_setup i; stripe = same_stripe i; batch = same_batch i } in
     ap keys_of same
+
+pub own_cut-keys-fit : (setup : StripeSetup) (number bits : ℕ) (cut : StripeCut) (keys : List ℕ) → keys ≡ keys_of cut
+    → (cut.setup ≡ setup) × (cut.stripe ≡ number) → WordsAreBelow → DividesWords setup → bits ≡ key_bits setup → All (λ key. key < 2 ^ bits) keys
+own_cut-keys-fit setup number bits cut keys is (same_setup, same_stripe) below divided bits_are =
+    subst (All (λ key. key < 2 ^ bits)) (sym (is ∙ own_keys setup number cut.batch cut same_setup same_stripe refl))
+    (keys-fit setup number bits cut.batch below divided bits_are)
 
 -- what a refusal of the table was
 pub was_full : (why : TableFault) → booking_fault why ≡ book.Full → why ≡ table.Full

@@ -1,13 +1,10 @@
 -- The cuts of several batches in one stripe: their keys, and the stripe when they are booked.
 use Rattle.std.proofs.Common.{◌≡◌, ◌≢◌, ◌⊎◌, ℕ, ◌+◌, ◌/◌, ◌^◌, ◌<◌, ◌≤◌, Bool, true, false, cond, eqb, nat_eq, List, [], ◌∷◌, ◌++◌, length, get_or, take, drop, map, filter, count_by, All, Contains, append-nil, append_assoc, refl, ap, ap₂, sym, subst, ◌∙◌, arith, ⊎_elim, below_more}
-use Rattle.std.specs.Bool.{MatchBool}
 use Rattle.std.specs.declared.sync.Arc.{Arc}
 use Rattle.std.specs.declared.alloc.Global.{Global}
 use Rattle.std.specs.List.{flat_map, list_any, IsDistinct, AllByRecursion}
-use Rattle.std.proofs.lemmas.List.{length-map, get_or-map, map-append, length-drop, get_or-drop, get_or_default, take-append-drop, take_more, take_all}
+use Rattle.std.proofs.lemmas.List.{length-map, get_or-map, map-append, map_push, length-drop, get_or-drop, get_or_default, take-append-drop, take_more, take_all}
 use Rattle.std.proofs.lemmas.List.Concat.{flat_map-append}
-use Rattle.std.specs.List.Sorted.{IsPermutation}
-use Rattle.std.proofs.lemmas.List.Sorted.{All-permutation}
 use Rattle.std.proofs.lemmas.List.Sums.{length-filter, sum_by-append}
 use Rattle.std.proofs.lemmas.List.Elements.{filter-append, All-map, Contains-append_cases, Contains-append_right}
 use Rattle.std.proofs.lemmas.List.FromFn.{length-map-range_with_len, get_or-map-range_with_len}
@@ -196,33 +193,38 @@ values-more {batches} {i} {batch} at =
     let value = value_at at in
     take_more (values batches) i batch.value value.within ∙ ap (λ (b : NumberedPieces). take i (values batches) ++ b ∷ []) (sym value.is)
 
+pub values-push : {old same new : List Shared} (batch : Shared) → same ≡ old → new ≡ same ++ batch ∷ [] → values new ≡ values old ++ batch.value ∷ []
+values-push {old} {same} {new} batch is pushed =
+    ap values (pushed ∙ ap (λ (xs : List Shared). xs ++ batch ∷ []) is) ∙ map_push (λ (b : Shared). b.value) old batch
+
 pub values-all : (batches : List Shared) (i : ℕ) → length batches ≤ i → take i (values batches) ≡ values batches
 values-all batches i end = take_all i (values batches) (omega (arith, end, length-values batches))
+
+-- the last of them was looked for in the journal
+pub values-differ : (journal : List NumberedPieces) (batches items : List Shared) (i : ℕ) → items ≡ batches → length items ≤ i → NumbersDiffer journal
+    → NumbersDiffer (values batches) → NoneBooked journal (values items) i → NumbersDiffer (journal ++ values batches)
+values-differ journal batches items i same end old new none =
+    NumbersDiffer-both journal (values batches) i (omega (arith, ap length same, length-values batches, end)) old new
+    (subst (λ (xs : List Shared). NoneBooked journal (values xs) i) same none)
 
 pub no_values : (batches : List Shared) (more : List NumberedPieces) → values batches ≡ more → length batches ≡ 0 → more ≡ []
 no_values [] more is none = sym is
 no_values (batch ∷ batches) more is none = absurd (omega arith)
 
--- the first of them
-pub first_tells : (journal : List NumberedPieces) (batches : List Shared) (first : Shared) (found : Bool) → IsSharedAt batches 0 first
-    → found ≡ list_any (nat_eq first.value.number) (numbers_of journal)
-    → MatchBool found (FirstIsBooked journal (values batches)) (FirstIsNew journal (values batches))
-first_tells journal [] first found at is = absurd (omega (arith, at.within))
-first_tells journal (batch ∷ batches) first found at is = by found (is ∙ ap (λ (b : Shared). list_any (nat_eq b.value.number) (numbers_of journal)) at.is)
-  where
-    by : (found : Bool) → found ≡ list_any (nat_eq batch.value.number) (numbers_of journal)
-        → MatchBool found (IsBooked journal batch.value.number) (¬ IsBooked journal batch.value.number)
-    by true is = IsBooked-found journal batch.value.number true is refl
-    by false is = IsBooked-missing journal batch.value.number false is refl
+-- the first of them, whose number is found in the journal or not
+pub first_found : (journal : List NumberedPieces) (batches : List Shared) {first : Shared} {number : ℕ} {found : Bool} → 1 ≤ length (values batches)
+    → first ≡ get_or batches 0 first → found ≡ list_any (nat_eq number) (numbers_of journal) → number ≡ first.value.number → found ≡ true
+    → FirstIsBooked journal (values batches)
+first_found journal [] some at known is there = absurd (omega (arith, some))
+first_found journal (batch ∷ batches) {first} {number} {found} some at known is there =
+    IsBooked-found journal known (is ∙ ap (λ (b : Shared). b.value.number) at) there
 
--- the same, as the stripe has them
-pub first_told : (old journal batches : List NumberedPieces) (shared : List Shared) (first : Shared) (number : ℕ) (found : Bool) → old ≡ journal
-    → values shared ≡ batches → IsSharedAt shared 0 first → number ≡ first.value.number → found ≡ list_any (nat_eq number) (numbers_of old)
-    → MatchBool found (FirstIsBooked journal batches) (FirstIsNew journal batches)
-first_told old journal batches shared first number found same_journal same_batches at is known =
-    subst (λ (bs : List NumberedPieces). MatchBool found (FirstIsBooked journal bs) (FirstIsNew journal bs)) same_batches
-    (subst (λ (js : List NumberedPieces). MatchBool found (FirstIsBooked js (values shared)) (FirstIsNew js (values shared))) same_journal
-    (first_tells old shared first found at (known ∙ ap (λ (n : ℕ). list_any (nat_eq n) (numbers_of old)) is)))
+pub first_missing : (journal : List NumberedPieces) (batches : List Shared) {first : Shared} {number : ℕ} {found : Bool} → 1 ≤ length (values batches)
+    → first ≡ get_or batches 0 first → found ≡ list_any (nat_eq number) (numbers_of journal) → number ≡ first.value.number → found ≡ false
+    → FirstIsNew journal (values batches)
+first_missing journal [] some at known is absent = absurd (omega (arith, some))
+first_missing journal (batch ∷ batches) {first} {number} {found} some at known is absent =
+    IsBooked-missing journal known (is ∙ ap (λ (b : Shared). b.value.number) at) absent
 
 pub new_first : (journal batches : List NumberedPieces) → FirstIsNew journal batches → ¬ FirstIsBooked journal batches
 new_first journal [] new booked = booked
@@ -238,6 +240,13 @@ pub new_refused : (journal batches : List NumberedPieces) (Own : Type 0) → Num
 new_refused journal batches Own differ refused =
     ⊎_elim (λ (first : FirstIsBooked journal batches). first_booked journal batches first differ)
     (λ (again : Own × ¬ NumbersDiffer (journal ++ batches)). again.1 differ) refused
+
+-- where the first is new and the words are another stripe's, no batch was booked before
+pub stranger_refused : (journal batches : List NumberedPieces) (Own : Type 0) → FirstIsNew journal batches → ¬ Own
+    → FirstIsBooked journal batches ⊎ (Own × ¬ NumbersDiffer (journal ++ batches)) → ⊥
+stranger_refused journal batches Own new other refused =
+    ⊎_elim (λ (first : FirstIsBooked journal batches). new_first journal batches new first)
+    (λ (again : Own × ¬ NumbersDiffer (journal ++ batches)). other again.0) refused
 
 -- where there is no batch, none is refused
 pub none_refused : (journal batches : List NumberedPieces) (Own : Type 0) → batches ≡ [] → NumbersDiffer journal
@@ -260,17 +269,12 @@ round-keys-fit setup number bits batches below divided is =
     (All-map (λ cut. All (λ key. key < 2 ^ bits) (keys_of cut)) (λ batch. cut_at setup batch number) batches
     (λ k d within. keys-fit setup number bits (get_or batches k d) below divided is))
 
--- the keys of the stripe's own round fit, and so they do in another order
+-- the keys of the stripe's own round fit
 pub own-keys-fit : (setup : StripeSetup) (number bits : ℕ) (round : RoundCut) (keys : List ℕ) → keys ≡ all_keys_of round
     → (round.setup ≡ setup) × (round.stripe ≡ number) → WordsAreBelow → DividesWords setup → bits ≡ key_bits setup → All (λ key. key < 2 ^ bits) keys
 own-keys-fit setup number bits round keys is (same_setup, same_stripe) below divided bits_are =
     subst (All (λ key. key < 2 ^ bits)) (sym (is ∙ own_round_keys setup number round same_setup same_stripe))
     (round-keys-fit setup number bits round.batches below divided bits_are)
-
-pub ordered-keys-fit : (bits : ℕ) (keys ordered again : List ℕ) → again ≡ ordered → IsPermutation keys ordered → All (λ key. key < 2 ^ bits) keys
-    → All (λ key. key < 2 ^ bits) again
-ordered-keys-fit bits keys ordered again same order fit =
-    subst (All (λ key. key < 2 ^ bits)) (sym same) (All-permutation (λ key. key < 2 ^ bits) keys ordered order fit)
 
 word_occurrences-all : (setup : StripeSetup) (number word : ℕ) (journal batches : List NumberedPieces) → WordLaws → DividesWords setup
     → word < word_count setup → stripe_of setup word ≡ number

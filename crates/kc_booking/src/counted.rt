@@ -1,16 +1,13 @@
 //! A table of counts with the histogram and the sum of its counts.
 ghost use Rattle.std.specs.Prelude.{◌≡◌, ℕ, ◌+◌, ◌<◌, ◌≤◌, ◌^◌, ◌==◌, length, count_by, All, IfOk, OnOk};
-ghost use Rattle.std.specs.List.Sorted.{IsPermutation};
 ghost use Rattle.kc_table.specs.Counts.{IsStored, count_at};
-ghost use Rattle.kc_tally.specs.Histogram.{last_bin, bin_at};
 ghost use Rattle.kc_booking.specs.Counted.{IsCounted, KeepsLimits, SomeMayBeFull, StandAt, all_readied};
 
 use crate::noted_counts::{BLOCK, count_keys, raise_all};
-use crate::part_order::parted;
 use kc_lemmas::room_for_each;
 use kc_table::{Counts, TableFault};
 use kc_tally::Histogram;
-use std::alloc::{AllocError, Global};
+use std::alloc::Global;
 use std::marker::Model;
 
 /// A table, the histogram of its counts, and their sum, which is at most 2^62.
@@ -33,43 +30,6 @@ impl<C: Counts> Model for CountedTable<C> {
 }
 
 impl<C: Counts> CountedTable<C> {
-    /// The table.
-    pub fn table(&self) -> &C
-        ensures { result.now ≡ self.now.table }
-    {
-        &self.table
-    }
-
-    /// How many keys have a count that falls in the bin, which is 1 to 10,001.
-    pub fn bin(&self, bin: u64) -> u64
-        requires some { 1 ≤ bin }
-        requires within { bin ≤ last_bin }
-        ensures { result ≡ bin_at self.now.bins bin }
-    {
-        self.histogram.bin(bin)
-    }
-
-    /// How many keys have which count.
-    pub fn histogram(&self) -> &Histogram
-        ensures { result.now ≡ self.now.bins }
-    {
-        &self.histogram
-    }
-
-    /// The keys in another order: those of one part of the table behind those of another. Condition: they are keys of
-    /// the table.
-    pub fn by_parts(&self, alloc: Global, keys: &[u64]) -> Result<Vec<u64>, AllocError>
-        requires { All (λ key. key < 2 ^ C.bits self.now.table) keys.now }
-        ensures { IfOk result (λ ordered. IsPermutation keys.now ordered.items) }
-    {
-        let parts = parted(alloc, &self.table, keys)?;
-        let mut ordered = room_for_each(alloc, keys)?;
-        for part in &parts {
-            ordered.extend_from_slice(part)?;
-        }
-        Ok(ordered)
-    }
-
     /// Stores the keys, one after another, as the table's `ready` does, and gives their places. The first refusal is
     /// answered.
     pub fn ready_all(&mut self, alloc: Global, keys: &[u64]) -> Result<Vec<u64>, TableFault>

@@ -15,10 +15,10 @@ use std::sync::Arc;
 /// A cut: what one batch means to one stripe, the keys of its words that are counted there.
 #[derive(Drop)]
 pub struct Cut {
-    setup: Setup,
-    stripe: u32,
-    batch: Arc<Batch>,
-    keys: Vec<u64>,
+    pub(crate) setup: Setup,
+    pub(crate) stripe: u32,
+    pub(crate) batch: Arc<Batch>,
+    pub(crate) keys: Vec<u64>,
 }
 
 impl Model for Cut {
@@ -108,7 +108,7 @@ pub(crate) fn hashed_words(
         None => {}
         Some(list) => keep_listed(list, &mut words),
     }
-    let tables = setup.hash().forward_tables();
+    let tables = setup.hash.forward_tables();
     for word in words.iter_mut() {
         *word = tables.apply(*word);
     }

@@ -18,15 +18,15 @@ use std::sync::Arc;
 /// The cuts of several batches for one stripe, together: the batches, and the keys of their words there.
 #[derive(Drop)]
 pub struct Cuts {
-    setup: Setup,
-    stripe: u32,
-    batches: Vec<Arc<Batch>>,
+    pub(crate) setup: Setup,
+    pub(crate) stripe: u32,
+    pub(crate) batches: Vec<Arc<Batch>>,
     // The keys of one batch stand behind those of another.
-    keys: Vec<u64>,
+    pub(crate) keys: Vec<u64>,
     // how many keys each batch has
     sizes: Vec<usize>,
     // whether no number stands twice among the batches
-    numbers_differ: bool,
+    pub(crate) numbers_differ: bool,
 }
 
 impl Model for Cuts {

@@ -1,9 +1,8 @@
 //! How the words of a count are divided among stripes.
 ghost use Rattle.std.specs.Prelude.{◌≡◌, ℕ, ◌+◌, ◌*◌, ◌^◌, ◌<◌, ◌≤◌, ◌↔◌, length, Some, None, IsSome, IfSome, IfNone};
-ghost use Rattle.std.specs.Prelude.{MatchBool};
 ghost use Rattle.kc_hash.specs.Product.{product};
 ghost use Rattle.kc_booking.specs.Setup.{StripeSetup, IsSetup, word_count, stripe_count, key_bits};
-ghost use Rattle.kc_booking.specs.Setup.{stripe_of, key_of, StandsAt, DividesWords, form_of, form_text};
+ghost use Rattle.kc_booking.specs.Setup.{stripe_of, key_of, StandsAt, form_of, form_text};
 ghost use Rattle.kc_kmer.specs.Rule.{with_list, without_list};
 ghost use Rattle.kc_kmer.specs.Word.{text};
 
@@ -23,7 +22,7 @@ use std::sync::Arc;
 pub struct Setup {
     rule: Rule,
     only: Option<Arc<Only>>,
-    hash: Hash,
+    pub(crate) hash: Hash,
     // how many bits of a hash value tell the stripes apart
     pub(crate) stripe_bits: u32,
 }
@@ -77,7 +76,7 @@ impl Setup {
         ensures hash { IfSome result (λ setup. setup.hash ≡ self.hash) }
         ensures stripes { IfSome result (λ setup. setup.stripe_bits ≡ self.stripe_bits) }
     {
-        if !is_for_rule(&list, &self.rule) {
+        if list.k() != self.rule.k() || list.both() != self.rule.both() {
             return None;
         }
         let Setup {
@@ -136,13 +135,6 @@ impl Setup {
         ensures at_most { result ≤ 62 }
     {
         self.hash.bits() - self.stripe_bits
-    }
-
-    /// A law: each word has a stripe and a key, and each stripe and key has one word.
-    pub fn divides_words(&self)
-        ensures { DividesWords self.now }
-    {
-        self.hash.is_permutation();
     }
 
     /// The form under which a word counts: the canonical one where both strands do. Condition: the word is below 4^k.
@@ -247,12 +239,4 @@ impl Eq for Setup {
     ghost use Rattle.kc_booking.specs.SetupEquality.{is_same_setup-IsEquivalence};
 
     ghost laws = { is_same_setup-IsEquivalence };
-}
-
-// Whether the words of the list are as long as those of the rule, and counted on as many strands.
-fn is_for_rule(list: &Only, rule: &Rule) -> bool
-    ensures { MatchBool result ((list.now.k ≡ rule.now.k) × (list.now.both ≡ rule.now.both))
-        (¬ ((list.now.k ≡ rule.now.k) × (list.now.both ≡ rule.now.both))) }
-{
-    list.k() == rule.k() && list.both() == rule.both()
 }

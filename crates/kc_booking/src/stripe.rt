@@ -2,9 +2,8 @@
 ghost use Rattle.std.specs.Prelude.{◌≡◌, ◌+◌, ◌<◌, ◌≤◌, ◌^◌, ◌≢◌, ◌==◌, ◌↔◌, ◌⊎◌, [], ◌∷◌, ◌++◌, length, sum_by};
 ghost use Rattle.std.specs.Prelude.{count_by, max, ◌*◌, IfOk, OnOk, OnErr, nat_eq};
 ghost use Rattle.std.specs.HashSet.{contains};
-ghost use Rattle.std.specs.Vec.{vec_len, vec_capacity};
+ghost use Rattle.std.specs.Vec.{vec_capacity};
 ghost use Rattle.std.specs.FinMap.{empty};
-ghost use Rattle.kc_hash.specs.Product.{product};
 ghost use Rattle.kc_word.specs.Shared.{values};
 ghost use Rattle.kc_tally.specs.Histogram.{last_bin, bin_of, bin_at};
 ghost use Rattle.kc_tally.specs.Statistics.{greatest_of};
@@ -19,8 +18,8 @@ use crate::booking_fault::BookFault;
 use crate::counted::CountedTable;
 use crate::cut::Cut;
 use crate::cuts::{Cuts, clones_of};
+use crate::part_order::parted;
 use crate::setup::Setup;
-use kc_hash::MatrixTables;
 use kc_lemmas::room_for_each;
 use kc_table::Counts;
 use kc_tally::{Histogram, Row};
@@ -77,9 +76,8 @@ impl<C: Counts + Drop> Stripe<C> {
         ensures journal { IfOk result (λ stripe. stripe.journal ≡ []) }
         ensures table { IfOk result (λ stripe. stripe.table ≡ table) }
     {
-        // for the proof: what is known of the words and their keys, and of the table's keys
-        setup.divides_words();
-        let _bits = table.key_bits();
+        // for the proof: what is known of the words and their keys
+        setup.hash.is_permutation();
         let setup = setup.clone()?;
         let histogram = Histogram::new(alloc)?;
         let counted = CountedTable {
@@ -149,14 +147,14 @@ impl<C: Counts> Stripe<C> {
             (λ word. bin_of (word_occurrences self.now.setup self.now.journal word) == bin)
             (stripe_words self.now.setup self.now.number) }
     {
-        self.counted.bin(bin)
+        self.counted.histogram.bin(bin)
     }
 
     /// How many words of the stripe occur how often in the journal's batches.
     pub fn histogram(&self) -> &Histogram
         ensures { result.now ≡ self.now.bins }
     {
-        self.counted.histogram()
+        &self.counted.histogram
     }
 
     /// The greatest count of a word of the stripe in the journal's batches, 0 where none occurs. It looks at each key
@@ -164,10 +162,9 @@ impl<C: Counts> Stripe<C> {
     pub fn greatest(&self) -> u64
         ensures { result ≡ greatest_of (stripe_occurrences self.now.setup self.now.number self.now.journal) }
     {
-        let table = self.counted.table();
         // for the proof: what is known of the keys
-        let _bits = table.key_bits();
-        table.greatest()
+        let _bits = self.counted.table.key_bits();
+        self.counted.table.greatest()
     }
 
     /// How often a word of the stripe occurs in the journal's batches, and 0 for a word of another stripe.
@@ -181,7 +178,7 @@ impl<C: Counts> Stripe<C> {
         if self.setup.stripe_of(word) != self.number {
             return 0;
         }
-        self.counted.table().get(self.setup.key_of(word))
+        self.counted.table.get(self.setup.key_of(word))
     }
 
     /// The words of the stripe that occur in the journal's batches, each once, with its occurrences, in any order.
@@ -191,11 +188,16 @@ impl<C: Counts> Stripe<C> {
         let setup = &self.setup;
         // for the proof: what is known of the words and their keys
         let _bits = setup.stripe_bits;
-        let counted = self.counted.table().rows(alloc)?;
-        let tables = setup.hash().back_tables();
+        let counted = self.counted.table.rows(alloc)?;
+        let tables = setup.hash.back_tables();
         let mut rows = room_for_each(alloc, &counted)?;
         for (key, count) in &counted {
-            rows.push(row_of_key(setup, &tables, self.number, *key, *count))?;
+            let hash_value = setup.hash_value_at(self.number, *key);
+            let row = Row {
+                word: tables.apply(hash_value),
+                count: *count,
+            };
+            rows.push(row)?;
         }
         Ok(rows)
     }
@@ -217,30 +219,11 @@ impl<C: Counts> Stripe<C> {
         ensures limits { KeepsLimits C.bits C.may_be_full self.old.table self.new.table }
     {
         self.check(cut)?;
-        self.count_checked(cut)
-    }
-
-    // Counts the words of a cut that `check` lets through, and enters its batch in the journal, or neither.
-    fn count_checked(&mut self, cut: &Cut) -> Result<(), BookFault>
-        requires new { ¬ IsBooked self.old.journal cut.now.batch.number }
-        requires own { IsOwnCut self.old cut.now }
-        requires room { self.old.total + length (keys_of cut.now) ≤ 2 ^ 62 }
-        ensures setup { self.new.setup ≡ self.old.setup }
-        ensures number { self.new.number ≡ self.old.number }
-        ensures journal { OnOk result (self.new.journal ≡ self.old.journal ++ cut.now.batch ∷ []) }
-        ensures total { OnOk result (self.new.total ≡ self.old.total + length (keys_of cut.now)) }
-        ensures unchanged { OnErr result (IsUnchanged C.counts self.old self.new) }
-        ensures refused { ¬ (result ≡ Err BookFault.Twice) × ¬ (result ≡ Err BookFault.Stranger) }
-        ensures full { result ≡ Err BookFault.Full
-            → SomeMayBeFull (C.may_be_full self.old.table) (C.counts self.old.table) (keys_of cut.now) }
-        ensures limits { KeepsLimits C.bits C.may_be_full self.old.table self.new.table }
-    {
         // what can fail comes first; where it does, no count and no name in the journal has changed
-        let batch = cut.batch();
         let alloc = *self.journal.allocator();
-        let places = self.counted.ready_all(alloc, cut.keys())?;
-        enter(&mut self.journal, &mut self.booked, batch)?;
-        self.counted.add_all(cut.keys(), &places);
+        let places = self.counted.ready_all(alloc, &cut.keys)?;
+        enter(&mut self.journal, &mut self.booked, &cut.batch)?;
+        self.counted.add_all(&cut.keys, &places);
         Ok(())
     }
 
@@ -255,13 +238,13 @@ impl<C: Counts> Stripe<C> {
         ensures full { result ≡ Err BookFault.Full → 2 ^ 62 < self.now.total + length (keys_of cut.now) }
         ensures memory { ¬ (result ≡ Err BookFault.Memory) }
     {
-        if self.booked.contains(&cut.batch().number()) {
+        if self.booked.contains(&cut.batch.number()) {
             return Err(BookFault::Twice);
         }
-        if *cut.setup() != self.setup || cut.stripe() != self.number {
+        if cut.setup != self.setup || cut.stripe != self.number {
             return Err(BookFault::Stranger);
         }
-        if cut.keys().len() as u64 > MOST_WORDS - self.total() {
+        if cut.keys.len() as u64 > MOST_WORDS - self.total() {
             return Err(BookFault::Full);
         }
         Ok(())
@@ -291,7 +274,7 @@ impl<C: Counts> Stripe<C> {
             → self.old.total + length (all_keys_of cuts.now) ≤ 2 ^ 62 }
         ensures limits { KeepsLimits C.bits C.may_be_full self.old.table self.new.table }
     {
-        if cuts.batches().is_empty() {
+        if cuts.batches.is_empty() {
             // No number stands twice in the journal.
             self.is_lawful();
             return Ok(());
@@ -299,9 +282,16 @@ impl<C: Counts> Stripe<C> {
         self.check_all(cuts)?;
         // what can fail comes first; where it does, no count and no name in the journal has changed
         let alloc = *self.journal.allocator();
-        let keys = self.counted.by_parts(alloc, cuts.keys())?;
+        // the keys in the order of the table's parts, so that one pass over them is one over the table
+        let parts = parted(alloc, &self.counted.table, &cuts.keys)?;
+        let mut keys = room_for_each(alloc, &cuts.keys)?;
+        for part in &parts {
+            keys.extend_from_slice(part)?;
+        }
+        // before the table may grow and want the memory
+        drop(parts);
         let places = self.counted.ready_all(alloc, &keys)?;
-        enter_all(&mut self.journal, &mut self.booked, cuts.batches())?;
+        enter_all(&mut self.journal, &mut self.booked, &cuts.batches)?;
         self.counted.add_all(&keys, &places);
         Ok(())
     }
@@ -319,44 +309,30 @@ impl<C: Counts> Stripe<C> {
         ensures full { result ≡ Err BookFault.Full → 2 ^ 62 < self.now.total + length (all_keys_of cuts.now) }
         ensures memory { ¬ (result ≡ Err BookFault.Memory) }
     {
-        if self.booked.contains(&cuts.batches()[0].number()) {
+        if self.booked.contains(&cuts.batches[0].number()) {
             return Err(BookFault::Twice);
         }
-        if *cuts.setup() != self.setup || cuts.stripe() != self.number {
+        if cuts.setup != self.setup || cuts.stripe != self.number {
             return Err(BookFault::Stranger);
         }
-        if !cuts.numbers_differ() {
+        if !cuts.numbers_differ {
             return Err(BookFault::Twice);
         }
-        for batch in cuts.batches() {
+        for batch in &cuts.batches {
             if self.booked.contains(&batch.number()) {
                 return Err(BookFault::Twice);
             }
         }
-        if cuts.keys().len() as u64 > MOST_WORDS - self.total() {
+        if cuts.keys.len() as u64 > MOST_WORDS - self.total() {
             return Err(BookFault::Full);
         }
         Ok(())
     }
 }
 
-// The row of a key of this stripe and its count. Conditions: the tables are those of a map of as many bits as words
-// have.
-fn row_of_key(setup: &Setup, tables: &MatrixTables, stripe: u32, key: u64, count: u64) -> Row
-    requires stripe { stripe < stripe_count setup.now }
-    requires key { key < 2 ^ key_bits setup.now }
-    requires bits { length tables.now ≡ length setup.now.hash }
-    ensures { result ≡ record { word = product tables.now (key * stripe_count setup.now + stripe); count = count } }
-{
-    let hash_value = setup.hash_value_at(stripe, key);
-    Row {
-        word: tables.apply(hash_value),
-        count,
-    }
-}
-
 // Puts a batch behind those of the journal, and its number to those that are booked; where memory is refused, both stay
-// as they were. Condition: what is booked are the numbers in the journal.
+// as they were. A full journal gets room for twice its batches and one. Condition: what is booked are the numbers in
+// the journal.
 fn enter(
     journal: &mut Vec<Arc<Batch>>,
     booked: &mut HashSet<u64>,
@@ -366,9 +342,12 @@ fn enter(
     ensures entered { OnOk result (values journal.new.items ≡ values journal.old.items ++ batch.now.value ∷ []) }
     ensures unchanged { OnErr result (values journal.new.items ≡ values journal.old.items) }
     ensures known { KnowsNumbers (contains nat_eq booked.new) (values journal.new.items) }
+    ensures bounded { vec_capacity journal.new ≤ max (vec_capacity journal.old) (2 * length journal.old.items + 1) }
 {
     let batch = batch.clone()?;
-    make_room(journal)?;
+    if journal.len() == journal.capacity() {
+        journal.reserve_exact(journal.len().saturating_add(1))?;
+    }
     let Ok(_) = booked.insert(batch.number()) else {
         return Err(AllocError);
     };
@@ -402,15 +381,3 @@ fn enter_all(
 
 // The greatest total.
 const MOST_WORDS: u64 = 1 << 62;
-
-// Makes room for one more item. A full vector gets room for twice its items and one.
-fn make_room<T>(items: &mut Vec<T>) -> Result<(), AllocError>
-    ensures same { items.new.items ≡ items.old.items }
-    ensures room { OnOk result (vec_len items.new < vec_capacity items.new) }
-    ensures bounded { vec_capacity items.new ≤ max (vec_capacity items.old) (2 * length items.old.items + 1) }
-{
-    if items.len() < items.capacity() {
-        return Ok(());
-    }
-    items.reserve_exact(items.len().saturating_add(1))
-}

@@ -15,7 +15,7 @@ use Rattle.kc_fastx.specs.Records.{Records}
 use Rattle.kc_fastx.specs.Fasta.{IsFastaRecord, FastaFails, greater_than}
 use Rattle.kc_fastx.specs.Fastq.{IsFastqRecord, FastqFails}
 use Rattle.kc_fastx.specs.Parsing.{text_lines, IsFastq, HasReads, HasFault, GivesReads, RefusesFor}
-use Rattle.kc_fastx.specs.Faults.{UnlessMemory, is_of_lines, kept_fault, taking_fault}
+use Rattle.kc_fastx.specs.Faults.{UnlessMemory, is_of_lines, taking_fault}
 use Rattle.kc_io.specs.Intakes.{Unread, Filled}
 use Rattle.kc_io.specs.declared.intakes.TakeFault.{TakeFault}
 use Rattle.kc_io.specs.declared.intakes.TakeFault.TheVariants as taking
@@ -538,18 +538,6 @@ given_fault {start = start} {now = now} {limit = limit} {stand = stand} given wh
 abbrev pub with_failed : Stand → Option FastxFault → Stand
 with_failed stand failed = record stand { failed = failed }
 
--- any fault but that of memory is kept
-pub kept_some : (fault : FastxFault) (failed : Option FastxFault) → failed ≡ kept_fault fault
-    → UnlessMemory (λ f. failed ≡ Some f) fault
-kept_some (BadStart number) failed e = e
-kept_some (BadBase number) failed e = e
-kept_some (BadQuality number) failed e = e
-kept_some (LongQuality number) failed e = e
-kept_some (Truncated number) failed e = e
-kept_some TooLong failed e = e
-kept_some ReadFailed failed e = e
-kept_some Memory failed e = tt
-
 pub told_unless : (Is : FastxFault → Type 0) (fault : FastxFault) → Is fault → UnlessMemory Is fault
 told_unless Is (BadStart number) is = is
 told_unless Is (BadBase number) is = is
@@ -579,6 +567,23 @@ meets_kept start now limit stand (Truncated number) failed m = met_kept failed m
 meets_kept start now limit stand TooLong failed m = m
 meets_kept start now limit stand ReadFailed failed m = m
 meets_kept start now limit stand Memory failed m = m
+
+-- the stand that keeps a fault, unless it is that of memory
+pub record KeepsFault (stand next : Stand) (fault : FastxFault) : Type 0 where
+  pub same : next ≡ with_failed stand next.failed
+  pub kept : UnlessMemory (λ f. next.failed ≡ Some f) fault
+
+pub keeps_fault : {stand next : Stand} {fault : FastxFault} → next ≡ with_failed stand (Some fault) → KeepsFault stand next fault
+keeps_fault {stand} {next} {fault} e = record {
+  same = e ∙ ap (λ (s : Stand). with_failed stand s.failed) (sym e);
+  kept = told_unless (λ f. next.failed ≡ Some f) fault (ap (λ (s : Stand). s.failed) e);
+}
+
+pub keeps_none : {stand next : Stand} {fault : FastxFault} → next ≡ stand → fault ≡ Memory → KeepsFault stand next fault
+keeps_none {stand} {next} {fault} e memory = record {
+  same = e ∙ ap (λ (s : Stand). with_failed stand s.failed) (sym e);
+  kept = subst (UnlessMemory (λ f. next.failed ≡ Some f)) (sym memory) tt;
+}
 
 -- a reader that keeps no fault gave the same reads still
 pub given_kept : {start now : Seen} {limit : ℕ} {reads : List Read} {stand : Stand} (failed : Option FastxFault)

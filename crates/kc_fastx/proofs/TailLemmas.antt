@@ -11,7 +11,7 @@ use Rattle.kc_fastx.proofs.FastqLemmas.{FastqSoFar}
 use Rattle.kc_fastx.specs.Lines.{Line, Cursor, line_count, ends_or_begins_with, skip_blanks}
 use Rattle.kc_fastx.specs.Records.{FirstFault, BeginsWithSequence, IsLineNumber, SequenceFails}
 use Rattle.kc_fastx.specs.Fasta.{IsFastaRecord, BeginsWithFastaTitle, FastaFails, greater_than}
-use Rattle.kc_fastx.specs.Fastq.{IsFastqRecord, BeginsWithFastqTitle, HasPlus, BeginsWithQuality, HasShortQuality}
+use Rattle.kc_fastx.specs.Fastq.{IsFastqRecord, BeginsWithFastqTitle, HasPlus, BeginsWithQuality, HasShortQuality, QualityFails, FailsBehindPlus}
 use Rattle.kc_fastx.specs.Fastq.{FastqFails, plus_sign}
 
 -- ---- blank lines
@@ -170,6 +170,27 @@ abbrev pub Remains : FastxFault → List Line → Type 0
 Remains (Truncated number) tail = tail ≡ []
 Remains fault tail = ⊤
 
+quality_fails_tail : (count need : ℕ) (ls tail : List Line) (fault : FastxFault) → Remains fault tail → QualityFails count need ls fault
+    → QualityFails (count + length tail) need (ls ++ tail) fault
+quality_fails_tail count need ls tail (BadQuality number) same q =
+    (q.0, q.1, q.2 ++ tail, short_tail need ls q.0 (q.1 ∷ q.2) tail q.3, q.4, number_tail count q.2 tail number q.5)
+quality_fails_tail count need ls tail (LongQuality number) same q =
+    (q.0, q.1, q.2 ++ tail, short_tail need ls q.0 (q.1 ∷ q.2) tail q.3, q.4, q.5, number_tail count q.2 tail number q.6)
+quality_fails_tail count need ls tail (Truncated number) same q =
+    let long : count ≡ count + length tail = let none = ap (λ (v : List Line). length v) same in omega (arith, none) in
+    let all : ls ≡ ls ++ tail = sym (append-nil ls) ∙ ap (λ v. ls ++ v) (sym same) in
+    subst (λ v. QualityFails v need (ls ++ tail) (Truncated number)) long (subst (λ v. QualityFails count need v (Truncated number)) all q)
+quality_fails_tail count need ls tail (BadStart number) same q = absurd q
+quality_fails_tail count need ls tail (BadBase number) same q = absurd q
+quality_fails_tail count need ls tail TooLong same q = absurd q
+quality_fails_tail count need ls tail ReadFailed same q = absurd q
+quality_fails_tail count need ls tail Memory same q = absurd q
+
+behind_plus_tail : (count : ℕ) (body tail : List Line) (fault : FastxFault) → Remains fault tail → FailsBehindPlus count body fault
+    → FailsBehindPlus (count + length tail) (body ++ tail) fault
+behind_plus_tail count body tail fault same b =
+    (b.0, b.1 ++ tail, plus_tail body b.0 b.1 tail b.2, quality_fails_tail count (length b.0) b.1 tail fault same b.3)
+
 pub fastq_fails_tail : (count : ℕ) (ls tail : List Line) (fault : FastxFault) → Remains fault tail
     → FastqFails count ls fault
     → FastqFails (count + length tail) (ls ++ tail) fault
@@ -187,46 +208,9 @@ fastq_fails_tail count ls tail (BadStart number) same h =
 fastq_fails_tail count ls tail (BadBase number) same h =
     (h.0 ++ tail, fastq_title_tail ls h.0 tail h.1, sequence_fails_tail count plus_sign h.0 tail (BadBase number) h.2)
 fastq_fails_tail count ls tail (BadQuality number) same h =
-    let b = h.2 in
-    let q = b.3 in (
-      h.0 ++ tail,
-      fastq_title_tail ls h.0 tail h.1,
-      (
-        b.0,
-        b.1 ++ tail,
-        plus_tail h.0 b.0 b.1 tail b.2,
-        (
-          q.0,
-          q.1,
-          q.2 ++ tail,
-          short_tail (length b.0) b.1 q.0
-              (q.1 ∷ q.2) tail q.3,
-          q.4,
-          number_tail count q.2 tail number q.5,
-        ),
-      ),
-    )
+    (h.0 ++ tail, fastq_title_tail ls h.0 tail h.1, behind_plus_tail count h.0 tail (BadQuality number) same h.2)
 fastq_fails_tail count ls tail (LongQuality number) same h =
-    let b = h.2 in
-    let q = b.3 in (
-      h.0 ++ tail,
-      fastq_title_tail ls h.0 tail h.1,
-      (
-        b.0,
-        b.1 ++ tail,
-        plus_tail h.0 b.0 b.1 tail b.2,
-        (
-          q.0,
-          q.1,
-          q.2 ++ tail,
-          short_tail (length b.0) b.1 q.0
-              (q.1 ∷ q.2) tail q.3,
-          q.4,
-          q.5,
-          number_tail count q.2 tail number q.6,
-        ),
-      ),
-    )
+    (h.0 ++ tail, fastq_title_tail ls h.0 tail h.1, behind_plus_tail count h.0 tail (LongQuality number) same h.2)
 fastq_fails_tail count ls tail (Truncated number) same h =
     let long : count ≡ count + length tail = let none = ap (λ (v : List Line). length v) same in omega (arith, none) in
     let all : ls ≡ ls ++ tail = sym (append-nil ls) ∙ ap (λ v. ls ++ v) (sym same) in

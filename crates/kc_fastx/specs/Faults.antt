@@ -1,5 +1,5 @@
 -- The numbers of the faults (our formats page), what a contract says of them, and the faults of a source.
-use Rattle.std.specs.Prelude.{ℕ, Bool, true, false, ⊤, Option, None, Some}
+use Rattle.std.specs.Prelude.{ℕ, Bool, true, false, ⊤}
 use Rattle.kc_io.specs.declared.intakes.TakeFault.{TakeFault}
 use Rattle.kc_io.specs.declared.intakes.TakeFault.TheVariants as taking
 use Rattle.kc_fastx.specs.declared.read_faults.FastxFault.{FastxFault}
@@ -28,11 +28,6 @@ is_of_lines fault = true
 abbrev pub UnlessMemory : (FastxFault → Type 0) → FastxFault → Type 0
 UnlessMemory Is Memory = ⊤
 UnlessMemory Is fault = Is fault
-
--- what a reader keeps of the fault of a record: memory may be there when it is asked for again
-abbrev pub kept_fault : FastxFault → Option FastxFault
-kept_fault Memory = None
-kept_fault fault = Some fault
 
 -- the fault that says why the bytes of a source could not be taken
 abbrev pub taking_fault : TakeFault → FastxFault

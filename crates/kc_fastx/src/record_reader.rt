@@ -1,6 +1,6 @@
 //! The reads that a source says, one after another: of its bytes the reader keeps a block and what a record takes.
 ghost use Rattle.std.specs.Prelude.{◌≡◌, ℕ, List, true, false, None, Some, Err, ◌+◌, ◌≤◌, ◌<◌};
-ghost use Rattle.std.specs.Prelude.{length, drop, IfOk, IfErr, OnOk, OnErr, IfSome, OnSome};
+ghost use Rattle.std.specs.Prelude.{length, IfOk, IfErr, OnOk, OnErr, IfSome, OnSome};
 ghost use Rattle.kc_io.specs.Sources.{Seen};
 ghost use Rattle.kc_fastx.specs.Reads.{Read};
 ghost use Rattle.kc_fastx.specs.Lines.{line_count, skip_blanks, Passes, HasWhole};
@@ -8,7 +8,7 @@ ghost use Rattle.kc_fastx.specs.Parsing.{most_bytes, RefusesFor};
 ghost use Rattle.kc_fastx.specs.Reading.{first_stand, HasGiven, MeetsFault, GivesNext, TellsNext};
 ghost use Rattle.kc_fastx.specs.Reading.{IsNext, NextFails, IsSure, Moves, Grows};
 ghost use Rattle.kc_fastx.specs.Titles.{Record, HasGivenRecords, GivesRecord, TellsRecord};
-ghost use Rattle.kc_fastx.specs.Faults.{UnlessMemory, kept_fault};
+ghost use Rattle.kc_fastx.specs.Faults.{UnlessMemory};
 
 use crate::fasta::next_fasta;
 use crate::fastq::next_fastq;
@@ -139,7 +139,10 @@ impl Reading {
                 }
                 Ok(None) => return Ok(None),
                 Err(fault) => {
-                    self.keep(fault);
+                    // memory may be there at the next call
+                    if !matches!(fault, FastxFault::Memory) {
+                        self.failed = Some(fault);
+                    }
                     return Err(fault);
                 }
             }
@@ -178,7 +181,10 @@ impl Reading {
                 Ok(Next::End) => return Ok(None),
                 Ok(Next::Short) => self.grow(source)?,
                 Err(fault) => {
-                    self.keep(fault);
+                    // memory may be there at the next call
+                    if !matches!(fault, FastxFault::Memory) {
+                        self.failed = Some(fault);
+                    }
                     return Err(fault);
                 }
             }
@@ -232,17 +238,6 @@ impl Reading {
             if self.intake.as_slice().len() >= wanted {
                 return Ok(());
             }
-        }
-    }
-
-    // Keeps the fault of a record, unless it is `Memory`, which may be there at the next call.
-    fn keep(&mut self, fault: FastxFault)
-        requires { self.old.failed ≡ None }
-        ensures { self.new ≡ record self.old { failed = kept_fault fault } }
-    {
-        match fault {
-            FastxFault::Memory => {}
-            _ => self.failed = Some(fault),
         }
     }
 

@@ -16,6 +16,7 @@ columns_below bits columns seen m e i h =
 
 -- what is known of a column that is read of a matrix
 pub record IsColumn (seen : List ℕ) (index column : ℕ) : Type 0 where
+  pub inner : index < length seen
   pub is : column ≡ get_or seen index 0
   pub below : column < 2 ^ length seen
   pub few : length seen ≤ 62
@@ -31,6 +32,7 @@ column_read bits columns seen index m e h =
     let there : get_or columns index 0 ≡ get_or seen index 0 =
     sym (get_or-take bits columns index 0 (omega arith)) ∙ ap (λ l. get_or l index 0) e in
     record {
+      inner = h;
       is = there;
       below = rw there (columns_below bits columns seen m e index h);
       few = omega arith;

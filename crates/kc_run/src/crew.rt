@@ -1,9 +1,9 @@
 //! The workers of a run, each in a thread of its own.
-ghost use Rattle.std.specs.Prelude.{◌≡◌, ℕ, ◌+◌, ◌<◌, ◌≤◌, ◌⊎◌, [], ◌∷◌, ◌++◌, OnOk};
+ghost use Rattle.std.specs.Prelude.{◌≡◌, ℕ, ◌<◌, ◌≤◌, ◌⊎◌, []};
 ghost use Rattle.std.specs.Prelude.{All, Some, None, Ok, Err, IfOk, IfErr, IfSome, MatchOption};
 ghost use Rattle.std.specs.Prelude.{length, map, slice_get, vec_len};
 ghost use Rattle.kc_share.specs.declared.entry.Plan.{Plan};
-ghost use Rattle.kc_share.specs.Share.{share_of, joined_shares};
+ghost use Rattle.kc_share.specs.Share.{share_of};
 ghost use Rattle.kc_run.specs.declared.run_fault.RunFault.TheVariants.{Memory, NoThread};
 ghost use Rattle.kc_tickets.specs.Tickets.{TicketsSeen};
 ghost use Rattle.kc_run.specs.Runs.{IsJob, IsFreshSeatOf, IsReady, HasWorked, HaveWorked, IsPromised, AreEnds};
@@ -245,25 +245,9 @@ pub(crate) fn joined<C: Counts, N: Books>(
         unreachable!()
     };
     seats.push(seat)?;
-    while let Some(worker) = workers.pop() {
-        add_worker(stripes, &mut seats, &mut share, worker)?;
+    while let Some(Worker { seat, share: other }) = workers.pop() {
+        seats.push(seat)?;
+        stripes.join(&mut share, other);
     }
     Ok((seats, share))
-}
-
-// Puts the seat of a worker behind the others, and joins its share to theirs.
-fn add_worker<C: Counts, N: Books>(
-    stripes: &Stripes<C, N>,
-    seats: &mut Vec<Seat>,
-    share: &mut Share<N>,
-    worker: Worker<N>,
-) -> Result<(), AllocError>
-    ensures len { OnOk result (vec_len seats.new ≡ vec_len seats.old + 1) }
-    ensures seats { OnOk result (seats.new.items ≡ seats.old.items ++ worker.seat ∷ []) }
-    ensures share { OnOk result (share.new ≡ joined_shares share.old worker.share) }
-{
-    let Worker { seat, share: other } = worker;
-    seats.push(seat)?;
-    stripes.join(share, other);
-    Ok(())
 }

@@ -4,17 +4,19 @@ use Rattle.std.specs.Prelude.{slice_index}
 use Rattle.std.proofs.lemmas.Bool.Decides.{eqb_tells}
 use Rattle.std.proofs.lemmas.List.{get_or-set_same, get_or-set_other}
 use Rattle.std.proofs.lemmas.List.Sums.{sum_by-append}
-use Rattle.atomic_table.specs.Table.{Me}
+use Rattle.atomic_table.specs.Seated.{TableId}
+use Rattle.atomic_table.specs.Table.{Me, Joins}
 use Rattle.kc_lemmas.proofs.Sums.{sum_by-ones}
 use Rattle.kc_share.specs.declared.entry.Entry.{Entry}
 use Rattle.kc_share.specs.declared.entry.Booking.{Booking}
 use Rattle.kc_share.specs.declared.entry.KeptStripe.{KeptStripe}
+use Rattle.kc_share.specs.declared.entry.Plan.{Plan}
 use Rattle.kc_share.specs.declared.entry.View.{View}
 use Rattle.kc_share.specs.Entries.{booking_of, entries_in, word_total}
 use Rattle.kc_share.specs.Share.{word_total_in, entry_total_in, AreNumbersOf}
-use Rattle.kc_share.specs.Rule.{view_of, keeper_view, joined_view, noted_view, view_without_first, Knowledge}
+use Rattle.kc_share.specs.Rule.{IsState, view_of, keeper_view, blank_view, joined_view, noted_view, view_without_first, Knowledge}
 use Rattle.kc_share.proofs.Views.{entries_in-append, words}
-use Rattle.kc_share.proofs.Steps.{noted_one, booked_more}
+use Rattle.kc_share.proofs.Steps.{both_join, noted_one, booked_more}
 
 -- a share's view that has taken in a keeper's
 pub with_kept : View → KeptStripe → View
@@ -32,10 +34,10 @@ pub record IsTaken {S : Type 0} (v w : View) (it : KeptStripe) (taken : Me S Vie
   pub keeper_keeps : w ≡ keeper_view it
   pub took : taken ≡ (joined_view v w, [])
 
--- such a token notes an entry; then the kept stripe is split off it again, and this is left
-pub record IsNoted {S : Type 0} (taken : Me S View) (entry : Entry) (booked left : Me S View) : Type 0 where
-  pub book : (booked ≡ (noted_view entry taken.0, taken.1)) × Knowledge (noted_view entry taken.0)
-  pub goes : left ≡ (view_without_first booked.0, [])
+-- such a token notes an entry; then the kept stripe is split off it again: what is left, and what is known
+pub record IsNoted {S : Type 0} (v : View) (it : KeptStripe) (entry : Entry) (left : Me S View) : Type 0 where
+  pub leaves : left ≡ (view_of v.plan v.parts (v.booked ++ booking_of it.stripe entry ∷ []) [], [])
+  pub tells : Knowledge (noted_one v it entry)
 
 -- the keeper's view goes whole to the share
 pub taken_by : {S : Type 0} {v w : View} {it : KeptStripe} {slots : List (ℕ × S)} {all taken : Me S View}
@@ -47,13 +49,17 @@ taken_by {S} {v} {w} share_keeps_none keeper_keeps empty is took = record {
   took = took ∙ (λ k. (joined_view v (is k).0, empty k));
 }
 
--- and is split off it again
-pub noted_by : {S : Type 0} {v w : View} {it : KeptStripe} {taken booked left : Me S View} {entry : Entry}
-    → IsTaken v w it taken → (booked ≡ (noted_view entry taken.0, taken.1)) × Knowledge (noted_view entry taken.0)
-    → left ≡ (view_without_first booked.0, booked.1) → IsNoted taken entry booked left
-noted_by {S} {v} {w} {it} {taken} {booked} taken_is book goes =
-    let none : booked.1 ≡ [] = ap (λ (m : Me S View). m.1) book.0 ∙ ap (λ (m : Me S View). m.1) taken_is.took in
-    record { book = book; goes = goes ∙ ap {B = Me S View} (λ slots. (view_without_first booked.0, slots)) none }
+-- the keeper's view, split off whole, can be joined to the share's on the same sheet
+pub can_take_in : {S : Type 0} {sheet name share keeper table : TableId} {parts : ℕ} {w : View} {all : Me S View} (plan : Plan) (id : ℕ) (v : View) (other : ℕ)
+    → sheet ≡ name → 0 < sheet.words → share ≡ name → (parts ≡ v.parts) × (0 < parts) → keeper ≡ name → table ≡ keeper → all ≡ (w, [])
+    → (share ≡ sheet) × (table ≡ sheet) × (all.1 ≡ []) × (0 < sheet.words) × Joins {S = S} (IsState plan) id v other all.0 (joined_view v all.0) blank_view
+can_take_in {S} {all = all} plan id v other named word share_named some_part keeper_named split is = (
+  share_named ∙ sym named,
+  split ∙ keeper_named ∙ sym named,
+  ap (λ (m : Me S View). m.1) is,
+  word,
+  both_join plan id v other all.0 (omega (arith, some_part.0, some_part.1)),
+)
 
 module _ {S : Type 0} {v w : View} {it : KeptStripe} {taken : Me S View} (is : IsTaken v w it taken) where
   taken_view : taken.0 ≡ with_kept v it
@@ -67,19 +73,15 @@ module _ {S : Type 0} {v w : View} {it : KeptStripe} {taken : Me S View} (is : I
   unfolding with_kept
   same_parts = ap (λ (view : View). view.parts) taken_view
 
-  module _ {entry : Entry} {booked left : Me S View} (done : IsNoted taken entry booked left) where
-    taken_noted : noted_view entry taken.0 ≡ noted_one v it entry
-    unfolding with_kept noted_one
-    taken_noted = ap (noted_view entry) taken_view
-
-    pub booking_leaves : left ≡ (view_of v.plan v.parts (v.booked ++ booking_of it.stripe entry ∷ []) [], [])
-    unfolding noted_one
-    booking_leaves =
-        let view : booked.0 ≡ noted_one v it entry = ap (λ (m : Me S View). m.0) done.book.0 ∙ taken_noted in
-        done.goes ∙ ap {B = Me S View} (λ view. (view_without_first view, [])) view
-
-    pub booking_tells : Knowledge (noted_one v it entry)
-    booking_tells = subst Knowledge taken_noted done.book.1
+  -- an entry is noted, and the kept stripe is split off again
+  pub noted_by : {entry : Entry} {booked left : Me S View} → (booked ≡ (noted_view entry taken.0, taken.1)) × Knowledge (noted_view entry taken.0)
+      → left ≡ (view_without_first booked.0, booked.1) → IsNoted v it entry left
+  unfolding with_kept noted_one
+  noted_by {entry} {booked} book goes =
+      let noted : noted_view entry taken.0 ≡ noted_one v it entry = ap (noted_view entry) taken_view in
+      let view : booked.0 ≡ noted_one v it entry = ap (λ (m : Me S View). m.0) book.0 ∙ noted in
+      let none : booked.1 ≡ [] = ap (λ (m : Me S View). m.1) book.0 ∙ ap (λ (m : Me S View). m.1) is.took in
+      record { leaves = goes ∙ (λ k. (view_without_first (view k), none k)); tells = subst Knowledge noted book.1 }
 
 -- ---- a share's numbers
 

@@ -133,12 +133,11 @@ triangle-le tag =
     omega arith
 
 -- what `key_at` computes fits
-pub steps_back-le : (log tag mask reprobes : ℕ) → mask ≡ 2 ^ log - 1 → log ≤ 40 → reprobes ≡ reprobe_of tag
-    → mask * triangle reprobes ≤ 2 ^ 40 * 1953
-steps_back-le log tag mask reprobes is few same =
+pub steps_back-le : (log tag mask : ℕ) → mask ≡ 2 ^ log - 1 → log ≤ 40
+    → mask * triangle (reprobe_of tag) ≤ 2 ^ 40 * 1953
+steps_back-le log tag mask is few =
     let room : 2 ^ log ≤ 2 ^ 40 = pow_mono few in
-    mul-le mask (triangle reprobes) (2 ^ 40) 1953 (omega arith)
-    (subst (λ n. triangle n ≤ 1953) (sym same) (triangle-le tag))
+    mul-le mask (triangle (reprobe_of tag)) (2 ^ 40) 1953 (omega arith) (triangle-le tag)
 
 -- and is the slot's key
 pub key_computed : (log tag place mask : ℕ) → mask ≡ 2 ^ log - 1 → tag / 64 * 2 ^ log < 2 ^ 64

@@ -1,5 +1,5 @@
 -- The map of a table, carried over to a larger one, and what it says of a size that a key finds no place there.
-use Rattle.std.proofs.Common.{◌≡◌, ◌≢◌, ◌∙◌, ℕ, ◌+◌, ◌-◌, ◌*◌, ◌/◌, ◌%◌, ◌^◌, ◌<◌, ◌≤◌, length, take, Some, None, sym}
+use Rattle.std.proofs.Common.{◌≡◌, ◌≢◌, ◌∙◌, ℕ, ◌+◌, ◌*◌, ◌/◌, ◌%◌, ◌^◌, ◌<◌, ◌≤◌, length, take, Some, None, sym}
 use Rattle.std.proofs.Common.{ap, subst, subst₂, arith, slice_get, inl, bit_and, pow_mono, le-add_right, take_all}
 use Rattle.std.specs.FinMap.{get, insert, empty}
 use Rattle.kc_table.specs.declared.slots.Slots.{Slots}
@@ -11,48 +11,43 @@ use Rattle.kc_table.specs.Slots.{key_counts, slot_tags}
 use Rattle.kc_table.proofs.Contents.{IsStored-held, IsStored-take, get-take_next, counts_in-take_empty}
 use Rattle.kc_table.proofs.Contents.{counts_in-take_held}
 use Rattle.kc_table.proofs.Crowding.{crowded_wider}
-use Rattle.kc_table.proofs.ReprobingSteps.{key_computed}
-use Rattle.kc_table.proofs.SlotSteps.{length-contents_from, slots_apart, crowded_by_out}
+use Rattle.kc_table.proofs.ReprobingSteps.{key_computed, steps_back-le}
+use Rattle.kc_table.proofs.SlotSteps.{length-contents_from, slots_apart, crowded_by_out, mask_of, mask_is}
 use Rattle.kc_table.proofs.Soundness.{log_below_by_out, key_in-lt}
 
--- what `key_at` computes
-pub record IsKeyRead (bits log index tag key : ℕ) : Type 0 where
-  pub is : key ≡ key_in log index tag
-  pub in_range : key < 2 ^ bits
-  pub fits : key < 2 ^ 64
+-- the sum that `key_at` reads the home of a slot's key from, by the number in the slot's tag
+abbrev pub home_sum : Slots → ℕ → ℕ → ℕ
+home_sum table index number = index + mask_of table * triangle (reprobe_of number)
 
--- the tag in a slot, and what is read of it
-pub record TagRead : Type 0 where
-  pub index : ℕ
-  pub tag : ℕ
-  pub remainder : ℕ
-  pub reprobes : ℕ
+-- and the key, as it is computed
+abbrev pub key_sum : Slots → ℕ → ℕ → ℕ
+key_sum table index number = number / 64 * 2 ^ table.log % 2 ^ 64 + bit_and (home_sum table index number) (mask_of table)
 
-pub record IsTagRead (table : Slots) (r : TagRead) : Type 0 where
-  pub read : r.tag ≡ slot_tags table r.index
-  pub some : r.tag ≢ 0
-  pub remainder_is : r.remainder ≡ r.tag / 64
-  pub reprobes_is : r.reprobes ≡ reprobe_of r.tag
+pub record IsKeyRead (table : Slots) (index tag number : ℕ) : Type 0 where
+  pub home_fits : home_sum table index number < 2 ^ 64
+  pub fits : key_sum table index number < 2 ^ 64
+  pub is : key_sum table index number ≡ key_in table.log index tag
+  pub in_range : key_sum table index number < 2 ^ table.bits
 
-pub key_read : (table : Slots) (r : TagRead) (mask : ℕ) → IsTagRead table r → mask ≡ 2 ^ table.log - 1
-    → IsKeyRead table.bits table.log r.index r.tag
-    (r.remainder * 2 ^ table.log % 2 ^ 64 + bit_and (r.index + mask * triangle r.reprobes) mask)
-key_read table r mask is masks =
-    let key : key_in table.log r.index r.tag < 2 ^ table.bits =
-    subst (λ t. key_in table.log r.index t < 2 ^ table.bits) (sym is.read)
-    (key_in-lt table.sound r.index (λ none. is.some (is.read ∙ none))) in
+pub key_read : (table : Slots) (index tag number : ℕ) → tag ≡ slot_tags table index → tag ≢ 0 → number ≡ tag
+    → IsKeyRead table index tag number
+key_read table index tag number read some is =
+    let full : slot_tags table index ≢ 0 = λ none. some (read ∙ none) in
+    let key : key_in table.log index tag < 2 ^ table.bits =
+    subst (λ t. key_in table.log index t < 2 ^ table.bits) (sym read) (key_in-lt table.sound index full) in
     let room : 2 ^ table.bits ≤ 2 ^ 62 = pow_mono table.sound.few_bits in
-    let high : r.tag / 64 * 2 ^ table.log ≤ key_in table.log r.index r.tag = le-add_right _ _ in
-    let same : r.remainder * 2 ^ table.log % 2 ^ 64 + bit_and (r.index + mask * triangle r.reprobes) mask
-    ≡ key_in table.log r.index r.tag =
-    ap (λ n. n * 2 ^ table.log % 2 ^ 64 + bit_and (r.index + mask * triangle r.reprobes) mask) is.remainder_is
-    ∙ ap (λ n. r.tag / 64 * 2 ^ table.log % 2 ^ 64 + bit_and (r.index + mask * triangle n) mask) is.reprobes_is
-    ∙ key_computed table.log r.tag r.index mask masks (omega arith) in
+    let high : tag / 64 * 2 ^ table.log ≤ key_in table.log index tag = le-add_right _ _ in
+    let same : key_sum table index number ≡ key_in table.log index tag =
+    ap (key_sum table index) is ∙ key_computed table.log tag index (mask_of table) (mask_is table) (omega arith) in
+    let inside : index < 2 ^ table.log = table.sound.inside index full in
+    let few : 2 ^ table.log ≤ 2 ^ 40 = pow_mono table.sound.few_slots in
+    let back : mask_of table * triangle (reprobe_of number) ≤ 2 ^ 40 * 1953 =
+    steps_back-le table.log number (mask_of table) (mask_is table) table.sound.few_slots in
     record {
+      home_fits = omega arith;
+      fits = subst (λ k. k < 2 ^ 64) (sym same) (omega arith);
       is = same;
       in_range = subst (λ k. k < 2 ^ table.bits) (sym same) key;
-      fits =
-          subst (λ k. k < 2 ^ 64) (sym same) (omega arith);
     }
 
 -- The map of the first slots of a table, carried over to one of 2 ^ log slots.

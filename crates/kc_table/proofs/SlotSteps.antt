@@ -1,6 +1,6 @@
 -- Slots and what they hold: what a slot that is written changes, what a found, a free and a crowded key say of the map.
-use Rattle.std.proofs.Common.{◌≡◌, ◌≢◌, ◌∙◌, ℕ, zero, suc, ◌+◌, ◌*◌, ◌%◌, ◌^◌, ◌<◌, ◌≤◌, true, false, cond, List, [], ◌∷◌, length}
-use Rattle.std.proofs.Common.{set, replicate, Some, None, Option, nat_eq, nat_cmp, get_or, refl, sym, ap, subst, arith}
+use Rattle.std.proofs.Common.{◌≡◌, ◌≢◌, ◌∙◌, ℕ, zero, suc, ◌+◌, ◌-◌, ◌*◌, ◌%◌, ◌^◌, ◌<◌, ◌≤◌, true, false, cond, List, [], ◌∷◌}
+use Rattle.std.proofs.Common.{length, set, replicate, Some, None, Option, nat_eq, nat_cmp, get_or, refl, sym, ap, subst, arith}
 use Rattle.std.proofs.Common.{slice_get, inl, inr, zero-add, add-zero}
 use Rattle.std.proofs.Math.Nat.{min-le_left}
 use Rattle.std.proofs.lemmas.Bool.{cases_eq, cases_lt}
@@ -16,11 +16,12 @@ use Rattle.kc_table.specs.Reprobing.{place, tag_of, reprobe_of, IsFound, IsFree,
 use Rattle.kc_table.specs.Sizes.{place_count}
 use Rattle.kc_table.specs.Slot.{Slot, key_in, IsSound, empty_slot, tag_at, slot_count, content_of, contents_from}
 use Rattle.kc_table.specs.Slot.{contents_of, counts_of}
+use Rattle.kc_table.specs.Slots.{slot_list, counted_entries}
 use Rattle.kc_table.proofs.Crowding.{CrowdAt, crowded_from}
 use Rattle.kc_table.proofs.KeyCounts.{same_counts, stored_found}
 use Rattle.kc_table.proofs.Places.{place-lt, place-home, places_differ, reprobe_of-tag_of}
 use Rattle.kc_table.proofs.Contents.{Apart, IsNowhere, get-counts_in, get-counts_in_nowhere, IsStored-held}
-use Rattle.kc_table.proofs.Contents.{held_by_stored}
+use Rattle.kc_table.proofs.Contents.{held_by_stored, counted_in, counted_in-none, counted_in-all}
 use Rattle.kc_table.proofs.Soundness.{reprobe_small, at_place, has_tag, absent_by_free, absent_by_out, found_some}
 use Rattle.kc_table.proofs.Soundness.{found_key, key_in-lt, stands}
 
@@ -112,6 +113,15 @@ held_slot log slots s k n slot =
     holds_at log slots s slot.some ∙ ap (λ x. Some (Some (x, slot_count slots s))) slot.key
     ∙ ap (λ x. Some (Some (k, x))) slot.count
 
+-- a slot that holds a key, by what is read of it: its tag as a number, its key and its count
+pub held_read : (log : ℕ) (slots : List Slot) (s number tag k n : ℕ) → number ≡ tag → tag ≡ tag_at slots s → number ≢ 0
+    → k ≡ key_in log s tag → n ≡ slot_count slots s → Holds (contents_of log slots) s k n
+held_read log slots s number tag k n is read some key count = held_slot log slots s k n (record {
+  some = λ none. some (is ∙ read ∙ none);
+  key = ap (key_in log s) (sym read) ∙ sym key;
+  count = sym count;
+})
+
 module _ {bits log : ℕ} (slots : List Slot) (sound : IsSound bits log (tag_at slots)) where
   pub slots_apart : Apart (contents_of log slots)
   slots_apart s t k m n held_s held_t =
@@ -124,6 +134,9 @@ module _ {bits log : ℕ} (slots : List Slot) (sound : IsSound bits log (tag_at 
   holds_found key index found =
       holds_at log slots index (found_some sound key index found)
       ∙ ap (λ k. Some (Some (k, slot_count slots index))) (found_key sound key index found)
+
+  pub stands_found : (key index : ℕ) → IsFound log (tag_at slots) key index → HoldsKey (contents_of log slots) index key
+  stands_found key index found = (slot_count slots index, holds_found key index found)
 
   pub nowhere_free : (key index new : ℕ) → IsFree log (tag_at slots) key index new
       → IsNowhere (contents_of log slots) key
@@ -223,6 +236,13 @@ tag_at-replicate n s = elim (cases_lt s n) [
 pub slots_shifted : (table : Slots) → 1 * 2 ^ table.log % 2 ^ 64 ≡ 2 ^ table.log
 slots_shifted table = one_shl table.log 64 (omega (arith, table.sound.few_slots))
 
+-- one less than it, as it is computed
+abbrev pub mask_of : Slots → ℕ
+mask_of table = 1 * 2 ^ table.log % 2 ^ 64 - 1
+
+pub mask_is : (table : Slots) → mask_of table ≡ 2 ^ table.log - 1
+mask_is table = ap (λ n. n - 1) (slots_shifted table)
+
 -- where no slot has a tag
 pub sound-empty : {bits log : ℕ} (n : ℕ) (slots : List Slot) → slots ≡ replicate n empty_slot
     → bits ≤ 62 → log ≤ 40 → log ≤ bits → bits ≤ log + 58 → IsSound bits log (tag_at slots)
@@ -288,3 +308,18 @@ module _ {bits log : ℕ} (slots : List Slot) (sound : IsSound bits log (tag_at 
       at_place sound index (found_some sound key index found)
       ∙ ap (λ i. place (key_in log index (tag_at slots index)) i log) home
       ∙ ap (λ k. place k 0 log) (found_key sound key index found) ∙ place-home key log low
+
+-- the entries of the first slots: where the next slot has none, and where all slots are past
+pub counted_none : (table : Slots) (index : ℕ) → index < 1 * 2 ^ table.log % 2 ^ 64
+    → ((key count : ℕ) → Holds (slot_list table) index key count → count ≡ 0)
+    → counted_in (index + 1) (slot_list table) ≡ counted_in index (slot_list table)
+counted_none table index inside none =
+    let below : index < length table.slots.items = omega (arith, table.sized, slots_shifted table) in
+    counted_in-none (slot_list table) index _ (content_at table.log table.slots.items index below) none
+
+pub counted_all : (table : Slots) (index : ℕ) → 1 * 2 ^ table.log % 2 ^ 64 ≤ index
+    → counted_in index (slot_list table) ≡ counted_entries table
+counted_all table index past =
+    let all : length table.slots.items ≤ index = omega (arith, table.sized, slots_shifted table) in
+    let same : length (slot_list table) ≡ length table.slots.items = length-contents_from table.log 0 table.slots.items in
+    counted_in-all (slot_list table) index (omega arith)

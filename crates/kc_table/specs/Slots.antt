@@ -1,9 +1,11 @@
 -- What a table of fixed size holds.
-use Rattle.std.specs.Prelude.{ℕ, List, filter, nat_lt}
+use Rattle.std.specs.Prelude.{◌≡◌, ◌≢◌, ℕ, ◌*◌, ◌^◌, ◌<◌, List, filter, nat_lt, length, slice_set}
+use Rattle.kc_table.specs.declared.reprobes.Reprobing.{Reprobing}
+use Rattle.kc_table.specs.declared.reprobes.Reprobing.TheVariants.{Found, Free, Crowded}
 use Rattle.kc_table.specs.declared.slots.Slots.{Slots}
 use Rattle.kc_table.specs.Counts.{KeyCounts}
 use Rattle.kc_table.specs.QuotientTable.{SlotList, entries_in}
-use Rattle.kc_table.specs.Slot.{tag_at, contents_of, counts_of}
+use Rattle.kc_table.specs.Slot.{IsSound, tag_at, contents_of, counts_of}
 
 -- what each slot of the table holds
 abbrev pub slot_list : Slots → SlotList
@@ -20,3 +22,18 @@ counted_entries table = filter (λ e. nat_lt 0 e.1) (entries_in (slot_list table
 -- the tag in each slot
 abbrev pub slot_tags : Slots → ℕ → ℕ
 slot_tags table = tag_at table.slots.items
+
+-- The tag can be put into this slot: it is empty, the tag is one that fits, and with it the tags stay sound.
+pub record TakesTag (table : Slots) (place tag : ℕ) : Type 0 where
+  pub in_range : place < length table.slots.items
+  pub empty : slot_tags table place ≡ 0
+  pub some : tag ≢ 0
+  pub fits : tag * 2 ^ table.slots.low < 2 ^ 64
+  pub sound : (count : ℕ)
+      → IsSound table.bits table.log (tag_at (slice_set table.slots.items place (record { tag = tag; count = count })))
+
+-- a free place that was found takes the tag that was found for it
+abbrev pub HasRoom : Slots → Reprobing → Type 0
+HasRoom table (Found place) = Unit
+HasRoom table (Free place tag) = TakesTag table place tag
+HasRoom table Crowded = Unit

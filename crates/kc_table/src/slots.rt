@@ -29,7 +29,7 @@ pub(crate) struct Slots {
 }
 
 impl Slots {
-    ghost use Rattle.kc_table.specs.Slots.{key_counts, slot_list, slot_tags, counted_entries};
+    ghost use Rattle.kc_table.specs.Slots.{key_counts, slot_list, slot_tags, counted_entries, HasRoom};
 
     /// A table whose slots are empty.
     pub fn empty(alloc: Global, bits: u32, log: u32) -> Result<Slots, AllocError>
@@ -56,7 +56,8 @@ impl Slots {
     #[inline(always)]
     pub fn reprobe(&self, key: u64, steps: &mut Counter) -> Reprobing
         requires { key < 2 ^ self.now.bits }
-        ensures { IsReprobing self.now.log (slot_tags self.now) key (steps.new.count - steps.old.count) result }
+        ensures walked { IsReprobing self.now.log (slot_tags self.now) key (steps.new.count - steps.old.count) result }
+        ensures room { HasRoom self.now result }
     {
         let mask = (1 << self.log) - 1;
         let remainder = key >> self.log;
@@ -69,10 +70,10 @@ impl Slots {
             // `steps` counts each reading of a tag.
             steps.tick();
             let tag = self.slots.tag(place);
-            if tag == wanted {
+            if tag.number == wanted.number {
                 return Reprobing::Found { place };
             }
-            if tag.is_empty() {
+            if tag.number == 0 {
                 return Reprobing::Free { place, tag: wanted };
             }
         }
@@ -88,12 +89,14 @@ impl Slots {
         ensures in_range { result < 2 ^ self.now.bits }
     {
         let mask = (1 << self.log) - 1;
-        let reprobes = tag.reprobes();
+        let remainder = tag.number / TAG_STEP;
+        // A tag has one more than its number of reprobes.
+        let reprobes = (tag.number % TAG_STEP) as usize - 1;
         let turn = reprobes * (reprobes + 1) / 2;
         // The home is `turn` slots before this one, round the start of the table. `mask` is one less than the number of
         // slots, so that going forward by it goes back by one.
         let home = (index + mask * turn) & mask;
-        (tag.remainder() << self.log) + home as u64
+        (remainder << self.log) + home as u64
     }
 
     /// Stores a key that is not stored yet. Answers false, and stores nothing, where all its places are taken.
@@ -130,7 +133,7 @@ impl Slots {
         let mut table = Slots::empty(alloc, self.bits, log)?;
         for old_index in 0..1 << self.log {
             let tag = self.slots.tag(old_index);
-            if tag.is_empty() {
+            if tag.number == 0 {
                 continue;
             }
             let key = self.key_at(old_index, tag);
@@ -209,7 +212,7 @@ impl Slots {
         ensures none { IfNone result ((key count : ℕ) → Holds (slot_list self.now) index key count → count ≡ 0) }
     {
         let tag = self.slots.tag(index);
-        if tag.is_empty() {
+        if tag.number == 0 {
             return None;
         }
         let count = self.slots.count(index);

@@ -124,6 +124,11 @@ pub length-codes_in : (number n : ℕ) → length (codes_in number n) ≡ n
 unfolding codes_in
 length-codes_in number n = length-map-range_with_len (λ i. code_in number i) 0 n
 
+-- codes and the first ones of a number behind them, as they stand in numbers
+pub record AreFilled (before : List ℕ) (number count : ℕ) (numbers : List ℕ) (n : ℕ) : Type 0 where
+  pub packed : ArePacked numbers n
+  pub codes : codes_of numbers n ≡ before ++ codes_in number count
+
 -- no code more leaves the codes as they are
 pub none-appended : (before : List ℕ) (number count : ℕ) → count ≡ 0 → before ≡ before ++ codes_in number count
 unfolding codes_in

@@ -1,5 +1,5 @@
 -- How batches are made as pieces come, one part after another, and that they are the cutting.
-use Rattle.std.proofs.Common.{◌≡◌, ℕ, ◌+◌, ◌-◌, ◌*◌, ◌/◌, ◌<◌, ◌≤◌, min, ⊎_elim, ◌⊎◌, slice_range, List, [], ◌∷◌, ◌++◌, map, length, take, sum_by, ap, sym, ◌∙◌, subst, arith, le-div_iff_mul-le, div-lt_iff_lt-mul}
+use Rattle.std.proofs.Common.{cond, ltb, ◌≡◌, ℕ, ◌+◌, ◌-◌, ◌*◌, ◌/◌, ◌<◌, ◌≤◌, min, ⊎_elim, ◌⊎◌, slice_range, List, [], ◌∷◌, ◌++◌, map, length, take, sum_by, ap, sym, ◌∙◌, subst, arith, le-div_iff_mul-le, div-lt_iff_lt-mul}
 use Rattle.std.proofs.lemmas.Bool.{cases_lt, cond-true, cond-false, lt-ltb, le-ltb}
 use Rattle.std.proofs.Math.Nat.{mul-le-mul_right}
 use Rattle.std.proofs.lemmas.List.{length_push, take_all, drop_all, nil_from_length, append-nil}
@@ -7,7 +7,7 @@ use Rattle.std.proofs.lemmas.List.FromFn.{map-range_with_len_more}
 use Rattle.std.specs.List.{range_with_len, flat_map}
 use Rattle.kc_kmer.specs.Occurrences.{position_count, occurrences, words_of}
 use Rattle.kc_word.specs.Cutting.{as_reads, NumberedPieces, stretch, stretches, position_total, batch_of, cutting, KeepsOccurrences, KeepsWords}
-use Rattle.kc_word.specs.OpenCutting.{OpenCutting, HasCut, HasTaken, with_part}
+use Rattle.kc_word.specs.OpenCutting.{OpenCutting, HasCut, HasTaken, HasTakenFront}
 use Rattle.kc_word.proofs.Windows.{windows, map-range}
 use Rattle.kc_word.proofs.Stretches.{stretches_from, stretches-are}
 use Rattle.kc_word.proofs.Taking.{stretches-skip, stretches-nil, stretches-none, stretches-push, stretches-all, stretch-empty, stretch-some}
@@ -75,6 +75,47 @@ HasCut-next cutting pieces piece taken = record {
       ∙ sym (push-before cutting.k (length cutting.batches * cutting.size) (position_total cutting.k pieces) pieces piece (omega arith));
   number = taken.number;
 }
+
+-- the cutting with one part more, of so many positions, in the batch that is begun, which is whole then where it has
+-- `size` positions
+abbrev pub with_part : OpenCutting → List ℕ → ℕ → OpenCutting
+with_part cutting part taken =
+    cond (ltb (cutting.filled + taken) cutting.size) (record {
+      k = cutting.k;
+      size = cutting.size;
+      batches = cutting.batches;
+      begun = cutting.begun ++ part ∷ [];
+      filled = cutting.filled + taken;
+    }) (record {
+      k = cutting.k;
+      size = cutting.size;
+      batches = cutting.batches ++ record { number = length cutting.batches; pieces = cutting.begun ++ part ∷ [] } ∷ [];
+      begun = [];
+      filled = 0;
+    })
+
+-- the cutting with one part more, whose batch is not whole yet, and whose batch is
+pub with_part-begun : (cutting : OpenCutting) (part : List ℕ) (taken : ℕ) → cutting.filled + taken < cutting.size
+    → with_part cutting part taken ≡ record cutting { begun = cutting.begun ++ part ∷ []; filled = cutting.filled + taken }
+with_part-begun cutting part taken h = cond-true _ _ _ (lt-ltb (cutting.filled + taken) cutting.size h)
+
+pub with_part-whole : (cutting : OpenCutting) (part : List ℕ) (taken : ℕ) → cutting.size ≤ cutting.filled + taken
+    → with_part cutting part taken ≡ record cutting {
+      batches = cutting.batches ++ record { number = length cutting.batches; pieces = cutting.begun ++ part ∷ [] } ∷ [];
+      begun = [];
+      filled = 0;
+    }
+with_part-whole cutting part taken h = cond-false _ _ _ (le-ltb (cutting.filled + taken) cutting.size h)
+
+-- where so many positions of one piece more are cut, they are a front of it
+pub front-left : (old now : OpenCutting) (piece : List ℕ) (count : ℕ) → now.k ≡ old.k → count ≤ position_count old.k (length piece)
+    → ((pieces : List (List ℕ)) → HasTaken old pieces → HasCut now (pieces ++ piece ∷ []) (position_total old.k pieces + count))
+    → (pieces : List (List ℕ)) → HasTaken old pieces → HasTakenFront now pieces piece
+front-left old now piece count same within cut pieces taken = (
+  count,
+  subst (λ k. count ≤ position_count k (length piece)) (sym same) within,
+  subst (λ k. HasCut now (pieces ++ piece ∷ []) (position_total k pieces + count)) (sym same) (cut pieces taken),
+)
 
 -- a part of a piece that comes next: so many positions from one on. It begins a batch, or the piece begins with it
 pub record PartStep (cutting : OpenCutting) (pieces : List (List ℕ)) (piece : List ℕ) : Type 0 where

@@ -1,8 +1,9 @@
 -- Marks of words: what one more bit changes, and that a word without a mark is not listed.
-use Rattle.std.proofs.Common.{◌≡◌, ◌≢◌, ℕ, ◌+◌, ◌-◌, ◌*◌, ◌/◌, ◌%◌, ◌^◌, ◌<◌, ◌≤◌, ⊎_elim, true, false, ◌||◌, List, [], length, get_or, set, take, replicate, bit_or, bit_and, mul-le-mul_right, Some, ap, sym, ◌∙◌, subst, arith, eqb, eq-eqb, ne_eqb, w64, get_or-set_same, get_or-set_other, div-lt_iff_lt-mul, pow-add, true≢false}
+use Rattle.std.proofs.Common.{All, refl, ◌≡◌, ◌≢◌, ℕ, ◌+◌, ◌-◌, ◌*◌, ◌/◌, ◌%◌, ◌^◌, ◌<◌, ◌≤◌, ⊎_elim, true, false, ◌||◌, List, [], length, get_or, set, take, replicate, bit_or, bit_and, mul-le-mul_right, Some, ap, sym, ◌∙◌, subst, arith, eqb, eq-eqb, ne_eqb, w64, get_or-set_same, get_or-set_other, length-set, div-lt_iff_lt-mul, pow-add, true≢false}
 use Rattle.std.proofs.lemmas.Bool.{cases_eq, cases_lt, or_right}
 use Rattle.std.proofs.Math.Bool.{or-false}
 use Rattle.std.proofs.lemmas.List.{get_or-replicate, get_or_past, length-replicate, take_all, get_or_read}
+use Rattle.std.proofs.lemmas.List.Elements.{All-get_or}
 use Rattle.std.proofs.lemmas.List.Folds.{list_any_more, list_any_none, list_any_at}
 use Rattle.std.proofs.lemmas.Nat.{pow_pos, and_mask}
 use Rattle.std.proofs.lemmas.Nat.Bits.{shr_and_one, bit_at-zero, bit_at_set_same, bit_at_set_other}
@@ -17,15 +18,15 @@ abbrev bit_set : ℕ → ℕ → ℕ
 bit_set word i = bit_or word (1 * 2 ^ i % 2 ^ 64)
 
 -- the table with the bit of a number set
-abbrev pub with_bit : List ℕ → ℕ → List ℕ
+abbrev with_bit : List ℕ → ℕ → List ℕ
 with_bit bits number = set bits (number / 64) (bit_set (get_or bits (number / 64) 0) (number % 64))
 
-pub bit-same : (bits : List ℕ) (number : ℕ) → number / 64 < length bits → has_bit (with_bit bits number) number ≡ true
+bit-same : (bits : List ℕ) (number : ℕ) → number / 64 < length bits → has_bit (with_bit bits number) number ≡ true
 bit-same bits number within =
     ap (λ m. eqb (bit_at m (number % 64)) 1) (get_or-set_same bits (number / 64) (bit_set (get_or bits (number / 64) 0) (number % 64)) 0 within)
     ∙ ap (λ m. eqb m 1) (bit_at_set_same w64 (get_or bits (number / 64) 0) (number % 64) (omega arith))
 
-pub bit-other : (bits : List ℕ) (number n : ℕ) → number / 64 < length bits → n ≢ number
+bit-other : (bits : List ℕ) (number n : ℕ) → number / 64 < length bits → n ≢ number
     → has_bit (with_bit bits number) n ≡ has_bit bits n
 bit-other bits number n within apart =
     ⊎_elim
@@ -39,7 +40,7 @@ bit-other bits number n within apart =
     (cases_eq (n / 64) (number / 64))
 
 -- what is written, as the code computes it
-pub written : (bits : List ℕ) (number word : ℕ) → number / 64 < length bits → word ≡ get_or bits (number / 64) word
+written : (bits : List ℕ) (number word : ℕ) → number / 64 < length bits → word ≡ get_or bits (number / 64) word
     → set bits (number / 64) (bit_or word (1 * 2 ^ bit_and number 63 % 2 ^ 64)) ≡ with_bit bits number
 written bits number word within is =
     ap (λ w. set bits (number / 64) (bit_or w (1 * 2 ^ bit_and number 63 % 2 ^ 64))) (get_or_read bits (number / 64) word within is 0)
@@ -74,12 +75,12 @@ marked-none low_bits count bits none = subst (AreMarked low_bits count []) (sym 
         (cases_lt i count)
 
 -- the bit that is set for the high bits of a word
-pub record IsSet (high : ℕ) (bits next : List ℕ) : Type 0 where
+record IsSet (high : ℕ) (bits next : List ℕ) : Type 0 where
   pub long : length next ≡ length bits
   pub here : has_bit next high ≡ true
   pub others : (n : ℕ) → n ≢ high → has_bit next n ≡ has_bit bits n
 
-pub marked-more : (low_bits count : ℕ) (words : List ℕ) (i high : ℕ) (bits next : List ℕ) → i < length words
+marked-more : (low_bits count : ℕ) (words : List ℕ) (i high : ℕ) (bits next : List ℕ) → i < length words
     → high ≡ get_or words i 0 / 2 ^ low_bits → IsSet high bits next → AreMarked low_bits count (take i words) bits
     → AreMarked low_bits count (take (i + 1) words) next
 marked-more low_bits count words i high bits next within is made before = record {
@@ -98,17 +99,41 @@ marked-more low_bits count words i high bits next within is made before = record
         list_any_more (λ w. eqb (w / 2 ^ low_bits) n) words i 0 within
         ∙ ap (λ h. has_high_bits low_bits (take i words) n || eqb h n) (sym is)
 
+-- the high bits of a word are as many as these
+high-below : (low_bits high_bits word_bits word : ℕ) → low_bits + high_bits ≡ word_bits → word < 2 ^ word_bits
+    → word / 2 ^ low_bits < 2 ^ high_bits
+high-below low_bits high_bits word_bits word whole below =
+    let power : 2 ^ word_bits ≡ 2 ^ high_bits * 2 ^ low_bits = ap (λ n. 2 ^ n) (sym whole ∙ omega arith) ∙ pow-add 2 high_bits low_bits in
+    (div-lt_iff_lt-mul {k = 2 ^ low_bits} {x = word} {y = 2 ^ high_bits} (pow_pos low_bits)).1 (omega (arith, below, power))
+
+-- the mark of each word has a place
+pub place-within : (high_bits word_bits count : ℕ) (words : List ℕ) (i : ℕ) → high_bits ≤ word_bits → count ≡ (2 ^ high_bits + 63) / 64
+    → i < length words → All (λ word. word < 2 ^ word_bits) words → get_or words i 0 / 2 ^ (word_bits - high_bits) / 64 < count
+place-within high_bits word_bits count words i most is within below =
+    let high = high-below (word_bits - high_bits) high_bits word_bits (get_or words i 0) (omega (arith, most))
+    (All-get_or (λ word. word < 2 ^ word_bits) words i 0 within below) in
+    omega (arith, high, is)
+
+-- one word more, whose mark is written as the code computes it
+pub marked-written : (low_bits count : ℕ) (words : List ℕ) (i : ℕ) (bits : List ℕ) (word : ℕ) → i < length words
+    → get_or words i 0 / 2 ^ low_bits / 64 < length bits → word ≡ get_or bits (get_or words i 0 / 2 ^ low_bits / 64) word
+    → AreMarked low_bits count (take i words) bits
+    → AreMarked low_bits count (take (i + 1) words)
+    (set bits (get_or words i 0 / 2 ^ low_bits / 64) (bit_or word (1 * 2 ^ bit_and (get_or words i 0 / 2 ^ low_bits) 63 % 2 ^ 64)))
+marked-written low_bits count words i bits word within place is before =
+    let high = get_or words i 0 / 2 ^ low_bits in
+    subst (AreMarked low_bits count (take (i + 1) words)) (sym (written bits high word place is))
+    (marked-more low_bits count words i high bits (with_bit bits high) within refl (record {
+      long = length-set bits (high / 64) (bit_set (get_or bits (high / 64) 0) (high % 64));
+      here = bit-same bits high place;
+      others = λ n apart. bit-other bits high n place apart;
+    }) before)
+
 pub marked-all : (low_bits count : ℕ) (words : List ℕ) (i : ℕ) (bits : List ℕ) → length words ≤ i
     → AreMarked low_bits count (take i words) bits → AreMarked low_bits count words bits
 marked-all low_bits count words i bits h made = subst (λ ws. AreMarked low_bits count ws bits) (take_all i words h) made
 
 -- ---- a word's mark stands in the table
-
-pub high-below : (low_bits high_bits word_bits word : ℕ) → low_bits + high_bits ≡ word_bits → word < 2 ^ word_bits
-    → word / 2 ^ low_bits < 2 ^ high_bits
-high-below low_bits high_bits word_bits word whole below =
-    let power : 2 ^ word_bits ≡ 2 ^ high_bits * 2 ^ low_bits = ap (λ n. 2 ^ n) (sym whole ∙ omega arith) ∙ pow-add 2 high_bits low_bits in
-    (div-lt_iff_lt-mul {k = 2 ^ low_bits} {x = word} {y = 2 ^ high_bits} (pow_pos low_bits)).1 (omega (arith, below, power))
 
 pub enough-bits : (low_bits high_bits word_bits count : ℕ) → low_bits + high_bits ≡ word_bits → count ≡ (2 ^ high_bits + 63) / 64
     → 2 ^ word_bits ≤ count * 64 * 2 ^ low_bits

@@ -1,12 +1,12 @@
 -- Runs that rise: where no index lies in one, what one index more changes, and that runs with the same indices are the same.
 use Rattle.std.proofs.Common.{◌≡◌, ◌≢◌, ℕ, zero, suc, ◌+◌, ◌-◌, ◌<◌, ◌≤◌, ⊎_elim, Bool, true, false, ◌&&◌, ◌||◌, leb, List, [], ◌∷◌, ◌++◌, length, get_or, take, drop, set, refl, ap, sym, ◌∙◌, subst, arith, true≢false, Decides, eqb, eqb-true, eq-eqb}
 use Rattle.std.proofs.lemmas.Bool.{cases_lt, and_parts, and_from, and_left, and_right, or_left, or_right, le-leb, leb-true, leb-false, lt-leb, lt-ltb, le-ltb}
-use Rattle.std.proofs.lemmas.List.{take_more, take_all, set_at, length-take-le, drop_all, drop_more, get_or_default}
+use Rattle.std.proofs.lemmas.List.{get_or_read, take_more, take_all, set_at, length-take-le, drop_all, drop_more, get_or_default}
 use Rattle.std.proofs.lemmas.List.Folds.{list_any-append, list_any_at}
 use Rattle.std.specs.List.{list_any}
 use Rattle.std.specs.List.Sorted.{IsPartitionPoint, IsPartitionedBy}
 use Rattle.kc_word.specs.declared.runs.Run.{Run}
-use Rattle.kc_word.specs.Runs.{run_end, is_in_run, is_in_runs, AreRuns, AreExtended, AreGrown, EndBehind, ArePassed}
+use Rattle.kc_word.specs.Runs.{run_end, is_in_run, is_in_runs, AreRuns, AreGrown, EndBehind, ArePassed}
 
 -- ---- whether an index lies in a run
 
@@ -131,6 +131,18 @@ last-end {to} {n} {runs} {last} found =
     let split = split-read runs n last found.count found.is in
     (AreRuns-last 0 to (take n runs) last (subst (AreRuns 0 to) split found.rising)).1
 
+-- the last run, as the code reads it twice
+pub record IsLastRead (to : ℕ) (runs : List Run) (n : ℕ) (last again : Run) : Type 0 where
+  pub found : IsLastRun to runs n last
+  pub same : last ≡ again
+
+pub last-read : (to count : ℕ) (runs : List Run) (last again : Run) → 0 < count → count ≡ length runs → AreRuns 0 to runs
+    → last ≡ get_or runs (count - 1) last → again ≡ get_or runs (count - 1) again → IsLastRead to runs (count - 1) last again
+last-read to count runs last again some long rising is is-again = record {
+  found = record { count = omega (arith, some, long); rising = rising; is = is };
+  same = get_or_read runs (count - 1) last (omega (arith, some, long)) is again ∙ sym is-again;
+}
+
 -- a run of so many indices from an index on
 new_run : ℕ → ℕ → Run
 new_run at count = record { start = at; length = count }
@@ -221,14 +233,6 @@ AreGrown-longer {at} {n} {runs} {last} count found end = record {
     same i h = ap (λ rs. is_in_runs rs i) written ∙ is_in_runs-push (take n runs) (longer last count) i
         ∙ ap (λ b. is_in_runs (take n runs) i || b) h
         ∙ sym (ap (λ rs. is_in_runs rs i) split ∙ is_in_runs-push (take n runs) last i)
-
--- one index more is so many
-pub AreExtended-grown : (at : ℕ) (runs next : List Run) → AreGrown runs next at 1 → AreExtended runs next at
-AreExtended-grown at runs next grown = record {
-  rising = grown.rising;
-  here = grown.inside at (omega arith) (omega arith);
-  others = λ i ne. ⊎_elim (λ h. grown.below i h) (λ h. grown.above i (omega (arith, h, ne))) (cases_lt i at);
-}
 
 -- ---- runs behind runs
 

@@ -4,7 +4,7 @@ use Rattle.std.proofs.Common.{map, slice_range, refl, ap, sym, ◌∙◌, subst,
 use Rattle.std.proofs.lemmas.Bool.{cases_lt, cases_Bool}
 use Rattle.std.proofs.lemmas.Bool.Decides.{Decides-like, same_from_decides}
 use Rattle.std.proofs.lemmas.Slice.Eq.{slice_eq-Decides, bytes_eq-Decides}
-use Rattle.std.proofs.lemmas.List.{length-append, length_push, get_or_append_left, get_or_push, ext_get_or, take_all, take-append-le, drop_at, drop-take}
+use Rattle.std.proofs.lemmas.List.{get_or_read, length-append, length_push, get_or_append_left, get_or_push, ext_get_or, take_all, take-append-le, drop_at, drop-take}
 use Rattle.std.proofs.lemmas.List.Sums.{sum_by_more}
 use Rattle.std.proofs.Math.Seq.{take-add}
 use Rattle.std.proofs.lemmas.List.FromFn.{length-map-range_with_len, get_or-map-range_with_len, map-range_with_len_more}
@@ -41,8 +41,10 @@ start-next ends i = let next : i + 1 ≡ suc i = omega arith in ap (start_of end
 pub start-first : (ends : List ℕ) (i : ℕ) → i ≡ 0 → 0 ≡ start_of ends i
 start-first ends i e = ap (start_of ends) (sym e)
 
-pub start-later : (ends : List ℕ) (i : ℕ) → i ≢ 0 → get_or ends (i - 1) 0 ≡ start_of ends i
-start-later ends i some = let place : i - 1 + 1 ≡ i = omega (arith, some) in sym (start-next ends (i - 1)) ∙ ap (start_of ends) place
+pub start-later : (ends : List ℕ) (i before : ℕ) → i ≢ 0 → i < length ends → before ≡ get_or ends (i - 1) before → before ≡ start_of ends i
+start-later ends i before some h read =
+    let place : i - 1 + 1 ≡ i = omega (arith, some) in
+    get_or_read ends (i - 1) before (omega (arith, h)) read 0 ∙ sym (start-next ends (i - 1)) ∙ ap (start_of ends) place
 
 -- each piece begins and ends within
 starts-from : (ends : List ℕ) (n m i : ℕ) → AreEnds ends n → i + m ≡ length ends → start_of ends i ≤ n
@@ -68,6 +70,25 @@ end-within ends n i are h =
 pub length-piece : (bytes ends : List ℕ) (i : ℕ) → AreEnds ends (length bytes) → i < length ends
     → length (piece_at bytes ends i) ≡ get_or ends i 0 - start_of ends i
 length-piece bytes ends i are h = length-cut bytes (start_of ends i) (get_or ends i 0) (are.rising i h) (end-within ends (length bytes) i are h)
+
+-- where a piece begins and ends, as the code reads it
+pub record AreBounds (bytes ends : List ℕ) (i start end : ℕ) : Type 0 where
+  pub ordered : start ≤ end
+  pub within : end ≤ length bytes
+  pub piece_is : slice_range bytes start end ≡ get_or (pieces_in bytes ends) i []
+
+pub bounds-read : (bytes ends : List ℕ) (i start end : ℕ) → AreEnds ends (length bytes) → i < length ends
+    → start ≡ start_of ends i → end ≡ get_or ends i end → AreBounds bytes ends i start end
+bounds-read bytes ends i start end are h first last =
+    let read = get_or_read ends i end h last 0 in
+    let rising = are.rising i h in
+    let inside = end-within ends (length bytes) i are h in
+    record {
+      ordered = omega (arith, first, read, rising);
+      within = omega (arith, read, inside);
+      piece_is = ap (λ s. slice_range bytes s end) first ∙ ap (λ e. slice_range bytes (start_of ends i) e) read
+          ∙ sym (get_or-pieces_in bytes ends i [] h);
+    }
 
 -- ---- one piece more
 

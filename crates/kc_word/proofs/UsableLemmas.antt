@@ -14,7 +14,7 @@ use Rattle.kc_kmer.specs.Occurrences.{is_usable, passes_floor}
 use Rattle.kc_word.specs.Cutting.{unusable, cleaned, cleaned_base}
 use Rattle.kc_word.specs.Packed.{code_in, codes_in}
 use Rattle.kc_word.specs.declared.runs.Run.{Run}
-use Rattle.kc_word.specs.Runs.{is_in_runs, AreRuns, AreExtended}
+use Rattle.kc_word.specs.Runs.{is_in_runs, AreRuns, AreGrown}
 use Rattle.kc_word.specs.PackedPiece.{bytes_of, IsPiece}
 use Rattle.kc_word.specs.UsableCodes.{usable_code, packed_codes, IsCodeBlock, AreGaps}
 use Rattle.kc_kmer.proofs.WordLemmas.{at_base, code-lt}
@@ -166,12 +166,12 @@ gaps-base rule read n runs before small = record {
 
 pub gaps-gap : (rule : CountingRule) (read : Read) (n : ℕ) (runs next : List Run) → AreGaps rule read n runs
     → 4 ≤ usable_code rule read n
-    → AreExtended runs next n → AreGaps rule read (n + 1) next
-gaps-gap rule read n runs next before large extended = record {
-  rising = extended.rising;
-  gaps = λ i h. ⊎_elim (λ l. extended.others i (omega (arith, l)) ∙ before.gaps i l)
+    → AreGrown runs next n 1 → AreGaps rule read (n + 1) next
+gaps-gap rule read n runs next before large grown = record {
+  rising = grown.rising;
+  gaps = λ i h. ⊎_elim (λ l. grown.below i l ∙ before.gaps i l)
       (λ l. let here : n ≡ i = omega (arith, h, l) in
-      subst (λ j. is_in_runs next j ≡ leb 4 (usable_code rule read j)) here (extended.here
+      subst (λ j. is_in_runs next j ≡ leb 4 (usable_code rule read j)) here (grown.inside n (omega arith) (omega arith)
       ∙ sym (le-leb 4 (usable_code rule read n) large)))
       (cases_lt i n);
 }

@@ -1,5 +1,5 @@
 -- A cutting of pieces that come one at a time: the batches that are whole, and the one that is begun.
-use Rattle.std.specs.Prelude.{◌≡◌, ℕ, ◌+◌, ◌*◌, ◌≤◌, nat_lt, List, [], ◌∷◌, ◌++◌, length, map, if◌then◌else◌}
+use Rattle.std.specs.Prelude.{◌≡◌, ℕ, ◌+◌, ◌*◌, ◌≤◌, List, [], ◌∷◌, ◌++◌, length, map}
 use Rattle.std.specs.List.{range_with_len}
 use Rattle.kc_kmer.specs.Occurrences.{position_count}
 use Rattle.kc_word.specs.Cutting.{NumberedPieces, position_total, stretches, batch_of}
@@ -30,23 +30,3 @@ abbrev pub HasTakenFront : OpenCutting → List (List ℕ) → List ℕ → Type
 HasTakenFront cutting pieces piece =
     (count : ℕ) × (count ≤ position_count cutting.k (length piece))
     × HasCut cutting (pieces ++ piece ∷ []) (position_total cutting.k pieces + count)
-
--- the cutting with one part more, of so many positions, in the batch that is begun, which is whole then where it has
--- `size` positions
-abbrev pub with_part : OpenCutting → List ℕ → ℕ → OpenCutting
-with_part cutting part taken =
-    if nat_lt (cutting.filled + taken) cutting.size
-    then record {
-      k = cutting.k;
-      size = cutting.size;
-      batches = cutting.batches;
-      begun = cutting.begun ++ part ∷ [];
-      filled = cutting.filled + taken;
-    }
-    else record {
-      k = cutting.k;
-      size = cutting.size;
-      batches = cutting.batches ++ record { number = length cutting.batches; pieces = cutting.begun ++ part ∷ [] } ∷ [];
-      begun = [];
-      filled = 0;
-    }

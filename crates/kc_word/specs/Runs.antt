@@ -1,6 +1,6 @@
 -- Runs of N in a piece: where each starts, and how long it is.
 -- Source: this project's own.
-use Rattle.std.specs.Prelude.{◌≡◌, ◌≢◌, ℕ, Bool, true, ◌+◌, ◌<◌}
+use Rattle.std.specs.Prelude.{◌≡◌, ℕ, Bool, true, ◌+◌, ◌<◌}
 use Rattle.std.specs.Prelude.{◌≤◌, ◌&&◌, nat_le, nat_lt, List, [], ◌∷◌, length, drop}
 use Rattle.std.specs.List.{list_any}
 use Rattle.kc_word.specs.declared.runs.Run.{Run}
@@ -21,12 +21,6 @@ abbrev pub AreRuns : ℕ → ℕ → List Run → Type 0
 AreRuns from to [] = Unit {0}
 AreRuns from to (run ∷ runs) =
     (from ≤ run.start) × (1 ≤ run.length) × (run_end run ≤ to) × AreRuns (run_end run + 1) to runs
-
--- the runs with one index more, behind all that they have
-pub record AreExtended (runs next : List Run) (at : ℕ) : Type 0 where
-  pub rising : AreRuns 0 (at + 1) next
-  pub here : is_in_runs next at ≡ true
-  pub others : (i : ℕ) → i ≢ at → is_in_runs next i ≡ is_in_runs runs i
 
 -- the runs with so many indices more from an index on, behind all that they have
 pub record AreGrown (runs next : List Run) (at count : ℕ) : Type 0 where

@@ -53,7 +53,10 @@ impl Batch {
     pub fn pieces(&self) -> PieceViews<'_>
         ensures { result ≡ self.now.pieces }
     {
-        PieceViews::new(&self.pieces)
+        PieceViews {
+            pieces: &self.pieces,
+            next: 0,
+        }
     }
 
     /// The words at the positions of the batch, without those that hold N, as numbers, in the forms under which
@@ -61,7 +64,11 @@ impl Batch {
     pub fn walk(&self, rule: &Rule) -> Walk<'_>
         ensures { result ≡ words_of rule.now (as_reads self.now.pieces) }
     {
-        Walk::new(&self.pieces, *rule)
+        Walk {
+            roll: self.pieces.roll(0, *rule),
+            pieces: &self.pieces,
+            next: 1,
+        }
     }
 }
 

@@ -1,9 +1,7 @@
 //! The cutting of pieces into batches, one piece after another.
-ghost use Rattle.std.specs.Prelude.{◌≡◌, ◌+◌, ◌-◌, ◌^◌, ◌<◌, ◌≤◌, ◌++◌, ◌∷◌, [], List, ℕ, length, min};
-ghost use Rattle.std.specs.Prelude.{slice_range, IfOk, OnOk, OnErr};
+ghost use Rattle.std.specs.Prelude.{◌≡◌, ◌≤◌, ◌++◌, ◌∷◌, [], List, ℕ, length, slice_range, IfOk, OnOk, OnErr};
 ghost use Rattle.kc_word.specs.Cutting.{cutting, KeepsOccurrences, KeepsWords};
-ghost use Rattle.kc_kmer.specs.Occurrences.{position_count};
-ghost use Rattle.kc_word.specs.OpenCutting.{HasTaken, HasTakenFront, with_part};
+ghost use Rattle.kc_word.specs.OpenCutting.{HasTaken, HasTakenFront};
 ghost use Rattle.kc_word.specs.Shared.{values};
 
 use crate::batch::Batch;
@@ -75,10 +73,25 @@ impl Cutting {
         ensures refused { OnErr result ((pieces : List (List ℕ))
             → HasTaken self.old pieces → HasTakenFront self.new pieces piece.now) }
     {
+        let bases = self.k.get() as usize;
         let count = self.k.positions(piece.len() as usize);
         let mut position = 0;
         while position < count {
-            position += self.take(alloc, piece, position, count - position)?;
+            // as many positions as the batch that is begun has room for
+            let taken = ((count - position) as u64).min(self.size - self.filled) as usize;
+            let end = position + taken + (bases - 1);
+            let filled = self.filled + taken as u64;
+            if filled < self.size {
+                let part = Piece::new(alloc).and_part(piece, position, end)?;
+                self.begun.push(part)?;
+                self.filled = filled;
+            } else {
+                let batch = self.whole(alloc, piece, position, end)?;
+                self.batches.push(batch)?;
+                self.begun.clear();
+                self.filled = 0;
+            }
+            position += taken;
         }
         Ok(())
     }
@@ -101,43 +114,6 @@ impl Cutting {
         let mut batches = cutting.batches;
         batches.push(batch)?;
         Ok(batches)
-    }
-
-    // Takes `left` positions of the piece from `position` on, or as many as the batch that is begun has room for, and
-    // answers how many: their bytes become the last part of that batch, which is put behind the whole ones where it is
-    // whole then. After a refusal the cutting is as it was. Conditions: `left` is at least 1, and the piece has these
-    // positions.
-    fn take(
-        &mut self,
-        alloc: Global,
-        piece: &Piece,
-        position: usize,
-        left: usize,
-    ) -> Result<usize, AllocError>
-        requires some { 1 ≤ left }
-        requires within { position + left ≤ position_count self.old.k (length piece.now) }
-        requires fits { length piece.now < 2 ^ 64 }
-        ensures some { IfOk result (λ taken. 1 ≤ taken) }
-        ensures count { IfOk result (λ taken. taken ≡ min left (self.old.size - self.old.filled)) }
-        ensures taken { IfOk result (λ taken. self.new
-            ≡ with_part self.old (slice_range piece.now position (position + taken + self.old.k - 1)) taken) }
-        ensures refused { OnErr result (self.new ≡ self.old) }
-    {
-        let taken = (left as u64).min(self.size - self.filled) as usize;
-        let bases = self.k.get() as usize;
-        let end = position + taken + (bases - 1);
-        let filled = self.filled + taken as u64;
-        if filled < self.size {
-            let part = Piece::new(alloc).and_part(piece, position, end)?;
-            self.begun.push(part)?;
-            self.filled = filled;
-        } else {
-            let batch = self.whole(alloc, piece, position, end)?;
-            self.batches.push(batch)?;
-            self.begun.clear();
-            self.filled = 0;
-        }
-        Ok(taken)
     }
 
     // The batch that is begun, with the bytes of the piece from `from` to before `to` as its last part: all its parts,

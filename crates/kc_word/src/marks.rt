@@ -1,6 +1,6 @@
 //! Marks of words: a table of bits that tells of most words that they are not in a list.
-ghost use Rattle.std.specs.Prelude.{◌≡◌, ◌≢◌, ℕ, ◌+◌, ◌*◌, ◌/◌, ◌^◌, ◌<◌, ◌≤◌, All, IfOk, length, max, replicate, true};
-ghost use Rattle.kc_word.specs.Marks.{AreMarksOf, has_bit, is_marked, marked_below};
+ghost use Rattle.std.specs.Prelude.{◌≡◌, ◌+◌, ◌*◌, ◌/◌, ◌^◌, ◌<◌, ◌≤◌, All, IfOk, length, max};
+ghost use Rattle.kc_word.specs.Marks.{AreMarksOf, is_marked, marked_below};
 
 use kc_lemmas::zeros;
 use std::alloc::{AllocError, Global};
@@ -31,13 +31,16 @@ impl Marks {
     pub(crate) fn of(alloc: Global, words: &[u64], word_bits: u32) -> Result<Marks, AllocError>
         requires word_bits { word_bits ≤ 62 }
         requires words { All (λ word. word < 2 ^ word_bits) words.now }
-        ensures { IfOk result (λ marks. AreMarksOf word_bits words.now marks) }
+        ensures marks { IfOk result (λ marks. AreMarksOf word_bits words.now marks) }
+        ensures bounded { IfOk result (λ marks. length marks.bits ≤ (16 * max (length words.now) 1 + 63) / 64) }
     {
-        let high_bits = marked_bits(words.len(), word_bits);
+        // 8 to 16 marks for each word, where the words have so many bits
+        let high_bits = (words.len().max(1).ilog2() + 4).min(word_bits);
         let low_bits = word_bits - high_bits;
-        let mut bits = no_bits(alloc, high_bits)?;
+        let mut bits = zeros(alloc, (1usize << high_bits).div_ceil(64))?;
         for word in words {
-            set_bit(&mut bits, *word >> low_bits);
+            let high = *word >> low_bits;
+            bits[(high >> 6) as usize] |= 1 << (high & 63);
         }
         Ok(Marks { bits, low_bits })
     }
@@ -52,31 +55,4 @@ impl Marks {
         let high = word >> self.low_bits;
         (self.bits[(high >> 6) as usize] >> (high & 63)) & 1 == 1
     }
-}
-
-// How many high bits of a word tell its mark, so that a list of so many words has 8 to 16 marks for each.
-fn marked_bits(count: usize, word_bits: u32) -> u32
-    ensures most { result ≤ word_bits }
-    ensures enough { result < word_bits → 8 * count < 2 ^ result }
-    ensures bounded { 2 ^ result ≤ 16 * max count 1 }
-{
-    (count.max(1).ilog2() + 4).min(word_bits)
-}
-
-// A table with a bit for each number of so many bits, none of them set.
-fn no_bits(alloc: Global, high_bits: u32) -> Result<Vec<u64>, AllocError>
-    requires { high_bits ≤ 62 }
-    ensures { IfOk result (λ bits. bits.items ≡ replicate ((2 ^ high_bits + 63) / 64) 0) }
-{
-    zeros(alloc, (1usize << high_bits).div_ceil(64))
-}
-
-// Sets the bit of a number. Condition: the table has one.
-fn set_bit(bits: &mut Vec<u64>, number: u64)
-    requires { number / 64 < length bits.old.items }
-    ensures long { length bits.new.items ≡ length bits.old.items }
-    ensures set { has_bit bits.new.items number ≡ true }
-    ensures others { (n : ℕ) → n ≢ number → has_bit bits.new.items n ≡ has_bit bits.old.items n }
-{
-    bits[(number >> 6) as usize] |= 1 << (number & 63);
 }

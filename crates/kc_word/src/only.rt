@@ -153,23 +153,15 @@ fn words_in_reads(alloc: Global, reads: &[SeqRead], rule: &Rule) -> Result<Vec<u
     for read in reads {
         let more = read_words(alloc, read, rule)?;
         words.extend_from_slice(&more)?;
-        limit = keep_short(&mut words, limit);
+        if words.len() >= limit {
+            keep_once(&mut words);
+            // so that the words at most double in between
+            limit = words.len().saturating_mul(2).max(LEAST_LIMIT);
+        }
     }
     keep_once(&mut words);
     words.shrink_to_fit();
     Ok(words)
-}
-
-// Where there are as many words as the limit, leaves each there once. Answers the next limit, so that the words at most
-// double in between.
-fn keep_short(words: &mut Vec<u64>, limit: usize) -> usize
-    ensures { (n : ℕ) → Contains words.new.items n ↔ Contains words.old.items n }
-{
-    if words.len() < limit {
-        return limit;
-    }
-    keep_once(words);
-    words.len().saturating_mul(2).max(LEAST_LIMIT)
 }
 
 // Puts the words in rising order, each once.

@@ -64,32 +64,19 @@ impl Packed {
             let number = other.window(from + taken);
             let more = (count - taken).min(BASES);
             // as many codes as the last number has room for, and the others in a number of their own
-            let filled = more.min((BASES - self.len % BASES) % BASES);
+            let used = self.len % BASES;
+            let filled = more.min((BASES - used) % BASES);
             if filled > 0 {
-                self.fill_number(number, filled);
+                let behind = 64 - 2 * filled;
+                let last = self.len / BASES;
+                self.numbers[last] |= ((number >> behind) << behind) >> (2 * used);
+                self.len += filled;
             }
             if filled < more {
                 self.push_number(number << (2 * filled), more - filled)?;
             }
         }
         Ok(())
-    }
-
-    // Appends the first `count` codes of a number within the last number. Conditions: that one has a code, and room for
-    // so many more.
-    #[inline(always)]
-    fn fill_number(&mut self, number: u64, count: usize)
-        requires some { 1 ≤ count }
-        requires begun { 1 ≤ length self.old % 32 }
-        requires room { length self.old % 32 + count ≤ 32 }
-        requires fits { length self.old + count < 2 ^ 64 }
-        ensures { self.new ≡ self.old ++ codes_in number count }
-    {
-        let behind = 64 - 2 * count;
-        let front = (number >> behind) << behind;
-        let last = self.len / BASES;
-        self.numbers[last] |= front >> (2 * (self.len % BASES));
-        self.len += count;
     }
 
     /// Appends the first `count` codes of a number, behind whole numbers. Conditions: the count is 1 to 32, the length

@@ -1,5 +1,5 @@
 //! The pieces of a batch, one after another, without memory.
-ghost use Rattle.std.specs.Prelude.{◌≡◌, ◌<◌, ◌≤◌, ◌↔◌, length, slice_index, slice_range, IsTrue};
+ghost use Rattle.std.specs.Prelude.{◌≡◌, ◌<◌, ◌↔◌, length, slice_index, IsTrue};
 ghost use Rattle.kc_word.specs.Cutting.{is_piece_byte};
 
 use crate::piece::Piece;
@@ -9,9 +9,9 @@ use std::marker::Model;
 /// A piece of a batch, seen as its bytes.
 #[derive(Drop)]
 pub struct PieceView<'a> {
-    bytes: &'a Piece,
-    from: u64,
-    to: u64,
+    pub(crate) bytes: &'a Piece,
+    pub(crate) from: u64,
+    pub(crate) to: u64,
 }
 
 impl<'a> Model for PieceView<'a> {
@@ -25,19 +25,6 @@ impl<'a> Model for PieceView<'a> {
 }
 
 impl<'a> PieceView<'a> {
-    /// The bytes from index `from` to before `to`. Conditions: these are in order, and at most the length.
-    pub(crate) fn new(bytes: &'a Piece, from: usize, to: usize) -> PieceView<'a>
-        requires ordered { from ≤ to }
-        requires within { to ≤ length bytes.now }
-        ensures { result ≡ slice_range bytes.now from to }
-    {
-        PieceView {
-            bytes,
-            from: from as u64,
-            to: to as u64,
-        }
-    }
-
     /// The number of bytes.
     pub fn len(&self) -> u64
         ensures { result ≡ length self.now }
@@ -65,8 +52,8 @@ impl<'a> PieceView<'a> {
 /// An iterator over the pieces of a batch, seen as the list of those still to come.
 #[derive(Drop)]
 pub struct PieceViews<'a> {
-    pieces: &'a Pieces,
-    next: usize,
+    pub(crate) pieces: &'a Pieces,
+    pub(crate) next: usize,
 }
 
 impl<'a> Model for PieceViews<'a> {
@@ -75,15 +62,6 @@ impl<'a> Model for PieceViews<'a> {
     ghost Value = { List (List ℕ) };
 
     ghost view = { λ v. drop v.next v.pieces.now };
-}
-
-impl<'a> PieceViews<'a> {
-    /// All pieces.
-    pub(crate) fn new(pieces: &'a Pieces) -> PieceViews<'a>
-        ensures { result ≡ pieces.now }
-    {
-        PieceViews { pieces, next: 0 }
-    }
 }
 
 impl<'a> Iterator for PieceViews<'a> {
@@ -97,10 +75,16 @@ impl<'a> Iterator for PieceViews<'a> {
 
     fn next(&mut self) -> Option<PieceView<'a>> {
         let i = self.next;
-        if i >= self.pieces.len() {
+        let pieces = self.pieces;
+        if i >= pieces.len() {
             return None;
         }
         self.next = i + 1;
-        Some(self.pieces.piece(i))
+        let start = if i == 0 { 0 } else { pieces.ends[i - 1] };
+        Some(PieceView {
+            bytes: &pieces.bytes,
+            from: start as u64,
+            to: pieces.ends[i] as u64,
+        })
     }
 }

@@ -6,7 +6,6 @@ ghost use Rattle.kc_kmer.specs.Occurrences.{words_in};
 ghost use Rattle.kc_word.specs.Walking.{words_left};
 
 use crate::piece::Piece;
-use crate::piece_views::PieceView;
 use crate::roll::Roll;
 use kc_kmer::Rule;
 use std::alloc::AllocError;
@@ -48,15 +47,6 @@ impl Pieces {
     {
         let start = if i == 0 { 0 } else { self.ends[i - 1] };
         Roll::new(&self.bytes, start, self.ends[i], rule)
-    }
-
-    /// Piece `i`. Condition: there is such a piece.
-    pub(crate) fn piece(&self, i: usize) -> PieceView<'_>
-        requires { i < length self.now }
-        ensures { result ≡ slice_index_or self.now i [] }
-    {
-        let start = if i == 0 { 0 } else { self.ends[i - 1] };
-        PieceView::new(&self.bytes, start, self.ends[i])
     }
 
     /// These pieces, and behind them, as one more, the bytes of a piece from `from` to before `to`. Conditions: these

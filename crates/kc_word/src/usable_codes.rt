@@ -2,7 +2,7 @@
 ghost use Rattle.std.specs.Prelude.{◌≡◌, ◌+◌, ◌^◌, ◌<◌, ◌≤◌, length, OnOk};
 ghost use Rattle.kc_word.specs.UsableCodes.{usable_code, IsCodeBlock, AreGaps};
 
-use crate::runs::{Run, extend_runs};
+use crate::runs::{Run, push_run};
 use kc_fastx::SeqRead;
 use kc_kmer::Rule;
 use kc_kmer::letter::{NO_BASE, code_of};
@@ -54,7 +54,7 @@ pub(crate) fn mark_gaps(
 {
     for i in 0..count {
         if usable_code(read, rule, from + i) >= NO_BASE {
-            extend_runs(runs, from + i)?;
+            push_run(runs, from + i, 1)?;
         }
     }
     Ok(())

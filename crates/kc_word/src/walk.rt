@@ -1,19 +1,14 @@
 //! The words of a batch, one after another, without memory.
-ghost use Rattle.std.specs.Prelude.{◌≡◌, ◌≤◌, length};
-ghost use Rattle.kc_kmer.specs.Occurrences.{words_of};
-ghost use Rattle.kc_word.specs.Cutting.{as_reads};
-
 use crate::pieces::Pieces;
 use crate::roll::Roll;
-use kc_kmer::Rule;
 use std::marker::Model;
 
 /// An iterator over the words of a batch, seen as the list of those still to come.
 #[derive(Drop)]
 pub struct Walk<'a> {
-    roll: Roll<'a>,
-    pieces: &'a Pieces,
-    next: usize,
+    pub(crate) roll: Roll<'a>,
+    pub(crate) pieces: &'a Pieces,
+    pub(crate) next: usize,
 }
 
 impl<'a> Model for Walk<'a> {
@@ -25,20 +20,6 @@ impl<'a> Model for Walk<'a> {
     ghost Value = { List ℕ };
 
     ghost view = { λ w. words_left w.roll ++ words_of w.roll.rule (as_reads (drop w.next w.pieces.now)) };
-}
-
-impl<'a> Walk<'a> {
-    /// A walk that begins at the front of the pieces. Condition: there is one.
-    pub(crate) fn new(pieces: &'a Pieces, rule: Rule) -> Walk<'a>
-        requires { 1 ≤ length pieces.now }
-        ensures { result ≡ words_of rule (as_reads pieces.now) }
-    {
-        Walk {
-            roll: pieces.roll(0, rule),
-            pieces,
-            next: 1,
-        }
-    }
 }
 
 impl<'a> Iterator for Walk<'a> {

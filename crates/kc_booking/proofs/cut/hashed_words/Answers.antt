@@ -35,7 +35,7 @@ loop-word-init c =
             words = c.match-list.words.items;
             tables = c.forward_tables-tables.result;
             rule_is = refl;
-            tables_are = c.forward_tables-tables.ensures ∙ c.hash.ensures;
+            tables_are = c.forward_tables-tables.ensures ∙ ap (λ s. s.hash) c.setup.view_is;
             bits = subst (λ s. HasBits s.rule.k s.hash s.stripe_bits) c.setup.view_is c.setup.invariant.0;
             below = subst (All (λ word. word < 4 ^ setup.rule.k)) (sym counted) (All-words_of setup.rule reads);
           }));
@@ -57,5 +57,5 @@ returns c =
     ap (λ n. take n (c.loop-word.word-items ++ drop (length c.loop-word.word-items) c.match-list.words.items)) as_many
     ∙ take-append_seam c.loop-word.word-items _
     ∙ IsMappedTo-all (λ word. product c.forward_tables-tables.result word) _ _ c.loop-word.word-index end c.loop-word.invariant.hashed
-    ∙ ap₂ (λ (tables words : List ℕ). map (λ word. product tables word) words) (c.forward_tables-tables.ensures ∙ c.hash.ensures) c.deref_mut-word-items.ensures.value
+    ∙ ap₂ (λ (tables words : List ℕ). map (λ word. product tables word) words) (c.forward_tables-tables.ensures ∙ ap (λ s. s.hash) c.setup.view_is) c.deref_mut-word-items.ensures.value
     ∙ ap (map (hash_value_of setup)) counted

@@ -2,7 +2,7 @@ use Rattle.std.proofs.Common.{◌≡◌, ◌∙◌, Bool, true, false, not, nat_
 use Rattle.std.specs.HashSet.{contains}
 use Rattle.kc_word.specs.Cutting.{NumberedPieces}
 use Rattle.kc_word.specs.Shared.{values}
-use Rattle.kc_booking.specs.Stripe.{NumbersDiffer, KnowsNumbers, IsBooked}
+use Rattle.kc_booking.specs.Stripe.{NumbersDiffer, KnowsNumbers}
 use Rattle.kc_booking.proofs.Lawful.{IsBooked-found, IsBooked-missing, numbers_differ-more}
 use Rattle.kc_booking.proofs.RoundLemmas.{IsSharedAt, value_at, values-more, stands_before, known-then}
 use Rattle.kc_booking.proofs.cuts.do_numbers_differ.Goals as goal
@@ -17,7 +17,7 @@ returns-then-not-is_new c =
     let number : c.number.result ≡ c.batch-item.result.value.number = c.number.ensures ∙ ap (λ (b : NumberedPieces). b.number) c.deref.ensures in
     let there : contains nat_eq c.loop-batch.seen c.number.result ≡ true = turned _ false (sym c.in-Ok.ensures.added ∙ c.if-not-is_new.true) in
     stands_before (values c.args.batches.now) c.loop-batch.batch-index c.batch-item.result.value (value_at at)
-    (subst (IsBooked (take c.loop-batch.batch-index (values c.args.batches.now))) number (IsBooked-found _ _ _ (c.loop-batch.invariant.known c.number.result) there))
+    (IsBooked-found _ (c.loop-batch.invariant.known c.number.result) number there)
 
 pub loop-batch-preserved : goal.loop-batch-preserved
 loop-batch-preserved c =
@@ -25,8 +25,7 @@ loop-batch-preserved c =
     let number : c.number.result ≡ c.batch-item.result.value.number = c.number.ensures ∙ ap (λ (b : NumberedPieces). b.number) c.deref.ensures in
     let absent : contains nat_eq c.loop-batch.seen c.number.result ≡ false = turned _ true (sym c.in-Ok.ensures.added ∙ c.if-not-is_new.false) in
     let front = take c.loop-batch.batch-index (values c.args.batches.now) in
-    let new : ¬ IsBooked front c.batch-item.result.value.number =
-    subst (λ n. ¬ IsBooked front n) number (IsBooked-missing _ _ _ (c.loop-batch.invariant.known c.number.result) absent) in
+    let new = IsBooked-missing front (c.loop-batch.invariant.known c.number.result) number absent in
     record {
       known = subst (KnowsNumbers (contains nat_eq c.insert.new.self)) (sym (values-more at))
           (known-then front c.batch-item.result.value c.number.result (contains nat_eq c.loop-batch.seen) (contains nat_eq c.insert.new.self)

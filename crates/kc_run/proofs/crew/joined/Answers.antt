@@ -8,8 +8,8 @@ use Rattle.kc_run.specs.declared.worker.Worker.{Worker}
 use Rattle.kc_run.proofs.CrewLemmas.{HaveWorked-one, HaveWorked-more}
 use Rattle.kc_run.proofs.crew.joined.Goals as goal
 
-pub loop-worker-init : goal.loop-worker-init
-loop-worker-init g c =
+pub loop-seat-init : goal.loop-seat-init
+loop-seat-init g c =
     let popped = λ (tickets : TicketsSeen) (plan : Plan) (all : All (λ (worker : Worker g.row.N.Denot). HasWorked tickets plan worker.seat worker.share) c.args.workers.items).
     All-pop (λ (worker : Worker g.row.N.Denot). HasWorked tickets plan worker.seat worker.share) _ _ (Some c.in-Some.field-0) c.in-Some.ensures.items all in
     let seats = c.in_ok-push.ensures.items ∙ ap (λ them. them ++ (c.in-Some.field-0.seat ∷ [])) c.in_ok-seats.ensures.items in
@@ -20,15 +20,16 @@ loop-worker-init g c =
           (HaveWorked-one tickets plan c.in-Some.field-0.seat c.in-Some.field-0.share (popped tickets plan all).1);
     }
 
-pub loop-worker-preserved : goal.loop-worker-preserved
-loop-worker-preserved g c =
-    let i = c.loop-worker.invariant in
+pub loop-seat-preserved : goal.loop-seat-preserved
+loop-seat-preserved g c =
+    let i = c.loop-seat.invariant in
+    let worker = c.in-Some-pop.field-0 in
     let popped = λ (tickets : TicketsSeen) (plan : Plan) (all : All (λ (worker : Worker g.row.N.Denot). HasWorked tickets plan worker.seat worker.share) c.args.workers.items).
-    All-pop (λ (worker : Worker g.row.N.Denot). HasWorked tickets plan worker.seat worker.share) _ _ (Some c.in-Some-pop.worker) c.in-Some-pop.ensures.items (i.left tickets plan all) in
+    All-pop (λ (worker : Worker g.row.N.Denot). HasWorked tickets plan worker.seat worker.share) _ _ (Some worker) c.in-Some-pop.ensures.items (i.left tickets plan all) in
     record {
-      counted = omega (arith, c.in_ok-add_worker.ensures.len, c.in-Some-pop.ensures.cases, i.counted);
+      counted = omega (arith, c.in_ok-push-2.ensures.len, c.in-Some-pop.ensures.cases, i.counted);
       left = λ tickets plan all. (popped tickets plan all).0;
-      whole = λ tickets plan all. subst (λ them. HaveWorked tickets plan them c.add_worker.new.share) (sym c.in_ok-add_worker.ensures.seats)
-          (subst (λ share. HaveWorked tickets plan (c.loop-worker.seats.items ++ c.in-Some-pop.worker.seat ∷ []) share) (sym c.in_ok-add_worker.ensures.share)
-          (HaveWorked-more tickets plan c.loop-worker.seats.items c.loop-worker.share c.in-Some-pop.worker.seat c.in-Some-pop.worker.share (i.whole tickets plan all) (popped tickets plan all).1));
+      whole = λ tickets plan all. subst (λ them. HaveWorked tickets plan them c.join.new.share) (sym c.in_ok-push-2.ensures.items)
+          (subst (λ share. HaveWorked tickets plan (c.loop-seat.seats.items ++ worker.seat ∷ []) share) (sym c.join.ensures)
+          (HaveWorked-more tickets plan c.loop-seat.seats.items c.loop-seat.share worker.seat worker.share (i.whole tickets plan all) (popped tickets plan all).1));
     }

@@ -5,8 +5,8 @@ use Rattle.kc_tickets.specs.Tickets.{TicketsSeen}
 use Rattle.kc_run.specs.Runs.{HasWorked, HaveWorked}
 use Rattle.kc_run.proofs.crew.joined.Given as goal
 
-abbrev pub invariant-loop-worker : goal.invariant-loop-worker
-invariant-loop-worker g l = record {
+abbrev pub invariant-loop-seat : goal.invariant-loop-seat
+invariant-loop-seat g l = record {
   counted : vec_len l.seats + vec_len l.workers ≡ vec_len l.fn.workers;
   left : (tickets : TicketsSeen) (plan : Plan) → All (λ worker. HasWorked tickets plan worker.seat worker.share) l.fn.workers.items
       → All (λ worker. HasWorked tickets plan worker.seat worker.share) l.workers.items;
@@ -14,5 +14,5 @@ invariant-loop-worker g l = record {
       → HaveWorked tickets plan l.seats.items l.share;
 }
 
-abbrev pub decreases-loop-worker : goal.decreases-loop-worker
-decreases-loop-worker g l = vec_len l.workers
+abbrev pub decreases-loop-seat : goal.decreases-loop-seat
+decreases-loop-seat g l = vec_len l.workers

@@ -1,15 +1,16 @@
-use Rattle.std.proofs.Common.{rules, ◌≡◌, ◌-◌, ◌+◌, ◌∙◌, true, false, ap, sym, subst, inl, inr, ◌⊎◌, ⊎_elim, Some, [], ◌∷◌, ◌++◌, length, arith, refl}
+use Rattle.std.proofs.Common.{rules, true≢false, ◌≡◌, ◌-◌, ◌+◌, ◌∙◌, true, false, ap, sym, subst, inl, inr, ◌⊎◌, ⊎_elim, Some, [], ◌∷◌, ◌++◌, length, arith, refl}
 use Rattle.std.proofs.lemmas.Result.{err_from_is_err_and}
 use Rattle.kc_fastx.specs.Faults.{UnlessMemory}
 use Rattle.kc_fastx.specs.Lines.{Cursor, lines, line_count, skip_blanks}
-use Rattle.kc_fastx.specs.Reading.{Stand, HasGiven, IsSure, IsNext, NextFails}
+use Rattle.kc_fastx.specs.Reading.{Stand, HasGiven, MeetsFault, IsSure, IsNext, NextFails}
 use Rattle.kc_fastx.proofs.TailLemmas.{skip_blanks-again}
 use Rattle.kc_fastx.proofs.ReadingLemmas.{ArePassed, IsRead, behind_is, given_more, reaches, uses_some}
-use Rattle.kc_fastx.proofs.ReadingLemmas.{IsOver, given_all, given_fault, meets_kept}
+use Rattle.kc_fastx.proofs.ReadingLemmas.{IsOver, KeepsFault, given_all, given_fault, keeps_fault, keeps_none, meets_kept, with_failed}
 use Rattle.kc_fastx.proofs.ReadingLemmas.{IsOpen, given_grown, given_refused}
 use Rattle.kc_fastx.proofs.record_reader.Reading.next_read.Goals as goal
 use Rattle.kc_fastx.proofs.record_reader.Reading.next_read.Goals.{else-not-self-via-then-not-self+else-not-is_sure}
 use Rattle.kc_fastx.proofs.record_reader.Reading.next_read.Goals.{else-not-self-via-else-not-self}
+use Rattle.kc_fastx.proofs.record_reader.Reading.next_read.Goals.{then-not-matches, else-not-matches, in-Memory, in_default-matches}
 
 pub next_record-next-requires : goal.next_record-next-requires
 next_record-next-requires g c =
@@ -125,6 +126,16 @@ returns-in-Ok-None-clause-given g c = λ start limit reads h.
     let given = c.reading.invariant.given start limit reads h in
     (given, given_all start (g.S.Source.seen c.reading.source) limit reads stand whole given over)
 
+-- the fault of a record is kept, unless it is that of memory
+kept : (g : _) (c : goal.Joined-not-matches g) → KeepsFault c.reading.self c.if-not-matches.self c.in-Err.fault
+kept g c = elim c.if-not-matches.branch [
+  | then-not-matches w ↦ keeps_fault (w.self-is ∙ ap (λ s. with_failed s (Some c.in-Err.fault)) c.self-in-reading.view_is)
+  | else-not-matches w ↦ keeps_none w.self-is (elim c.match-matches.branch [
+    | in-Memory v ↦ v.in-Memory.is
+    | in_default-matches v ↦ absurd (true≢false (sym w.if-not-matches.false ∙ v.matches-is))
+  ])
+]
+
 pub returns-in-Err-clause-given : goal.returns-in-Err-clause-given
 returns-in-Err-clause-given g c = λ start limit reads h.
     let stand = c.reading.self in
@@ -147,4 +158,5 @@ returns-in-Err-clause-given g c = λ start limit reads h.
     is_fastq c.in-Err.ensures.err)) in
     let met = given_fault (c.reading.invariant.given start limit reads h) whole left fault c.whole_lines-whole.ensures
     fails (rw c.in-Err.is at sure) in
-    rw c.keep.ensures (meets_kept start (g.S.Source.seen c.reading.source) limit stand fault _ met)
+    subst (λ s. MeetsFault start (g.S.Source.seen c.reading.source) limit s fault) (sym (kept g c).same)
+    (meets_kept start (g.S.Source.seen c.reading.source) limit stand fault _ met)

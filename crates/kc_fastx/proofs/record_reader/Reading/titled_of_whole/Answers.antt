@@ -42,12 +42,24 @@ returns-in_err-read-clause-tells c = λ start now limit reads h.
     let p = err_from_is_err_and c.from_residual.result c.from_residual.ensures.1 in
     rw (p.1, p.2) (given_fault h whole left c.in_err-read.field-0.0 c.whole_lines-whole.ensures fails (rw c.in_err-read.was at sure))
 
-pub returns-clause-tells : goal.returns-clause-tells
-returns-clause-tells c = λ start now limit reads h.
+-- the blank lines and the record that were passed
+passed : (c : goal.After-use_up) → ArePassed c.args.self.now
+    (record { taken = c.self.inside.lines_used; left = lines c.whole_lines-whole.result.now; bytes = c.whole_lines-whole.result.now })
+    c.pass_blanks.new.self c.next_record-next.new.lines
+passed c = record {
+  taken = ap (λ (s : Stand). s.lines_used) c.self.view_is;
+  counted_blank = c.pass_blanks.ensures.counted;
+  passes_blank = c.pass_blanks.ensures.passes;
+  counted = c.in_ok-read.ensures.counted;
+  passes = c.in_ok-read.ensures.passes;
+}
+
+-- the record that was read
+one : (c : goal.After-use_up) → IsRead c.args.self.now c.whole_lines-whole.result.now c.next_record-next.new.lines
+    (c.in-Some.read, c.in-Some.is_fastq) (length c.whole_lines-whole.result.now - length c.lines-2.inside.left.now)
+one c =
     let stand = c.args.self.now in
     let whole = c.whole_lines-whole.result.now in
-    let first : Cursor = record { taken = c.self.inside.lines_used; left = lines whole; bytes = whole } in
-    let blank = c.pass_blanks.new.self in
     let after = c.next_record-next.new.lines in
     let sure : (stand.ended ≡ true) ⊎ IsSure c.next_record-next.result after.left = elim c.else-not-self.branch [
       | else-not-self-via-then-not-self+else-not-is_sure w ↦ inr (w.is_sure.ensures (search rules))
@@ -56,90 +68,39 @@ returns-clause-tells c = λ start now limit reads h.
     let rest = ap (λ (s : Cursor). s.bytes) c.lines-2.view_is in
     let left : after.left ≡ lines after.bytes = sym (ap (λ (s : Cursor). s.left) c.lines-2.view_is) ∙ ap lines rest in
     let is_fastq = ap (λ (s : Stand). s.is_fastq) c.self.view_is in
-    let taken : first.taken ≡ stand.lines_used = ap (λ (s : Stand). s.lines_used) c.self.view_is in
-    let passed : ArePassed stand first blank after = record {
-      taken = taken;
-      counted_blank = c.pass_blanks.ensures.counted;
-      passes_blank = c.pass_blanks.ensures.passes;
-      counted = c.in_ok-read.ensures.counted;
-      passes = c.in_ok-read.ensures.passes;
-    } in
-    let blank_left : blank.left ≡ skip_blanks (lines whole) = c.pass_blanks.ensures.left in
-    let next = subst (λ q. IsNext q (skip_blanks (lines whole)) (Some
-    (c.in-Some.read, c.in-Some.is_fastq)) after.left) is_fastq
-    (rw (blank_left, c.in-Some.is) at c.in_ok-read.ensures.ok) in
-    let one : IsRead stand whole after (c.in-Some.read, c.in-Some.is_fastq)
-    (length whole - length c.lines-2.inside.left.now) = record {
+    let blank_left : c.pass_blanks.new.self.left ≡ skip_blanks (lines whole) = c.pass_blanks.ensures.left in
+    record {
       has_whole = c.whole_lines-whole.ensures;
-      reaches = reaches passed whole refl refl left;
-      one = next;
+      reaches = reaches (passed c) whole refl refl left;
+      one = subst (λ q. IsNext q (skip_blanks (lines whole)) (Some (c.in-Some.read, c.in-Some.is_fastq)) after.left) is_fastq
+          (rw (blank_left, c.in-Some.is) at c.in_ok-read.ensures.ok);
       sure = rw (c.in_ok-read.was, c.in-Some.is) at sure;
       used = ap (λ v. length whole - length v) rest;
-    } in
-    let behind = behind_is (length whole - length c.lines-2.inside.left.now) c.in-Some.is_fastq c.self.view_is
+    }
+
+pub returns-clause-tells : goal.returns-clause-tells
+returns-clause-tells c = λ start now limit reads h.
+    let behind = behind_is (length c.whole_lines-whole.result.now - length c.lines-2.inside.left.now) c.in-Some.is_fastq c.self.view_is
     c.use_up.ensures (ap (λ (s : Cursor). s.taken) c.lines-2.view_is) in
     subst (λ v. HasGiven start now limit (reads ++ c.in-Some.read ∷ []) v) (sym behind)
-    (given_more one start now limit reads h)
+    (given_more (one c) start now limit reads h)
 
 pub returns-clause-titled : goal.returns-clause-titled
 returns-clause-titled c =
     let stand = c.args.self.now in
     let whole = c.whole_lines-whole.result.now in
-    let first : Cursor = record { taken = c.self.inside.lines_used; left = lines whole; bytes = whole } in
-    let blank = c.pass_blanks.new.self in
-    let after = c.next_record-next.new.lines in
-    let sure : (stand.ended ≡ true) ⊎ IsSure c.next_record-next.result after.left = elim c.else-not-self.branch [
-      | else-not-self-via-then-not-self+else-not-is_sure w ↦ inr (w.is_sure.ensures (search rules))
-      | else-not-self-via-else-not-self w ↦ inl (search rules)
-    ] in
-    let rest = ap (λ (s : Cursor). s.bytes) c.lines-2.view_is in
-    let left : after.left ≡ lines after.bytes = sym (ap (λ (s : Cursor). s.left) c.lines-2.view_is) ∙ ap lines rest in
-    let is_fastq = ap (λ (s : Stand). s.is_fastq) c.self.view_is in
-    let taken : first.taken ≡ stand.lines_used = ap (λ (s : Stand). s.lines_used) c.self.view_is in
-    let passed : ArePassed stand first blank after = record {
-      taken = taken;
-      counted_blank = c.pass_blanks.ensures.counted;
-      passes_blank = c.pass_blanks.ensures.passes;
-      counted = c.in_ok-read.ensures.counted;
-      passes = c.in_ok-read.ensures.passes;
-    } in
-    let blank_left : blank.left ≡ skip_blanks (lines whole) = c.pass_blanks.ensures.left in
-    let next = subst (λ q. IsNext q (skip_blanks (lines whole)) (Some
-    (c.in-Some.read, c.in-Some.is_fastq)) after.left) is_fastq
-    (rw (blank_left, c.in-Some.is) at c.in_ok-read.ensures.ok) in
-    let one : IsRead stand whole after (c.in-Some.read, c.in-Some.is_fastq)
-    (length whole - length c.lines-2.inside.left.now) = record {
-      has_whole = c.whole_lines-whole.ensures;
-      reaches = reaches passed whole refl refl left;
-      one = next;
-      sure = rw (c.in_ok-read.was, c.in-Some.is) at sure;
-      used = ap (λ v. length whole - length v) rest;
-    } in
     let is : c.extend_from_slice.new.self.items ≡ title_at (skip_blanks (lines whole)) =
     c.in_ok-extend_from_slice.ensures.items ∙ ap (λ v. v ++ c.title-line.result.now) c.clear.ensures.items
-    ∙ c.title-line.ensures ∙ ap title_at blank_left in
+    ∙ c.title-line.ensures ∙ ap title_at c.pass_blanks.ensures.left in
     let behind = behind_is (length whole - length c.lines-2.inside.left.now) c.in-Some.is_fastq c.self.view_is
     c.use_up.ensures (ap (λ (s : Cursor). s.taken) c.lines-2.view_is) in
     subst (λ v. TellsRecord stand v c.extend_from_slice.new.self.items (Ok (Given c.in-Some.read))) (sym behind)
-    (refl, λ more none. record_read one _ is more none)
+    (refl, λ more none. record_read (one c) _ is more none)
 
 pub returns-clause-moves : goal.returns-clause-moves
 returns-clause-moves c =
-    let stand = c.args.self.now in
-    let whole = c.whole_lines-whole.result.now in
-    let first : Cursor = record { taken = c.self.inside.lines_used; left = lines whole; bytes = whole } in
-    let blank = c.pass_blanks.new.self in
-    let after = c.next_record-next.new.lines in
-    let taken : first.taken ≡ stand.lines_used = ap (λ (s : Stand). s.lines_used) c.self.view_is in
     let next = rw c.in-Some.is at c.in_ok-read.ensures.ok in
-    let passed : ArePassed stand first blank after = record {
-      taken = taken;
-      counted_blank = c.pass_blanks.ensures.counted;
-      passes_blank = c.pass_blanks.ensures.passes;
-      counted = c.in_ok-read.ensures.counted;
-      passes = c.in_ok-read.ensures.passes;
-    } in
-    let some = uses_some passed c.self.inside.is_fastq (c.in-Some.read, c.in-Some.is_fastq) c.pass_blanks.ensures.left
+    let some = uses_some (passed c) c.self.inside.is_fastq (c.in-Some.read, c.in-Some.is_fastq) c.pass_blanks.ensures.left
     next in
     let rest = ap (λ (s : Cursor). length s.bytes) c.lines-2.view_is in
     let used = ap (λ (s : Stand). s.used) c.self.view_is in

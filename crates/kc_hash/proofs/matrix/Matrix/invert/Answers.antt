@@ -1,13 +1,13 @@
-use Rattle.std.proofs.Common.{◌≡◌, ◌∙◌, ◌+◌, ◌*◌, ◌/◌, ◌<◌, ◌≤◌, ◌^◌, ◌%◌, length, get_or, ap, sym, subst, List, ℕ, arith}
+use Rattle.std.proofs.Common.{◌≡◌, ◌∙◌, ◌+◌, ◌*◌, ◌/◌, ◌<◌, ◌^◌, ◌%◌, length, get_or, ap, sym, subst, List, ℕ, arith}
 use Rattle.std.specs.Prelude.{bit_xor}
 use Rattle.std.specs.Int.{w64, trailing_zeros}
 use Rattle.std.proofs.lemmas.Nat.{one_shl, pow_below, xor_lt}
 use Rattle.kc_hash.specs.Product.{identity}
-use Rattle.kc_hash.proofs.Columns.{columns_below, column_read, seen_bits}
+use Rattle.kc_hash.proofs.Columns.{IsColumn, columns_below, column_read, seen_bits}
 use Rattle.kc_hash.proofs.RowSteps.{IsReduction, reduction_starts, inverse_found, kernel_found, nonsingular, kernel_alone, HasPivot, IsPivoted}
 use Rattle.kc_hash.proofs.RowSteps.{pivot_inside, pivoted_as_is, pivoted_by_row, pivoted-same, column_reduced, low_column}
 use Rattle.kc_hash.proofs.matrix.Matrix.invert.Goals as goal
-use Rattle.kc_hash.proofs.matrix.Matrix.invert.Goals.{then-row-index, else-row-index}
+use Rattle.kc_hash.proofs.matrix.Matrix.invert.Goals.{then-row-index, else-row-index, After-reduced, After-reduced-in-loop-index}
 
 pub loop-index-init : goal.loop-index-init
 loop-index-init c =
@@ -21,135 +21,102 @@ loop-index-init c =
       units = λ i h. absurd (omega arith);
     }
 
-pub add_row-requires-clause-row_within : goal.add_row-requires-clause-row_within
-add_row-requires-clause-row_within c =
+-- the column that is read, and 1 at its index
+column : (c : After-reduced) → IsColumn c.loop-index.reduced c.loop-index.index (get_or c.reduced.inside.columns c.loop-index.index 0)
+column c =
     let same : c.self.inside.bits ≡ length c.args.self.now = seen_bits c.self.inside.bits c.self.inside.columns c.args.self.now c.self.invariant c.self.view_is in
     let bits : length c.loop-index.reduced ≡ length c.args.self.now = c.loop-index.invariant.reduction.reduced_bits in
-    let inner : c.loop-index.index < length c.loop-index.reduced = omega arith in
-    let column : ℕ = get_or c.reduced.inside.columns c.loop-index.index 0 in
-    let col = column_read c.reduced.inside.bits c.reduced.inside.columns c.loop-index.reduced c.loop-index.index c.reduced.invariant c.reduced.view_is inner in
-    let has : HasPivot c.args.self.now c.loop-index.reduced c.loop-index.inverse c.loop-index.index column =
-    record { so_far = c.loop-index.invariant; inner = inner; is = col.is; below = col.below; few = col.few; some = omega arith } in
-    pivot_inside c.args.self.now c.loop-index.reduced c.loop-index.inverse c.loop-index.index column has
+    column_read c.reduced.inside.bits c.reduced.inside.columns c.loop-index.reduced c.loop-index.index c.reduced.invariant c.reduced.view_is (omega arith)
+
+one : (c : After-reduced) → 1 * 2 ^ c.loop-index.index % 2 ^ 64 ≡ 2 ^ c.loop-index.index
+one c = one_shl c.loop-index.index 64 (omega (arith, (column c).inner, (column c).few))
+
+pivot : (c : After-reduced) → (get_or c.reduced.inside.columns c.loop-index.index 0 / 2 ^ c.loop-index.index ≡ 0 → ⊥)
+    → HasPivot c.args.self.now c.loop-index.reduced c.loop-index.inverse c.loop-index.index (get_or c.reduced.inside.columns c.loop-index.index 0)
+pivot c some =
+    let read = column c in
+    record { so_far = c.loop-index.invariant; inner = read.inner; is = read.is; below = read.below; few = read.few; some = omega (arith, some) }
+
+-- the bit of the index is set in its column, and the column is read again
+pivoted : (c : After-reduced-in-loop-index)
+    → HasPivot c.args.self.now c.loop-index.reduced c.loop-index.inverse c.loop-index.index (get_or c.reduced.inside.columns c.loop-index.index 0)
+    → 1 * 2 ^ c.loop-index.index % 2 ^ 64 ≡ 2 ^ c.loop-index.index
+    → IsPivoted c.args.self.now c.if-row-index.reduced c.if-row-index.inverse c.loop-index.index
+pivoted c has is_one =
+    elim c.if-row-index.branch [
+      | then-row-index w ↦ pivoted-same _ _ _ _ _ _ (w.reduced-is ∙ w.add_row.ensures) (w.inverse-is ∙ w.add_row-then-row-index.ensures)
+          (pivoted_by_row c.args.self.now c.loop-index.reduced c.loop-index.inverse c.loop-index.index _ _ has is_one w.if-row-index.true)
+      | else-row-index w ↦
+          let here : c.loop-index.index + trailing_zeros w64 (get_or c.reduced.inside.columns c.loop-index.index 0 / 2 ^ c.loop-index.index) ≡ c.loop-index.index = omega arith in
+          pivoted-same _ _ _ _ _ _ w.reduced-is w.inverse-is
+          (pivoted_as_is c.args.self.now c.loop-index.reduced c.loop-index.inverse c.loop-index.index _ has here)
+    ]
+
+left : (c : After-reduced-in-loop-index) → c.loop-index.index < length c.loop-index.reduced
+    → IsPivoted c.args.self.now c.if-row-index.reduced c.if-row-index.inverse c.loop-index.index
+    → IsColumn c.if-row-index.reduced c.loop-index.index (get_or c.reduced-in-loop-index.inside.columns c.loop-index.index 0)
+left c inner is =
+    let bits : length c.loop-index.reduced ≡ length c.args.self.now = c.loop-index.invariant.reduction.reduced_bits in
+    let wide : length c.if-row-index.reduced ≡ length c.args.self.now = is.so_far.reduction.reduced_bits in
+    column_read c.reduced-in-loop-index.inside.bits c.reduced-in-loop-index.inside.columns c.if-row-index.reduced c.loop-index.index c.reduced-in-loop-index.invariant c.reduced-in-loop-index.view_is (omega arith)
+
+pub add_row-requires-clause-row_within : goal.add_row-requires-clause-row_within
+add_row-requires-clause-row_within c =
+    let at = (goal.at.add_row-requires-clause-row_within c).After-reduced in
+    pivot_inside c.args.self.now c.loop-index.reduced c.loop-index.inverse c.loop-index.index _ (pivot at c.if-upper-eq0.false)
 
 pub add_row-requires-clause-rows_within : goal.add_row-requires-clause-rows_within
 add_row-requires-clause-rows_within c =
-    let same : c.self.inside.bits ≡ length c.args.self.now = seen_bits c.self.inside.bits c.self.inside.columns c.args.self.now c.self.invariant c.self.view_is in
-    let bits : length c.loop-index.reduced ≡ length c.args.self.now = c.loop-index.invariant.reduction.reduced_bits in
-    let inner : c.loop-index.index < length c.loop-index.reduced = omega arith in
-    let column : ℕ = get_or c.reduced.inside.columns c.loop-index.index 0 in
-    let col = column_read c.reduced.inside.bits c.reduced.inside.columns c.loop-index.reduced c.loop-index.index c.reduced.invariant c.reduced.view_is inner in
-    let few : length c.loop-index.reduced ≤ 62 = col.few in
-    rw (one_shl c.loop-index.index 64 (omega arith)) (pow_below c.loop-index.index (length c.loop-index.reduced) inner)
+    let at = (goal.at.add_row-requires-clause-rows_within c).After-reduced in
+    rw (one at) (pow_below c.loop-index.index (length c.loop-index.reduced) (column at).inner)
 
 pub add_row-requires-then-row-index-clause-row_within : goal.add_row-requires-then-row-index-clause-row_within
 add_row-requires-then-row-index-clause-row_within c =
-    let same : c.self.inside.bits ≡ length c.args.self.now = seen_bits c.self.inside.bits c.self.inside.columns c.args.self.now c.self.invariant c.self.view_is in
-    let bits : length c.loop-index.reduced ≡ length c.args.self.now = c.loop-index.invariant.reduction.reduced_bits in
-    let inner : c.loop-index.index < length c.loop-index.reduced = omega arith in
-    let column : ℕ = get_or c.reduced.inside.columns c.loop-index.index 0 in
-    let col = column_read c.reduced.inside.bits c.reduced.inside.columns c.loop-index.reduced c.loop-index.index c.reduced.invariant c.reduced.view_is inner in
-    let has : HasPivot c.args.self.now c.loop-index.reduced c.loop-index.inverse c.loop-index.index column =
-    record { so_far = c.loop-index.invariant; inner = inner; is = col.is; below = col.below; few = col.few; some = omega arith } in
+    let at = (goal.at.add_row-requires-then-row-index-clause-row_within c).After-reduced in
     let reduction = c.loop-index.invariant.reduction in
     rw (reduction.inverse_bits ∙ sym reduction.reduced_bits)
-    (pivot_inside c.args.self.now c.loop-index.reduced c.loop-index.inverse c.loop-index.index column has)
+    (pivot_inside c.args.self.now c.loop-index.reduced c.loop-index.inverse c.loop-index.index _ (pivot at c.if-upper-eq0.false))
 
 pub add_row-requires-in-loop-index-clause-rows_within : goal.add_row-requires-in-loop-index-clause-rows_within
 add_row-requires-in-loop-index-clause-rows_within c =
-    let same : c.self.inside.bits ≡ length c.args.self.now = seen_bits c.self.inside.bits c.self.inside.columns c.args.self.now c.self.invariant c.self.view_is in
-    let bits : length c.loop-index.reduced ≡ length c.args.self.now = c.loop-index.invariant.reduction.reduced_bits in
-    let inner : c.loop-index.index < length c.loop-index.reduced = omega arith in
-    let column : ℕ = get_or c.reduced.inside.columns c.loop-index.index 0 in
-    let col = column_read c.reduced.inside.bits c.reduced.inside.columns c.loop-index.reduced c.loop-index.index c.reduced.invariant c.reduced.view_is inner in
-    let has : HasPivot c.args.self.now c.loop-index.reduced c.loop-index.inverse c.loop-index.index column =
-    record { so_far = c.loop-index.invariant; inner = inner; is = col.is; below = col.below; few = col.few; some = omega arith } in
-    let one : 1 * 2 ^ c.loop-index.index % 2 ^ 64 ≡ 2 ^ c.loop-index.index = one_shl c.loop-index.index 64 (omega (arith, col.few)) in
-    let pivoted : IsPivoted c.args.self.now c.if-row-index.reduced c.if-row-index.inverse c.loop-index.index =
-    elim c.if-row-index.branch [
-      | then-row-index w ↦ pivoted-same _ _ _ _ _ _ (w.reduced-is ∙ w.add_row.ensures) (w.inverse-is ∙ w.add_row-then-row-index.ensures)
-          (pivoted_by_row c.args.self.now c.loop-index.reduced c.loop-index.inverse c.loop-index.index column _ has one w.if-row-index.true)
-      | else-row-index w ↦
-          let here : c.loop-index.index + trailing_zeros w64 (get_or c.reduced.inside.columns c.loop-index.index 0 / 2 ^ c.loop-index.index) ≡ c.loop-index.index = omega arith in
-          pivoted-same _ _ _ _ _ _ w.reduced-is w.inverse-is
-          (pivoted_as_is c.args.self.now c.loop-index.reduced c.loop-index.inverse c.loop-index.index column has here)
-    ] in
-    let wide : length c.if-row-index.reduced ≡ length c.args.self.now = pivoted.so_far.reduction.reduced_bits in
-    let there : c.loop-index.index < length c.if-row-index.reduced = omega arith in
-    let left : ℕ = get_or c.reduced-in-loop-index.inside.columns c.loop-index.index 0 in
-    let now = column_read c.reduced-in-loop-index.inside.bits c.reduced-in-loop-index.inside.columns c.if-row-index.reduced c.loop-index.index c.reduced-in-loop-index.invariant c.reduced-in-loop-index.view_is there in
-    rw one (xor_lt (length c.if-row-index.reduced) left (2 ^ c.loop-index.index) now.below (pow_below c.loop-index.index (length c.if-row-index.reduced) there))
+    let places = goal.at.add_row-requires-in-loop-index-clause-rows_within c in
+    let at = places.After-reduced in
+    let now = left places.After-reduced-in-loop-index (column at).inner
+    (pivoted places.After-reduced-in-loop-index (pivot at c.if-upper-eq0.false) (one at)) in
+    rw (one at)
+    (xor_lt (length c.if-row-index.reduced) _ (2 ^ c.loop-index.index) now.below (pow_below c.loop-index.index (length c.if-row-index.reduced) now.inner))
 
 pub add_row-requires-in-loop-index-2-clause-rows_within : goal.add_row-requires-in-loop-index-2-clause-rows_within
 add_row-requires-in-loop-index-2-clause-rows_within c =
-    let same : c.self.inside.bits ≡ length c.args.self.now = seen_bits c.self.inside.bits c.self.inside.columns c.args.self.now c.self.invariant c.self.view_is in
-    let bits : length c.loop-index.reduced ≡ length c.args.self.now = c.loop-index.invariant.reduction.reduced_bits in
-    let inner : c.loop-index.index < length c.loop-index.reduced = omega arith in
-    let column : ℕ = get_or c.reduced.inside.columns c.loop-index.index 0 in
-    let col = column_read c.reduced.inside.bits c.reduced.inside.columns c.loop-index.reduced c.loop-index.index c.reduced.invariant c.reduced.view_is inner in
-    let has : HasPivot c.args.self.now c.loop-index.reduced c.loop-index.inverse c.loop-index.index column =
-    record { so_far = c.loop-index.invariant; inner = inner; is = col.is; below = col.below; few = col.few; some = omega arith } in
-    let one : 1 * 2 ^ c.loop-index.index % 2 ^ 64 ≡ 2 ^ c.loop-index.index = one_shl c.loop-index.index 64 (omega (arith, col.few)) in
-    let pivoted : IsPivoted c.args.self.now c.if-row-index.reduced c.if-row-index.inverse c.loop-index.index =
-    elim c.if-row-index.branch [
-      | then-row-index w ↦ pivoted-same _ _ _ _ _ _ (w.reduced-is ∙ w.add_row.ensures) (w.inverse-is ∙ w.add_row-then-row-index.ensures)
-          (pivoted_by_row c.args.self.now c.loop-index.reduced c.loop-index.inverse c.loop-index.index column _ has one w.if-row-index.true)
-      | else-row-index w ↦
-          let here : c.loop-index.index + trailing_zeros w64 (get_or c.reduced.inside.columns c.loop-index.index 0 / 2 ^ c.loop-index.index) ≡ c.loop-index.index = omega arith in
-          pivoted-same _ _ _ _ _ _ w.reduced-is w.inverse-is
-          (pivoted_as_is c.args.self.now c.loop-index.reduced c.loop-index.inverse c.loop-index.index column has here)
-    ] in
-    let wide : length c.if-row-index.reduced ≡ length c.args.self.now = pivoted.so_far.reduction.reduced_bits in
-    let there : c.loop-index.index < length c.if-row-index.reduced = omega arith in
-    let left : ℕ = get_or c.reduced-in-loop-index.inside.columns c.loop-index.index 0 in
-    let now = column_read c.reduced-in-loop-index.inside.bits c.reduced-in-loop-index.inside.columns c.if-row-index.reduced c.loop-index.index c.reduced-in-loop-index.invariant c.reduced-in-loop-index.view_is there in
-    let reduction = pivoted.so_far.reduction in
-    rw (one, reduction.inverse_bits ∙ sym reduction.reduced_bits) (xor_lt (length c.if-row-index.reduced) left (2 ^ c.loop-index.index) now.below (pow_below c.loop-index.index (length c.if-row-index.reduced) there))
+    let places = goal.at.add_row-requires-in-loop-index-2-clause-rows_within c in
+    let at = places.After-reduced in
+    let is = pivoted places.After-reduced-in-loop-index (pivot at c.if-upper-eq0.false) (one at) in
+    let now = left places.After-reduced-in-loop-index (column at).inner is in
+    rw (one at, is.so_far.reduction.inverse_bits ∙ sym is.so_far.reduction.reduced_bits)
+    (xor_lt (length c.if-row-index.reduced) _ (2 ^ c.loop-index.index) now.below (pow_below c.loop-index.index (length c.if-row-index.reduced) now.inner))
 
 pub loop-index-preserved : goal.loop-index-preserved
 loop-index-preserved c =
-    let same : c.self.inside.bits ≡ length c.args.self.now = seen_bits c.self.inside.bits c.self.inside.columns c.args.self.now c.self.invariant c.self.view_is in
-    let bits : length c.loop-index.reduced ≡ length c.args.self.now = c.loop-index.invariant.reduction.reduced_bits in
-    let inner : c.loop-index.index < length c.loop-index.reduced = omega arith in
-    let column : ℕ = get_or c.reduced.inside.columns c.loop-index.index 0 in
-    let col = column_read c.reduced.inside.bits c.reduced.inside.columns c.loop-index.reduced c.loop-index.index c.reduced.invariant c.reduced.view_is inner in
-    let has : HasPivot c.args.self.now c.loop-index.reduced c.loop-index.inverse c.loop-index.index column =
-    record { so_far = c.loop-index.invariant; inner = inner; is = col.is; below = col.below; few = col.few; some = omega arith } in
-    let one : 1 * 2 ^ c.loop-index.index % 2 ^ 64 ≡ 2 ^ c.loop-index.index = one_shl c.loop-index.index 64 (omega (arith, col.few)) in
-    let pivoted : IsPivoted c.args.self.now c.if-row-index.reduced c.if-row-index.inverse c.loop-index.index =
-    elim c.if-row-index.branch [
-      | then-row-index w ↦ pivoted-same _ _ _ _ _ _ (w.reduced-is ∙ w.add_row.ensures) (w.inverse-is ∙ w.add_row-then-row-index.ensures)
-          (pivoted_by_row c.args.self.now c.loop-index.reduced c.loop-index.inverse c.loop-index.index column _ has one w.if-row-index.true)
-      | else-row-index w ↦
-          let here : c.loop-index.index + trailing_zeros w64 (get_or c.reduced.inside.columns c.loop-index.index 0 / 2 ^ c.loop-index.index) ≡ c.loop-index.index = omega arith in
-          pivoted-same _ _ _ _ _ _ w.reduced-is w.inverse-is
-          (pivoted_as_is c.args.self.now c.loop-index.reduced c.loop-index.inverse c.loop-index.index column has here)
-    ] in
-    let wide : length c.if-row-index.reduced ≡ length c.args.self.now = pivoted.so_far.reduction.reduced_bits in
-    let there : c.loop-index.index < length c.if-row-index.reduced = omega arith in
-    let left : ℕ = get_or c.reduced-in-loop-index.inside.columns c.loop-index.index 0 in
-    let now = column_read c.reduced-in-loop-index.inside.bits c.reduced-in-loop-index.inside.columns c.if-row-index.reduced c.loop-index.index c.reduced-in-loop-index.invariant c.reduced-in-loop-index.view_is there in
+    let places = goal.at.loop-index-preserved c in
+    let at = places.After-reduced in
+    let is = pivoted places.After-reduced-in-loop-index (pivot at c.if-upper-eq0.false) (one at) in
+    let now = left places.After-reduced-in-loop-index (column at).inner is in
     rw (c.add_row-in-loop-index.ensures, c.add_row-in-loop-index-2.ensures)
-    (column_reduced c.args.self.now c.if-row-index.reduced c.if-row-index.inverse c.loop-index.index left _ pivoted there now.is now.below
-    (ap (bit_xor left) one))
+    (column_reduced c.args.self.now c.if-row-index.reduced c.if-row-index.inverse c.loop-index.index _ _ is now.inner now.is now.below
+    (ap (bit_xor (get_or c.reduced-in-loop-index.inside.columns c.loop-index.index 0)) (one at)))
 
 pub returns-then-upper-eq0-clause-kernel : goal.returns-then-upper-eq0-clause-kernel
 returns-then-upper-eq0-clause-kernel c =
-    let same : c.self.inside.bits ≡ length c.args.self.now = seen_bits c.self.inside.bits c.self.inside.columns c.args.self.now c.self.invariant c.self.view_is in
+    let at = (goal.at.returns-then-upper-eq0-clause-kernel c).After-reduced in
     let bits : length c.loop-index.reduced ≡ length c.args.self.now = c.loop-index.invariant.reduction.reduced_bits in
-    let inner : c.loop-index.index < length c.loop-index.reduced = omega arith in
-    let column : ℕ = get_or c.reduced.inside.columns c.loop-index.index 0 in
-    let col = column_read c.reduced.inside.bits c.reduced.inside.columns c.loop-index.reduced c.loop-index.index c.reduced.invariant c.reduced.view_is inner in
-    let few : length c.loop-index.reduced ≤ 62 = col.few in
-    let one : 1 * 2 ^ c.loop-index.index % 2 ^ 64 ≡ 2 ^ c.loop-index.index = one_shl c.loop-index.index 64 (omega arith) in
-    rw one
-    (kernel_found c.args.self.now c.loop-index.reduced c.loop-index.inverse c.loop-index.index column
+    rw (one at)
+    (kernel_found c.args.self.now c.loop-index.reduced c.loop-index.inverse c.loop-index.index _
     (record {
       reduction = c.loop-index.invariant.reduction;
       units = c.loop-index.invariant.units;
-      inner = omega arith;
-      is = sym col.is;
-      low = low_column column c.loop-index.index c.if-upper-eq0.true;
+      inner = omega (arith, (column at).inner);
+      is = sym (column at).is;
+      low = low_column _ c.loop-index.index c.if-upper-eq0.true;
       within = columns_below c.self.inside.bits c.self.inside.columns c.args.self.now c.self.invariant c.self.view_is;
     }))
 

@@ -12,23 +12,22 @@ join_seat-requires g c =
 pub load-requires : goal.load-requires
 load-requires g c = (c.join_seat.ensures.0 ∙ c.share.invariant.0 ∙ sym c.self.invariant.0, omega arith, look_is_allowed _ _ _ _)
 
+-- the share's token was joined with the other one, and then looked through
+joined : (g : _) (c : goal.After-words-2-1 g) → IsJoinedLook c.share.inside.token.me.0 c.other.inside.token.me.0 c.share.inside.token.me.1 c.join_seat.new.seat.me c.load.new.seat.me
+joined g c = record { empty = c.share.invariant.1; joins = c.join_seat.ensures.2; look = c.load.ensures.2 }
+
 pub add_each-requires : goal.add_each-requires
-add_each-requires g c =
-    let share = c.share.invariant in
-    let joined : IsJoinedLook c.share.inside.token.me.0 c.other.inside.token.me.0 c.share.inside.token.me.1 c.join_seat.new.seat.me c.load.new.seat.me = record { empty = share.1; joins = c.join_seat.ensures.2; look = c.load.ensures.2 } in
-    words_have_room joined c.share.inside.words c.other.inside.words share.6 c.other.invariant.6
+add_each-requires g c = words_have_room (joined g c) c.share.inside.words c.other.inside.words c.share.invariant.6 c.other.invariant.6
 
 pub add_each-requires-2 : goal.add_each-requires-2
 add_each-requires-2 g c =
-    let share = c.share.invariant in
-    let joined : IsJoinedLook c.share.inside.token.me.0 c.other.inside.token.me.0 c.share.inside.token.me.1 c.join_seat.new.seat.me c.load.new.seat.me = record { empty = share.1; joins = c.join_seat.ensures.2; look = c.load.ensures.2 } in
-    entries_have_room joined c.share.inside.entries c.other.inside.entries share.7 c.other.invariant.7
+    entries_have_room (joined g c.before.before.before) c.share.inside.entries c.other.inside.entries c.share.invariant.7 c.other.invariant.7
 
 pub invariant_of-share : goal.invariant_of-share
 invariant_of-share g c =
     let share = c.share.invariant in
     let other = c.other.invariant in
-    let joined : IsJoinedLook c.share.inside.token.me.0 c.other.inside.token.me.0 c.share.inside.token.me.1 c.join_seat.new.seat.me c.load.new.seat.me = record { empty = share.1; joins = c.join_seat.ensures.2; look = c.load.ensures.2 } in
+    let joined = joined g c.before.before.before.before in
     let looked = both_looked joined in (
       c.load.ensures.0 ∙ c.join_seat.ensures.0 ∙ share.0,
       ap (λ m. m.1) looked,

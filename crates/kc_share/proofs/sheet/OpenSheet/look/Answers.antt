@@ -1,5 +1,6 @@
-use Rattle.std.proofs.Common.{sym, ap, ◌∙◌, arith}
-use Rattle.kc_share.proofs.Steps.{all_goes, both_join, look_is_allowed, first_goes}
+use Rattle.std.proofs.Common.{sym, ◌∙◌, arith}
+use Rattle.kc_share.proofs.Steps.{all_goes, look_is_allowed, first_goes}
+use Rattle.kc_share.proofs.Sharing.{can_take_in}
 use Rattle.kc_share.proofs.sheet.OpenSheet.look.Goals as goal
 
 pub split_seat-all-requires : goal.split_seat-all-requires
@@ -9,13 +10,7 @@ pub join_seat-requires : goal.join_seat-requires
 join_seat-requires g c =
     let share = c.share.invariant in
     let all = c.split_seat-all.ensures in
-    let here = sym c.self.invariant.0 in (
-      share.0 ∙ here,
-      all.3 ∙ c.keeper.invariant.0 ∙ here,
-      ap (λ m. m.1) all.4,
-      omega arith,
-      both_join _ _ _ _ _ (omega (arith, share.3, share.4)),
-    )
+    can_take_in _ _ _ _ c.self.invariant.0 (omega arith) share.0 (share.3, share.4) c.keeper.invariant.0 all.3 all.4
 
 pub load-requires : goal.load-requires
 load-requires g c = (c.join_seat.ensures.0 ∙ c.share.invariant.0 ∙ sym c.self.invariant.0, omega arith, look_is_allowed _ _ _ _)

@@ -13,26 +13,23 @@ use Rattle.kc_stripe.specs.Locked.{cut_entry, with_bookings, with_entries, IsOnS
 use Rattle.kc_stripe.proofs.CutsLemmas.{IsNoted, noted_at, cut_of, cut_is, cut_within, cuts-more, entry_is, noted_has_room, one_more_has_room, cuts_are_kept, all_on_sheet, with_bookings-push, with_entries-push}
 use Rattle.kc_stripe.proofs.locked.Locked.book_all.Goals as goal
 
+-- at this turn a batch of the round is noted, with how many words it has in the stripe
+noted : (g : _) (c : goal.After-shared_slice_known-1 g) → IsNoted c.args.cuts.now c.loop-i.i c.index-batches-i.result.value (get_or c.sizes.result.now c.loop-i.i 0)
+noted g c =
+    let value = λ (b : Arc Batch Global). b.value in
+    noted_at c.batches.result.now c.batches.ensures
+    (omega (arith, c.loop-i-test.true, ap length c.batches.ensures, ap length c.batches-i-end.ensures, length-map c.batches.result.now value, length-map c.batches-i-end.result.now value))
+    c.index-batches-i.is (ap (λ sizes. get_or sizes c.loop-i.i 0) c.sizes.ensures)
+
 pub note-requires-clause-words : goal.note-requires-clause-words
 note-requires-clause-words g c =
-    let value = λ (b : Arc Batch Global). b.value in
-    let batch : NumberedPieces = c.index-batches-i.result.value in
-    let words : ℕ = get_or c.sizes.result.now c.loop-i.i 0 in
-    let noted : IsNoted c.args.cuts.now c.loop-i.i batch words =
-    noted_at c.batches.result.now c.batches.ensures (omega (arith, c.loop-i-test.true, ap length c.batches.ensures, ap length c.batches-i-end.ensures, length-map c.batches.result.now value, length-map c.batches-i-end.result.now value))
-    c.index-batches-i.is (ap (λ sizes. get_or sizes c.loop-i.i 0) c.sizes.ensures) in
     let room : word_total c.self.inside.keeper.journal + length (all_keys_of c.args.cuts.now) < 2 ^ 64 =
     omega (arith, c.self.invariant.total, c.in_ok-book_all.ensures.total, c.total-total.ensures.value, c.total-total.ensures.at_most) in
-    omega (arith, noted_has_room noted c.self.inside.keeper room, ap (λ (it : KeptStripe). word_total it.journal) c.loop-i.invariant.keeper)
+    omega (arith, noted_has_room (noted g c) c.self.inside.keeper room, ap (λ (it : KeptStripe). word_total it.journal) c.loop-i.invariant.keeper)
 
 pub note-requires-clause-entries : goal.note-requires-clause-entries
 note-requires-clause-entries g c =
     let value = λ (b : Arc Batch Global). b.value in
-    let batch : NumberedPieces = c.index-batches-i.result.value in
-    let words : ℕ = get_or c.sizes.result.now c.loop-i.i 0 in
-    let noted : IsNoted c.args.cuts.now c.loop-i.i batch words =
-    noted_at c.batches.result.now c.batches.ensures (omega (arith, c.loop-i-test.true, ap length c.batches.ensures, ap length c.batches-i-end.ensures, length-map c.batches.result.now value, length-map c.batches-i-end.result.now value))
-    c.index-batches-i.is (ap (λ sizes. get_or sizes c.loop-i.i 0) c.sizes.ensures) in
     let journal = c.book_all.new.self.journal in
     let room : length c.self.inside.keeper.journal + length c.args.cuts.now.batches < 2 ^ 64 =
     omega (
@@ -44,16 +41,12 @@ note-requires-clause-entries g c =
       ap length c.journal-length.ensures,
       length-map c.journal-length.result.now value,
     ) in
-    omega (arith, one_more_has_room noted c.self.inside.keeper room, ap (λ (it : KeptStripe). length it.journal) c.loop-i.invariant.keeper)
+    omega (arith, one_more_has_room (noted g c) c.self.inside.keeper room, ap (λ (it : KeptStripe). length it.journal) c.loop-i.invariant.keeper)
 
 pub loop-i-preserved : goal.loop-i-preserved
 loop-i-preserved g c =
-    let value = λ (b : Arc Batch Global). b.value in
-    let batch : NumberedPieces = c.index-batches-i.result.value in
     let words : ℕ = get_or c.sizes.result.now c.loop-i.i 0 in
-    let noted : IsNoted c.args.cuts.now c.loop-i.i batch words =
-    noted_at c.batches.result.now c.batches.ensures (omega (arith, c.loop-i-test.true, ap length c.batches.ensures, ap length c.batches-i-end.ensures, length-map c.batches.result.now value, length-map c.batches-i-end.result.now value))
-    c.index-batches-i.is (ap (λ sizes. get_or sizes c.loop-i.i 0) c.sizes.ensures) in
+    let noted = noted g c.before in
     let front = take c.loop-i.i (cuts_in c.args.cuts.now) in
     let cut : StripeCut = cut_of noted in
     let entry : entry_of c.deref.result.now words ≡ cut_entry cut = ap (λ (b : NumberedPieces). entry_of b words) c.deref.ensures ∙ entry_is noted in

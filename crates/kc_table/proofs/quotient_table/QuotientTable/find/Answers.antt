@@ -1,8 +1,7 @@
 use Rattle.std.proofs.Common.{◌≡◌, ◌<◌, ◌^◌, refl, sym, subst, inl, inr}
 use Rattle.kc_table.proofs.KeyCounts.{stored_by_some, stored_by_none}
-use Rattle.kc_table.proofs.SlotSteps.{get_found, get_free, get_out, holds_found, found_home, taken_found, taken_out}
+use Rattle.kc_table.proofs.SlotSteps.{get_found, get_free, get_out, stands_found, found_home, taken_found, taken_out}
 use Rattle.kc_table.proofs.SlotSteps.{taken_free, empty_free}
-use Rattle.kc_table.specs.Slot.{slot_count}
 use Rattle.kc_table.proofs.quotient_table.QuotientTable.find.Goals as goal
 
 pub returns-in-Found-clause-stored : goal.returns-in-Found-clause-stored
@@ -10,51 +9,48 @@ returns-in-Found-clause-stored c =
     rw (← c.self.view_is) (
       (λ _. stored_by_some _ _ _
           (get_found c.self.inside.slots.slots.items c.self.inside.slots.sound c.args.key c.in-Found.place
-          c.in-Found.ensures.0)),
+          c.in-Found.ensures.walked.0)),
       (λ _. refl),
     )
 
 pub returns-in-Found-clause-slot : goal.returns-in-Found-clause-slot
 returns-in-Found-clause-slot c =
-    rw (← c.self.view_is) (
-      slot_count c.self.inside.slots.slots.items c.in-Found.place,
-      holds_found c.self.inside.slots.slots.items c.self.inside.slots.sound c.args.key c.in-Found.place
-          c.in-Found.ensures.0,
-    )
+    rw (← c.self.view_is)
+    (stands_found c.self.inside.slots.slots.items c.self.inside.slots.sound c.args.key c.in-Found.place c.in-Found.ensures.walked.0)
 
 pub returns-in-Free-clause-stored : goal.returns-in-Free-clause-stored
 returns-in-Free-clause-stored c =
     rw (← c.self.view_is)
     (stored_by_none _ _ (get_free c.self.inside.slots.slots.items c.self.inside.slots.sound c.args.key
-    c.in-Free.place c.in-Free.tag c.in-Free.ensures.0))
+    c.in-Free.place c.in-Free.tag c.in-Free.ensures.walked.0))
 
 pub returns-in-Crowded-clause-stored : goal.returns-in-Crowded-clause-stored
 returns-in-Crowded-clause-stored c =
     rw (← c.self.view_is)
     (stored_by_none _ _ (get_out c.self.inside.slots.slots.items c.self.inside.slots.sound c.args.key
-    c.in-Crowded.ensures.0))
+    c.in-Crowded.ensures.walked.0))
 
 pub returns-in-Found-clause-home : goal.returns-in-Found-clause-home
 returns-in-Found-clause-home c = λ full.
     found_home c.self.inside.slots.slots.items c.self.inside.slots.sound c.args.key c.in-Found.place
-    (subst (λ t. c.args.key < 2 ^ t.bits) (sym c.self.view_is) c.requires) c.in-Found.ensures.0
+    (subst (λ t. c.args.key < 2 ^ t.bits) (sym c.self.view_is) c.requires) c.in-Found.ensures.walked.0
     (subst (λ t. t.log ≡ t.bits) (sym c.self.view_is) full)
 
 pub returns-in-Found-clause-found_after : goal.returns-in-Found-clause-found_after
 returns-in-Found-clause-found_after c =
-    let found = c.in-Found.ensures.0 in
+    let found = c.in-Found.ensures.walked.0 in
     rw (← c.self.view_is) (
       found.reprobe,
       found.small,
       found.here,
       taken_found c.self.inside.slots.slots.items c.self.inside.slots.sound c.args.key c.in-Found.place found
-          c.in-Found.ensures.1,
-      c.in-Found.ensures.2,
+          c.in-Found.ensures.walked.1,
+      c.in-Found.ensures.walked.2,
     )
 
 pub returns-in-Free-clause-missed_after : goal.returns-in-Free-clause-missed_after
 returns-in-Free-clause-missed_after c =
-    let free = c.in-Free.ensures.0 in
+    let free = c.in-Free.ensures.walked.0 in
     rw (← c.self.view_is)
     (inl (
       free.reprobe,
@@ -63,13 +59,13 @@ returns-in-Free-clause-missed_after c =
           c.in-Free.place c.in-Free.tag free,
       taken_free c.self.inside.slots.slots.items c.self.inside.slots.sound c.args.key c.in-Free.place c.in-Free.tag
           free,
-      c.in-Free.ensures.1,
+      c.in-Free.ensures.walked.1,
     ))
 
 pub returns-in-Crowded-clause-missed_after : goal.returns-in-Crowded-clause-missed_after
 returns-in-Crowded-clause-missed_after c =
     rw (← c.self.view_is)
     (inr (
-      taken_out c.self.inside.slots.slots.items c.self.inside.slots.sound c.args.key c.in-Crowded.ensures.0,
-      c.in-Crowded.ensures.1,
+      taken_out c.self.inside.slots.slots.items c.self.inside.slots.sound c.args.key c.in-Crowded.ensures.walked.0,
+      c.in-Crowded.ensures.walked.1,
     ))

@@ -1,4 +1,4 @@
-use Rattle.std.proofs.Common.{◌≡◌, ◌-◌, ◌*◌, ◌%◌, ◌^◌, ◌∙◌, ap, arith, rules}
+use Rattle.std.proofs.Common.{◌∙◌, ap, arith, rules}
 use Rattle.kc_table.specs.Reprobing.{home_part}
 use Rattle.kc_table.proofs.SlotSteps.{slots_shifted}
 use Rattle.kc_table.proofs.Parts.{home_part-told, home_part-below}
@@ -6,20 +6,14 @@ use Rattle.kc_table.proofs.quotient_table.QuotientTableCounts.part_of.Goals as g
 
 pub overflow_cast-result-2 : goal.overflow_cast-result-2
 overflow_cast-result-2 c =
-    let sized : 1 * 2 ^ c.self.inside.slots.log % 2 ^ 64 ≡ 2 ^ c.self.inside.slots.log = slots_shifted c.self.inside.slots in
-    let shift : c.saturating_sub.result ≡ c.self.inside.slots.log - 10 = search rules in
-    let below = home_part-below c.self.inside.slots.log c.args.key (1 * 2 ^ c.self.inside.slots.log % 2 ^ 64) c.saturating_sub.result sized shift in
+    let below = home_part-below c.self.inside.slots.log c.args.key _ c.saturating_sub.result (slots_shifted c.self.inside.slots) (search rules) in
     omega (arith, below)
 
 pub returns-clause-few : goal.returns-clause-few
 returns-clause-few c =
-    let sized : 1 * 2 ^ c.self.inside.slots.log % 2 ^ 64 ≡ 2 ^ c.self.inside.slots.log = slots_shifted c.self.inside.slots in
-    let shift : c.saturating_sub.result ≡ c.self.inside.slots.log - 10 = search rules in
-    home_part-below c.self.inside.slots.log c.args.key (1 * 2 ^ c.self.inside.slots.log % 2 ^ 64) c.saturating_sub.result sized shift
+    home_part-below c.self.inside.slots.log c.args.key _ c.saturating_sub.result (slots_shifted c.self.inside.slots) (search rules)
 
 pub returns-clause-home : goal.returns-clause-home
 returns-clause-home c =
-    let sized : 1 * 2 ^ c.self.inside.slots.log % 2 ^ 64 ≡ 2 ^ c.self.inside.slots.log = slots_shifted c.self.inside.slots in
-    let shift : c.saturating_sub.result ≡ c.self.inside.slots.log - 10 = search rules in
-    home_part-told c.self.inside.slots.log c.args.key (1 * 2 ^ c.self.inside.slots.log % 2 ^ 64) c.saturating_sub.result sized shift
+    home_part-told c.self.inside.slots.log c.args.key _ c.saturating_sub.result (slots_shifted c.self.inside.slots) (search rules)
     ∙ ap (λ t. home_part t.log c.args.key) c.self.view_is

@@ -28,5 +28,5 @@ invariant_of-result c =
           omega (arith, lesser, power, count);
       starts_are = subst (λ ws. AreStarts ws (2 * c.get-word_bits.result - c.min-high_bits.result) c.in_ok-starts.starts.items) c.deref.ensures.value c.in_ok-starts.ensures.starts;
       marks_are = subst (λ ws. AreMarksOf (2 * c.args.k) ws c.in_ok-marks.marks) c.deref-2.ensures.value
-          (subst (λ k. AreMarksOf (2 * k) c.deref-2.result.now c.in_ok-marks.marks) word_bits c.in_ok-marks.ensures);
+          (subst (λ k. AreMarksOf (2 * k) c.deref-2.result.now c.in_ok-marks.marks) word_bits c.in_ok-marks.ensures.marks);
     }
