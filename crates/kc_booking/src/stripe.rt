@@ -208,6 +208,7 @@ impl<C: Counts> Stripe<C> {
         ensures number { self.new.number ≡ self.old.number }
         ensures journal { OnOk result (self.new.journal ≡ self.old.journal ++ cut.now.batch ∷ []) }
         ensures total { OnOk result (self.new.total ≡ self.old.total + length (keys_of cut.now)) }
+        ensures small { OnOk result ((self.new.total ≤ 2 ^ 62) × (length self.new.journal < 2 ^ 64)) }
         ensures own { OnOk result (IsOwnCut self.old cut.now) }
         ensures unchanged { OnErr result (IsUnchanged C.counts self.old self.new) }
         ensures twice { result ≡ Err BookFault.Twice ↔ IsBooked self.old.journal cut.now.batch.number }
@@ -261,6 +262,7 @@ impl<C: Counts> Stripe<C> {
         ensures number { self.new.number ≡ self.old.number }
         ensures journal { OnOk result (self.new.journal ≡ self.old.journal ++ cuts.now.batches) }
         ensures total { OnOk result (self.new.total ≡ self.old.total + length (all_keys_of cuts.now)) }
+        ensures small { OnOk result ((self.new.total ≤ 2 ^ 62) × (length self.new.journal < 2 ^ 64)) }
         ensures own { OnOk result ((cuts.now.batches ≡ []) ⊎ IsOwnRound self.old cuts.now) }
         ensures unchanged { OnErr result (IsUnchanged C.counts self.old self.new) }
         ensures twice { result ≡ Err BookFault.Twice ↔ (FirstIsBooked self.old.journal cuts.now.batches
@@ -275,8 +277,8 @@ impl<C: Counts> Stripe<C> {
         ensures limits { KeepsLimits C.bits C.may_be_full self.old.table self.new.table }
     {
         if cuts.batches.is_empty() {
-            // No number stands twice in the journal.
-            self.is_lawful();
+            // For the proof: what is known of the journal, in which no number stands twice.
+            let _number = self.number;
             return Ok(());
         }
         self.check_all(cuts)?;

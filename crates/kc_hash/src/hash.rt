@@ -60,8 +60,9 @@ impl Hash {
         ensures none { NoneIsNonsingular bits seed 64 → result ≡ identity bits }
     {
         for turn in 0..SEEDS {
-            if let Ok(hash) = Hash::of_matrix(Matrix::of_seed(bits, seed.wrapping_add(turn))) {
-                return hash;
+            let matrix = Matrix::of_seed(bits, seed.wrapping_add(turn));
+            if let Inverse::Found(inverse) = matrix.invert() {
+                return Hash { matrix, inverse };
             }
         }
         let identity = Matrix::identity(bits);

@@ -29,11 +29,4 @@ impl Counter {
     {
         Self {}
     }
-
-    /// Counts one step: the value rises by one.
-    pub fn tick(&mut self)
-        ensures { self.new.count ≡ self.old.count + 1 }
-    {
-        *self = self.and_one();
-    }
 }

@@ -60,10 +60,9 @@ impl<N: Books> Worker<N> {
             let Some(drawn) = job.tickets.draw(&mut self.seat) else {
                 return Ok(self);
             };
-            let batches = self.draw_batches(alloc, job, drawn)?;
+            let batches = self.draw_batches(alloc, job, number, drawn)?;
             let cuts = cut_up_all(alloc, job.stripes.setup(), &batches)?;
             let round = Round { batches, cuts };
-            tell_before(job.gate, number, &round.batches);
             book_range(rt, job.stripes, &round, first, stripes, &mut self.share)?;
             book_range(rt, job.stripes, &round, 0, first, &mut self.share)?;
             tell_after(job.gate, number, &round.batches);
@@ -71,12 +70,14 @@ impl<N: Books> Worker<N> {
         Ok(self)
     }
 
-    // The batch of a number that was drawn, and those of as many more as a round has, or as there are.
+    // The batch of a number that was drawn, and those of as many more as a round has, or as there are. The gate is told
+    // of each as it is drawn.
     fn draw_batches<C: Counts, G: Gate>(
         &mut self,
         alloc: Global,
         job: &Job<'_, C, N, G>,
-        drawn: u64,
+        number: u32,
+        mut drawn: u64,
     ) -> Result<Vec<Arc<Batch>>, AllocError>
         requires own { IsSeatOf job.now.tickets.now self.old.seat }
         requires more { ¬ IsDone self.old.seat }
@@ -91,21 +92,18 @@ impl<N: Books> Worker<N> {
             (length batches.items ≡ 1) ⊎ (length batches.items ≤ job.now.round_len)) }
     {
         let mut round = Vec::new(alloc);
-        round.push(job.batches[drawn as usize].clone()?)?;
-        for _ in 1..job.round_len {
-            let Some(drawn) = job.tickets.draw(&mut self.seat) else {
+        loop {
+            let batch = job.batches[drawn as usize].clone()?;
+            job.gate.before_book(number, batch.number());
+            round.push(batch)?;
+            if round.len() as u64 >= job.round_len {
+                return Ok(round);
+            }
+            let Some(next) = job.tickets.draw(&mut self.seat) else {
                 return Ok(round);
             };
-            round.push(job.batches[drawn as usize].clone()?)?;
+            drawn = next;
         }
-        Ok(round)
-    }
-}
-
-// Tells the gate that these batches are about to be booked.
-fn tell_before<G: Gate>(gate: &G, worker: u32, batches: &[Arc<Batch>]) {
-    for batch in batches {
-        gate.before_book(worker, batch.number());
     }
 }
 

@@ -1,5 +1,4 @@
 //! A keeper: behind a stripe's lock, what the sheet knows of the stripe's journal.
-ghost use Rattle.std.specs.Prelude.{◌≡◌};
 
 use crate::books::Books;
 use crate::sheet_rule::Token;
@@ -30,13 +29,4 @@ impl<N: Books> Model for Keeper<N> {
         × (k.token.me ≡ (keeper_view (first_kept k.token.me.0.kept), []))
         × (k.stripe ≡ (first_kept k.token.me.0.kept).stripe)
         × (k.stripe < 64) };
-}
-
-impl<N: Books> Keeper<N> {
-    /// The number of the stripe.
-    pub fn stripe(&self) -> u32
-        ensures { result ≡ self.now.stripe }
-    {
-        self.stripe
-    }
 }

@@ -55,9 +55,6 @@ impl<C: Counts, N: Books> Locked<C, N> {
         ensures memory { result ≡ Err BookFault.Memory → self.old.total + length (keys_of cut.now) ≤ 2 ^ 62 }
     {
         self.stripe.book(cut)?;
-        // For the proof: what is known of the sums, which stay small.
-        let _total = self.stripe.total();
-        let _length = self.stripe.journal().len();
         sheet.note(
             share,
             &mut self.keeper,
@@ -90,9 +87,6 @@ impl<C: Counts, N: Books> Locked<C, N> {
             → self.old.total + length (all_keys_of cuts.now) ≤ 2 ^ 62 }
     {
         self.stripe.book_all(cuts)?;
-        // For the proof: what is known of the sums, which stay small.
-        let _total = self.stripe.total();
-        let _length = self.stripe.journal().len();
         let keeper = &mut self.keeper;
         for i in 0..cuts.batches().len() {
             sheet.note(share, keeper, &cuts.batches()[i], cuts.sizes()[i] as u64);

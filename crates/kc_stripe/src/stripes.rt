@@ -63,7 +63,7 @@ impl<C: Counts + Drop, N: Books> Stripes<C, N> {
         let mut locks = Vec::with_capacity(alloc, tables.len())?;
         for table in tables {
             let keeper = sheet.next_keeper(&mut opening);
-            let stripe = Stripe::new(alloc, setup, keeper.stripe(), table)?;
+            let stripe = Stripe::new(alloc, setup, locks.len() as u32, table)?;
             locks.push(Mutex::new(Locked { stripe, keeper }))?;
         }
         let share = sheet.first_share(opening);

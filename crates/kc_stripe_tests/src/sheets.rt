@@ -13,23 +13,27 @@ use std::sync::{Arc, Mutex, Wait};
 use std::test::Fail;
 use std::thread::{Threads, join};
 
-// What lies behind a lock: a keeper, and the sums of its journal.
+// What lies behind a lock: a keeper, its stripe's number, and the sums of its journal.
 #[derive(Drop)]
 struct Locked<N: Books> {
     keeper: Keeper<N>,
+    stripe: u32,
     words: u64,
     entries: u64,
+    ghost stripe_is: { stripe ≡ keeper.stripe },
     ghost words_are: { words ≡ word_total keeper.journal },
     ghost entries_are: { entries ≡ length keeper.journal },
 }
 
 impl<N: Books> Locked<N> {
-    fn new(keeper: Keeper<N>) -> Locked<N>
-        requires { keeper.journal ≡ [] }
+    fn new(keeper: Keeper<N>, stripe: u32) -> Locked<N>
+        requires stripe { keeper.stripe ≡ stripe }
+        requires journal { keeper.journal ≡ [] }
         ensures { result.keeper ≡ keeper }
     {
         Locked {
             keeper,
+            stripe,
             words: 0,
             entries: 0,
         }
@@ -52,6 +56,7 @@ impl<N: Books> Locked<N> {
         }
         let Locked {
             keeper,
+            stripe: _,
             words: total,
             entries,
         } = self;
@@ -121,8 +126,8 @@ fn locks_of<N: Books>(
 {
     let (sheet, mut opening) = sheet.open::<N>();
     let mut locks = Vec::new(alloc);
-    for _ in 0..2u32 {
-        locks.push(Mutex::new(Locked::new(sheet.next_keeper(&mut opening))))?;
+    for stripe in 0..2u32 {
+        locks.push(Mutex::new(Locked::new(sheet.next_keeper(&mut opening), stripe)))?;
     }
     let share = sheet.first_share(opening);
     Ok((sheet, locks, share))
@@ -177,7 +182,7 @@ fn settle_all<N: Books>(
     let mut sums = Vec::new(alloc);
     for lock in locks {
         let mut lock = lock.into_inner();
-        let stripe = lock.keeper.stripe();
+        let stripe = lock.stripe;
         let kept = lock.settle(sheet, whole);
         if stripe < 2 {
             sums.push((kept, (whole.words(stripe), whole.entries(stripe))))?;

@@ -68,7 +68,7 @@ impl Slots {
                 number: remainder * TAG_STEP + (i as u64 + 1),
             };
             // `steps` counts each reading of a tag.
-            steps.tick();
+            *steps = steps.and_one();
             let tag = self.slots.tag(place);
             if tag.number == wanted.number {
                 return Reprobing::Found { place };

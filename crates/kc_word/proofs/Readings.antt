@@ -14,6 +14,14 @@ reading-long {codes} {runs} {next} {from} {at} {to} reading =
     let inside = reading.inside in
     length-cut (bytes_of codes runs) from to (omega (arith, begun, within)) (omega (arith, count, inside))
 
+-- as many bytes are left as indices
+pub reading-left : {codes : List ℕ} {runs : List Run} {next from at to : ℕ} → IsReading codes runs next from at to
+    → length (take (to - from) (drop from (bytes_of codes runs))) - (at - from) ≡ to - at
+reading-left reading =
+    let long = reading-long reading in
+    let begun = reading.begun in
+    omega (arith, long, begun)
+
 pub reading-byte : {codes : List ℕ} {runs : List Run} {next from at to : ℕ} → IsReading codes runs next from at to
     → (i : ℕ) → at + i < to
     → get_or (bytes_of codes runs) (at + i) 0 ≡ get_or (take (to - from) (drop from (bytes_of codes runs))) (at - from + i) 0

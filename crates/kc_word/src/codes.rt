@@ -1,5 +1,5 @@
 //! The codes of a piece, one after another.
-ghost use Rattle.std.specs.Prelude.{◌≡◌, ◌+◌, ◌<◌, length, slice_index, nat_le, if◌then◌else◌};
+ghost use Rattle.std.specs.Prelude.{◌≡◌, ◌+◌, ◌<◌, length, slice_index, if◌then◌else◌};
 ghost use Rattle.std.specs.Char.{to_ascii_uppercase};
 ghost use Rattle.kc_kmer.specs.Letter.{is_base, code};
 
@@ -35,14 +35,6 @@ impl<'a> Model for Codes<'a> {
 }
 
 impl<'a> Codes<'a> {
-    /// Whether all bytes were taken.
-    #[inline(always)]
-    pub(crate) fn is_done(&self) -> bool
-        ensures { result ≡ nat_le (length self.now.bytes) self.now.taken }
-    {
-        self.to <= self.at
-    }
-
     /// The code of the next byte, and `NO_BASE` for N. Condition: not all bytes were taken.
     #[inline(always)]
     pub(crate) fn take(&mut self) -> u64

@@ -68,7 +68,7 @@ fn push_words(roll: Roll<'_>, words: &mut Vec<u64>) -> Result<(), AllocError>
     ensures { OnOk result (words.new.items ≡ words.old.items ++ words_left roll.entry) }
 {
     let mut roll = roll;
-    while !roll.codes.is_done() {
+    while roll.codes.at < roll.codes.to {
         if let Some(word) = roll.step() {
             words.push(word)?;
         }
@@ -177,9 +177,6 @@ impl<'a> Roll<'a> {
         ensures words { IfOk result (λ next.
             words.new.items ++ words_left next ≡ words.old.items ++ words_left self.entry) }
     {
-        if self.codes.is_done() {
-            return Ok(self);
-        }
         let rule = self.rule;
         let k = rule.k().get();
         let both = rule.both();
@@ -190,11 +187,11 @@ impl<'a> Roll<'a> {
         let mut codes = self.codes;
         let at = codes.at;
         let mut count = (codes.to - at).min(BASES);
-        // none where the next run has begun
+        // none where all are taken, or the next run has begun
         if codes.next < codes.runs.len() {
             count = count.min(codes.runs[codes.next].start.saturating_sub(at));
         }
-        let number = codes.bases.window(at);
+        let number = if count > 0 { codes.bases.window(at) } else { 0 };
         codes.at = at + count;
         for i in 0..count {
             let digit = (number >> (62 - 2 * i)) & 3;
@@ -221,7 +218,7 @@ impl<'a> Roll<'a> {
         ensures word { IfSome result (λ word. words_left self.old ≡ word ∷ words_left self.new) }
         ensures none { IfNone result ((words_left self.old ≡ []) × (words_left self.new ≡ [])) }
     {
-        while !self.codes.is_done() {
+        while self.codes.at < self.codes.to {
             if let Some(word) = self.step() {
                 return Some(word);
             }

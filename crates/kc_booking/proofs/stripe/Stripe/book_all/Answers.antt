@@ -141,5 +141,5 @@ returns-then-is_empty-clause-twice g c =
     let none = no_values c.cuts.inside.batches.items c.args.cuts.now.batches (ap (λ s. s.batches) c.cuts.view_is)
     (sym long ∙ eqb-true (vec_len c.cuts.inside.batches) 0 (sym c.is_empty.ensures ∙ c.if-is_empty.true)) in (
       λ never. absurd (cc never),
-      λ refused. absurd (none_refused c.args.self.now.journal c.args.cuts.now.batches _ none c.is_lawful.ensures.numbers_differ refused),
+      λ refused. absurd (none_refused c.args.self.now.journal c.args.cuts.now.batches _ none (rw (← c.self.view_is) c.self.invariant.0.numbers_differ) refused),
     )

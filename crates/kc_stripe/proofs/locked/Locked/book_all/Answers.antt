@@ -24,13 +24,11 @@ noted g c =
 pub note-requires-clause-words : goal.note-requires-clause-words
 note-requires-clause-words g c =
     let room : word_total c.self.inside.keeper.journal + length (all_keys_of c.args.cuts.now) < 2 ^ 64 =
-    omega (arith, c.self.invariant.total, c.in_ok-book_all.ensures.total, c.total-total.ensures.value, c.total-total.ensures.at_most) in
+    omega (arith, c.self.invariant.total, c.in_ok-book_all.ensures.total, c.in_ok-book_all.ensures.small.0) in
     omega (arith, noted_has_room (noted g c) c.self.inside.keeper room, ap (λ (it : KeptStripe). word_total it.journal) c.loop-i.invariant.keeper)
 
 pub note-requires-clause-entries : goal.note-requires-clause-entries
 note-requires-clause-entries g c =
-    let value = λ (b : Arc Batch Global). b.value in
-    let journal = c.book_all.new.self.journal in
     let room : length c.self.inside.keeper.journal + length c.args.cuts.now.batches < 2 ^ 64 =
     omega (
       arith,
@@ -38,8 +36,7 @@ note-requires-clause-entries g c =
       length-map c.self.inside.stripe.journal (λ (batch : NumberedPieces). cut_entry (cut_at c.self.inside.stripe.setup batch c.self.inside.stripe.number)),
       ap length c.in_ok-book_all.ensures.journal,
       length-append c.self.inside.stripe.journal c.args.cuts.now.batches,
-      ap length c.journal-length.ensures,
-      length-map c.journal-length.result.now value,
+      c.in_ok-book_all.ensures.small.1,
     ) in
     omega (arith, one_more_has_room (noted g c) c.self.inside.keeper room, ap (λ (it : KeptStripe). length it.journal) c.loop-i.invariant.keeper)
 
@@ -82,5 +79,5 @@ invariant_of-self-2 g c =
       same_number = c.in_ok-book_all.ensures.number;
       journal = c.in_ok-book_all.ensures.journal;
       total = c.in_ok-book_all.ensures.total;
-      at_most = subst (λ n. n ≤ 2 ^ 62) c.total-total.ensures.value c.total-total.ensures.at_most;
+      at_most = c.in_ok-book_all.ensures.small.0;
     }))

@@ -1,7 +1,8 @@
-use Rattle.std.proofs.Common.{◌≡◌, ◌∙◌, ap, length, vec_len, rules, sym, arith}
+use Rattle.std.proofs.Common.{◌≡◌, ◌≤◌, ◌∙◌, ap, length, vec_len, rules, sym, subst, arith}
+use Rattle.std.specs.FinMap.{empty}
 use Rattle.std.proofs.lemmas.Iterator.Adapters.{YieldsList-from_vec}
 use Rattle.std.proofs.lemmas.Iterator.Consumers.{YieldsList-turn, YieldsList-end}
-use Rattle.kc_booking.specs.Setup.{stripe_count}
+use Rattle.kc_booking.specs.Setup.{stripe_count, key_bits}
 use Rattle.kc_share.specs.Sheet.{OpeningSeen}
 use Rattle.kc_stripe.proofs.stripes.Stripes.new.Goals as goal
 
@@ -27,3 +28,30 @@ invariant_of-stripes g c =
     let many : vec_len c.loop-table.locks ≡ stripe_count c.args.setup.now = omega (arith, end.1, tables, locks, c.loop-table.invariant.counted) in
     let same : c.in_ok-kept.kept ≡ c.args.setup.now = search rules in
     many ∙ sym (ap stripe_count same)
+
+pub overflow_cast-len : goal.overflow_cast-len
+overflow_cast-len g c =
+    let turn = YieldsList-turn (YieldsList-from_vec {s = c.into_iter-table-iterator.result} c.args.tables.items (search rules) (search rules)) c.loop-table.yielded c.loop-table.table-iterator c.loop-table.yielded_by c.next.result c.next.new.self c.in-Some.table c.in-Some.is c.next.ensures.steps in
+    let tables : length c.args.tables.items ≡ stripe_count c.args.setup.now = search rules in
+    let long : c.len-in-loop-table.result ≡ length c.loop-table.locks.items = search rules in
+    let most : c.args.sheet.plan.stripes ≤ 64 = search rules in
+    omega (arith, turn.0, tables, long, most, c.loop-table.invariant.counted, c.requires.stripes)
+
+pub new-requires-clause-number : goal.new-requires-clause-number
+new-requires-clause-number g c =
+    let turn = YieldsList-turn (YieldsList-from_vec {s = c.into_iter-table-iterator.result} c.args.tables.items (search rules) (search rules)) c.loop-table.yielded c.loop-table.table-iterator c.loop-table.yielded_by c.next.result c.next.new.self c.in-Some.table c.in-Some.is c.next.ensures.steps in
+    let tables : length c.args.tables.items ≡ stripe_count c.args.setup.now = search rules in
+    let long : c.len-in-loop-table.result ≡ length c.loop-table.locks.items = search rules in
+    omega (arith, turn.0, tables, long, c.loop-table.invariant.counted)
+
+pub new-requires-clause-empty : goal.new-requires-clause-empty
+new-requires-clause-empty g c =
+    let turn = YieldsList-turn (YieldsList-from_vec {s = c.into_iter-table-iterator.result} c.args.tables.items (search rules) (search rules)) c.loop-table.yielded c.loop-table.table-iterator c.loop-table.yielded_by c.next.result c.next.new.self c.in-Some.table c.in-Some.is c.next.ensures.steps in
+    let here = subst (λ table. (g.C.Counts.counts table ≡ empty) × (g.C.Counts.bits table ≡ key_bits c.args.setup.now)) (sym turn.1) (c.requires.tables (length c.loop-table.yielded) c.in-Some.table turn.0) in
+    here.0
+
+pub new-requires-clause-key_bits : goal.new-requires-clause-key_bits
+new-requires-clause-key_bits g c =
+    let turn = YieldsList-turn (YieldsList-from_vec {s = c.into_iter-table-iterator.result} c.args.tables.items (search rules) (search rules)) c.loop-table.yielded c.loop-table.table-iterator c.loop-table.yielded_by c.next.result c.next.new.self c.in-Some.table c.in-Some.is c.next.ensures.steps in
+    let here = subst (λ table. (g.C.Counts.counts table ≡ empty) × (g.C.Counts.bits table ≡ key_bits c.args.setup.now)) (sym turn.1) (c.requires.tables (length c.loop-table.yielded) c.in-Some.table turn.0) in
+    here.1

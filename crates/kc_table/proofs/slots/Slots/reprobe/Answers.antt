@@ -37,7 +37,7 @@ look c = record {
   next = bit_and (c.loop-i.place + c.loop-i.i) (mask_of c.args.self.now);
   read = c.tag-tag.result;
   wanted = tag_of c.args.self.now.log c.args.key c.loop-i.i;
-  after = c.tick.new.self.count;
+  after = c.and_one.result.count;
 }
 
 -- what was read at the next place
@@ -47,7 +47,7 @@ looked c = record {
   here = next_place _ c.args.key _ _ _ (mask_is c.args.self.now) c.loop-i.invariant.here;
   read_is = c.tag-tag.ensures;
   wanted_is = refl;
-  step = c.tick.ensures;
+  step = c.and_one.ensures;
 }
 
 pub returns-then-tag-wanted-clause-walked : goal.returns-then-tag-wanted-clause-walked
