@@ -8,8 +8,8 @@
 //! ```ignore
 //! let (sheet, mut opening) = sheet.open::<N>();
 //! let mut locks = Vec::new(alloc);
-//! for _ in 0..2u32 {
-//!     locks.push(Mutex::new(Locked::new(sheet.next_keeper(&mut opening))))?;
+//! for stripe in 0..2u32 {
+//!     locks.push(Mutex::new(Locked::new(sheet.next_keeper(&mut opening), stripe)))?;
 //! }
 //! let share = sheet.first_share(opening);
 //! ```
