@@ -177,11 +177,14 @@ fn sources_are_read_in_order(rt: HostRuntime) -> Result<(), Fail> {
 // The statistics of no reads, from the worked rows of the command line.
 const FOUR_ZEROS: &str = "Unique:    0\nDistinct:  0\nTotal:     0\nMax_count: 0\n";
 
+// Sources that have no reads: none, and an empty one.
+const NO_READS: &[&[&str]] = &[&[], &[""]];
+
 // A count of no source is one of no reads.
 #[test]
 fn no_source_gives_no_reads(rt: HostRuntime) -> Result<(), Fail> {
     let options = columns(2)?.with_print(Print::Stats);
-    for (row, inputs) in [[].as_slice(), [""].as_slice()].iter().enumerate() {
+    for (row, inputs) in NO_READS.iter().enumerate() {
         let counted = count(&rt, *inputs, &options)?;
         assert_counted(&rt, row, &counted, &Ok(()), FOUR_ZEROS.as_bytes());
     }
