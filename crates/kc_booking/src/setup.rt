@@ -2,7 +2,7 @@
 ghost use Rattle.std.specs.Prelude.{◌≡◌, ℕ, ◌+◌, ◌*◌, ◌^◌, ◌<◌, ◌≤◌, ◌↔◌, length, Some, None, IsSome, IfSome, IfNone};
 ghost use Rattle.kc_hash.specs.Product.{product};
 ghost use Rattle.kc_booking.specs.Setup.{StripeSetup, IsSetup, word_count, stripe_count, key_bits};
-ghost use Rattle.kc_booking.specs.Setup.{stripe_of, key_of, StandsAt, form_of, form_text};
+ghost use Rattle.kc_booking.specs.Setup.{stripe_of, key_of, StandsAt, DividesWords, form_of, form_text};
 ghost use Rattle.kc_kmer.specs.Rule.{with_list, without_list};
 ghost use Rattle.kc_kmer.specs.Word.{text};
 
@@ -135,6 +135,13 @@ impl Setup {
         ensures at_most { result ≤ 62 }
     {
         self.hash.bits() - self.stripe_bits
+    }
+
+    /// A law: each word has a stripe and a key, and each stripe and key has one word.
+    pub fn divides_words(&self)
+        ensures { DividesWords self.now }
+    {
+        self.hash.is_permutation();
     }
 
     /// The form under which a word counts: the canonical one where both strands do. Condition: the word is below 4^k.
