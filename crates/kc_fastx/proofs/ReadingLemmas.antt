@@ -538,16 +538,6 @@ given_fault {start = start} {now = now} {limit = limit} {stand = stand} given wh
 abbrev pub with_failed : Stand → Option FastxFault → Stand
 with_failed stand failed = record stand { failed = failed }
 
-pub told_unless : (Is : FastxFault → Type 0) (fault : FastxFault) → Is fault → UnlessMemory Is fault
-told_unless Is (BadStart number) is = is
-told_unless Is (BadBase number) is = is
-told_unless Is (BadQuality number) is = is
-told_unless Is (LongQuality number) is = is
-told_unless Is (Truncated number) is = is
-told_unless Is TooLong is = is
-told_unless Is ReadFailed is = is
-told_unless Is Memory is = tt
-
 met_kept : {start now : Seen} {limit : ℕ} {stand : Stand} {fault : FastxFault} (failed : Option FastxFault)
     → HasMet start now limit stand fault → HasMet start now limit (with_failed stand failed) fault
 met_kept failed met = record {
@@ -567,23 +557,6 @@ meets_kept start now limit stand (Truncated number) failed m = met_kept failed m
 meets_kept start now limit stand TooLong failed m = m
 meets_kept start now limit stand ReadFailed failed m = m
 meets_kept start now limit stand Memory failed m = m
-
--- the stand that keeps a fault, unless it is that of memory
-pub record KeepsFault (stand next : Stand) (fault : FastxFault) : Type 0 where
-  pub same : next ≡ with_failed stand next.failed
-  pub kept : UnlessMemory (λ f. next.failed ≡ Some f) fault
-
-pub keeps_fault : {stand next : Stand} {fault : FastxFault} → next ≡ with_failed stand (Some fault) → KeepsFault stand next fault
-keeps_fault {stand} {next} {fault} e = record {
-  same = e ∙ ap (λ (s : Stand). with_failed stand s.failed) (sym e);
-  kept = told_unless (λ f. next.failed ≡ Some f) fault (ap (λ (s : Stand). s.failed) e);
-}
-
-pub keeps_none : {stand next : Stand} {fault : FastxFault} → next ≡ stand → fault ≡ Memory → KeepsFault stand next fault
-keeps_none {stand} {next} {fault} e memory = record {
-  same = e ∙ ap (λ (s : Stand). with_failed stand s.failed) (sym e);
-  kept = subst (UnlessMemory (λ f. next.failed ≡ Some f)) (sym memory) tt;
-}
 
 -- a reader that keeps no fault gave the same reads still
 pub given_kept : {start now : Seen} {limit : ℕ} {reads : List Read} {stand : Stand} (failed : Option FastxFault)

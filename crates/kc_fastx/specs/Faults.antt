@@ -1,5 +1,5 @@
 -- The numbers of the faults (our formats page), what a contract says of them, and the faults of a source.
-use Rattle.std.specs.Prelude.{ℕ, Bool, true, false, ⊤}
+use Rattle.std.specs.Prelude.{ℕ, Bool, true, false, ⊤, Option, Some}
 use Rattle.kc_io.specs.declared.intakes.TakeFault.{TakeFault}
 use Rattle.kc_io.specs.declared.intakes.TakeFault.TheVariants as taking
 use Rattle.kc_fastx.specs.declared.read_faults.FastxFault.{FastxFault}
@@ -28,6 +28,11 @@ is_of_lines fault = true
 abbrev pub UnlessMemory : (FastxFault → Type 0) → FastxFault → Type 0
 UnlessMemory Is Memory = ⊤
 UnlessMemory Is fault = Is fault
+
+-- what a reader keeps after the fault of a record: that of memory isn't kept, since there may be some at the next call
+abbrev pub kept_fault : Option FastxFault → FastxFault → Option FastxFault
+kept_fault failed Memory = failed
+kept_fault failed fault = Some fault
 
 -- the fault that says why the bytes of a source could not be taken
 abbrev pub taking_fault : TakeFault → FastxFault

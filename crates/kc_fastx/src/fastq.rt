@@ -1,5 +1,7 @@
 //! Sanger FASTQ records: a title, sequence lines, a line that begins with `+`, and quality lines.
 ghost use Rattle.std.specs.Prelude.{◌≡◌, ◌≤◌, [], length, vec_capacity, IfOk, IfErr, OnOk, IfSome, IfNone};
+ghost use Rattle.std.specs.List.{list_all};
+ghost use Rattle.kc_fastx.specs.Reads.{is_quality_byte};
 ghost use Rattle.kc_fastx.specs.Lines.{line_count, skip_blanks, Passes};
 ghost use Rattle.kc_fastx.specs.Records.{FirstFault};
 ghost use Rattle.kc_fastx.specs.Fastq.{IsFastqRecord, FastqFails, BeginsWithQuality, QualityFails};
@@ -7,7 +9,7 @@ ghost use Rattle.kc_fastx.specs.Parsing.{IsFastq};
 ghost use Rattle.kc_fastx.specs.Faults.{UnlessMemory};
 
 use crate::read_faults::FastxFault;
-use crate::reads::{SeqRead, are_quality_bytes};
+use crate::reads::SeqRead;
 use crate::records::take_sequence;
 use crate::text_lines::LineCursor;
 use memchr::memchr;
@@ -89,4 +91,15 @@ fn take_quality(
         quals.extend_from_slice(line)?;
     }
     Ok(quals)
+}
+
+// Whether all these bytes are qualities. Each is looked at, so that the loop has no exit inside.
+pub(crate) fn are_quality_bytes(bytes: &[u8]) -> bool
+    ensures { result ≡ list_all is_quality_byte bytes.now }
+{
+    let mut all = true;
+    for byte in bytes {
+        all &= (*byte >= 33) & (*byte <= 126);
+    }
+    all
 }

@@ -1,9 +1,9 @@
 //! What a sequence read is.
 ghost use Rattle.std.specs.Prelude.{◌≡◌, ◌↔◌, IsSome, IfSome};
-ghost use Rattle.std.specs.List.{list_all};
 ghost use Rattle.std.specs.Option.{option_copied, option_map};
-ghost use Rattle.kc_fastx.specs.Reads.{is_sequence_byte, is_quality_byte};
 
+use crate::fastq::are_quality_bytes;
+use crate::records::are_sequence_bytes;
 use std::marker::Model;
 
 /// A sequence read: its bases and, where its format has them, one quality byte for each base.
@@ -63,31 +63,4 @@ impl SeqRead {
             Some(quals) => Some(quals.as_slice()),
         }
     }
-}
-
-// Whether a sequence may hold all these bytes. Every byte is looked at, so that the loop has no exit inside.
-pub(crate) fn are_sequence_bytes(bytes: &[u8]) -> bool
-    ensures { result ≡ list_all is_sequence_byte bytes.now }
-{
-    let mut all = true;
-    for byte in bytes {
-        let byte = *byte;
-        all &= (byte >= b'A') & (byte <= b'Z')
-            | (byte >= b'a') & (byte <= b'z')
-            | (byte == b'.')
-            | (byte == b'-')
-            | (byte == b'*');
-    }
-    all
-}
-
-// Whether all these bytes are qualities. Each is looked at, so that the loop has no exit inside.
-pub(crate) fn are_quality_bytes(bytes: &[u8]) -> bool
-    ensures { result ≡ list_all is_quality_byte bytes.now }
-{
-    let mut all = true;
-    for byte in bytes {
-        all &= (*byte >= 33) & (*byte <= 126);
-    }
-    all
 }

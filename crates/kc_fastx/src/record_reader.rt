@@ -8,7 +8,7 @@ ghost use Rattle.kc_fastx.specs.Parsing.{most_bytes, RefusesFor};
 ghost use Rattle.kc_fastx.specs.Reading.{first_stand, HasGiven, MeetsFault, GivesNext, TellsNext};
 ghost use Rattle.kc_fastx.specs.Reading.{IsNext, NextFails, IsSure, Moves, Grows};
 ghost use Rattle.kc_fastx.specs.Titles.{Record, HasGivenRecords, GivesRecord, TellsRecord};
-ghost use Rattle.kc_fastx.specs.Faults.{UnlessMemory};
+ghost use Rattle.kc_fastx.specs.Faults.{UnlessMemory, kept_fault};
 
 use crate::fasta::next_fasta;
 use crate::fastq::next_fastq;
@@ -138,13 +138,7 @@ impl Reading {
                     return Ok(Some(read));
                 }
                 Ok(None) => return Ok(None),
-                Err(fault) => {
-                    // memory may be there at the next call
-                    if !matches!(fault, FastxFault::Memory) {
-                        self.failed = Some(fault);
-                    }
-                    return Err(fault);
-                }
+                Err(fault) => return Err(self.keep(fault)),
             }
         }
     }
@@ -180,13 +174,7 @@ impl Reading {
                 Ok(Next::Given(read)) => return Ok(Some(read)),
                 Ok(Next::End) => return Ok(None),
                 Ok(Next::Short) => self.grow(source)?,
-                Err(fault) => {
-                    // memory may be there at the next call
-                    if !matches!(fault, FastxFault::Memory) {
-                        self.failed = Some(fault);
-                    }
-                    return Err(fault);
-                }
+                Err(fault) => return Err(self.keep(fault)),
             }
         }
     }
@@ -239,6 +227,17 @@ impl Reading {
                 return Ok(());
             }
         }
+    }
+
+    // Keeps the fault of a record and answers it. `Memory` isn't kept: it may be there at the next call.
+    fn keep(&mut self, fault: FastxFault) -> FastxFault
+        ensures answered { result ≡ fault }
+        ensures kept { self.new ≡ record self.old { failed = kept_fault self.old.failed fault } }
+    {
+        if !matches!(fault, FastxFault::Memory) {
+            self.failed = Some(fault);
+        }
+        fault
     }
 
     // The next read and its title, as far as the lines that are whole in the block tell them.

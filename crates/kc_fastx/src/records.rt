@@ -1,11 +1,12 @@
 //! What the records of both formats have in common: their sequence lines.
 ghost use Rattle.std.specs.Prelude.{◌≡◌, ◌<◌, ◌≤◌, true, [], length, vec_capacity, IfOk, IfErr, OnOk};
+ghost use Rattle.std.specs.List.{list_all};
+ghost use Rattle.kc_fastx.specs.Reads.{is_sequence_byte};
 ghost use Rattle.kc_fastx.specs.Lines.{line_count, ends_or_begins_with, Passes};
 ghost use Rattle.kc_fastx.specs.Records.{BeginsWithSequence, SequenceFails};
 ghost use Rattle.kc_fastx.specs.Faults.{UnlessMemory};
 
 use crate::read_faults::FastxFault;
-use crate::reads::are_sequence_bytes;
 use crate::text_lines::LineCursor;
 
 // Takes the sequence lines up to the end or the next line that begins with `stop`, and joins them in `bases`, which is
@@ -35,4 +36,20 @@ pub(crate) fn take_sequence(
         bases.extend_from_slice(line)?;
     }
     Ok(bases)
+}
+
+// Whether a sequence may hold all these bytes. Every byte is looked at, so that the loop has no exit inside.
+pub(crate) fn are_sequence_bytes(bytes: &[u8]) -> bool
+    ensures { result ≡ list_all is_sequence_byte bytes.now }
+{
+    let mut all = true;
+    for byte in bytes {
+        let byte = *byte;
+        all &= (byte >= b'A') & (byte <= b'Z')
+            | (byte >= b'a') & (byte <= b'z')
+            | (byte == b'.')
+            | (byte == b'-')
+            | (byte == b'*');
+    }
+    all
 }

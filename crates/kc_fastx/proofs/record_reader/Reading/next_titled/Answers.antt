@@ -1,12 +1,10 @@
-use Rattle.std.proofs.Common.{true≢false, ◌≡◌, ap, sym, subst, ◌∙◌, Some}
-use Rattle.kc_fastx.specs.Reading.{Stand, HasGiven, MeetsFault}
+use Rattle.std.proofs.Common.{◌≡◌, ap, sym, subst, ◌∙◌}
+use Rattle.kc_fastx.specs.Reading.{Stand, HasGiven}
 use Rattle.std.proofs.lemmas.Result.{err_from_is_err_and}
-use Rattle.kc_fastx.proofs.ReadingLemmas.{IsOpen, given_grown, given_kept, given_refused, KeepsFault, keeps_fault, keeps_none, meets_kept, with_failed}
-use Rattle.kc_fastx.proofs.ReadingLemmas.{told_unless}
+use Rattle.kc_fastx.proofs.ReadingLemmas.{given_grown, given_kept, given_refused, meets_kept}
 use Rattle.kc_fastx.specs.Titles.{reads_in, HasGivenRecords}
 use Rattle.kc_fastx.proofs.TitlesLemmas.{IsLonger, longer_grown, longer_kept, records_more, records_same, records_all}
 use Rattle.kc_fastx.proofs.record_reader.Reading.next_titled.Goals as goal
-use Rattle.kc_fastx.proofs.record_reader.Reading.next_titled.Goals.{then-not-matches, else-not-matches, in-Memory, in_default-matches}
 
 pub returns-in-Ok-Given-clause-given : goal.returns-in-Ok-Given-clause-given
 returns-in-Ok-Given-clause-given g c = λ start limit records h.
@@ -31,18 +29,13 @@ returns-in-Ok-End-clause-given g c = λ start limit records h.
 pub reading-preserved : goal.reading-preserved
 reading-preserved g c =
     let seen = g.S.Source.seen in
-    let before = c.titled_of_whole.new.self in
     let more = rw c.in-Ok-Short.field-0-is at c.in-Ok-Short.ensures.moves in
     let grown = c.in_ok-grow-in-Ok-Short.ensures in
     record {
       given = λ start limit reads h.
           let tells = rw c.in-Ok-Short.field-0-is at c.in-Ok-Short.ensures.tells start (seen c.reading.source) limit
           reads (c.reading.invariant.given start limit reads h) in
-          let still : IsOpen start (seen c.reading.source) limit reads before = record {
-            given = tells;
-            unended = more.1;
-          } in
-          given_grown still (seen c.grow.new.source) c.grow.new.self grown;
+          given_grown (record { given = tells; unended = more.1 }) (seen c.grow.new.source) c.grow.new.self grown;
       longer = longer_grown (subst (λ v. IsLonger (seen c.args.source.now) (seen c.reading.source) c.args.self.now v)
           (sym more.0) c.reading.invariant.longer) more.1 (seen c.grow.new.source) c.grow.new.self grown;
       unfailed = grown.unfailed;
@@ -51,31 +44,13 @@ reading-preserved g c =
 
 pub returns-in_err-grow-in-Ok-Short-clause-given : goal.returns-in_err-grow-in-Ok-Short-clause-given
 returns-in_err-grow-in-Ok-Short-clause-given g c = λ start limit records h.
-    let reads = reads_in records in
     let seen = g.S.Source.seen in
-    let before = c.titled_of_whole.new.self in
     let more = rw c.in-Ok-Short.field-0-is at c.in-Ok-Short.ensures.moves in
-    let tells = rw c.in-Ok-Short.field-0-is at c.in-Ok-Short.ensures.tells start (seen c.reading.source) limit reads
-    (c.reading.invariant.given start limit reads h.given) in
+    let tells = rw c.in-Ok-Short.field-0-is at c.in-Ok-Short.ensures.tells start (seen c.reading.source) limit
+    (reads_in records) (c.reading.invariant.given start limit (reads_in records) h.given) in
     let p = err_from_is_err_and c.from_residual.result c.from_residual.ensures.1 in
-    let still : IsOpen start (seen c.reading.source) limit reads before = record { given = tells; unended = more.1 } in
-    rw (p.1, p.2) (given_refused still (seen c.grow.new.source) c.grow.new.self c.in_err-grow-in-Ok-Short.field-0.0
-    c.in_err-grow-in-Ok-Short.ensures.0)
-
-pub returns-in_err-grow-in-Ok-Short-clause-kept : goal.returns-in_err-grow-in-Ok-Short-clause-kept
-returns-in_err-grow-in-Ok-Short-clause-kept g c =
-    let p = err_from_is_err_and c.from_residual.result c.from_residual.ensures.1 in
-    rw (p.1, p.2) (told_unless (λ fault. c.grow.new.self.failed ≡ Some fault) _ c.in_err-grow-in-Ok-Short.ensures.1)
-
--- the fault of a record is kept, unless it is that of memory
-kept : (g : _) (c : goal.Joined-not-matches g) → KeepsFault c.titled_of_whole.new.self c.if-not-matches.self c.in-Err.fault
-kept g c = elim c.if-not-matches.branch [
-  | then-not-matches w ↦ keeps_fault (w.self-is ∙ ap (λ s. with_failed s (Some c.in-Err.fault)) c.self-in-Err.view_is)
-  | else-not-matches w ↦ keeps_none w.self-is (elim c.match-matches.branch [
-    | in-Memory v ↦ v.in-Memory.is
-    | in_default-matches v ↦ absurd (true≢false (sym w.if-not-matches.false ∙ v.matches-is))
-  ])
-]
+    rw (p.1, p.2) (given_refused (record { given = tells; unended = more.1 }) (seen c.grow.new.source) c.grow.new.self
+    c.in_err-grow-in-Ok-Short.field-0.0 c.in_err-grow-in-Ok-Short.ensures.0)
 
 pub returns-in-Err-clause-given : goal.returns-in-Err-clause-given
 returns-in-Err-clause-given g c = λ start limit records h.
@@ -83,25 +58,13 @@ returns-in-Err-clause-given g c = λ start limit records h.
     let seen = g.S.Source.seen in
     let met = c.in-Err.ensures.tells start (seen c.reading.source) limit reads
     (c.reading.invariant.given start limit reads h.given) in
-    subst (λ s. MeetsFault start (seen c.reading.source) limit s c.in-Err.fault) (sym (kept g c).same)
+    rw (c.keep.ensures.answered, c.keep.ensures.kept)
     (meets_kept start (seen c.reading.source) limit c.titled_of_whole.new.self c.in-Err.fault _ met)
-
-pub returns-in-Err-clause-kept : goal.returns-in-Err-clause-kept
-returns-in-Err-clause-kept g c = (kept g c).kept
-
-pub returns-in_err-grow-in-Ok-Short-clause-resumed : goal.returns-in_err-grow-in-Ok-Short-clause-resumed
-returns-in_err-grow-in-Ok-Short-clause-resumed g c =
-    let p = err_from_is_err_and c.from_residual.result c.from_residual.ensures.1 in
-    rw p.1 (λ none start limit records h. absurd (let no = sym c.in_err-grow-in-Ok-Short.ensures.1 ∙ none in cc))
 
 pub returns-in-Err-clause-resumed : goal.returns-in-Err-clause-resumed
 returns-in-Err-clause-resumed g c = λ none start limit records h.
-    let reads = reads_in records in
-    let seen = g.S.Source.seen in
     let same : c.titled_of_whole.new.self ≡ c.reading.self = c.in-Err.ensures.moves in
-    let given = subst (λ v. HasGiven start (seen c.reading.source) limit reads v) (sym same)
-    (c.reading.invariant.given start limit reads h.given) in
-    let longer = subst (λ v. IsLonger (seen c.args.source.now) (seen c.reading.source) c.args.self.now v) (sym same)
-    c.reading.invariant.longer in
-    subst (λ s. HasGivenRecords start (seen c.reading.source) limit records s) (sym (kept g c).same)
-    (records_same h (longer_kept _ longer) (given_kept _ given none))
+    let unfailed = rw (c.keep.ensures.kept, same) at none in
+    let given = c.reading.invariant.given start limit (reads_in records) h.given in
+    rw (c.keep.ensures.kept, same) (records_same h (longer_kept _ c.reading.invariant.longer)
+    (given_kept _ given unfailed))

@@ -1,14 +1,15 @@
-use Rattle.std.proofs.Common.{rules, ◌≡◌, ◌-◌, true, ap, ◌∙◌, sym, subst, inl, inr, ◌⊎◌, Ok, Some, [], ◌∷◌, ◌++◌, length, arith, ◌+◌, refl}
+use Rattle.std.proofs.Common.{rules, arith, refl, ◌≡◌, ◌∙◌, ap, sym, subst, true, ◌-◌}
+use Rattle.std.proofs.Common.{inl, inr, ◌⊎◌, Ok, [], ◌∷◌, ◌++◌, length}
 use Rattle.std.proofs.lemmas.Result.{err_from_is_err_and}
-use Rattle.kc_fastx.specs.Faults.{UnlessMemory}
-use Rattle.kc_fastx.specs.Lines.{Cursor, lines, line_count, skip_blanks}
-use Rattle.kc_fastx.specs.Reading.{Stand, HasGiven, IsSure, IsNext, NextFails}
+use Rattle.kc_fastx.specs.Lines.{Cursor, lines, skip_blanks}
+use Rattle.kc_fastx.specs.Reading.{Stand, HasGiven, IsSure}
 use Rattle.kc_fastx.specs.declared.record_reader.Next.TheVariants.{Given}
 use Rattle.kc_fastx.specs.Titles.{TellsRecord, title_at}
 use Rattle.kc_fastx.proofs.TailLemmas.{skip_blanks-again}
 use Rattle.kc_fastx.proofs.TitlesLemmas.{record_read}
 use Rattle.kc_fastx.proofs.ReadingLemmas.{ArePassed, IsRead, behind_is, given_fault, given_more, reaches, uses_some}
 use Rattle.kc_fastx.proofs.record_reader.Reading.titled_of_whole.Goals as goal
+use Rattle.kc_fastx.proofs.record_reader.Reading.titled_of_whole.Goals.{After-use_up, Joined-else-not-self}
 use Rattle.kc_fastx.proofs.record_reader.Reading.titled_of_whole.Goals.{else-not-self-via-then-not-self+else-not-is_sure}
 use Rattle.kc_fastx.proofs.record_reader.Reading.titled_of_whole.Goals.{else-not-self-via-else-not-self}
 
@@ -17,35 +18,31 @@ next_record-next-requires c =
     let left = c.pass_blanks.ensures.left in
     ap skip_blanks left ∙ skip_blanks-again (lines c.whole_lines-whole.result.now) ∙ sym left
 
+-- the answer stays right, whatever the source still gives
+is_sure : (c : Joined-else-not-self)
+    → (c.args.self.now.ended ≡ true) ⊎ IsSure c.next_record-next.result c.next_record-next.new.lines.left
+is_sure c = elim c.else-not-self.branch [
+  | else-not-self-via-then-not-self+else-not-is_sure w ↦ inr (w.is_sure.ensures (search rules))
+  | else-not-self-via-else-not-self w ↦ inl (search rules)
+]
+
 pub returns-in_err-read-clause-tells : goal.returns-in_err-read-clause-tells
 returns-in_err-read-clause-tells c = λ start now limit reads h.
-    let stand = c.args.self.now in
-    let whole = c.whole_lines-whole.result.now in
-    let next = c.next_record-next.result in
-    let left = c.next_record-next.new.lines.left in
-    let sure : (stand.ended ≡ true) ⊎ IsSure next left = elim c.else-not-self.branch [
-      | else-not-self-via-then-not-self+else-not-is_sure w ↦ inr (w.is_sure.ensures (search rules))
-      | else-not-self-via-else-not-self w ↦ inl (search rules)
-    ] in
-    let blank_left : c.pass_blanks.new.self.left ≡ skip_blanks (lines whole) = c.pass_blanks.ensures.left in
-    let is_fastq = ap (λ (s : Stand). s.is_fastq) c.self.view_is in
-    let count : line_count c.pass_blanks.new.self ≡ stand.lines_used + length (lines whole) =
     let taken = ap (λ (s : Stand). s.lines_used) c.self.view_is in
-    let same = c.pass_blanks.ensures.counted in
-    omega (arith, taken, same) in
-    let fails = subst (λ v. UnlessMemory (NextFails stand.is_fastq v (skip_blanks
-    (lines whole))) c.in_err-read.field-0.0) count
-    (subst (λ v. UnlessMemory (NextFails stand.is_fastq (line_count c.pass_blanks.new.self) v)
-    c.in_err-read.field-0.0) blank_left
-    (subst (λ q. UnlessMemory (NextFails q (line_count c.pass_blanks.new.self) c.pass_blanks.new.self.left)
-    c.in_err-read.field-0.0) is_fastq c.in_err-read.ensures.err)) in
+    let is_fastq = ap (λ (s : Stand). s.is_fastq) c.self.view_is in
+    let fails = rw (c.pass_blanks.ensures.counted, c.pass_blanks.ensures.left, taken, is_fastq)
+    at c.in_err-read.ensures.err in
+    let sure = rw c.in_err-read.was at (is_sure (goal.at.returns-in_err-read-clause-tells c).Joined-else-not-self) in
     let p = err_from_is_err_and c.from_residual.result c.from_residual.ensures.1 in
-    rw (p.1, p.2) (given_fault h whole left c.in_err-read.field-0.0 c.whole_lines-whole.ensures fails (rw c.in_err-read.was at sure))
+    rw (p.1, p.2) (given_fault h c.whole_lines-whole.result.now c.next_record-next.new.lines.left
+    c.in_err-read.field-0.0 c.whole_lines-whole.ensures fails sure)
 
 -- the blank lines and the record that were passed
-passed : (c : goal.After-use_up) → ArePassed c.args.self.now
-    (record { taken = c.self.inside.lines_used; left = lines c.whole_lines-whole.result.now; bytes = c.whole_lines-whole.result.now })
-    c.pass_blanks.new.self c.next_record-next.new.lines
+passed : (c : After-use_up) → ArePassed c.args.self.now (record {
+  taken = c.self.inside.lines_used;
+  left = lines c.whole_lines-whole.result.now;
+  bytes = c.whole_lines-whole.result.now;
+}) c.pass_blanks.new.self c.next_record-next.new.lines
 passed c = record {
   taken = ap (λ (s : Stand). s.lines_used) c.self.view_is;
   counted_blank = c.pass_blanks.ensures.counted;
@@ -55,33 +52,26 @@ passed c = record {
 }
 
 -- the record that was read
-one : (c : goal.After-use_up) → IsRead c.args.self.now c.whole_lines-whole.result.now c.next_record-next.new.lines
+one : (c : After-use_up) → IsRead c.args.self.now c.whole_lines-whole.result.now c.next_record-next.new.lines
     (c.in-Some.read, c.in-Some.is_fastq) (length c.whole_lines-whole.result.now - length c.lines-2.inside.left.now)
 one c =
-    let stand = c.args.self.now in
     let whole = c.whole_lines-whole.result.now in
     let after = c.next_record-next.new.lines in
-    let sure : (stand.ended ≡ true) ⊎ IsSure c.next_record-next.result after.left = elim c.else-not-self.branch [
-      | else-not-self-via-then-not-self+else-not-is_sure w ↦ inr (w.is_sure.ensures (search rules))
-      | else-not-self-via-else-not-self w ↦ inl (search rules)
-    ] in
     let rest = ap (λ (s : Cursor). s.bytes) c.lines-2.view_is in
     let left : after.left ≡ lines after.bytes = sym (ap (λ (s : Cursor). s.left) c.lines-2.view_is) ∙ ap lines rest in
     let is_fastq = ap (λ (s : Stand). s.is_fastq) c.self.view_is in
-    let blank_left : c.pass_blanks.new.self.left ≡ skip_blanks (lines whole) = c.pass_blanks.ensures.left in
     record {
       has_whole = c.whole_lines-whole.ensures;
       reaches = reaches (passed c) whole refl refl left;
-      one = subst (λ q. IsNext q (skip_blanks (lines whole)) (Some (c.in-Some.read, c.in-Some.is_fastq)) after.left) is_fastq
-          (rw (blank_left, c.in-Some.is) at c.in_ok-read.ensures.ok);
-      sure = rw (c.in_ok-read.was, c.in-Some.is) at sure;
+      one = rw (is_fastq, c.pass_blanks.ensures.left, c.in-Some.is) at c.in_ok-read.ensures.ok;
+      sure = rw (c.in_ok-read.was, c.in-Some.is) at (is_sure (goal.at.After-use_up c).Joined-else-not-self);
       used = ap (λ v. length whole - length v) rest;
     }
 
 pub returns-clause-tells : goal.returns-clause-tells
 returns-clause-tells c = λ start now limit reads h.
-    let behind = behind_is (length c.whole_lines-whole.result.now - length c.lines-2.inside.left.now) c.in-Some.is_fastq c.self.view_is
-    c.use_up.ensures (ap (λ (s : Cursor). s.taken) c.lines-2.view_is) in
+    let behind = behind_is (length c.whole_lines-whole.result.now - length c.lines-2.inside.left.now)
+    c.in-Some.is_fastq c.self.view_is c.use_up.ensures (ap (λ (s : Cursor). s.taken) c.lines-2.view_is) in
     subst (λ v. HasGiven start now limit (reads ++ c.in-Some.read ∷ []) v) (sym behind)
     (given_more (one c) start now limit reads h)
 
@@ -100,8 +90,8 @@ returns-clause-titled c =
 pub returns-clause-moves : goal.returns-clause-moves
 returns-clause-moves c =
     let next = rw c.in-Some.is at c.in_ok-read.ensures.ok in
-    let some = uses_some (passed c) c.self.inside.is_fastq (c.in-Some.read, c.in-Some.is_fastq) c.pass_blanks.ensures.left
-    next in
+    let some = uses_some (passed c) c.self.inside.is_fastq (c.in-Some.read, c.in-Some.is_fastq)
+    c.pass_blanks.ensures.left next in
     let rest = ap (λ (s : Cursor). length s.bytes) c.lines-2.view_is in
     let used = ap (λ (s : Stand). s.used) c.self.view_is in
     omega (arith, some, rest, used)
