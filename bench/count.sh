@@ -76,7 +76,7 @@ steps() {
         {
             step = $2 == "[k]" ? "kernel: pages and files" \
                 : /kc_fastx|kc_io|memchr|first_by/ ? "read" \
-                : /piece::clean|usable_codes::(gather|mark)|kc_tool::counted_sources/ ? "clean" \
+                : /kc_word::usable_codes|kc_tool::counted_sources/ ? "clean" \
                 : /kc_word::(cutting|pieces|piece|packed_codes|runs)/ ? "cut" \
                 : /cut_batch|kc_booking::cut|cut_up|push_words|scope::entry/ ? "cut up" \
                 : /[Ss]tripe::rows|rows_of/ ? "rows" \

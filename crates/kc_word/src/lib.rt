@@ -20,7 +20,6 @@
 #![tactic(auto)]
 
 mod batch;
-mod codes;
 mod cutting;
 pub mod cutting_laws;
 mod marks;
@@ -41,8 +40,8 @@ pub use kc_kmer::{
     K, Rule, Word, canonical, pack, reverse_complement, slow_count, text, word_laws,
 };
 pub use only::Only;
-pub use piece::{Piece, clean};
+pub use piece::Piece;
 pub use piece_views::{PieceView, PieceViews};
 pub use roll::{read_words, words};
-pub use usable_codes::usable_code;
+pub use usable_codes::{clean, usable_code};
 pub use walk::Walk;

@@ -1,14 +1,9 @@
-//! Reads cleaned into pieces.
-ghost use Rattle.std.specs.Prelude.{◌≡◌, ◌^◌, ◌<◌, ◌↔◌, ◌++◌, [], length, slice_index, slice_range, ◌≤◌, IfOk, IsTrue};
-ghost use Rattle.std.specs.Vec.{vec_capacity};
-ghost use Rattle.kc_word.specs.Cutting.{cleaned, is_piece_byte};
-ghost use Rattle.kc_word.specs.Packed.{number_count};
+//! Pieces: reads made ready to be counted, kept as packed codes and runs of N.
+ghost use Rattle.std.specs.Prelude.{◌≡◌, ◌<◌, ◌↔◌, ◌++◌, [], length, slice_index, slice_range, ◌≤◌, IfOk, IsTrue};
+ghost use Rattle.kc_word.specs.Cutting.{is_piece_byte};
 
 use crate::packed_codes::{BASES, Packed};
 use crate::runs::{Run, is_in_runs, push_run};
-use crate::usable_codes::{block_of, mark_gaps};
-use kc_fastx::SeqRead;
-use kc_kmer::Rule;
 use kc_kmer::letter::base_of;
 use std::alloc::{AllocError, Global};
 use std::marker::Model;
@@ -128,33 +123,4 @@ impl Eq for Piece {
     ghost use Rattle.std.specs.Cmp.Lexicographic.{nat_list_eq_equiv};
 
     ghost laws = { nat_list_eq_equiv };
-}
-
-/// The piece of a read: each usable base in upper case, and `N` for every other one.
-pub fn clean(alloc: Global, read: &SeqRead, rule: &Rule) -> Result<Piece, AllocError>
-    ensures cleaned { IfOk result (λ piece. piece ≡ cleaned rule.now read.now) }
-    ensures long { IfOk result (λ piece. length piece ≡ length read.now.bases) }
-{
-    let count = read.bases().len();
-    let numbers = room_for_bases(alloc, read)?;
-    let mut bases = Packed { numbers, len: 0 };
-    let mut runs = Vec::new(alloc);
-    for j in 0..count.div_ceil(BASES) {
-        let from = j * BASES;
-        let taken = (count - from).min(BASES);
-        let block = block_of(read, rule, from, taken);
-        bases.push_number(block.number, taken)?;
-        if block.has_gap {
-            mark_gaps(read, rule, from, taken, &mut runs)?;
-        }
-    }
-    Ok(Piece { bases, runs })
-}
-
-// An empty vector with room for the numbers of 64 bits that the bases of a read take.
-fn room_for_bases(alloc: Global, read: &SeqRead) -> Result<Vec<u64>, AllocError>
-    ensures empty { IfOk result (λ room. room.items ≡ []) }
-    ensures bounded { IfOk result (λ room. vec_capacity room ≤ number_count (length read.now.bases)) }
-{
-    Vec::with_capacity(alloc, read.bases().len().div_ceil(BASES))
 }

@@ -8,9 +8,10 @@ ghost use Rattle.kc_word.specs.Cutting.{as_reads, position_total};
 ghost use Rattle.kc_word.specs.Walking.{words_left};
 
 use crate::batch::Batch;
-use crate::codes::Codes;
-use crate::packed_codes::BASES;
-use crate::piece::{Piece, clean};
+use crate::packed_codes::{BASES, Packed};
+use crate::piece::Piece;
+use crate::runs::Run;
+use crate::usable_codes::clean;
 use kc_fastx::SeqRead;
 use kc_kmer::letter::NO_BASE;
 use kc_kmer::{K, Rule};
@@ -75,6 +76,32 @@ fn push_words(roll: Roll<'_>, words: &mut Vec<u64>) -> Result<(), AllocError>
         roll = roll.push_stretch(words)?;
     }
     Ok(())
+}
+
+// A place in a piece, or in a part of one, seen as its bytes and how many of them were taken.
+#[derive(Drop)]
+struct Codes<'a> {
+    bases: &'a Packed,
+    runs: &'a [Run],
+    // The number of the first run that ends at `at` or behind it.
+    next: usize,
+    from: usize,
+    at: usize,
+    to: usize,
+}
+
+impl<'a> Model for Codes<'a> {
+    ghost use Rattle.std.specs.Prelude.{◌-◌, slice_range};
+    ghost use Rattle.kc_word.specs.PackedPiece.{Reading, bytes_of, IsReading};
+
+    ghost Value = { Reading };
+
+    ghost view = { λ c. record {
+      bytes = slice_range (bytes_of c.bases.now c.runs.now) c.from c.to;
+      taken = c.at - c.from;
+    } };
+
+    ghost invariant = { λ c. IsReading c.bases.now c.runs.now c.next c.from c.at c.to };
 }
 
 /// A place in a piece whose words are taken: two numbers are rolled along its codes, and a word stands wherever the
@@ -149,7 +176,20 @@ impl<'a> Roll<'a> {
         let k = self.rule.k().get();
         let both = self.rule.both();
         let mask = (1u64 << (2 * k)) - 1;
-        let code = self.codes.take();
+        let codes = &mut self.codes;
+        let bases = codes.bases;
+        let at = codes.at;
+        let mut code = (bases.numbers[at / BASES] >> (62 - 2 * (at % BASES))) & 3;
+        codes.at += 1;
+        // the next run has this byte, or ends before it
+        if codes.next < codes.runs.len() && codes.runs[codes.next].start <= at {
+            let run = codes.runs[codes.next];
+            if at - run.start < run.length {
+                code = NO_BASE as u64;
+            } else {
+                codes.next += 1;
+            }
+        }
         let digit = code & 3;
         let forward = (self.forward * 4 + digit) & mask;
         let backward = (self.backward >> 2) + ((3 - digit) << (2 * (k - 1)));

@@ -1,25 +1,59 @@
-//! The codes of a read and its gaps, 32 bases at a time.
-ghost use Rattle.std.specs.Prelude.{◌≡◌, ◌+◌, ◌^◌, ◌<◌, ◌≤◌, length, OnOk};
+//! A read cleaned into a piece: its usable codes and its gaps, 32 bases at a time.
+ghost use Rattle.std.specs.Prelude.{◌≡◌, ◌+◌, ◌^◌, ◌<◌, ◌≤◌, [], length, IfOk, OnOk};
+ghost use Rattle.std.specs.Vec.{vec_capacity};
+ghost use Rattle.kc_word.specs.Cutting.{cleaned};
+ghost use Rattle.kc_word.specs.Packed.{number_count};
 ghost use Rattle.kc_word.specs.UsableCodes.{usable_code, IsCodeBlock, AreGaps};
 
+use crate::packed_codes::{BASES, Packed};
+use crate::piece::Piece;
 use crate::runs::{Run, push_run};
 use kc_fastx::SeqRead;
 use kc_kmer::Rule;
 use kc_kmer::letter::{NO_BASE, code_of};
-use std::alloc::AllocError;
+use std::alloc::{AllocError, Global};
 
-/// Up to 32 bases of a read.
-#[derive(Clone, Copy)]
-pub(crate) struct CodeBlock {
-    /// Their codes, the first one in the highest bits, 0 for a base that is not usable.
-    pub(crate) number: u64,
-    /// Whether one of them is not usable.
-    pub(crate) has_gap: bool,
+/// The piece of a read: each usable base in upper case, and `N` for every other one.
+pub fn clean(alloc: Global, read: &SeqRead, rule: &Rule) -> Result<Piece, AllocError>
+    ensures cleaned { IfOk result (λ piece. piece ≡ cleaned rule.now read.now) }
+    ensures long { IfOk result (λ piece. length piece ≡ length read.now.bases) }
+{
+    let count = read.bases().len();
+    let numbers = room_for_bases(alloc, read)?;
+    let mut bases = Packed { numbers, len: 0 };
+    let mut runs = Vec::new(alloc);
+    for j in 0..count.div_ceil(BASES) {
+        let from = j * BASES;
+        let taken = (count - from).min(BASES);
+        let block = block_of(read, rule, from, taken);
+        bases.push_number(block.number, taken)?;
+        if block.has_gap {
+            mark_gaps(read, rule, from, taken, &mut runs)?;
+        }
+    }
+    Ok(Piece { bases, runs })
 }
 
-/// The block of `count` bases from index `from` on. Condition: the count is 1 to 32, and the read has these bases.
+// An empty vector with room for the numbers of 64 bits that the bases of a read take.
+fn room_for_bases(alloc: Global, read: &SeqRead) -> Result<Vec<u64>, AllocError>
+    ensures empty { IfOk result (λ room. room.items ≡ []) }
+    ensures bounded { IfOk result (λ room. vec_capacity room ≤ number_count (length read.now.bases)) }
+{
+    Vec::with_capacity(alloc, read.bases().len().div_ceil(BASES))
+}
+
+// Up to 32 bases of a read.
+#[derive(Clone, Copy)]
+struct CodeBlock {
+    // Their codes, the first one in the highest bits, 0 for a base that is not usable.
+    number: u64,
+    // Whether one of them is not usable.
+    has_gap: bool,
+}
+
+// The block of `count` bases from index `from` on. Condition: the count is 1 to 32, and the read has these bases.
 #[inline(always)]
-pub(crate) fn block_of(read: &SeqRead, rule: &Rule, from: usize, count: usize) -> CodeBlock
+fn block_of(read: &SeqRead, rule: &Rule, from: usize, count: usize) -> CodeBlock
     requires some { 1 ≤ count }
     requires most { count ≤ 32 }
     requires within { from + count ≤ length read.now.bases }
@@ -39,8 +73,8 @@ pub(crate) fn block_of(read: &SeqRead, rule: &Rule, from: usize, count: usize) -
     }
 }
 
-/// Adds the unusable ones of the `count` bases from index `from` on to the runs of those before.
-pub(crate) fn mark_gaps(
+// Adds the unusable ones of the `count` bases from index `from` on to the runs of those before.
+fn mark_gaps(
     read: &SeqRead,
     rule: &Rule,
     from: usize,

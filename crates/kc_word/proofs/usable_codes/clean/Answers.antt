@@ -5,8 +5,8 @@ use Rattle.kc_word.specs.Packed.{codes_of}
 use Rattle.kc_word.proofs.PackedLemmas.{codes_of-none}
 use Rattle.kc_word.proofs.Cleaning.{length-cleaned}
 use Rattle.kc_word.proofs.UsableLemmas.{AreUsableCodes, usable-none, length-usable, codes-block, gaps-block, usable-all}
-use Rattle.kc_word.proofs.piece.clean.Goals as goal
-use Rattle.kc_word.proofs.piece.clean.Goals.{then-block+in_ok-mark_gaps, else-block}
+use Rattle.kc_word.proofs.usable_codes.clean.Goals as goal
+use Rattle.kc_word.proofs.usable_codes.clean.Goals.{then-block+in_ok-mark_gaps, else-block}
 
 pub loop-j-init : goal.loop-j-init
 loop-j-init c =
