@@ -1,14 +1,19 @@
-//! A table of counts with the histogram and the sum of its counts.
-ghost use Rattle.std.specs.Prelude.{◌≡◌, ℕ, ◌+◌, ◌<◌, ◌≤◌, ◌^◌, ◌==◌, length, count_by, All, IfOk, OnOk};
+//! A table of counts with the histogram and the sum of its counts. Keys are counted block by block: what each key
+//! counts then is noted, so that the histogram moves in a loop of its own, apart from the one that waits for the
+//! table's memory.
+ghost use Rattle.std.specs.Prelude.{◌≡◌, ℕ, ◌+◌, ◌<◌, ◌≤◌, ◌^◌, ◌==◌, length, take, count_by, All, IfOk, OnOk};
 ghost use Rattle.kc_table.specs.Counts.{IsStored, count_at};
-ghost use Rattle.kc_booking.specs.Counted.{IsCounted, KeepsLimits, SomeMayBeFull, StandAt, all_readied};
+ghost use Rattle.kc_booking.specs.Counted.{IsCounted, KeepsLimits, SomeMayBeFull, StandAt, all_added, all_readied};
+ghost use Rattle.kc_booking.specs.NotedCounts.{CanRaise, all_raised, noted_counts};
 
-use crate::noted_counts::{BLOCK, count_keys, raise_all};
 use kc_lemmas::room_for_each;
 use kc_table::{Counts, TableFault};
 use kc_tally::Histogram;
 use std::alloc::Global;
 use std::marker::Model;
+
+// How many keys a block has at the most: their counts take 512 bytes.
+const BLOCK: usize = 64;
 
 /// A table, the histogram of its counts, and their sum, which is at most 2^62.
 #[derive(Drop)]
@@ -87,8 +92,6 @@ impl<C: Counts> CountedTable<C> {
         for block in 0..keys.len().div_ceil(BLOCK) {
             let begin = block * BLOCK;
             let end = keys.len().min(begin + BLOCK);
-            // first in the table, and then in the histogram, so that the loop over the table does nothing else while it
-            // waits for memory
             let mut noted = [0; BLOCK];
             count_keys(
                 &mut self.table,
@@ -99,5 +102,34 @@ impl<C: Counts> CountedTable<C> {
             raise_all(&mut self.histogram, &noted[..end - begin]);
             self.total += (end - begin) as u64;
         }
+    }
+}
+
+// Adds one to the count of each key at its place, and notes the new count. Conditions: the keys stand at these places,
+// there is room for what is noted, and no count passes 2^62.
+fn count_keys<C: Counts>(table: &mut C, keys: &[u64], places: &[u64], noted: &mut [u64])
+    requires in_range { All (λ key. key < 2 ^ C.bits table.old) keys.now }
+    requires there { StandAt C.stands_at table.old keys.now places.now }
+    requires room { length keys.now ≤ length noted.old }
+    requires small { (q : ℕ) → q < 2 ^ C.bits table.old
+        → count_at (C.counts table.old) q + length keys.now ≤ 2 ^ 62 }
+    ensures counts { C.counts table.new ≡ all_added (C.counts table.old) keys.now }
+    ensures noted { take (length keys.now) noted.new ≡ noted_counts (C.counts table.old) keys.now }
+    ensures kept { (q place : ℕ) → C.stands_at table.old q place → C.stands_at table.new q place }
+    ensures limits { KeepsLimits C.bits C.may_be_full table.old table.new }
+{
+    for i in 0..keys.len() {
+        noted[i] = table.increment_at(keys[i], places[i]);
+    }
+}
+
+// For each of these new counts, in order, moves one word from the bin of the count before into that of the new one.
+// Condition: each time the one bin has a word and the other has room.
+fn raise_all(histogram: &mut Histogram, counts: &[u64])
+    requires { CanRaise histogram.old counts.now }
+    ensures { histogram.new ≡ all_raised histogram.old counts.now }
+{
+    for count in counts {
+        histogram.raise(count - 1);
     }
 }

@@ -18,7 +18,6 @@ mod booking_fault;
 mod counted;
 mod cut;
 mod cuts;
-mod noted_counts;
 mod part_order;
 mod setup;
 mod starting_tables;

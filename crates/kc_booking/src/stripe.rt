@@ -245,7 +245,7 @@ impl<C: Counts> Stripe<C> {
         if cut.setup != self.setup || cut.stripe != self.number {
             return Err(BookFault::Stranger);
         }
-        if cut.keys.len() as u64 > MOST_WORDS - self.total() {
+        if cut.keys.len() as u64 > MOST_WORDS - self.counted.total {
             return Err(BookFault::Full);
         }
         Ok(())
@@ -325,7 +325,7 @@ impl<C: Counts> Stripe<C> {
                 return Err(BookFault::Twice);
             }
         }
-        if cuts.keys.len() as u64 > MOST_WORDS - self.total() {
+        if cuts.keys.len() as u64 > MOST_WORDS - self.counted.total {
             return Err(BookFault::Full);
         }
         Ok(())

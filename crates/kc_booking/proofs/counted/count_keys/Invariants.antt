@@ -1,5 +1,5 @@
 use Rattle.kc_booking.proofs.NotedCountLemmas.{AreNotedTo}
-use Rattle.kc_booking.proofs.noted_counts.count_keys.Given as goal
+use Rattle.kc_booking.proofs.counted.count_keys.Given as goal
 
 abbrev pub invariant-loop-i : goal.invariant-loop-i
 invariant-loop-i g l =

@@ -1,6 +1,6 @@
 use Rattle.std.proofs.Common.{arith}
 use Rattle.kc_booking.proofs.NotedCountLemmas.{AreNotedTo-more, count-room}
-use Rattle.kc_booking.proofs.noted_counts.count_keys.Goals as goal
+use Rattle.kc_booking.proofs.counted.count_keys.Goals as goal
 
 pub increment_at-requires-clause-room : goal.increment_at-requires-clause-room
 increment_at-requires-clause-room g c =
