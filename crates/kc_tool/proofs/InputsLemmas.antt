@@ -73,25 +73,31 @@ length-concat-push (first ∷ inputs) input =
 left_of : (left used most : ℕ) → left + used ≡ most → left ≡ most - used
 left_of left used most e = omega (arith, e)
 
+-- The sources that are left begin with the one of this number.
+pub next_of : (d : Seen) {new : List Seen} {number : ℕ} (given rest : List Seen) → new ≡ given ++ rest → number ≡ length given
+    → number < length new → (behind : List Seen) × (rest ≡ get_or new number d ∷ behind)
+next_of d given [] are counted within =
+    absurd (omega (arith, within, ap length are ∙ length-append given [], counted))
+next_of d given (here ∷ behind) are counted within =
+    let found = ap₂ (λ xs n. get_or xs n d) are counted ∙ get_or-append_seam given here behind d in
+    (behind, ap (λ x. x ∷ behind) (sym found))
+
+-- Where the first of those that are left is changed, those behind it are as they were.
+pub set_of : {new : List Seen} {number : ℕ} (given : List Seen) (here later : Seen) (behind : List Seen) → new ≡ given ++ here ∷ behind
+    → number ≡ length given → set new number later ≡ given ++ later ∷ behind
+set_of given here later behind are counted =
+    ap₂ (λ xs n. set xs n later) are counted ∙ set-append_seam given here behind later
+
 -- The next source is the one of this number, and is as it was.
 pub next_source : {old new : List Seen} {reads : List Read} {left number : ℕ} (d : Seen) → (r : ReadSoFar old new reads left number) → number < length new
     → (behind : List Seen) × (r.rest ≡ get_or new number d ∷ behind)
-next_source {old} {new} {reads} {left} {number} d r within = next r.rest refl where
-  next : (rest : List Seen) → r.rest ≡ rest → (behind : List Seen) × (r.rest ≡ get_or new number d ∷ behind)
-  next [] none =
-      let joined : length new ≡ length r.given + length r.rest = ap length r.are ∙ length-append r.given r.rest in
-      absurd (omega (arith, within, joined, ap length none, r.counted, r.paired))
-  next (here ∷ behind) is =
-      let split : new ≡ r.given ++ here ∷ behind = r.are ∙ ap (λ v. r.given ++ v) is in
-      let found : get_or new number d ≡ here =
-      ap₂ (λ xs n. get_or xs n d) split (r.counted ∙ sym r.paired) ∙ get_or-append_seam r.given here behind d in
-      (behind, is ∙ ap (λ x. x ∷ behind) (sym found))
+next_source d r within = next_of d r.given r.rest r.are (r.counted ∙ sym r.paired) within
 
 -- It was read or refused, and those behind it are as they were.
 pub one_set : {old new : List Seen} {reads : List Read} {left number : ℕ} (here later : Seen) (behind : List Seen) → (r : ReadSoFar old new reads left number)
     → r.rest ≡ here ∷ behind → set new number later ≡ r.given ++ later ∷ behind
-one_set {number = number} here later behind r is =
-    ap₂ (λ xs n. set xs n later) (r.are ∙ ap (λ v. r.given ++ v) is) (r.counted ∙ sym r.paired) ∙ set-append_seam r.given here behind later
+one_set here later behind r is =
+    set_of r.given here later behind (r.are ∙ ap (λ v. r.given ++ v) is) (r.counted ∙ sym r.paired)
 
 -- The next source was read.
 pub one_more : {old new : List Seen} {reads : List Read} (d later : Seen) (more : List Read) {left number : ℕ} (count : ℕ) → (r : ReadSoFar old new reads left number)
@@ -130,14 +136,16 @@ refused {old} {new} {reads} d later {left} {number} fault r within h =
     let next = next_source d r within in
     let here = get_or new number d in
     record {
-      before = r.done;
-      given = r.given;
-      here = here;
-      left = later;
-      behind = next.0;
-      were = r.were ∙ ap (λ v. r.done ++ v) next.1;
-      are = one_set here later next.0 r next.1;
-      counted = ap (λ v. v + 1) r.counted;
+      place = record {
+        before = r.done;
+        given = r.given;
+        here = here;
+        left = later;
+        behind = next.0;
+        were = r.were ∙ ap (λ v. r.done ++ v) next.1;
+        are = one_set here later next.0 r next.1;
+        counted = ap (λ v. v + 1) r.counted;
+      };
       inputs = r.inputs;
       reads = reads;
       earlier = r.earlier;

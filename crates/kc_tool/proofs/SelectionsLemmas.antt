@@ -4,7 +4,6 @@ use Rattle.std.proofs.Common.{ap, ap₂, subst, arith, append_assoc, append-nil,
 use Rattle.std.proofs.Common.{Result, Ok, Err}
 use Rattle.std.proofs.lemmas.List.{nil_from_length, length-map, get_or-map, map-set, map-append}
 use Rattle.std.proofs.lemmas.List.Sums.{count_by-le-length}
-use Rattle.std.proofs.Math.Seq.{get_or-append_seam, set-append_seam}
 use Rattle.kc_io.specs.Sources.{Seen}
 use Rattle.kc_io.specs.Sinks.{Written, HasTaken, HasWritten, HasBegun}
 use Rattle.kc_io.proofs.SinksLemmas.{Pending, begin, began_front, taken_both}
@@ -12,6 +11,7 @@ use Rattle.kc_fastx.specs.Parsing.{most_bytes}
 use Rattle.kc_fastx.specs.Titles.{Record, GivesRecords, reads_in}
 use Rattle.kc_fastx.specs.Parsing.{GivesReads}
 use Rattle.kc_fastx.proofs.ReadingLemmas.{base_count-gives}
+use Rattle.kc_tool.proofs.InputsLemmas.{next_of, set_of}
 use Rattle.kc_tool.proofs.ReadCountLemmas.{read_count-gives}
 use Rattle.kc_tally.specs.Tally.{TallySeen}
 use Rattle.kc_select.specs.Counts.{counts_of, both_counts, no_counts}
@@ -173,29 +173,20 @@ module _ {rule : SelectionRule} {tally : TallySeen} {old new : List Seen} {befor
     {counts : SelectionCounts} {left number : ℕ}
     (d later : Seen) (after : Written) (s : SelectedSoFar rule tally old new before now counts left number)
     (within : number < length new) where
-  next : (rest : List Seen) → s.rest ≡ rest → (behind : List Seen) × (s.rest ≡ get_or new number d ∷ behind)
-  next [] none =
-      let joined : length new ≡ length s.given + length s.rest = ap length s.are ∙ length-append s.given s.rest in
-      absurd (omega (arith, within, joined, ap length none, s.counted, s.paired))
-  next (here ∷ behind) is =
-      let split : new ≡ s.given ++ here ∷ behind = s.are ∙ ap (λ v. s.given ++ v) is in
-      let found : get_or new number d ≡ here =
-      ap₂ (λ xs n. get_or xs n d) split (s.counted ∙ sym s.paired) ∙ get_or-append_seam s.given here behind d in
-      (behind, is ∙ ap (λ x. x ∷ behind) (sym found))
+  next : (behind : List Seen) × (s.rest ≡ get_or new number d ∷ behind)
+  next = next_of d s.given s.rest s.are (s.counted ∙ sym s.paired) within
 
   abbrev here : Seen
   here = get_or new number d
 
   abbrev behind : List Seen
-  behind = (next s.rest refl).0
+  behind = next.0
 
   there : s.rest ≡ here ∷ behind
-  there = (next s.rest refl).1
+  there = next.1
 
   changed : set new number later ≡ s.given ++ later ∷ behind
-  changed =
-      ap₂ (λ xs n. set xs n later) (s.are ∙ ap (λ v. s.given ++ v) there) (s.counted ∙ sym s.paired)
-      ∙ set-append_seam s.given here behind later
+  changed = set_of s.given here later behind (s.are ∙ ap (λ v. s.given ++ v) there) (s.counted ∙ sym s.paired)
 
   abbrev stands : Streams
   stands = record { source = here; sink = now }
@@ -245,14 +236,16 @@ module _ {rule : SelectionRule} {tally : TallySeen} {old new : List Seen} {befor
   abbrev stops : (first : List Record) → BeginWith (task_within rule tally left) here first
       → StopsAt rule tally old (set new number later) (number + 1)
   stops first came = record {
-    before = s.done;
-    given = s.given;
-    here = here;
-    left = later;
-    behind = behind;
-    were = s.were ∙ ap (λ v. s.done ++ v) there;
-    are = changed;
-    counted = omega (arith, s.counted);
+    place = record {
+      before = s.done;
+      given = s.given;
+      here = here;
+      left = later;
+      behind = behind;
+      were = s.were ∙ ap (λ v. s.done ++ v) there;
+      are = changed;
+      counted = omega (arith, s.counted);
+    };
     earlier = s.earlier;
     limit = left;
     gave = s.gave;

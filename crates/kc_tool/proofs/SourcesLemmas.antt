@@ -199,8 +199,8 @@ module _ {S : Type 0} (seen : S → Seen) (input after : Seen) (empty : input.le
       → input.history.failures ≡ 0 → after.history.failures ≡ 0 → (number : ℕ) (fault : FastxFault)
       → FailsAt (sources_from input (seen_of seen files)) (sources_from after (seen_of seen later)) number fault → fault ≡ LacksMemory
   refused_nothing [] [] none same unfailed still number fault h =
-      let was = only_one input h.before h.here h.behind h.were in
-      let is = only_one after h.given h.left h.behind h.are in
+      let was = only_one input h.place.before h.place.here h.place.behind h.place.were in
+      let is = only_one after h.place.given h.place.left h.place.behind h.place.are in
       lacks_memory input after empty unfailed still (most_bytes - length (concat h.inputs)) fault (rw (was, is) h.fails)
   refused_nothing [] (source ∷ later) none same unfailed still number fault h = let no : ⊥ = cc in absurd no
   refused_nothing (file ∷ files) later none same unfailed still number fault h = let no : ⊥ = cc in absurd no

@@ -1,5 +1,5 @@
 -- The reads of several sources that a table selects: source, our formats page.
-use Rattle.std.specs.Prelude.{◌≡◌, ℕ, ◌-◌, ◌+◌, List, [], ◌∷◌, ◌++◌, length, Option, Result, Ok, Err, codes, decimal}
+use Rattle.std.specs.Prelude.{◌≡◌, ℕ, ◌-◌, List, [], ◌∷◌, ◌++◌, length, Option, Result, Ok, Err, codes, decimal}
 use Rattle.kc_io.specs.Sinks.{Written, HasWritten, HasBegun}
 use Rattle.kc_io.specs.Sources.{Seen}
 use Rattle.kc_fastx.specs.Parsing.{most_bytes}
@@ -12,6 +12,7 @@ use Rattle.kc_select.specs.Selecting.{BeginWith, Meets, Selects, Streams, Task}
 use Rattle.kc_select.specs.Solid.{SelectionRule}
 use Rattle.kc_select.specs.Texts.{selected_text}
 use Rattle.kc_tally.specs.Tally.{TallySeen}
+use Rattle.kc_tool.specs.Tallies.{SourcePlace}
 use Rattle.kc_tool.specs.declared.tool_faults.ToolFault.{ToolFault}
 use Rattle.kc_tool.specs.declared.tool_faults.ToolFault.TheVariants.{Fastx, Memory, Write}
 
@@ -52,22 +53,15 @@ GaveRecords limit left (old ∷ olds) (new ∷ news) (here ∷ others) = (gives 
     × GaveRecords (limit - length gives.0) left olds news others
 GaveRecords limit left _ _ _ = ⊥
 
--- the sources before the number-th, from 1, gave these records; of that one, which might give what they left of the
--- limit, these came first; and those behind it are as they were
+-- the sources before the number-th gave these records; of that one, which might give what they left of the limit, these
+-- came first
 pub record StopsAt (rule : SelectionRule) (tally : TallySeen) (old new : List Seen) (number : ℕ) : Type 0 where
-  pub before : List Seen
-  pub given : List Seen
-  pub here : Seen
-  pub left : Seen
-  pub behind : List Seen
-  pub were : old ≡ before ++ here ∷ behind
-  pub are : new ≡ given ++ left ∷ behind
-  pub counted : number ≡ length before + 1
+  pub place : SourcePlace old new number
   pub earlier : List (List Record)
   pub limit : ℕ
-  pub gave : GaveRecords most_bytes limit before given earlier
+  pub gave : GaveRecords most_bytes limit place.before place.given earlier
   pub first : List Record
-  pub came : BeginWith (task_within rule tally limit) here first
+  pub came : BeginWith (task_within rule tally limit) place.here first
 
 -- Ok: the selected reads of all sources were written, in order, and all were counted. Where a source has a fault, those
 -- before it were written. Where the writer failed, a beginning of the text of those that had come was taken. Where
@@ -79,7 +73,7 @@ SelectsFrom rule tally old new before after (Ok counts) = (records : List (List 
     × HasWritten before after (selected_text tally rule (all_records records))
     × (counts ≡ counts_of tally rule (reads_in (all_records records)))
 SelectsFrom rule tally old new before after (Err (Fastx number fault)) = (stop : StopsAt rule tally old new number)
-    × Meets (task_within rule tally stop.limit) stop.here stop.left fault
+    × Meets (task_within rule tally stop.limit) stop.place.here stop.place.left fault
     × HasWritten before after (selected_text tally rule (all_records stop.earlier ++ stop.first))
 SelectsFrom rule tally old new before after (Err Write) = (number : ℕ) × (stop : StopsAt rule tally old new number)
     × HasBegun before after (selected_text tally rule (all_records stop.earlier ++ stop.first))

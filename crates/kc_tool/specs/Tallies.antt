@@ -84,9 +84,8 @@ RefusesSource old new number limit (Fastx source fault) = (source ≡ number) ×
 RefusesSource old new number limit Memory = ⊤
 RefusesSource old new number limit _ = ⊥
 
--- the number-th source, from 1, is the first that has no reads: those before it gave theirs, it was refused in this
--- call for this fault, and those behind it are as they were
-pub record FailsAt (old new : List Seen) (number : ℕ) (fault : FastxFault) : Type 0 where
+-- a place among the sources: the number-th, from 1, between those before it and those behind it, which are as they were
+pub record SourcePlace (old new : List Seen) (number : ℕ) : Type 0 where
   pub before : List Seen
   pub given : List Seen
   pub here : Seen
@@ -95,10 +94,15 @@ pub record FailsAt (old new : List Seen) (number : ℕ) (fault : FastxFault) : T
   pub were : old ≡ before ++ here ∷ behind
   pub are : new ≡ given ++ left ∷ behind
   pub counted : number ≡ length before + 1
+
+-- the number-th source is the first that has no reads: those before it gave theirs, and it was refused in this call for
+-- this fault
+pub record FailsAt (old new : List Seen) (number : ℕ) (fault : FastxFault) : Type 0 where
+  pub place : SourcePlace old new number
   pub inputs : List (List ℕ)
   pub reads : List Read
-  pub earlier : GaveReads before given inputs reads
-  pub fails : RefusesFor here left (most_bytes - length (concat inputs)) fault
+  pub earlier : GaveReads place.before place.given inputs reads
+  pub fails : RefusesFor place.here place.left (most_bytes - length (concat inputs)) fault
 
 -- why the sources were not counted: one has no reads; or all gave reads, and the run over them was refused. Of want of
 -- memory outside the readers nothing is said

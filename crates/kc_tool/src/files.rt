@@ -2,13 +2,12 @@
 //!
 //! What stands in a file no contract tells. So `NamedFiles::open` and `NamedFiles::create` are to be read by eye: one
 //! call of std each, with the name that the log and the answer keep. Nothing else can open a file.
-ghost use Rattle.std.specs.Prelude.{◌≡◌, [], ◌∷◌, ◌++◌, IfErr, IfOk, IfSome, MatchOption, map};
+ghost use Rattle.std.specs.Prelude.{◌≡◌, List, [], ◌∷◌, ◌++◌, IfErr, IfOk, IfSome, MatchOption, map};
 ghost use Rattle.kc_io.specs.History.{no_history};
-ghost use Rattle.kc_tool.specs.FileEvents.{created, not_created, not_opened, opened, read, wrote};
+ghost use Rattle.kc_tool.specs.FileEvents.{FileEvent, created, event, not_created, not_opened, opened, read, wrote};
 ghost use Rattle.kc_tool.specs.Files.{FailsToOpen, OpensAll, TellsName, given_back};
 
 use crate::file_acts::FileAct;
-use crate::file_log::FileLog;
 use crate::named_sources::NamedSource;
 use crate::tool_faults::ToolFault;
 use kc_io::{Failed, FromRead, Heard, Sink, Source, ToWrite};
@@ -85,6 +84,34 @@ impl<F: Write> Sink for FileSink<F> {
         let answer = self.stream.flush();
         self.heard = self.heard.and_flush(&answer);
         answer
+    }
+}
+
+/// What was asked of the files so far. Proofs alone see it, and it takes no bytes.
+#[derive(Drop)]
+pub struct FileLog {
+    pub ghost events: { List FileEvent },
+}
+
+impl Model for FileLog {
+    ghost use Rattle.std.specs.Borrow.{ftrue};
+
+    ghost also_owns = { λ _. ftrue };
+}
+
+impl FileLog {
+    /// Nothing was asked yet.
+    pub fn nothing() -> FileLog
+        ensures { result.events ≡ [] }
+    {
+        FileLog {}
+    }
+
+    /// The log, and behind it that `act` was done with the file `name`, whose history is `heard` when it is given back.
+    pub fn and(&self, act: &FileAct, name: &[u8], heard: &Heard) -> FileLog
+        ensures { result.events ≡ self.now.events ++ event act.now name.now heard.now.history ∷ [] }
+    {
+        FileLog {}
     }
 }
 

@@ -26,7 +26,6 @@ mod counted_tally;
 mod counts_line;
 mod fault_lines;
 mod file_acts;
-mod file_log;
 mod files;
 mod given_options;
 mod named_sources;

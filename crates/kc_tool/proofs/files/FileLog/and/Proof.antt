@@ -21,10 +21,10 @@ use Rattle.kc_io.proofs.Walks.{none, none_made}
 use Rattle.kc_io.specs.contracts.histories.Heard as Heard
 use Rattle.kc_tool.specs.FileEvents.{event}
 use Rattle.kc_tool.specs.contracts.file_acts.FileAct as FileAct
-use Rattle.kc_tool.specs.contracts.file_log.FileLog as FileLog
-use Rattle.kc_tool.specs.contracts.file_log.FileLog.and as f
-use Rattle.kc_tool.proofs.file_log.FileLog.and.Statement.{statement}
-use Rattle.kc_tool.proofs.file_log.FileLog.and.Code as code
+use Rattle.kc_tool.specs.contracts.files.FileLog as FileLog
+use Rattle.kc_tool.specs.contracts.files.FileLog.and as f
+use Rattle.kc_tool.proofs.files.FileLog.and.Statement.{statement}
+use Rattle.kc_tool.proofs.files.FileLog.and.Code as code
 
 abbrev stayed : Stays f.ended.signature.params f.ended.kept
 stayed = (stay_dropped _ yes, (stay_dropped _ yes, (stay_dropped _ yes, (stay_dropped _ yes, tt))))

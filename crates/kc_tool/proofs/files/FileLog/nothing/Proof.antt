@@ -13,10 +13,10 @@ use denote.Steps.{nothing}
 use denote.Triple.Entry.{alive}
 use denote.Triple.Walked.{says, Stays, walk_of, ends_at}
 use Rattle.kc_io.proofs.Walks.{none, none_made}
-use Rattle.kc_tool.specs.contracts.file_log.FileLog as FileLog
-use Rattle.kc_tool.specs.contracts.file_log.FileLog.nothing as f
-use Rattle.kc_tool.proofs.file_log.FileLog.nothing.Statement.{statement}
-use Rattle.kc_tool.proofs.file_log.FileLog.nothing.Code as code
+use Rattle.kc_tool.specs.contracts.files.FileLog as FileLog
+use Rattle.kc_tool.specs.contracts.files.FileLog.nothing as f
+use Rattle.kc_tool.proofs.files.FileLog.nothing.Statement.{statement}
+use Rattle.kc_tool.proofs.files.FileLog.nothing.Code as code
 
 abbrev stayed : Stays f.ended.signature.params f.ended.kept
 stayed = tt
