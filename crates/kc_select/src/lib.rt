@@ -17,14 +17,14 @@
 mod base_walk;
 mod record_texts;
 mod select_fault;
-mod selecting;
+mod selected_text;
 mod selection;
 mod selection_counts;
 mod selector;
 mod word_counts;
 
 pub use select_fault::SelectFault;
-pub use selecting::select;
+pub use selected_text::select;
 pub use selection::Selection;
 pub use selection_counts::{Selected, SelectionCounts};
 pub use selector::Selector;

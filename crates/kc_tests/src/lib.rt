@@ -5,11 +5,11 @@
 #[cfg(test)]
 mod command_lines;
 #[cfg(test)]
-mod failing;
-#[cfg(test)]
 mod listed_reads;
 #[cfg(test)]
 mod progress_line;
+#[cfg(test)]
+mod source_lists;
 #[cfg(test)]
 mod tables_together;
 #[cfg(test)]

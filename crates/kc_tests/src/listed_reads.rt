@@ -1,5 +1,5 @@
 //! Counts that are kept to the words of a list.
-use crate::failing::{Counted, Slow, assert_counted, counted_of, fault_of, sources_of};
+use crate::source_lists::{Counted, Slow, assert_counted, counted_of, fault_of, sources_of};
 use kc_fastx::{FastxFault, FromBytes, FromRead};
 use kc_tool::{Dump, K, Options, Print, ToolFault};
 use std::process::Abort;

@@ -1,6 +1,6 @@
 //! Tables of reads that are counted apart and put together.
-use crate::failing::{Counted, add_sources, counted_of, sources_of};
 use crate::listed_reads::{BOTH, How, PLAIN, count_listed, options_of};
+use crate::source_lists::{Counted, add_sources, counted_of, sources_of};
 use crate::written_bytes::{assert_bytes, assert_same};
 use kc_fastx::FromBytes;
 use kc_tool::{Print, ToVec, ToolFault, merge, read_table, write_table};

@@ -5,7 +5,7 @@ use Rattle.kc_fastx.proofs.ReadingLemmas.{begun_in_vain, used_within}
 use Rattle.kc_select.specs.Selecting.{Streams, task_of}
 use Rattle.kc_select.proofs.SelectLemmas.{IsSelecting, selecting_none, selecting_more, fails_more, selects_ended}
 use Rattle.kc_select.proofs.SelectLemmas.{selects_before, counts_fit}
-use Rattle.kc_select.proofs.selecting.select.Goals as goal
+use Rattle.kc_select.proofs.selected_text.select.Goals as goal
 
 pub returns-in_default : goal.returns-in_default
 returns-in_default g c =

@@ -1,7 +1,7 @@
 use Rattle.std.proofs.Common.{◌-◌}
 use Rattle.kc_select.specs.Selecting.{Streams, task_of}
 use Rattle.kc_select.proofs.SelectLemmas.{IsSelecting}
-use Rattle.kc_select.proofs.selecting.select.Given as goal
+use Rattle.kc_select.proofs.selected_text.select.Given as goal
 
 abbrev pub invariant-reads : goal.invariant-reads
 invariant-reads g l =
