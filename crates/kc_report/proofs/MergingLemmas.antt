@@ -1,14 +1,13 @@
 -- The table texts of two counts, merged.
-use Rattle.std.proofs.Common.{◌≡◌, ℕ, ◌+◌, List, ◌++◌, length, false, refl, sym, ◌∙◌, ap, subst}
-use Rattle.std.specs.Prelude.{Option, Some, Ok}
+use Rattle.std.proofs.Common.{◌≡◌, ◌+◌, List, ◌++◌, length, false, refl, sym, ◌∙◌, subst}
+use Rattle.std.specs.Prelude.{Option, Some}
 use Rattle.std.proofs.lemmas.List.{length-append}
 use Rattle.kc_kmer.specs.Rule.{CountingRule}
 use Rattle.kc_tally.specs.Tally.{Read, TallySeen, IsTallyOf}
-use Rattle.kc_tally.specs.Sum.{IsSumOf}
 use Rattle.kc_tally.proofs.Tallies.{one_value, summed_tally}
 use Rattle.kc_report.specs.declared.origin.Origin.{Origin}
 use Rattle.kc_report.specs.Table.{table_text}
-use Rattle.kc_report.specs.Merging.{AreAlike, Merges, joined_origin, counted_from, IsCountRead, CountsMatch, MergedText}
+use Rattle.kc_report.specs.Merging.{AreAlike, joined_origin, counted_from, IsCountRead, CountsMatch, MergedText}
 use Rattle.kc_report.proofs.TableAnswers.{same_tally}
 
 -- the text of a count was read as that count

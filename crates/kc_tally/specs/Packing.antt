@@ -1,7 +1,7 @@
 -- How rows stand in words of 64 bits.
 -- Source: this project's own.
 use Rattle.std.specs.Prelude.{◌≡◌, refl, ℕ, ◌+◌, ◌-◌, ◌*◌, ◌/◌, ◌%◌, ◌^◌, ◌≤◌, ◌==◌, Bool, nat_le, List, [], ◌∷◌}
-use Rattle.std.specs.Prelude.{◌<◌, length, map, max, drop, filter, reverse, All, Any, slice_index, if◌then◌else◌}
+use Rattle.std.specs.Prelude.{◌<◌, map, max, drop, filter, reverse, All, Any, slice_index, if◌then◌else◌}
 use Rattle.std.specs.List.{flat_map}
 use Rattle.kc_tally.specs.declared.row.Row.{Row}
 use Rattle.kc_tally.specs.Tally.{row_of}

@@ -5,6 +5,7 @@ pub mod FaultLinesLemmas
 pub mod FilesLemmas
 pub mod InputsLemmas
 pub mod MergedReportsLemmas
+pub mod PlaceLemmas
 pub mod ReadCountLemmas
 pub mod ReportsLemmas
 pub mod SelectionsLemmas

@@ -1,8 +1,8 @@
 -- Selecting the reads of source after source.
 use Rattle.std.proofs.Common.{◌≡◌, ◌≤◌, ◌<◌, ◌+◌, ◌-◌, ◌++◌, ◌∙◌, ℕ, List, [], ◌∷◌, length, get_or, set, map, refl, sym}
-use Rattle.std.proofs.Common.{ap, ap₂, subst, arith, append_assoc, append-nil, length-append, ◌⊎◌, inl, inr}
+use Rattle.std.proofs.Common.{ap, ap₂, subst, arith, append_assoc, append-nil, ◌⊎◌, inl, inr}
 use Rattle.std.proofs.Common.{Result, Ok, Err}
-use Rattle.std.proofs.lemmas.List.{nil_from_length, length-map, get_or-map, map-set, map-append}
+use Rattle.std.proofs.lemmas.List.{length-map, get_or-map, map-set, map-append}
 use Rattle.std.proofs.lemmas.List.Sums.{count_by-le-length}
 use Rattle.kc_io.specs.Sources.{Seen}
 use Rattle.kc_io.specs.Sinks.{Written, HasTaken, HasWritten, HasBegun}
@@ -11,7 +11,7 @@ use Rattle.kc_fastx.specs.Parsing.{most_bytes}
 use Rattle.kc_fastx.specs.Titles.{Record, GivesRecords, reads_in}
 use Rattle.kc_fastx.specs.Parsing.{GivesReads}
 use Rattle.kc_fastx.proofs.ReadingLemmas.{base_count-gives}
-use Rattle.kc_tool.proofs.InputsLemmas.{next_of, set_of}
+use Rattle.kc_tool.proofs.PlaceLemmas.{TakenSoFar, none_taken, one_taken, next_place, all_taken}
 use Rattle.kc_tool.proofs.ReadCountLemmas.{read_count-gives}
 use Rattle.kc_tally.specs.Tally.{TallySeen}
 use Rattle.kc_select.specs.Counts.{counts_of, both_counts, no_counts}
@@ -132,15 +132,9 @@ sums_fit left bytes counts more fit within = record {
 -- they were.
 pub record SelectedSoFar (rule : SelectionRule) (tally : TallySeen) (old new : List Seen) (before after : Written)
     (counts : SelectionCounts) (left number : ℕ) : Type 0 where
-  pub done : List Seen
-  pub given : List Seen
-  pub rest : List Seen
-  pub were : old ≡ done ++ rest
-  pub are : new ≡ given ++ rest
-  pub counted : number ≡ length done
-  pub paired : length given ≡ length done
+  pub sources : TakenSoFar old new number
   pub earlier : List (List Record)
-  pub gave : GaveRecords most_bytes left done given earlier
+  pub gave : GaveRecords most_bytes left sources.done sources.given earlier
   pub within : left ≤ most_bytes
   pub totals : counts ≡ counts_of tally rule (reads_in (all_records earlier))
   pub fit : FitBeside left counts
@@ -151,13 +145,7 @@ pub selected_none : (rule : SelectionRule) (tally : TallySeen) (sources : List S
     (counts : SelectionCounts) → counts ≡ no_counts
     → SelectedSoFar rule tally sources sources sink sink counts most_bytes 0
 selected_none rule tally sources sink counts nothing = record {
-  done = [];
-  given = [];
-  rest = sources;
-  were = refl;
-  are = refl;
-  counted = refl;
-  paired = refl;
+  sources = none_taken sources;
   earlier = [];
   gave = refl;
   within = omega arith;
@@ -173,20 +161,8 @@ module _ {rule : SelectionRule} {tally : TallySeen} {old new : List Seen} {befor
     {counts : SelectionCounts} {left number : ℕ}
     (d later : Seen) (after : Written) (s : SelectedSoFar rule tally old new before now counts left number)
     (within : number < length new) where
-  next : (behind : List Seen) × (s.rest ≡ get_or new number d ∷ behind)
-  next = next_of d s.given s.rest s.are (s.counted ∙ sym s.paired) within
-
   abbrev here : Seen
   here = get_or new number d
-
-  abbrev behind : List Seen
-  behind = next.0
-
-  there : s.rest ≡ here ∷ behind
-  there = next.1
-
-  changed : set new number later ≡ s.given ++ later ∷ behind
-  changed = set_of s.given here later behind (s.are ∙ ap (λ v. s.given ++ v) there) (s.counted ∙ sym s.paired)
 
   abbrev stands : Streams
   stands = record { source = here; sink = now }
@@ -205,20 +181,13 @@ module _ {rule : SelectionRule} {tally : TallySeen} {old new : List Seen} {befor
       let written = h.2 in
       let used : length gives.0 ≡ selected.bytes = sym (ap (λ (v : Selected). v.bytes) h.3) in
       let fits = within_next rule tally left (number + 1) stands stands_after selected some h in
-      let done = s.done ++ here ∷ [] in
-      let given = s.given ++ later ∷ [] in
+      let sources = one_taken d later s.sources within in
       let earlier = s.earlier ++ records ∷ [] in
       record {
-        done = done;
-        given = given;
-        rest = behind;
-        were = s.were ∙ ap (λ v. s.done ++ v) there ∙ sym (append_assoc s.done (here ∷ []) behind);
-        are = changed ∙ sym (append_assoc s.given (later ∷ []) behind);
-        counted = omega (arith, s.counted, length-append s.done (here ∷ []));
-        paired = omega (arith, s.paired, length-append s.done (here ∷ []), length-append s.given (later ∷ []));
+        sources = sources;
         earlier = earlier;
-        gave = subst (λ n. GaveRecords most_bytes (left - n) done given earlier) used
-            (GaveRecords-push most_bytes left s.done s.given s.earlier here later records gives s.gave);
+        gave = subst (λ n. GaveRecords most_bytes (left - n) sources.done sources.given earlier) used
+            (GaveRecords-push most_bytes left s.sources.done s.sources.given s.earlier here later records gives s.gave);
         within = omega (arith, s.within);
         totals = counts_push-list tally rule s.earlier records counts selected.counts s.totals
             (ap (λ (v : Selected). v.counts) h.3);
@@ -236,16 +205,7 @@ module _ {rule : SelectionRule} {tally : TallySeen} {old new : List Seen} {befor
   abbrev stops : (first : List Record) → BeginWith (task_within rule tally left) here first
       → StopsAt rule tally old (set new number later) (number + 1)
   stops first came = record {
-    place = record {
-      before = s.done;
-      given = s.given;
-      here = here;
-      left = later;
-      behind = behind;
-      were = s.were ∙ ap (λ v. s.done ++ v) there;
-      are = changed;
-      counted = omega (arith, s.counted);
-    };
+    place = next_place d later s.sources within;
     earlier = s.earlier;
     limit = left;
     gave = s.gave;
@@ -300,10 +260,7 @@ pub selected_all : {rule : SelectionRule} {tally : TallySeen} {old new : List Se
     {counts : SelectionCounts} {left number : ℕ} → SelectedSoFar rule tally old new before after counts left number
     → length new ≤ number → 1 ≤ length new → SelectsFrom rule tally old new before after (Ok counts)
 selected_all {rule} {tally} {old} {new} {before} {after} {counts} {left} {number} s all some =
-    let joined : length new ≡ length s.given + length s.rest = ap length s.are ∙ length-append s.given s.rest in
-    let none : s.rest ≡ [] = nil_from_length s.rest (omega (arith, joined, all, s.counted, s.paired)) in
-    let were : s.done ≡ old = sym (s.were ∙ ap (λ v. s.done ++ v) none ∙ append-nil s.done) in
-    let are : s.given ≡ new = sym (s.are ∙ ap (λ v. s.given ++ v) none ∙ append-nil s.given) in
+    let (were, are) = all_taken s.sources all in
     let flushed : after.history.flushed ≡ length after.history.bytes = elim s.flushed [
       | inl begun ↦ absurd (omega (arith, begun, all, some))
       | inr ended ↦ ended
@@ -311,7 +268,7 @@ selected_all {rule} {tally} {old} {new} {before} {after} {counts} {left} {number
       s.earlier,
       left,
       subst (λ v. GaveRecords most_bytes left old v s.earlier) are
-          (subst (λ v. GaveRecords most_bytes left v s.given s.earlier) were s.gave),
+          (subst (λ v. GaveRecords most_bytes left v s.sources.given s.earlier) were s.gave),
       record { taken = s.taken; flushed = flushed },
       s.totals,
     )

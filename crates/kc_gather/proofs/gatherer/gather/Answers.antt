@@ -31,22 +31,6 @@ gathered g c = record {
   sorted_are = c.in_ok-parts.ensures;
 }
 
-gathered_whole : (g : _) (c : goal.In_ok-tally_of g) → IsGathering c.args.setup.now (values c.args.batches.now) c.args.stripes.items (list_rows c.in_ok-parts.parts)
-gathered_whole g c = record {
-  placed = c.in_ok-placed.placed.items;
-  taken = c.in_ok-taken.taken.items;
-  columns = c.in_ok-columns.columns.items;
-  k = c.k.result;
-  one_each = c.requires.one_each;
-  at = c.in_ok-placed.ensures;
-  whole = c.in_ok-taken.ensures.whole;
-  have = c.in_ok-taken.ensures.rows;
-  same_k = c.k.ensures ∙ ap (λ (rule : CountingRule). rule.k) c.rule.ensures;
-  parted = c.in_ok-columns.ensures.columns;
-  same = c.in_ok-columns.ensures.rows;
-  sorted_are = c.in_ok-parts.ensures;
-}
-
 pub tally_of-requires : goal.tally_of-requires
 tally_of-requires g c = AreRows-gathered c.args.setup.now (values c.args.batches.now) c.args.stripes.items (list_rows c.in_ok-parts.parts) c.requires.few (gathered g c)
 
@@ -55,7 +39,7 @@ returns-clause-whole g c = whole-at_places c.args.stripes.items c.in_ok-placed.p
 
 pub returns-clause-tally : goal.returns-clause-tally
 returns-clause-tally g c =
-    IsTallyOf-gathered c.args.setup.now (values c.args.batches.now) c.args.stripes.items (list_rows c.in_ok-parts.parts) c.in_ok-tally_of.field-0 c.in_ok-tally_of.ensures (gathered_whole g c)
+    IsTallyOf-gathered c.args.setup.now (values c.args.batches.now) c.args.stripes.items (list_rows c.in_ok-parts.parts) c.in_ok-tally_of.field-0 c.in_ok-tally_of.ensures (gathered g c.before.before.before)
 
 pub returns-in_err-taken-clause-refused : goal.returns-in_err-taken-clause-refused
 returns-in_err-taken-clause-refused g c =

@@ -1,6 +1,6 @@
-use Rattle.std.proofs.Common.{◌≡◌, ◌+◌, ◌++◌, [], length, ap, sym, subst, ◌∙◌, append-nil, arith, drop}
+use Rattle.std.proofs.Common.{◌≡◌, ◌+◌, ◌++◌, [], length, ap, sym, ◌∙◌, append-nil, arith, drop}
 use Rattle.std.proofs.lemmas.Result.{err_from_is_err_and}
-use Rattle.kc_io.proofs.SinksLemmas.{Pending, SinkCall, begin, began_front, drained, last}
+use Rattle.kc_io.proofs.SinksLemmas.{SinkCall, begin, began_front, drained, last}
 use Rattle.kc_report.specs.Histo.{lines_from, count_line}
 use Rattle.kc_report.proofs.HistoLemmas.{next_line, lines-last}
 use Rattle.kc_report.proofs.histogram_text.histo_by_blocks.Goals as goal

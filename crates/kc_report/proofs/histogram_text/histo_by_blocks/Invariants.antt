@@ -1,4 +1,4 @@
-use Rattle.std.proofs.Common.{◌≡◌, ◌+◌, ◌++◌, drop}
+use Rattle.std.proofs.Common.{◌+◌, ◌++◌, drop}
 use Rattle.kc_io.proofs.SinksLemmas.{Pending}
 use Rattle.kc_report.specs.Histo.{lines_from}
 use Rattle.kc_report.proofs.histogram_text.histo_by_blocks.Given as goal

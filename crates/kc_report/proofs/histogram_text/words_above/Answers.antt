@@ -1,4 +1,4 @@
-use Rattle.std.proofs.Common.{◌≡◌, ◌+◌, ◌∙◌, sym, arith}
+use Rattle.std.proofs.Common.{◌∙◌, sym, arith}
 use Rattle.kc_report.proofs.CountLemmas.{words_at, words_above-all, words_above-split}
 use Rattle.kc_report.proofs.histogram_text.words_above.Goals as goal
 

@@ -3,7 +3,7 @@ use Rattle.std.proofs.lemmas.Result.{err_from_is_err_and}
 use Rattle.kc_fastx.specs.Reading.{first_stand}
 use Rattle.kc_fastx.proofs.ReadingLemmas.{begun_in_vain, used_within}
 use Rattle.kc_select.specs.Selecting.{Streams, task_of}
-use Rattle.kc_select.proofs.SelectLemmas.{IsSelecting, selecting_none, selecting_more, fails_more, selects_ended}
+use Rattle.kc_select.proofs.SelectLemmas.{selecting_none, selecting_more, fails_more, selects_ended}
 use Rattle.kc_select.proofs.SelectLemmas.{selects_before, counts_fit}
 use Rattle.kc_select.proofs.selected_text.select.Goals as goal
 
@@ -13,149 +13,80 @@ returns-in_default g c =
     let wrote = g.W.Sink.seen in
     let task = task_of c.args.selector.now c.args.limit in
     let start : Streams = record { source = seen c.args.source.now; sink = wrote c.args.writer.now } in
-    let end : Streams = record { source = seen c.args.source.now; sink = wrote c.end_with.new.writer } in
     let none = selecting_none task start (first_stand c.args.limit) c.new-block.result c.none-counts.result refl c.new-block.ensures
     c.none-counts.ensures in
-    selects_before none end (first_stand c.args.limit) _ c.end_with.result
+    selects_before none _ (first_stand c.args.limit) _ c.end_with.result
     (begun_in_vain (seen c.args.source.now) c.args.limit) c.end_with.ensures
 
 pub reads-init : goal.reads-init
 reads-init g c =
-    let seen = g.S.Source.seen in
-    let wrote = g.W.Sink.seen in
-    let task = task_of c.args.selector.now c.args.limit in
-    let start : Streams = record { source = seen c.args.source.now; sink = wrote c.args.writer.now } in
-    selecting_none task start c.in-Ok.reading c.new-block.result c.none-counts.result c.in-Ok.ensures c.new-block.ensures
-    c.none-counts.ensures
+    let start : Streams = record { source = g.S.Source.seen c.args.source.now; sink = g.W.Sink.seen c.args.writer.now } in
+    selecting_none (task_of c.args.selector.now c.args.limit) start c.in-Ok.reading c.new-block.result c.none-counts.result
+    c.in-Ok.ensures c.new-block.ensures c.none-counts.ensures
 
 pub returns-in_err-judged-in-Ok-Some : goal.returns-in_err-judged-in-Ok-Some
 returns-in_err-judged-in-Ok-Some g c =
-    let seen = g.S.Source.seen in
-    let wrote = g.W.Sink.seen in
-    let task = task_of c.args.selector.now c.args.limit in
-    let start : Streams = record { source = seen c.args.source.now; sink = wrote c.args.writer.now } in
-    let now : Streams = record { source = seen c.reads.source; sink = wrote c.reads.writer } in
-    let s : IsSelecting task start now c.reads.reading c.reads.block c.reads.counts = c.reads.invariant in
-    let given = rw c.in-Ok-Some.field-0-is at c.in-Ok-Some.ensures.given (seen c.args.source.now) c.args.limit
-    s.records s.given in
-    let new : Streams = record { source = seen c.next_titled.new.source; sink = wrote c.put_selected.new.writer } in
+    let s = c.reads.invariant in
+    let given = rw c.in-Ok-Some.field-0-is at c.in-Ok-Some.ensures.given _ _ s.records s.given in
     let p = err_from_is_err_and c.from_residual.result c.from_residual.ensures.1 in
-    rw (p.1, p.2) (fails_more s new c.next_titled.new.self _ _ given
+    rw (p.1, p.2) (fails_more s _ c.next_titled.new.self _ _ given
     (rw c.deref.ensures.value at c.in_err-judged-in-Ok-Some.ensures.err))
 
 pub reads-smaller-in_ok-judged-in-Ok-Some : goal.reads-smaller-in_ok-judged-in-Ok-Some
 reads-smaller-in_ok-judged-in-Ok-Some g c =
-    let seen = g.S.Source.seen in
-    let wrote = g.W.Sink.seen in
-    let task = task_of c.args.selector.now c.args.limit in
-    let start : Streams = record { source = seen c.args.source.now; sink = wrote c.args.writer.now } in
-    let now : Streams = record { source = seen c.reads.source; sink = wrote c.reads.writer } in
-    let s : IsSelecting task start now c.reads.reading c.reads.block c.reads.counts = c.reads.invariant in
-    let given = rw c.in-Ok-Some.field-0-is at c.in-Ok-Some.ensures.given (seen c.args.source.now) c.args.limit
-    s.records s.given in
-    let within = used_within (seen c.args.source.now) (seen c.next_titled.new.source) c.args.limit _
-    c.next_titled.new.self given.given in
-    let more = rw c.in-Ok-Some.field-0-is at c.in-Ok-Some.ensures.used in
-    omega (arith, within, more)
+    let s = c.reads.invariant in
+    let given = rw c.in-Ok-Some.field-0-is at c.in-Ok-Some.ensures.given _ _ s.records s.given in
+    omega (arith, used_within _ _ c.args.limit _ c.next_titled.new.self given.given, rw c.in-Ok-Some.field-0-is at c.in-Ok-Some.ensures.used)
 
 pub reads-preserved-in_ok-judged-in-Ok-Some : goal.reads-preserved-in_ok-judged-in-Ok-Some
 reads-preserved-in_ok-judged-in-Ok-Some g c =
-    let seen = g.S.Source.seen in
-    let wrote = g.W.Sink.seen in
-    let task = task_of c.args.selector.now c.args.limit in
-    let start : Streams = record { source = seen c.args.source.now; sink = wrote c.args.writer.now } in
-    let now : Streams = record { source = seen c.reads.source; sink = wrote c.reads.writer } in
-    let s : IsSelecting task start now c.reads.reading c.reads.block c.reads.counts = c.reads.invariant in
-    let given = rw c.in-Ok-Some.field-0-is at c.in-Ok-Some.ensures.given (seen c.args.source.now) c.args.limit
-    s.records s.given in
-    let new : Streams = record { source = seen c.next_titled.new.source; sink = wrote c.put_selected.new.writer } in
+    let s = c.reads.invariant in
+    let given = rw c.in-Ok-Some.field-0-is at c.in-Ok-Some.ensures.given _ _ s.records s.given in
     let more = rw c.in-Ok-Some.field-0-is at c.in-Ok-Some.ensures.used in
-    selecting_more s new c.next_titled.new.self c.put_selected.new.block _ _ c.in_ok-judged-in-Ok-Some.judged
+    selecting_more s _ c.next_titled.new.self c.put_selected.new.block _ _ c.in_ok-judged-in-Ok-Some.judged
     c.and-counts.result given (rw c.deref.ensures.value at c.in_ok-judged-in-Ok-Some.ensures.ok)
     c.in_ok-judged-in-Ok-Some.ensures.counts c.and-counts.ensures more
 
 pub returns-in-Ok-None : goal.returns-in-Ok-None
 returns-in-Ok-None g c =
-    let seen = g.S.Source.seen in
-    let wrote = g.W.Sink.seen in
-    let task = task_of c.args.selector.now c.args.limit in
-    let start : Streams = record { source = seen c.args.source.now; sink = wrote c.args.writer.now } in
-    let now : Streams = record { source = seen c.reads.source; sink = wrote c.reads.writer } in
-    let s : IsSelecting task start now c.reads.reading c.reads.block c.reads.counts = c.reads.invariant in
-    let new : Streams = record { source = seen c.next_titled.new.source; sink = wrote c.finish.new.writer } in
-    let end = rw c.in-Ok-None.field-0-is at c.in-Ok-None.ensures.given (seen c.args.source.now) c.args.limit
-    s.records s.given in
-    selects_ended s new c.next_titled.new.self c.byte_count-bytes.result c.finish.result end.0 end.1
+    let s = c.reads.invariant in
+    let end = rw c.in-Ok-None.field-0-is at c.in-Ok-None.ensures.given _ _ s.records s.given in
+    selects_ended s _ c.next_titled.new.self c.byte_count-bytes.result c.finish.result end.0 end.1
     c.byte_count-bytes.ensures c.finish.ensures.written c.finish.ensures.told c.finish.ensures.fault
 
 pub returns-in-Err : goal.returns-in-Err
 returns-in-Err g c =
-    let seen = g.S.Source.seen in
-    let wrote = g.W.Sink.seen in
-    let task = task_of c.args.selector.now c.args.limit in
-    let start : Streams = record { source = seen c.args.source.now; sink = wrote c.args.writer.now } in
-    let now : Streams = record { source = seen c.reads.source; sink = wrote c.reads.writer } in
-    let s : IsSelecting task start now c.reads.reading c.reads.block c.reads.counts = c.reads.invariant in
-    let new : Streams = record { source = seen c.next_titled.new.source; sink = wrote c.end_with-in-Err.new.writer } in
-    let meets = c.in-Err.ensures.given (seen c.args.source.now) c.args.limit s.records s.given in
-    selects_before s new c.next_titled.new.self c.in-Err.fault c.end_with-in-Err.result meets
-    c.end_with-in-Err.ensures
+    let s = c.reads.invariant in
+    selects_before s _ c.next_titled.new.self c.in-Err.fault c.end_with-in-Err.result
+    (c.in-Err.ensures.given _ _ s.records s.given) c.end_with-in-Err.ensures
 
 pub byte_count-bytes-requires : goal.byte_count-bytes-requires
 byte_count-bytes-requires g c =
-    let seen = g.S.Source.seen in
-    let wrote = g.W.Sink.seen in
-    let task = task_of c.args.selector.now c.args.limit in
-    let start : Streams = record { source = seen c.args.source.now; sink = wrote c.args.writer.now } in
-    let now : Streams = record { source = seen c.reads.source; sink = wrote c.reads.writer } in
-    let s : IsSelecting task start now c.reads.reading c.reads.block c.reads.counts = c.reads.invariant in
-    let end = rw c.in-Ok-None.field-0-is at c.in-Ok-None.ensures.given (seen c.args.source.now) c.args.limit
-    s.records s.given in
+    let s = c.reads.invariant in
+    let end = rw c.in-Ok-None.field-0-is at c.in-Ok-None.ensures.given _ _ s.records s.given in
     end.0.given.unfailed
 
 pub reads-smaller : goal.reads-smaller
 reads-smaller g c =
-    let seen = g.S.Source.seen in
-    let wrote = g.W.Sink.seen in
-    let task = task_of c.args.selector.now c.args.limit in
-    let start : Streams = record { source = seen c.args.source.now; sink = wrote c.args.writer.now } in
-    let now : Streams = record { source = seen c.reads.source; sink = wrote c.reads.writer } in
-    let s : IsSelecting task start now c.reads.reading c.reads.block c.reads.counts = c.reads.invariant in
-    let given = rw c.in-Ok-Some.field-0-is at c.in-Ok-Some.ensures.given (seen c.args.source.now) c.args.limit
-    s.records s.given in
-    let within = used_within (seen c.args.source.now) (seen c.next_titled.new.source) c.args.limit _
-    c.next_titled.new.self given.given in
-    let more = rw c.in-Ok-Some.field-0-is at c.in-Ok-Some.ensures.used in
-    omega (arith, within, more)
+    let s = c.reads.invariant in
+    let given = rw c.in-Ok-Some.field-0-is at c.in-Ok-Some.ensures.given _ _ s.records s.given in
+    omega (arith, used_within _ _ c.args.limit _ c.next_titled.new.self given.given, rw c.in-Ok-Some.field-0-is at c.in-Ok-Some.ensures.used)
 
 pub reads-preserved : goal.reads-preserved
 reads-preserved g c =
-    let seen = g.S.Source.seen in
-    let wrote = g.W.Sink.seen in
-    let task = task_of c.args.selector.now c.args.limit in
-    let start : Streams = record { source = seen c.args.source.now; sink = wrote c.args.writer.now } in
-    let now : Streams = record { source = seen c.reads.source; sink = wrote c.reads.writer } in
-    let s : IsSelecting task start now c.reads.reading c.reads.block c.reads.counts = c.reads.invariant in
-    let given = rw c.in-Ok-Some.field-0-is at c.in-Ok-Some.ensures.given (seen c.args.source.now) c.args.limit
-    s.records s.given in
-    let new : Streams = record { source = seen c.next_titled.new.source; sink = wrote c.put_selected.new.writer } in
+    let s = c.reads.invariant in
+    let given = rw c.in-Ok-Some.field-0-is at c.in-Ok-Some.ensures.given _ _ s.records s.given in
     let more = rw c.in-Ok-Some.field-0-is at c.in-Ok-Some.ensures.used in
-    selecting_more s new c.next_titled.new.self c.put_selected.new.block _ _ c.in_ok-judged-in-Ok-Some.judged
+    selecting_more s _ c.next_titled.new.self c.put_selected.new.block _ _ c.in_ok-judged-in-Ok-Some.judged
     c.and-counts.result given (rw c.deref.ensures.value at c.in_ok-judged-in-Ok-Some.ensures.ok)
     c.in_ok-judged-in-Ok-Some.ensures.counts c.and-counts.ensures more
 
 pub and-counts-requires : goal.and-counts-requires
 and-counts-requires g c =
-    let seen = g.S.Source.seen in
-    let wrote = g.W.Sink.seen in
-    let task = task_of c.args.selector.now c.args.limit in
-    let start : Streams = record { source = seen c.args.source.now; sink = wrote c.args.writer.now } in
-    let now : Streams = record { source = seen c.reads.source; sink = wrote c.reads.writer } in
-    let s : IsSelecting task start now c.reads.reading c.reads.block c.reads.counts = c.reads.invariant in
-    let given = rw c.in-Ok-Some.field-0-is at c.in-Ok-Some.ensures.given (seen c.args.source.now) c.args.limit
-    s.records s.given in
+    let s = c.reads.invariant in
+    let given = rw c.in-Ok-Some.field-0-is at c.in-Ok-Some.ensures.given _ _ s.records s.given in
     let more = rw c.in-Ok-Some.field-0-is at c.in-Ok-Some.ensures.used in
     let some : 1 ≤ c.args.selector.now.tally.k = omega (arith, c.get-bases.ensures.some, c.k.ensures) in
-    let few = counts_fit s (seen c.next_titled.new.source) c.next_titled.new.self _ _ c.in_ok-judged-in-Ok-Some.judged
+    let few = counts_fit s _ c.next_titled.new.self _ _ c.in_ok-judged-in-Ok-Some.judged
     some c.requires given c.in_ok-judged-in-Ok-Some.ensures.counts more in
     record { reads = few.reads; kept = few.kept; words = few.words; solid = few.solid }

@@ -1,4 +1,4 @@
-use Rattle.std.proofs.Common.{◌++◌, ◌∷◌, [], sym, subst, arith}
+use Rattle.std.proofs.Common.{◌++◌, ◌∷◌, [], sym, subst}
 use Rattle.kc_tally.specs.Tally.{TallySeen, AreRows}
 use Rattle.kc_report.proofs.NextRowLemmas.{may-pack}
 use Rattle.kc_report.proofs.table_rows.TableRows.push.Goals as goal

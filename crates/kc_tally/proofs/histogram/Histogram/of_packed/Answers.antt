@@ -1,5 +1,4 @@
-use Rattle.std.proofs.Common.{◌≡◌, ◌∙◌, ◌+◌, ℕ, List, [], ◌∷◌, sym, subst}
-use Rattle.kc_tally.specs.declared.row.Row.{Row}
+use Rattle.std.proofs.Common.{◌∙◌, ◌+◌, ℕ, List, sym, subst}
 use Rattle.kc_tally.proofs.Bins.{AreLeft, all-left, one-left, left-fits, none-left}
 use Rattle.kc_tally.proofs.Parts.{all_rows}
 use Rattle.kc_tally.proofs.histogram.Histogram.of_packed.Goals as goal
