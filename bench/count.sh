@@ -3,17 +3,21 @@
 #   bench/count.sh [GENOME_BASES [LENGTH_OF_WORDS]]       4,900,000 and 21
 # The reads are seeded FASTQ of 100 bases, 20 over each base of the genome, with one wrong base in a hundred; both strands count, and the
 # words are written sorted to a file. Jellyfish is `count`, `dump -c` and `sort`; KMC is `kmc` and its sorted `dump`. The dumps of all
-# three are compared. With the histogram, KMC's is `kmc_tools transform histogram`.
+# three are compared. With the histogram, KMC's is `kmc_tools transform histogram`. The processor time is also that of one of the reads'
+# k-mers.
 #   THREADS     numbers of threads ("1 4")
 #   COVERAGE    reads over each base (20)
+#   ERRORS      wrong bases in a thousand (10)
 #   REPORTS     "dump histo"
 #   OPTIONS     more options of kcount, as "--stripes 64"
 #   PEERS       "jellyfish kmc"
 # It needs bin/kcount. The peers are Debian's (apt-get install jellyfish kmc time); one that is missing is left out. Where perf is there
 # (linux-perf), a second table says where kcount's processor time goes, by the functions that its samples fell in.
 . "$(dirname "$0")/lib.sh"
-whole_command "${1:-4900000}"
+bases=${1:-4900000}
 k=${2:-21}
+whole_command "$bases"
+kmers=$((bases * ${COVERAGE:-20} / 100 * (101 - k)))
 
 # what a tool does with so many threads
 kcount_dump() { "$kcount" count -m $k -C -t "$1" ${OPTIONS:-} --print dump --column -o "$work/kcount.txt" "$reads"; }
@@ -47,19 +51,22 @@ measured() {
     done | sort -n | awk 'NR == 1 { print $1, $2 + $3, $4 }'
 }
 
-echo "| Report | Threads | Tool | Wall | Processor | Peak | kcount's wall to it |"
-echo "|---|---|---|---|---|---|---|"
+echo "| Report | Threads | Tool | Wall | Processor | A k-mer | Peak | kcount's wall to it | Its peak |"
+echo "|---|---|---|---|---|---|---|---|---|"
 for report in ${REPORTS:-dump histo}; do
     for threads in ${THREADS:-1 4}; do
         ours=
+        our_peak=
         for tool in kcount ${PEERS:-jellyfish kmc}; do
             declare -F ${tool}_$report > "$work/which" || continue
             [ $tool = kcount ] || command -v $tool > "$work/which" || continue
             read -r wall processor peak <<< "$(measured $tool "$report" "$threads")"
-            [ $tool != kcount ] || ours=$wall
-            awk -v report="$report" -v threads="$threads" -v tool=$tool -v wall="$wall" -v processor="$processor" -v peak="$peak" -v ours="$ours" 'BEGIN {
-                printf "| %s | %s | %s | %.2f s | %.2f s | %.0f MB | %s |\n", report, threads, tool, wall, processor, peak / 1024,
-                    tool == "kcount" ? "" : sprintf("%.2f", ours / wall) }'
+            [ $tool != kcount ] || { ours=$wall; our_peak=$peak; }
+            awk -v report="$report" -v threads="$threads" -v tool=$tool -v wall="$wall" -v processor="$processor" -v peak="$peak" \
+                -v kmers="$kmers" -v ours="$ours" -v our_peak="$our_peak" 'BEGIN {
+                printf "| %s | %s | %s | %.2f s | %.2f s | %.0f ns | %.0f MB | %s | %s |\n", report, threads, tool, wall, processor,
+                    processor * 1e9 / kmers, peak / 1024, tool == "kcount" ? "" : sprintf("%.2f", ours / wall),
+                    tool == "kcount" ? "" : sprintf("%.2f", our_peak / peak) }'
         done
     done
 done

@@ -94,14 +94,14 @@ time_of() {
 }
 
 # whole_command GENOME_BASES: what the benchmarks of the whole command stand on: $kcount, which has to be built, /usr/bin/time, and $reads,
-# seeded FASTQ of 100 bases with one wrong base in a hundred, COVERAGE (20) over each base of a genome of so many bases.
+# seeded FASTQ of 100 bases, COVERAGE (20) over each base of a genome of so many bases, with ERRORS (10) wrong bases in a thousand.
 whole_command() {
     kcount=$top/bin/kcount
     [ -x "$kcount" ] || fail "no bin/kcount: run make build first"
     command -v /usr/bin/time > "$work/which" || fail "no /usr/bin/time: apt-get install time"
     "${CC:-cc}" -O2 -o "$work/reads" "$bench/c/reads.c"
     reads=$work/reads.fq
-    "$work/reads" "$1" "${COVERAGE:-20}" 100 10 1 > "$reads"
+    "$work/reads" "$1" "${COVERAGE:-20}" 100 "${ERRORS:-10}" 1 > "$reads"
 }
 
 # row KEY WHAT UNIT [COUNT]: a line of the table, by the least time of both programs, over COUNT items. The unit is ms, us or

@@ -1,19 +1,28 @@
--- A table with its bins and total: nothing stored, keys stored, a count one more.
-use Rattle.std.proofs.Common.{◌≡◌, ◌≢◌, ℕ, zero, suc, ◌+◌, ◌-◌, ◌<◌, ◌≤◌, ◌^◌, eqb, List, [], ◌∷◌, length, get_or, take, sum, sum_by, count_by, All, Contains, Result, Ok, Err, OnOk, OnErr, refl, ap, sym, ◌∙◌, subst, arith, ⊎_elim, zero-add}
+-- A table with its numbers and total: nothing stored, a count one more, a count one less.
+use Rattle.std.proofs.Common.{◌≡◌, ◌≢◌, ℕ, zero, suc, ◌+◌, ◌-◌, ◌<◌, ◌≤◌, ◌^◌, eqb, List, [], ◌∷◌, length, get_or, take, cond, sum, sum_by, count_by, Contains, refl, ap, sym, ◌∙◌, subst, arith, ⊎_elim, zero-add, unwrap_or}
 use Rattle.std.specs.List.{range_with_len}
 use Rattle.std.specs.FinMap.{empty}
 use Rattle.std.proofs.lemmas.Bool.{cases_eq, eq-eqb, ne_eqb}
 use Rattle.std.proofs.lemmas.List.FromFn.{length-map-range_with_len, length-range_with_len, get_or-range_with_len}
-use Rattle.std.proofs.lemmas.List.Sums.{fold_more, count_by_more_yes, count_by_more_no}
-use Rattle.std.proofs.lemmas.List.Elements.{All-nil, All-cons}
+use Rattle.std.proofs.lemmas.List.Sums.{fold_more, count_by_more_yes, count_by_more_no, sum_by-cons, sum_by-take-le}
 use Rattle.std.proofs.Math.Pow.{pow_mono}
 use Rattle.kc_lemmas.proofs.Lists.{map-same, All-range}
 use Rattle.kc_lemmas.proofs.Sums.{sum_by-map, sum_by-same, sum_by-zeros, sum_by-range_more, term-le-sum_by}
-use Rattle.kc_table.specs.Counts.{KeyCounts, IsStored, count_at, readied, added}
-use Rattle.kc_table.proofs.KeyCounts.{count_at-empty, count_at-readied, IsStored-readied, IsStored-readied_other, count_at-added_same, count_at-added_other}
-use Rattle.kc_tally.specs.Histogram.{bins_of, bin_of, bin_at, raised}
-use Rattle.kc_tally.proofs.Bins.{IsOneMore, raise-some, raise-fits, bins_of-raised, bins_of-same}
-use Rattle.kc_booking.specs.Counted.{KeepsLimits, counts_of, IsCounted, all_readied}
+use Rattle.kc_table.specs.Counts.{KeyCounts, count_at, added, reduced}
+use Rattle.kc_table.proofs.KeyCounts.{get-insert_same, get-insert_other, count_at-empty, count_at-added_same, count_at-added_other}
+use Rattle.kc_tally.specs.Histogram.{last_bin, bins_of}
+use Rattle.kc_tally.proofs.Bins.{IsOneMore}
+use Rattle.kc_booking.specs.AtLeast.{at_least_of, number_at, bins_from, risen, fallen}
+use Rattle.kc_booking.specs.Counted.{KeepsLimits, counts_of, IsCounted, IsTold, all_added}
+use Rattle.kc_booking.proofs.AtLeastLemmas.{one-same, none-other, number_at-most, number_at-reached, bins_from-is, at_least_of-same, at_least_of-risen, at_least_of-fallen}
+
+-- ---- a count one less
+
+count_at-reduced_same : (m : KeyCounts) (k : ℕ) → count_at (reduced m k) k ≡ count_at m k - 1
+count_at-reduced_same m k = ap (λ o. unwrap_or o 0) (get-insert_same m k (count_at m k - 1))
+
+count_at-reduced_other : (m : KeyCounts) (k q : ℕ) → q ≢ k → count_at (reduced m k) q ≡ count_at m q
+count_at-reduced_other m k q apart = ap (λ o. unwrap_or o 0) (get-insert_other m k (count_at m k - 1) q apart)
 
 -- ---- the counts of all keys
 
@@ -44,24 +53,43 @@ changed_at h f g q (suc n) kept below =
     omega arith)
     (cases_eq q n))
 
--- a key's count one more is one of the counts one more
-pub IsOneMore-added : (bits : ℕ) (m : KeyCounts) (q : ℕ) → q < 2 ^ bits → IsOneMore (counts_of bits m) (counts_of bits (added m q)) (count_at m q)
-IsOneMore-added bits m q below h =
-    let changed = changed_at h (count_at m) (count_at (added m q)) q (2 ^ bits) (λ x apart. count_at-added_other m q x apart) below in
-    let new = sum_by-map h (count_at (added m q)) (range_with_len 0 (2 ^ bits)) in
+-- a key's count one more, where the others stay, is one of the counts one more
+IsOneMore-key : (bits : ℕ) (m n : KeyCounts) (q count : ℕ) → ((x : ℕ) → x ≢ q → count_at n x ≡ count_at m x) → count_at m q ≡ count
+    → count_at n q ≡ count + 1 → q < 2 ^ bits → IsOneMore (counts_of bits m) (counts_of bits n) count
+IsOneMore-key bits m n q count kept was is below h =
+    let changed = changed_at h (count_at m) (count_at n) q (2 ^ bits) kept below in
+    let new = sum_by-map h (count_at n) (range_with_len 0 (2 ^ bits)) in
     let old = sum_by-map h (count_at m) (range_with_len 0 (2 ^ bits)) in
-    let more : h (count_at (added m q) q) ≡ h (count_at m q + 1) = ap h (count_at-added_same m q) in
-    omega arith
+    omega (arith, changed, new, old, ap h was, ap h is)
+
+IsOneMore-added : (bits : ℕ) (m : KeyCounts) (q : ℕ) → q < 2 ^ bits → IsOneMore (counts_of bits m) (counts_of bits (added m q)) (count_at m q)
+IsOneMore-added bits m q below =
+    IsOneMore-key bits m (added m q) q (count_at m q) (λ x apart. count_at-added_other m q x apart) refl (count_at-added_same m q) below
+
+IsOneMore-reduced : (bits : ℕ) (m : KeyCounts) (q : ℕ) → q < 2 ^ bits → 1 ≤ count_at m q
+    → IsOneMore (counts_of bits (reduced m q)) (counts_of bits m) (count_at m q - 1)
+IsOneMore-reduced bits m q below some =
+    IsOneMore-key bits (reduced m q) m q (count_at m q - 1) (λ x apart. sym (count_at-reduced_other m q x apart)) (count_at-reduced_same m q) (omega (arith, some)) below
 
 -- ---- what is kept
 
-pub IsCounted-empty : (bits : ℕ) (m : KeyCounts) (bins : List ℕ) → bits ≤ 62 → m ≡ empty → bins ≡ bins_of [] → IsCounted bits m bins 0
-IsCounted-empty bits m bins narrow none nothing = record {
-  bits_at_most = narrow;
-  bins_are = nothing ∙ bins_of-same [] (counts_of bits m) (λ h zero_weighs. sym (weighs h zero_weighs));
-  total_is = sym (weighs (λ c. c) refl);
-  total_at_most = omega arith;
+-- numbers and total of the counts tell of them
+IsTold-from : (bits : ℕ) (m : KeyCounts) (numbers : List ℕ) (total : ℕ) → bits ≤ 62 → numbers ≡ at_least_of (counts_of bits m) → total ≡ sum (counts_of bits m)
+    → total ≤ 2 ^ 62 → IsTold bits m numbers total
+IsTold-from bits m numbers total narrow are sums small = record {
+  numbers_are = are;
+  counted = record {
+    bits_at_most = narrow;
+    bins_are = ap bins_from are ∙ bins_from-is (counts_of bits m);
+    total_is = sums;
+    total_at_most = small;
+  };
 }
+
+pub IsTold-empty : (bits : ℕ) (m : KeyCounts) (numbers : List ℕ) → bits ≤ 62 → m ≡ empty → numbers ≡ at_least_of [] → IsTold bits m numbers 0
+IsTold-empty bits m numbers narrow none nothing =
+    IsTold-from bits m numbers 0 narrow (nothing ∙ at_least_of-same [] (counts_of bits m) (λ h zero_weighs. sym (weighs h zero_weighs)))
+    (sym (weighs (λ c. c) refl)) (omega arith)
   where
     weighs : (h : ℕ → ℕ) → h 0 ≡ 0 → sum_by h (counts_of bits m) ≡ 0
     weighs h zero_weighs =
@@ -69,32 +97,16 @@ IsCounted-empty bits m bins narrow none nothing = record {
         ∙ sum_by-zeros (λ q. h (count_at m q)) (range_with_len 0 (2 ^ bits))
         (All-range (λ q. h (count_at m q) ≡ 0) 0 (2 ^ bits) (λ q _ _. ap h (ap (λ (n : KeyCounts). count_at n q) none ∙ count_at-empty q) ∙ zero_weighs))
 
-pub IsCounted-same : (bits : ℕ) (m n : KeyCounts) (bins : List ℕ) (total : ℕ) → ((q : ℕ) → count_at n q ≡ count_at m q) → IsCounted bits m bins total → IsCounted bits n bins total
-IsCounted-same bits m n bins total same counted = record {
-  bits_at_most = counted.bits_at_most;
-  bins_are = counted.bins_are ∙ ap bins_of (sym (counts_of-same bits m n same));
-  total_is = counted.total_is ∙ ap sum (sym (counts_of-same bits m n same));
-  total_at_most = counted.total_at_most;
-}
+-- the same counts have the same bins and total
+pub same-bins : (bits : ℕ) (m n : KeyCounts) (bins others : List ℕ) (total other : ℕ) → ((q : ℕ) → count_at n q ≡ count_at m q)
+    → IsCounted bits m bins total → IsCounted bits n others other → others ≡ bins
+same-bins bits m n bins others total other same old new =
+    new.bins_are ∙ ap bins_of (counts_of-same bits m n same) ∙ sym old.bins_are
 
--- a key of the table, and its count when it is one more
-pub record IsCountedMore (bits : ℕ) (m : KeyCounts) (bins : List ℕ) (total q count : ℕ) : Type 0 where
-  pub counted : IsCounted bits m bins total
-  pub below : q < 2 ^ bits
-  pub count_is : count ≡ count_at m q + 1
-
-pub IsCounted-added : (bits : ℕ) (m : KeyCounts) (bins : List ℕ) (total q count : ℕ) → IsCountedMore bits m bins total q count → total < 2 ^ 62
-    → IsCounted bits (added m q) (raised bins (count - 1)) (total + 1)
-IsCounted-added bits m bins total q count key room =
-    let more = IsOneMore-added bits m q key.below in
-    let is = key.count_is in
-    let same : count - 1 ≡ count_at m q = omega arith in
-    record {
-      bits_at_most = key.counted.bits_at_most;
-      bins_are = ap (raised bins) same ∙ ap (λ b. raised b (count_at m q)) key.counted.bins_are ∙ bins_of-raised (counts_of bits m) (counts_of bits (added m q)) (count_at m q) more;
-      total_is = let weighs = more (λ c. c) in let before = key.counted.total_is in omega arith;
-      total_at_most = omega arith;
-    }
+pub same-total : (bits : ℕ) (m n : KeyCounts) (bins others : List ℕ) (total other : ℕ) → ((q : ℕ) → count_at n q ≡ count_at m q)
+    → IsCounted bits m bins total → IsCounted bits n others other → other ≡ total
+same-total bits m n bins others total other same old new =
+    new.total_is ∙ ap sum (counts_of-same bits m n same) ∙ sym old.total_is
 
 -- each count is at most the total
 pub count_at-at_most : (bits : ℕ) (m : KeyCounts) (bins : List ℕ) (total q : ℕ) → IsCounted bits m bins total → q < 2 ^ bits → count_at m q ≤ total
@@ -106,38 +118,50 @@ count_at-at_most bits m bins total q counted below =
     let is = counted.total_is in
     omega arith
 
--- ---- what `raise` asks for
+-- ---- a count one more
 
-pub raise-there : (bits : ℕ) (m : KeyCounts) (bins : List ℕ) (total q count : ℕ) → IsCountedMore bits m bins total q count → 1 ≤ count - 1 → 1 ≤ bin_at bins (bin_of (count - 1))
-raise-there bits m bins total q count key some =
-    let is = key.count_is in
-    let same : count - 1 ≡ count_at m q = omega arith in
-    rw (key.counted.bins_are, same) (raise-some (counts_of bits m) (counts_of bits (added m q)) (count_at m q) (IsOneMore-added bits m q key.below) (omega arith))
+-- a key of a table whose numbers are told
+pub record IsToldOf (bits : ℕ) (m : KeyCounts) (numbers : List ℕ) (total q : ℕ) : Type 0 where
+  pub told : IsTold bits m numbers total
+  pub below : q < 2 ^ bits
 
-pub raise-room : (bits : ℕ) (m : KeyCounts) (bins : List ℕ) (total count : ℕ) → IsCounted bits m bins total → bin_at bins (bin_of (count + 1)) + 1 < 2 ^ 64
-raise-room bits m bins total count counted =
-    let long = length-map-range_with_len (count_at m) 0 (2 ^ bits) in
-    let few : 2 ^ bits ≤ 2 ^ 62 = pow_mono {i = bits} {j = 62} counted.bits_at_most in
-    rw counted.bins_are (raise-fits (counts_of bits m) count (omega arith))
+module _ (bits : ℕ) (m : KeyCounts) (numbers : List ℕ) (total q count : ℕ) (key : IsToldOf bits m numbers total q) where
+  pub raise-fits : 1 ≤ count → number_at numbers count + 1 < 2 ^ 64
+  raise-fits some =
+      let long = length-map-range_with_len (count_at m) 0 (2 ^ bits) in
+      let few : 2 ^ bits ≤ 2 ^ 62 = pow_mono {i = bits} {j = 62} key.told.counted.bits_at_most in
+      rw key.told.numbers_are (omega (arith, number_at-most (counts_of bits m) count some, long, few))
 
--- ---- keys stored, one after another
+  pub IsTold-added : count ≡ count_at m q + 1 → total < 2 ^ 62 → IsTold bits (added m q) (risen numbers count) (total + 1)
+  IsTold-added is room =
+      let more = IsOneMore-added bits m q key.below in
+      let before = key.told.counted.total_is in
+      IsTold-from bits (added m q) (risen numbers count) (total + 1) key.told.counted.bits_at_most
+      (ap (risen numbers) is ∙ ap (λ ns. risen ns (count_at m q + 1)) key.told.numbers_are
+      ∙ at_least_of-risen (counts_of bits m) (counts_of bits (added m q)) (count_at m q) more)
+      (let weighs = more (λ c. c) in omega (arith, weighs, before)) (omega (arith, room))
 
-pub all_readied-more : (m : KeyCounts) (keys : List ℕ) (i d : ℕ) → i < length keys → all_readied m (take (i + 1) keys) ≡ readied (all_readied m (take i keys)) (get_or keys i d)
-all_readied-more m keys i d within = fold_more readied m keys i d within
+  -- and one less
+  pub lower-there : count ≡ count_at m q → 1 ≤ count → count ≤ last_bin → 1 ≤ number_at numbers count
+  lower-there is some within =
+      let more = IsOneMore-reduced bits m q key.below (omega (arith, is, some)) in
+      let same : count_at m q - 1 + 1 ≡ count = omega (arith, is, some) in
+      rw key.told.numbers_are
+      (subst (λ n. 1 ≤ number_at (at_least_of (counts_of bits m)) n) same
+      (number_at-reached (counts_of bits (reduced m q)) (counts_of bits m) (count_at m q - 1) more (omega (arith, same, within))))
 
-pub count_at-all_readied : (keys : List ℕ) (m : KeyCounts) (q : ℕ) → count_at (all_readied m keys) q ≡ count_at m q
-count_at-all_readied [] m q = refl
-count_at-all_readied (key ∷ keys) m q = count_at-all_readied keys (readied m key) q ∙ count_at-readied m key q
+  pub total-some : count ≡ count_at m q → 1 ≤ count → 1 ≤ total
+  total-some is some = omega (arith, is, some, count_at-at_most bits m (bins_from numbers) total q key.told.counted key.below)
 
-IsStored-kept : (keys : List ℕ) (m : KeyCounts) (q : ℕ) → IsStored m q → IsStored (all_readied m keys) q
-IsStored-kept [] m q stored = stored
-IsStored-kept (key ∷ keys) m q stored = IsStored-kept keys (readied m key) q (IsStored-readied_other m key q stored)
-
-pub IsStored-all_readied : (keys : List ℕ) (m : KeyCounts) → All (λ key. IsStored (all_readied m keys) key) keys
-IsStored-all_readied [] m = All-nil (λ key. IsStored m key)
-IsStored-all_readied (key ∷ keys) m =
-    All-cons (λ q. IsStored (all_readied (readied m key) keys) q) key keys
-    (IsStored-kept keys (readied m key) key (IsStored-readied m key)) (IsStored-all_readied keys (readied m key))
+  pub IsTold-reduced : count ≡ count_at m q → 1 ≤ count → IsTold bits (reduced m q) (fallen numbers count) (total - 1)
+  IsTold-reduced is some =
+      let more = IsOneMore-reduced bits m q key.below (omega (arith, is, some)) in
+      let before = key.told.counted.total_is in
+      let same : count ≡ count_at m q - 1 + 1 = omega (arith, is, some) in
+      IsTold-from bits (reduced m q) (fallen numbers count) (total - 1) key.told.counted.bits_at_most
+      (ap (fallen numbers) same ∙ ap (λ ns. fallen ns (count_at m q - 1 + 1)) key.told.numbers_are
+      ∙ at_least_of-fallen (counts_of bits (reduced m q)) (counts_of bits m) (count_at m q - 1) more)
+      (let weighs = more (λ c. c) in omega (arith, weighs, before)) (omega (arith, key.told.counted.total_at_most))
 
 -- ---- what no call changes
 
@@ -150,23 +174,54 @@ KeepsLimits-then bits full old table new first second = record {
   same_limits = λ m q. (λ h. (first.same_limits m q).0 ((second.same_limits m q).0 h), λ h. (second.same_limits m q).1 ((first.same_limits m q).1 h));
 }
 
-pub counted-more : (m now : KeyCounts) (keys : List ℕ) (i q : ℕ) → i < length keys
-    → ((k : ℕ) → count_at now k ≡ count_at m k + count_by (λ key. eqb key k) (take i keys))
-    → count_at (added now (get_or keys i 0)) q ≡ count_at m q + count_by (λ key. eqb key q) (take (i + 1) keys)
-counted-more m now keys i q within so_far =
-    ⊎_elim
-    (λ (here : q ≡ get_or keys i 0).
-    let more = count_by_more_yes (λ key. eqb key q) keys i 0 within (eq-eqb (get_or keys i 0) q (sym here)) in
-    let one : count_at (added now (get_or keys i 0)) q ≡ count_at now q + 1 =
-    ap (count_at (added now (get_or keys i 0))) here ∙ count_at-added_same now (get_or keys i 0) ∙ ap (λ k. count_at now k + 1) (sym here) in
-    let before = so_far q in omega arith)
-    (λ (apart : q ≢ get_or keys i 0).
-    let more = count_by_more_no (λ key. eqb key q) keys i 0 within (ne_eqb (get_or keys i 0) q (λ e. apart (sym e))) in
-    let same = count_at-added_other now (get_or keys i 0) q apart in
-    let before = so_far q in omega arith)
-    (cases_eq q (get_or keys i 0))
+-- ---- keys counted one after another, and taken back
 
--- whatever `ready` answers, the counts stay
-pub count_at-asked : {T E : Type 0} (r : Result T E) (old new : KeyCounts) (key : ℕ) → OnOk r (new ≡ readied old key) → OnErr r (new ≡ old) → (q : ℕ) → count_at new q ≡ count_at old q
-count_at-asked (Ok x) old new key stored refused q = ap (λ (m : KeyCounts). count_at m q) stored ∙ count_at-readied old key q
-count_at-asked (Err e) old new key stored refused q = ap (λ (m : KeyCounts). count_at m q) refused
+pub all_added-more : (m : KeyCounts) (keys : List ℕ) (i d : ℕ) → i < length keys → all_added m (take (i + 1) keys) ≡ added (all_added m (take i keys)) (get_or keys i d)
+all_added-more m keys i d within = fold_more added m keys i d within
+
+-- each key counts as often more as it stands among the keys
+pub count_at-all_added : (keys : List ℕ) (m : KeyCounts) (q : ℕ) → count_at (all_added m keys) q ≡ count_at m q + count_by (λ key. eqb key q) keys
+count_at-all_added [] m q = omega arith
+count_at-all_added (key ∷ keys) m q =
+    let later = count_at-all_added keys (added m key) q in
+    let first = sum_by-cons (λ k. cond (eqb k q) 1 0) key keys in
+    ⊎_elim
+    (λ (here : q ≡ key).
+    let one = one-same key q (sym here) in
+    let more : count_at (added m key) q ≡ count_at m q + 1 =
+    ap (count_at (added m key)) here ∙ count_at-added_same m key ∙ ap (λ k. count_at m k + 1) (sym here) in
+    omega (arith, later, first, one, more))
+    (λ (apart : q ≢ key).
+    let none = none-other key q (λ e. apart (sym e)) in
+    let same = count_at-added_other m key q apart in
+    omega (arith, later, first, none, same))
+    (cases_eq q key)
+
+-- the counts from which the keys before i were taken
+pub record AreTakenTo (old now : KeyCounts) (keys : List ℕ) (i : ℕ) : Type 0 where
+  pub counts : (q : ℕ) → count_at now q + count_by (λ key. eqb key q) (take i keys) ≡ count_at old q
+
+module _ (old now : KeyCounts) (keys : List ℕ) (i : ℕ) (within : i < length keys) (so_far : AreTakenTo old now keys i) where
+  -- the next key was counted
+  pub taken-some : ((q : ℕ) → count_by (λ key. eqb key q) keys ≤ count_at old q) → 1 ≤ count_at now (get_or keys i 0)
+  taken-some there =
+      let q = get_or keys i 0 in
+      let more = count_by_more_yes (λ key. eqb key q) keys i 0 within (eq-eqb q q refl) in
+      let whole = sum_by-take-le (λ key. cond (eqb key q) 1 0) keys (i + 1) in
+      omega (arith, more, whole, there q, so_far.counts q)
+
+  pub AreTakenTo-more : 1 ≤ count_at now (get_or keys i 0) → AreTakenTo old (reduced now (get_or keys i 0)) keys (i + 1)
+  AreTakenTo-more some = record {
+    counts = λ q. ⊎_elim
+        (λ (here : q ≡ get_or keys i 0).
+        let more = count_by_more_yes (λ key. eqb key q) keys i 0 within (eq-eqb (get_or keys i 0) q (sym here)) in
+        let one : count_at (reduced now (get_or keys i 0)) q ≡ count_at now q - 1 =
+        ap (count_at (reduced now (get_or keys i 0))) here ∙ count_at-reduced_same now (get_or keys i 0) ∙ ap (λ k. count_at now k - 1) (sym here) in
+        let was : 1 ≤ count_at now q = subst (λ k. 1 ≤ count_at now k) (sym here) some in
+        omega (arith, more, one, was, so_far.counts q))
+        (λ (apart : q ≢ get_or keys i 0).
+        let more = count_by_more_no (λ key. eqb key q) keys i 0 within (ne_eqb (get_or keys i 0) q (λ e. apart (sym e))) in
+        let same = count_at-reduced_other now (get_or keys i 0) q apart in
+        omega (arith, more, same, so_far.counts q))
+        (cases_eq q (get_or keys i 0));
+  }

@@ -1,13 +1,14 @@
 pub mod HashValues
 pub mod Parts
+pub mod KeptVecs
 pub mod CountedTables
 pub mod Lawful
 pub mod Greatest
 pub mod RoundLemmas
+pub mod Rounds
 pub mod StripeRows
 pub mod Forms
 pub mod Logs
 pub mod PartOrder
 pub mod ListedLemmas
-pub mod NotedCountLemmas
-pub mod PlaceLemmas
+pub mod AtLeastLemmas

@@ -1,8 +1,7 @@
 -- Setups with lists of words: when they are the same, and which of the words of a batch count.
-use Rattle.std.proofs.Common.{◌≡◌, ◌≢◌, ℕ, ◌+◌, ◌<◌, length, drop, get_or, arith, true, not, List, filter, Option, Some, None, All, Decides, refl, ap, ap₂, sym, ◌∙◌, subst, eqb-true, eq-eqb, true≢false}
+use Rattle.std.proofs.Common.{◌≡◌, ◌≢◌, ℕ, true, not, List, filter, Option, Some, None, All, Decides, refl, ap, ap₂, sym, ◌∙◌, subst, eqb-true, eq-eqb, true≢false}
 use Rattle.std.proofs.lemmas.Bool.{and_parts, and_from}
 use Rattle.std.proofs.lemmas.Slice.Eq.{bytes_eq-Decides}
-use Rattle.std.proofs.lemmas.List.{get_or-drop}
 use Rattle.std.specs.Cmp.{booleans_Decides}
 use Rattle.kc_fastx.specs.Reads.{Read}
 use Rattle.kc_kmer.specs.Rule.{CountingRule, is_listed, without_list}
@@ -82,13 +81,3 @@ pub listed-count : (rule : CountingRule) (reads : List Read) (words kept list : 
     → words ≡ words_of (without_list rule) reads → kept ≡ filter (is_listed (Some list)) words → kept ≡ words_of rule reads
 listed-count rule reads words kept list law only is filtered =
     filtered ∙ ap₂ (λ o ws. filter (is_listed o) ws) (sym only) is ∙ sym (law rule reads)
-
--- what is not looked at yet is as it was, and below the bound
-pub still-below : (bound : ℕ) (xs ys : List ℕ) (i word : ℕ) → All (λ x. x < bound) xs → drop i ys ≡ drop i xs → i < length xs
-    → word ≡ get_or ys i word → word < bound
-still-below bound xs ys i word below rest within is =
-    let none : i + 0 ≡ i = omega arith in
-    let value : word ≡ get_or xs i word =
-    is ∙ ap (λ j. get_or ys j word) (sym none) ∙ sym (get_or-drop i ys 0 word) ∙ ap (λ zs. get_or zs 0 word) rest
-    ∙ get_or-drop i xs 0 word ∙ ap (λ j. get_or xs j word) none in
-    subst (λ m. m < bound) (sym value) (below i word within)

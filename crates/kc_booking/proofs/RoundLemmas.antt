@@ -1,81 +1,60 @@
 -- The cuts of several batches in one stripe: their keys, and the stripe when they are booked.
-use Rattle.std.proofs.Common.{◌≡◌, ◌≢◌, ◌⊎◌, ℕ, ◌+◌, ◌/◌, ◌^◌, ◌<◌, ◌≤◌, Bool, true, false, cond, eqb, nat_eq, List, [], ◌∷◌, ◌++◌, length, get_or, take, drop, map, filter, count_by, All, Contains, append-nil, append_assoc, refl, ap, ap₂, sym, subst, ◌∙◌, arith, ⊎_elim, below_more}
+use Rattle.std.proofs.Common.{◌≡◌, ◌≢◌, ◌⊎◌, ℕ, ◌+◌, ◌/◌, ◌^◌, ◌<◌, ◌≤◌, Bool, true, false, not, ◌&&◌, cond, eqb, nat_eq, List, [], ◌∷◌, ◌++◌, length, get_or, take, drop, map, filter, count_by, All, Contains, append-nil, append_assoc, refl, ap, sym, subst, ◌∙◌, arith, ⊎_elim, below_more}
 use Rattle.std.specs.declared.sync.Arc.{Arc}
 use Rattle.std.specs.declared.alloc.Global.{Global}
+use Rattle.std.specs.Bool.{MatchBool}
 use Rattle.std.specs.List.{flat_map, list_any, IsDistinct, AllByRecursion}
 use Rattle.std.proofs.lemmas.List.{length-map, get_or-map, map-append, map_push, length-drop, get_or-drop, get_or_default, take-append-drop, take_more, take_all}
 use Rattle.std.proofs.lemmas.List.Concat.{flat_map-append}
 use Rattle.std.proofs.lemmas.List.Sums.{length-filter, sum_by-append}
-use Rattle.std.proofs.lemmas.List.Elements.{filter-append, All-map, Contains-append_cases, Contains-append_right}
-use Rattle.std.proofs.lemmas.List.FromFn.{length-map-range_with_len, get_or-map-range_with_len}
+use Rattle.std.proofs.lemmas.List.Elements.{All-map, Contains-append_cases, Contains-append_right}
 use Rattle.std.proofs.lemmas.Bool.Decides.{eqb_tells}
-use Rattle.std.proofs.lemmas.Map.Keys.{IsDistinct-cons, IsDistinct-tail}
-use Rattle.kc_lemmas.proofs.Distinct.{stands_or_not, head_apart}
-use Rattle.kc_lemmas.proofs.Lists.{map-same, All-flat_map, Contains-cons, Contains-cons_cases, Contains-map}
+use Rattle.std.proofs.lemmas.List.Sorted.{IsPermutation-append_comm}
+use Rattle.std.proofs.lemmas.Map.Keys.{IsDistinct-cons, IsDistinct-tail, IsDistinct-IsPermutation}
+use Rattle.kc_lemmas.proofs.Distinct.{stands_or_not, head_apart, equal_flips}
+use Rattle.kc_lemmas.proofs.Lists.{All-flat_map, Contains-cons, Contains-cons_cases, Contains-map}
 use Rattle.kc_kmer.specs.Laws.{WordsAreBelow}
 use Rattle.kc_kmer.specs.Occurrences.{words_of}
 use Rattle.kc_word.specs.Cutting.{NumberedPieces, as_reads}
 use Rattle.kc_word.specs.Shared.{values}
 use Rattle.kc_word.specs.declared.batch.Batch.{Batch}
 use Rattle.kc_table.specs.Counts.{KeyCounts, count_at}
-use Rattle.kc_booking.specs.Setup.{StripeSetup, DividesWords, stripe_count, key_bits, word_count, stripe_of, key_of}
-use Rattle.kc_booking.specs.Cut.{keys_of, cut_at, batch_hash_values, key_parts}
+use Rattle.kc_booking.specs.Setup.{StripeSetup, DividesWords, key_bits, word_count, stripe_of, key_of}
+use Rattle.kc_booking.specs.Cut.{StripeCut, keys_of, cut_at, batch_hash_values}
 use Rattle.kc_booking.specs.Cuts.{RoundCut, round_at, cuts_in, all_keys_of, sizes_of, FirstIsBooked, FirstIsNew}
 use Rattle.kc_booking.specs.Stripe.{numbers_of, NumbersDiffer, KnowsNumbers, IsBooked, word_occurrences}
-use Rattle.kc_booking.proofs.Parts.{Part, falls_in, keys_in, keys_in-hashed, map-map}
-use Rattle.kc_booking.proofs.Lawful.{CountsWords, WordLaws, occurrences-more, keys-fit, known-more, IsBooked-found, IsBooked-missing}
+use Rattle.kc_booking.specs.Round.{stripe_keys}
+use Rattle.kc_booking.proofs.Parts.{falls_in, keys_in-hashed}
+use Rattle.kc_booking.proofs.Lawful.{CountsWords, WordLaws, occurrences-more, keys-fit, known-more, numbers_differ-more, IsBooked-found, IsBooked-missing}
 
 -- ---- the keys of several batches
 
-keys_in-append : (s stripe : ℕ) (xs ys : List ℕ) → keys_in s stripe (xs ++ ys) ≡ keys_in s stripe xs ++ keys_in s stripe ys
-keys_in-append s stripe xs ys =
-    ap (map (λ value. value / 2 ^ s)) (filter-append (falls_in s stripe) xs ys)
-    ∙ map-append (λ value. value / 2 ^ s) (filter (falls_in s stripe) xs) (filter (falls_in s stripe) ys)
+-- the keys of one batch more stand behind those of the others
+pub all_keys-more : (setup : StripeSetup) (stripe : ℕ) (batches : List NumberedPieces) (batch : NumberedPieces)
+    → all_keys_of (round_at setup (batches ++ batch ∷ []) stripe) ≡ all_keys_of (round_at setup batches stripe) ++ keys_of (cut_at setup batch stripe)
+all_keys-more setup stripe batches batch =
+    ap (flat_map keys_of) (map_push (λ (b : NumberedPieces). cut_at setup b stripe) batches batch)
+    ∙ flat_map-append keys_of (cuts_in (round_at setup batches stripe)) (cut_at setup batch stripe ∷ [])
+    ∙ ap (λ (keys : List ℕ). all_keys_of (round_at setup batches stripe) ++ keys) (append-nil (keys_of (cut_at setup batch stripe)))
 
--- the hash values of the batches that fall in a stripe are the keys of their cuts
-pub round-keys : (setup : StripeSetup) (stripe : ℕ) (batches : List NumberedPieces)
-    → keys_in setup.stripe_bits stripe (flat_map (batch_hash_values setup) batches) ≡ all_keys_of (round_at setup batches stripe)
-round-keys setup stripe [] = refl
-round-keys setup stripe (batch ∷ batches) =
-    keys_in-append setup.stripe_bits stripe (batch_hash_values setup batch) (flat_map (batch_hash_values setup) batches)
-    ∙ ap₂ (λ (xs ys : List ℕ). xs ++ ys) (keys_in-hashed setup stripe (words_of setup.rule (as_reads batch.pieces))) (round-keys setup stripe batches)
+-- and how many there are behind how many the others have
+pub sizes-more : (setup : StripeSetup) (stripe : ℕ) (batches : List NumberedPieces) (batch : NumberedPieces)
+    → sizes_of (round_at setup (batches ++ batch ∷ []) stripe) ≡ sizes_of (round_at setup batches stripe) ++ length (keys_of (cut_at setup batch stripe)) ∷ []
+sizes-more setup stripe batches batch =
+    ap (map (λ (cut : StripeCut). length (keys_of cut))) (map_push (λ (b : NumberedPieces). cut_at setup b stripe) batches batch)
+    ∙ map_push (λ (cut : StripeCut). length (keys_of cut)) (cuts_in (round_at setup batches stripe)) (cut_at setup batch stripe)
 
--- and so many of each batch
-pub round-sizes : (setup : StripeSetup) (stripe : ℕ) (batches : List NumberedPieces)
-    → map (λ batch. count_by (falls_in setup.stripe_bits stripe) (batch_hash_values setup batch)) batches ≡ sizes_of (round_at setup batches stripe)
-round-sizes setup stripe batches =
-    map-same (λ batch. count_by (falls_in setup.stripe_bits stripe) (batch_hash_values setup batch)) (λ batch. length (keys_of (cut_at setup batch stripe))) batches
-    (λ k d within. one (get_or batches k d))
-    ∙ sym (map-map (λ cut. length (keys_of cut)) (λ batch. cut_at setup batch stripe) batches)
-  where
-    one : (batch : NumberedPieces) → count_by (falls_in setup.stripe_bits stripe) (batch_hash_values setup batch) ≡ length (keys_of (cut_at setup batch stripe))
-    one batch =
-        sym (length-map (filter (falls_in setup.stripe_bits stripe) (batch_hash_values setup batch)) (λ value. value / 2 ^ setup.stripe_bits)
-        ∙ length-filter (falls_in setup.stripe_bits stripe) (batch_hash_values setup batch))
-        ∙ ap length (keys_in-hashed setup stripe (words_of setup.rule (as_reads batch.pieces)))
+-- the hash values of a batch's words that fall in a stripe have the keys of its cut, and are so many
+pub batch-keys : (setup : StripeSetup) (stripe : ℕ) (batch : NumberedPieces)
+    → stripe_keys setup.stripe_bits stripe (batch_hash_values setup batch) ≡ keys_of (cut_at setup batch stripe)
+batch-keys setup stripe batch = keys_in-hashed setup stripe (words_of setup.rule (as_reads batch.pieces))
 
--- one batch's hash values more
-pub hash_values-more : (setup : StripeSetup) (front : List NumberedPieces) (batch : NumberedPieces)
-    → flat_map (batch_hash_values setup) (front ++ batch ∷ []) ≡ flat_map (batch_hash_values setup) front ++ batch_hash_values setup batch
-hash_values-more setup front batch =
-    flat_map-append (batch_hash_values setup) front (batch ∷ []) ∙ ap (λ hash_values. flat_map (batch_hash_values setup) front ++ hash_values) (append-nil (batch_hash_values setup batch))
-
-pub length-key_parts : (s : ℕ) (hash_values : List ℕ) (parts : List Part) → map (λ p. p.items) parts ≡ key_parts s hash_values → length parts ≡ 2 ^ s
-length-key_parts s hash_values parts divided =
-    sym (length-map parts (λ p. p.items)) ∙ ap length divided ∙ length-map-range_with_len (λ stripe. keys_in s stripe hash_values) 0 (2 ^ s)
-
--- the part at a stripe's place has the keys of the batches in that stripe
-pub part-round_keys : (setup : StripeSetup) (batches : List NumberedPieces) (parts : List Part) (i : ℕ) (part : Part)
-    → map (λ p. p.items) parts ≡ key_parts setup.stripe_bits (flat_map (batch_hash_values setup) batches)
-    → (i < length parts) × (part ≡ get_or parts i part) → part.items ≡ all_keys_of (round_at setup batches i)
-part-round_keys setup batches parts i part divided (within, is) =
-    let hash_values = flat_map (batch_hash_values setup) batches in
-    let long : length parts ≡ stripe_count setup = length-key_parts setup.stripe_bits hash_values parts divided in
-    ap (λ (p : Part). p.items) is
-    ∙ sym (get_or-map (λ p. p.items) parts i part [] within)
-    ∙ ap (λ xs. get_or xs i []) divided
-    ∙ get_or-map-range_with_len (λ stripe. keys_in setup.stripe_bits stripe hash_values) 0 (stripe_count setup) i i [] (omega arith) (omega arith)
-    ∙ round-keys setup i batches
+pub batch-size : (setup : StripeSetup) (stripe : ℕ) (batch : NumberedPieces)
+    → count_by (falls_in setup.stripe_bits stripe) (batch_hash_values setup batch) ≡ length (keys_of (cut_at setup batch stripe))
+batch-size setup stripe batch =
+    sym (length-map (filter (falls_in setup.stripe_bits stripe) (batch_hash_values setup batch)) (λ value. value / 2 ^ setup.stripe_bits)
+    ∙ length-filter (falls_in setup.stripe_bits stripe) (batch_hash_values setup batch))
+    ∙ ap length (batch-keys setup stripe batch)
 
 -- ---- lists whose keys differ, put together
 
@@ -113,6 +92,12 @@ pub NumbersDiffer-right : (journal batches : List NumberedPieces) → NumbersDif
 NumbersDiffer-right journal batches differ =
     IsDistinct-append_right nat_eq eqb_tells (numbers_of journal) (numbers_of batches) (subst (IsDistinct nat_eq) (numbers_of-append journal batches) differ)
 
+pub NumbersDiffer-left : (journal batches : List NumberedPieces) → NumbersDiffer (journal ++ batches) → NumbersDiffer journal
+NumbersDiffer-left journal batches differ =
+    IsDistinct-append_right nat_eq eqb_tells (numbers_of batches) (numbers_of journal)
+    (IsDistinct-IsPermutation nat_eq (equal_flips nat_eq eqb_tells) (numbers_of journal ++ numbers_of batches) (numbers_of batches ++ numbers_of journal)
+    (IsPermutation-append_comm (numbers_of journal) (numbers_of batches)) (subst (IsDistinct nat_eq) (numbers_of-append journal batches) differ))
+
 -- the batch of this index
 pub record IsBatchAt (batches : List NumberedPieces) (i : ℕ) (batch : NumberedPieces) : Type 0 where
   pub within : i < length batches
@@ -137,6 +122,23 @@ stands_before batches i batch at booked =
     } in
     subst (λ (bs : List NumberedPieces). ¬ NumbersDiffer bs) (take-append-drop i batches)
     (booked_before (take i batches) (drop i batches) 0 batch first booked)
+
+-- whether the numbers differ with one batch more, of which it is told whether its number is new
+pub differ-more : (batches : List NumberedPieces) (batch : NumberedPieces) (differ new : Bool)
+    → MatchBool differ (NumbersDiffer batches) (¬ NumbersDiffer batches)
+    → MatchBool new (¬ IsBooked batches batch.number) (IsBooked batches batch.number)
+    → MatchBool (differ && new) (NumbersDiffer (batches ++ batch ∷ [])) (¬ NumbersDiffer (batches ++ batch ∷ []))
+differ-more batches batch true true before apart = numbers_differ-more batches batch before apart
+differ-more batches batch true false before booked = booked_before batches (batch ∷ []) 0 batch (record { within = omega arith; is = refl }) booked
+differ-more batches batch false new before _ = λ (all : NumbersDiffer (batches ++ batch ∷ [])). before (NumbersDiffer-left batches (batch ∷ []) all)
+
+-- what the set of numbers tells when a batch's number is put in
+pub is-new : (batches : List NumberedPieces) {n number : ℕ} (found added : Bool) → found ≡ list_any (nat_eq n) (numbers_of batches) → n ≡ number
+    → added ≡ not found → MatchBool added (¬ IsBooked batches number) (IsBooked batches number)
+is-new batches {n} {number} true true known is told = absurd (cc)
+is-new batches {n} {number} true false known is told = IsBooked-found batches known is refl
+is-new batches {n} {number} false true known is told = IsBooked-missing batches known is refl
+is-new batches {n} {number} false false known is told = absurd (cc)
 
 -- one batch more is known
 pub known-then : (front : List NumberedPieces) (batch : NumberedPieces) (number : ℕ) (old new : ℕ → Bool) → KnowsNumbers old front

@@ -2,8 +2,9 @@
 use Rattle.std.specs.Prelude.{◌≡◌, ℕ, ◌<◌, ◌≤◌, ◌^◌, ◌↔◌, List, length, map, take, fold, sum, slice_index}
 use Rattle.std.specs.List.{range_with_len}
 use Rattle.std.specs.List.Sorted.{IsPermutation}
-use Rattle.kc_table.specs.Counts.{KeyCounts, count_at, readied, added}
+use Rattle.kc_table.specs.Counts.{KeyCounts, count_at, added}
 use Rattle.kc_tally.specs.Histogram.{bins_of}
+use Rattle.kc_booking.specs.AtLeast.{at_least_of, bins_from}
 
 -- a table, the sizes of the bins of its counts, and their sum
 pub record TableSeen (C : Type 0) : Type 0 where
@@ -22,30 +23,27 @@ pub record IsCounted (bits : ℕ) (counts : KeyCounts) (bins : List ℕ) (total 
   pub total_is : total ≡ sum (counts_of bits counts)
   pub total_at_most : total ≤ 2 ^ 62
 
+-- The numbers tell how many of the table's counts are at least so great. The bins that follow from them and the total
+-- are those of the counts.
+pub record IsTold (bits : ℕ) (counts : KeyCounts) (numbers : List ℕ) (total : ℕ) : Type 0 where
+  pub numbers_are : numbers ≡ at_least_of (counts_of bits counts)
+  pub counted : IsCounted bits counts (bins_from numbers) total
+
 -- the keys have as many bits as before, and what may be refused as full is what might be before
 pub record KeepsLimits {C : Type 0} (bits : C → ℕ) (full : C → KeyCounts → ℕ → Type 0) (old new : C) : Type 0 where
   pub same_bits : bits new ≡ bits old
   pub same_limits : (counts : KeyCounts) (key : ℕ) → full new counts key ↔ full old counts key
 
--- the keys stored, one after another
-abbrev pub all_readied : KeyCounts → List ℕ → KeyCounts
-all_readied counts keys = fold readied counts keys
-
--- one of the keys may be refused, with the earlier ones stored
-abbrev pub SomeMayBeFull : (KeyCounts → ℕ → Type 0) → KeyCounts → List ℕ → Type 0
-SomeMayBeFull may_be_full counts keys =
-    (i : ℕ) × (i < length keys) × may_be_full (all_readied counts (take i keys)) (slice_index keys i)
-
--- the same, where the keys are stored in another order, which may be any
-abbrev pub SomeMayBeFullInSomeOrder : (KeyCounts → ℕ → Type 0) → KeyCounts → List ℕ → Type 0
-SomeMayBeFullInSomeOrder may_be_full counts keys =
-    (order : List ℕ) × IsPermutation keys order × SomeMayBeFull may_be_full counts order
-
 -- one is added to the count of each key, one after another
 abbrev pub all_added : KeyCounts → List ℕ → KeyCounts
 all_added counts keys = fold added counts keys
 
--- each of the keys stands at the place that is noted for it
-pub record StandAt {C : Type 0} (stands_at : C → ℕ → ℕ → Type 0) (table : C) (keys places : List ℕ) : Type 0 where
-  pub all : length places ≡ length keys
-  pub there : (i : ℕ) → i < length keys → stands_at table (slice_index keys i) (slice_index places i)
+-- one of the keys may be refused, with the earlier ones counted
+abbrev pub SomeMayBeFull : (KeyCounts → ℕ → Type 0) → KeyCounts → List ℕ → Type 0
+SomeMayBeFull may_be_full counts keys =
+    (i : ℕ) × (i < length keys) × may_be_full (all_added counts (take i keys)) (slice_index keys i)
+
+-- the same, where the keys are counted in another order, which may be any
+abbrev pub SomeMayBeFullInSomeOrder : (KeyCounts → ℕ → Type 0) → KeyCounts → List ℕ → Type 0
+SomeMayBeFullInSomeOrder may_be_full counts keys =
+    (order : List ℕ) × IsPermutation keys order × SomeMayBeFull may_be_full counts order

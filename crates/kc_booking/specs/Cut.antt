@@ -1,6 +1,6 @@
 -- A cut: the words of a batch that fall in one stripe.
 -- Source: this project's own; a stripe counts its words by their keys.
-use Rattle.std.specs.Prelude.{ℕ, ◌/◌, ◌%◌, ◌^◌, ◌==◌, List, map, filter}
+use Rattle.std.specs.Prelude.{ℕ, ◌==◌, List, map, filter}
 use Rattle.std.specs.List.{range_with_len}
 use Rattle.kc_kmer.specs.Occurrences.{words_of}
 use Rattle.kc_word.specs.Cutting.{NumberedPieces, as_reads}
@@ -30,9 +30,3 @@ cut_at setup batch stripe = record { setup = setup; stripe = stripe; batch = bat
 
 abbrev pub cuts_of : StripeSetup → NumberedPieces → List StripeCut
 cuts_of setup batch = map (cut_at setup batch) (range_with_len 0 (stripe_count setup))
-
--- hash values divided among 2 ^ s stripes by their low s bits: for each stripe the other bits of its values, in order
-abbrev pub key_parts : ℕ → List ℕ → List (List ℕ)
-key_parts s hash_values =
-    map (λ stripe. map (λ value. value / 2 ^ s) (filter (λ value. value % 2 ^ s == stripe) hash_values))
-    (range_with_len 0 (2 ^ s))

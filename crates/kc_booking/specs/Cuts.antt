@@ -2,9 +2,9 @@
 -- Source: this project's own; a worker books the batches of a round into each stripe by one call.
 use Rattle.std.specs.Prelude.{◌≡◌, ℕ, Bool, List, [], ◌∷◌, map, length}
 use Rattle.std.specs.Bool.{MatchBool}
-use Rattle.std.specs.List.{range_with_len, flat_map}
+use Rattle.std.specs.List.{flat_map}
 use Rattle.kc_word.specs.Cutting.{NumberedPieces}
-use Rattle.kc_booking.specs.Setup.{StripeSetup, stripe_count}
+use Rattle.kc_booking.specs.Setup.{StripeSetup}
 use Rattle.kc_booking.specs.Cut.{StripeCut, keys_of, cut_at}
 use Rattle.kc_booking.specs.Stripe.{StripeState, NumbersDiffer, IsBooked}
 
@@ -26,12 +26,9 @@ all_keys_of round = flat_map keys_of (cuts_in round)
 abbrev pub sizes_of : RoundCut → List ℕ
 sizes_of round = map (λ cut. length (keys_of cut)) (cuts_in round)
 
--- several batches cut up: for each stripe, in order, all their words that fall in it
+-- several batches cut up: all their words that fall in a stripe
 abbrev pub round_at : StripeSetup → List NumberedPieces → ℕ → RoundCut
 round_at setup batches stripe = record { setup = setup; stripe = stripe; batches = batches }
-
-abbrev pub rounds_of : StripeSetup → List NumberedPieces → List RoundCut
-rounds_of setup batches = map (round_at setup batches) (range_with_len 0 (stripe_count setup))
 
 -- what is kept with them: the keys, how many each batch has, and whether no number stands twice among the batches
 pub record AreCuts (round : RoundCut) (keys sizes : List ℕ) (differ : Bool) : Type 0 where

@@ -5,6 +5,7 @@ pub mod Cut
 pub mod Cuts
 pub mod Counted
 pub mod Stripe
+pub mod Round
 pub mod Faults
 pub mod Tables
-pub mod NotedCounts
+pub mod AtLeast

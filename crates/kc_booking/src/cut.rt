@@ -1,13 +1,11 @@
 //! The words of a batch divided among the stripes.
-ghost use Rattle.std.specs.Prelude.{◌≡◌, ℕ, ◌%◌, ◌^◌, ◌<◌, ◌≤◌, ◌==◌, [], length, map, count_by, slice_index, All};
-ghost use Rattle.std.specs.Prelude.{IfOk, Some, filter};
-ghost use Rattle.std.specs.Vec.{vec_capacity};
-ghost use Rattle.kc_kmer.specs.Rule.{is_listed};
-ghost use Rattle.kc_booking.specs.Cut.{StripeCut, keys_of, cuts_of, key_parts, batch_hash_values};
+ghost use Rattle.std.specs.Prelude.{◌≡◌, ℕ, ◌%◌, ◌^◌, ◌≤◌, ◌==◌, count_by, slice_index, IfOk};
+ghost use Rattle.kc_booking.specs.Cut.{StripeCut, keys_of, cuts_of, batch_hash_values};
 
+use crate::round::Round;
 use crate::setup::Setup;
 use kc_lemmas::room_for_each;
-use kc_word::{Batch, Only, Word, words};
+use kc_word::{Batch, words};
 use std::alloc::{AllocError, Global};
 use std::marker::Model;
 use std::sync::Arc;
@@ -68,7 +66,9 @@ impl Cut {
 pub fn cut_up(alloc: Global, setup: &Setup, batch: &Arc<Batch>) -> Result<Vec<Cut>, AllocError>
     ensures { IfOk result (λ cuts. cuts.items ≡ cuts_of setup.now batch.now.value) }
 {
-    let parts = stripe_keys(alloc, setup, batch)?;
+    let mut round = Round::new(alloc, setup)?;
+    round.cut_up(batch)?;
+    let parts = round.into_keys();
     let mut cuts = room_for_each(alloc, &parts)?;
     for keys in parts {
         let setup = setup.clone()?;
@@ -81,16 +81,6 @@ pub fn cut_up(alloc: Global, setup: &Setup, batch: &Arc<Batch>) -> Result<Vec<Cu
         cuts.push(cut)?;
     }
     Ok(cuts)
-}
-
-// The keys of each stripe's cut.
-fn stripe_keys(alloc: Global, setup: &Setup, batch: &Batch) -> Result<Vec<Vec<u64>>, AllocError>
-    ensures keys { IfOk result (λ parts.
-        map (λ part. part.items) parts.items ≡ map keys_of (cuts_of setup.now batch.now)) }
-    ensures few { IfOk result (λ parts. length parts.items ≤ 64) }
-{
-    let hash_values = hashed_words(alloc, setup, batch)?;
-    divided(alloc, &hash_values, setup.stripe_bits)
 }
 
 /// The hash values of the batch's words that count, in order: where a list is given, those of the listed ones.
@@ -106,66 +96,13 @@ pub(crate) fn hashed_words(
     let mut words = words(alloc, batch, setup.rule())?;
     match setup.list() {
         None => {}
-        Some(list) => keep_listed(list, &mut words),
+        Some(list) => list.keep_listed(&mut words),
     }
     let tables = setup.hash.forward_tables();
     for word in words.iter_mut() {
         *word = tables.apply(*word);
     }
     Ok(words)
-}
-
-// Leaves out the words that are not in the list.
-fn keep_listed(list: &Only, words: &mut Vec<u64>)
-    requires { All (λ word. word < 4 ^ list.now.k) words.old.items }
-    ensures { words.new.items ≡ filter (λ word. is_listed (Some list.now.words) word) words.old.items }
-{
-    let mut kept = 0;
-    for i in 0..words.len() {
-        let word = words[i];
-        if list.holds(Word(word)) {
-            words[kept] = word;
-            kept += 1;
-        }
-    }
-    words.truncate(kept);
-}
-
-/// The hash values divided by their low bits: for each stripe its keys, which are the other bits, in order.
-pub(crate) fn divided(
-    alloc: Global,
-    hash_values: &[u64],
-    stripe_bits: u32,
-) -> Result<Vec<Vec<u64>>, AllocError>
-    requires { stripe_bits ≤ 6 }
-    ensures { IfOk result (λ parts. map (λ part. part.items) parts.items ≡ key_parts stripe_bits hash_values.now) }
-{
-    let low = (1 << stripe_bits) - 1;
-    let mut parts = empty_parts(alloc, hash_values, stripe_bits)?;
-    for hash_value in hash_values {
-        parts[(*hash_value & low) as usize].push(*hash_value >> stripe_bits)?;
-    }
-    Ok(parts)
-}
-
-// An empty vector for each stripe, with room for its keys.
-fn empty_parts(
-    alloc: Global,
-    hash_values: &[u64],
-    stripe_bits: u32,
-) -> Result<Vec<Vec<u64>>, AllocError>
-    requires { stripe_bits ≤ 6 }
-    ensures empty { IfOk result (λ parts. map (λ part. part.items) parts.items ≡ key_parts stripe_bits []) }
-    ensures room { IfOk result (λ parts.
-        map (λ part. vec_capacity part) parts.items ≡ map length (key_parts stripe_bits hash_values.now)) }
-{
-    let sizes = part_sizes(hash_values, stripe_bits);
-    let stripes = 1usize << stripe_bits;
-    let mut parts = room_for_each(alloc, &sizes[..stripes])?;
-    for stripe in 0..stripes {
-        parts.push(Vec::with_capacity(alloc, sizes[stripe])?)?;
-    }
-    Ok(parts)
 }
 
 /// How many hash values fall in each stripe.

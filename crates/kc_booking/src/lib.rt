@@ -2,9 +2,9 @@
 //! stripe that always holds exactly the counts of the batches that its journal names.
 //!
 //! A [`Setup`] divides the words, all of them or those of a list alone. [`cut_up`] cuts a batch up into one [`Cut`] for
-//! each stripe, and [`Stripe::book`] counts a cut whole or not at all. [`cut_up_all`] cuts several batches up, and
-//! [`Stripe::book_all`] counts all their words in a stripe, its [`Cuts`], or none. A stripe begins with an empty table:
-//! [`plain_tables`] and [`quotient_tables`] make one for each.
+//! each stripe, and [`Stripe::book`] counts a cut whole or not at all. A [`Round`] cuts several batches up in buffers
+//! that are kept, and [`Stripe::book_all`] counts all their words in a stripe, its [`Cuts`], or none. A stripe begins
+//! with an empty table: [`plain_tables`] and [`quotient_tables`] make one for each.
 //!
 //! ```ignore
 //! for batch in batches {
@@ -14,18 +14,23 @@
 //! ```
 #![tactic(auto)]
 
+mod at_least;
 mod booking_fault;
+mod buffers;
 mod counted;
 mod cut;
 mod cuts;
 mod part_order;
+mod round;
 mod setup;
 mod starting_tables;
 mod stripe;
 
 pub use booking_fault::BookFault;
 pub use cut::{Cut, cut_up};
-pub use cuts::{Cuts, clones_of, cut_up_all};
+pub use cuts::{Cuts, clones_of};
+pub use part_order::Ordered;
+pub use round::Round;
 pub use setup::Setup;
 pub use starting_tables::{plain_tables, quotient_tables};
 pub use stripe::Stripe;

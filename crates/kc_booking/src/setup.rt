@@ -129,6 +129,14 @@ impl Setup {
         1 << self.stripe_bits
     }
 
+    /// The logarithm of the number of stripes.
+    pub(crate) fn stripe_bits(&self) -> u32
+        ensures value { result ≡ self.now.stripe_bits }
+        ensures at_most { result ≤ 6 }
+    {
+        self.stripe_bits
+    }
+
     /// The number of bits of a key.
     pub fn key_bits(&self) -> u32
         ensures value { result ≡ key_bits self.now }

@@ -1,7 +1,7 @@
 //! A stripe, which always holds exactly the counts of the batches that its journal names.
 ghost use Rattle.std.specs.Prelude.{◌≡◌, ◌+◌, ◌<◌, ◌≤◌, ◌^◌, ◌≢◌, ◌==◌, ◌↔◌, ◌⊎◌, [], ◌∷◌, ◌++◌, length, sum_by};
-ghost use Rattle.std.specs.Prelude.{count_by, max, ◌*◌, IfOk, OnOk, OnErr, nat_eq};
-ghost use Rattle.std.specs.HashSet.{contains};
+ghost use Rattle.std.specs.Prelude.{count_by, max, ◌*◌, ℕ, IfOk, OnOk, OnErr, nat_eq};
+ghost use Rattle.std.specs.HashSet.{contains, spare};
 ghost use Rattle.std.specs.Vec.{vec_capacity};
 ghost use Rattle.std.specs.FinMap.{empty};
 ghost use Rattle.kc_word.specs.Shared.{values};
@@ -14,11 +14,12 @@ ghost use Rattle.kc_booking.specs.Counted.{KeepsLimits, SomeMayBeFull, SomeMayBe
 ghost use Rattle.kc_booking.specs.Stripe.{StripeState, IsLawful, IsBooked, IsOwnCut, IsUnchanged, AreStripeRows};
 ghost use Rattle.kc_booking.specs.Stripe.{word_occurrences, stripe_occurrences, NumbersDiffer, KnowsNumbers};
 
+use crate::at_least::AtLeast;
 use crate::booking_fault::BookFault;
 use crate::counted::CountedTable;
 use crate::cut::Cut;
 use crate::cuts::{Cuts, clones_of};
-use crate::part_order::parted;
+use crate::part_order::Ordered;
 use crate::setup::Setup;
 use kc_lemmas::room_for_each;
 use kc_table::Counts;
@@ -79,10 +80,10 @@ impl<C: Counts + Drop> Stripe<C> {
         // for the proof: what is known of the words and their keys
         setup.hash.is_permutation();
         let setup = setup.clone()?;
-        let histogram = Histogram::new(alloc)?;
+        let at_least = AtLeast::new(alloc)?;
         let counted = CountedTable {
             table,
-            histogram,
+            at_least,
             total: 0,
         };
         Ok(Stripe {
@@ -137,6 +138,13 @@ impl<C: Counts> Stripe<C> {
         self.counted.total
     }
 
+    /// How many slots the stripe's table has: for speed alone.
+    pub fn slots(&self) -> u64
+        ensures { result ≡ C.slots self.now.table }
+    {
+        self.counted.table.slots()
+    }
+
     /// How many words of the stripe occur so often in the journal's batches; those that occur more often than 10,000
     /// times are in bin 10,001. Condition: the bin is 1 to 10,001.
     pub fn bin(&self, bin: u64) -> u64
@@ -147,14 +155,14 @@ impl<C: Counts> Stripe<C> {
             (λ word. bin_of (word_occurrences self.now.setup self.now.journal word) == bin)
             (stripe_words self.now.setup self.now.number) }
     {
-        self.counted.histogram.bin(bin)
+        self.counted.bin(bin)
     }
 
     /// How many words of the stripe occur how often in the journal's batches.
-    pub fn histogram(&self) -> &Histogram
-        ensures { result.now ≡ self.now.bins }
+    pub fn histogram(&self, alloc: Global) -> Result<Histogram, AllocError>
+        ensures { IfOk result (λ bins. bins ≡ self.now.bins) }
     {
-        &self.counted.histogram
+        self.counted.histogram(alloc)
     }
 
     /// The greatest count of a word of the stripe in the journal's batches, 0 where none occurs. It looks at each key
@@ -221,10 +229,10 @@ impl<C: Counts> Stripe<C> {
     {
         self.check(cut)?;
         // what can fail comes first; where it does, no count and no name in the journal has changed
-        let alloc = *self.journal.allocator();
-        let places = self.counted.ready_all(alloc, &cut.keys)?;
-        enter(&mut self.journal, &mut self.booked, &cut.batch)?;
-        self.counted.add_all(&cut.keys, &places);
+        let batch = cut.batch.clone()?;
+        make_room(&mut self.journal, &mut self.booked, 1)?;
+        self.counted.count_all(&cut.keys)?;
+        enter(&mut self.journal, &mut self.booked, batch);
         Ok(())
     }
 
@@ -255,9 +263,9 @@ impl<C: Counts> Stripe<C> {
     /// them in their order. No batch is booked where there is none.
     ///
     /// The refusal is that of the first cut that `book` would refuse, cut by cut; but a number that stands twice is
-    /// told before a full stripe. The keys are stored in the order of the table's parts, so a full table may refuse
-    /// another key than `book` would meet first.
-    pub fn book_all(&mut self, cuts: &Cuts) -> Result<(), BookFault>
+    /// told before a full stripe. The keys are counted in the order of the table's parts, so a full table may refuse
+    /// another key than `book` would meet first. What was ordered before goes, and its buffers are used again.
+    pub fn book_all(&mut self, cuts: &Cuts, ordered: &mut Ordered) -> Result<(), BookFault>
         ensures setup { self.new.setup ≡ self.old.setup }
         ensures number { self.new.number ≡ self.old.number }
         ensures journal { OnOk result (self.new.journal ≡ self.old.journal ++ cuts.now.batches) }
@@ -284,17 +292,11 @@ impl<C: Counts> Stripe<C> {
         self.check_all(cuts)?;
         // what can fail comes first; where it does, no count and no name in the journal has changed
         let alloc = *self.journal.allocator();
-        // the keys in the order of the table's parts, so that one pass over them is one over the table
-        let parts = parted(alloc, &self.counted.table, &cuts.keys)?;
-        let mut keys = room_for_each(alloc, &cuts.keys)?;
-        for part in &parts {
-            keys.extend_from_slice(part)?;
-        }
-        // before the table may grow and want the memory
-        drop(parts);
-        let places = self.counted.ready_all(alloc, &keys)?;
-        enter_all(&mut self.journal, &mut self.booked, &cuts.batches)?;
-        self.counted.add_all(&keys, &places);
+        ordered.order(&self.counted.table, cuts.keys)?;
+        let batches = clones_of(alloc, cuts.batches)?;
+        make_room(&mut self.journal, &mut self.booked, batches.len())?;
+        self.counted.count_all(&ordered.keys)?;
+        enter_all(&mut self.journal, &mut self.booked, batches);
         Ok(())
     }
 
@@ -314,13 +316,13 @@ impl<C: Counts> Stripe<C> {
         if self.booked.contains(&cuts.batches[0].number()) {
             return Err(BookFault::Twice);
         }
-        if cuts.setup != self.setup || cuts.stripe != self.number {
+        if *cuts.setup != self.setup || cuts.stripe != self.number {
             return Err(BookFault::Stranger);
         }
         if !cuts.numbers_differ {
             return Err(BookFault::Twice);
         }
-        for batch in &cuts.batches {
+        for batch in cuts.batches {
             if self.booked.contains(&batch.number()) {
                 return Err(BookFault::Twice);
             }
@@ -332,53 +334,61 @@ impl<C: Counts> Stripe<C> {
     }
 }
 
-// Puts a batch behind those of the journal, and its number to those that are booked; where memory is refused, both stay
-// as they were. A full journal gets room for twice its batches and one. Condition: what is booked are the numbers in
-// the journal.
-fn enter(
+// Makes room for so many batches more in the journal, and for their numbers among those that are booked. A journal with
+// too little room gets room for twice its batches and so many more.
+fn make_room(
     journal: &mut Vec<Arc<Batch>>,
     booked: &mut HashSet<u64>,
-    batch: &Arc<Batch>,
+    more: usize,
 ) -> Result<(), AllocError>
-    requires { KnowsNumbers (contains nat_eq booked.old) (values journal.old.items) }
-    ensures entered { OnOk result (values journal.new.items ≡ values journal.old.items ++ batch.now.value ∷ []) }
-    ensures unchanged { OnErr result (values journal.new.items ≡ values journal.old.items) }
-    ensures known { KnowsNumbers (contains nat_eq booked.new) (values journal.new.items) }
-    ensures bounded { vec_capacity journal.new ≤ max (vec_capacity journal.old) (2 * length journal.old.items + 1) }
+    ensures room { OnOk result (length journal.new.items + more ≤ vec_capacity journal.new) }
+    ensures spare { OnOk result (more ≤ spare booked.new) }
+    ensures same_journal { journal.new.items ≡ journal.old.items }
+    ensures same_numbers { (n : ℕ) → contains nat_eq booked.new n ≡ contains nat_eq booked.old n }
+    ensures bounded { vec_capacity journal.new
+        ≤ max (vec_capacity journal.old) (2 * length journal.old.items + more) }
 {
-    let batch = batch.clone()?;
-    if journal.len() == journal.capacity() {
-        journal.reserve_exact(journal.len().saturating_add(1))?;
+    if journal.capacity() - journal.len() < more {
+        journal.reserve_exact(journal.len().saturating_add(more))?;
     }
-    let Ok(_) = booked.insert(batch.number()) else {
-        return Err(AllocError);
-    };
-    journal.push_reserved(batch);
-    Ok(())
+    booked.reserve(more)
 }
 
-// Puts several batches behind those of the journal, in order, and their numbers to those that are booked, or none of
-// them. Condition: what is booked are the numbers in the journal.
-fn enter_all(
-    journal: &mut Vec<Arc<Batch>>,
-    booked: &mut HashSet<u64>,
-    batches: &[Arc<Batch>],
-) -> Result<(), AllocError>
-    requires { KnowsNumbers (contains nat_eq booked.old) (values journal.old.items) }
-    ensures entered { OnOk result (values journal.new.items ≡ values journal.old.items ++ values batches.now) }
-    ensures unchanged { OnErr result (values journal.new.items ≡ values journal.old.items) }
+// Puts a batch behind those of the journal, and its number to those that are booked. Conditions: there is room for it,
+// and what is booked are the numbers in the journal.
+fn enter(journal: &mut Vec<Arc<Batch>>, booked: &mut HashSet<u64>, batch: Arc<Batch>)
+    requires room { length journal.old.items + 1 ≤ vec_capacity journal.old }
+    requires spare { 1 ≤ spare booked.old }
+    requires known { KnowsNumbers (contains nat_eq booked.old) (values journal.old.items) }
+    ensures entered { values journal.new.items ≡ values journal.old.items ++ batch.value ∷ [] }
     ensures known { KnowsNumbers (contains nat_eq booked.new) (values journal.new.items) }
 {
-    let mut more = clones_of(*journal.allocator(), batches)?;
-    booked.reserve(more.len())?;
-    journal.append(&mut more)?;
-    for batch in batches {
+    let Ok(_) = booked.insert(batch.number()) else {
         // There is room for it.
+        return;
+    };
+    journal.push_reserved(batch);
+}
+
+// Puts several batches behind those of the journal, in order, and their numbers to those that are booked. Conditions:
+// there is room for them, and what is booked are the numbers in the journal.
+fn enter_all(journal: &mut Vec<Arc<Batch>>, booked: &mut HashSet<u64>, mut batches: Vec<Arc<Batch>>)
+    requires room { length journal.old.items + length batches.items ≤ vec_capacity journal.old }
+    requires spare { length batches.items ≤ spare booked.old }
+    requires known { KnowsNumbers (contains nat_eq booked.old) (values journal.old.items) }
+    ensures entered { values journal.new.items ≡ values journal.old.items ++ values batches.items }
+    ensures known { KnowsNumbers (contains nat_eq booked.new) (values journal.new.items) }
+{
+    for batch in &batches {
         let Ok(_) = booked.insert(batch.number()) else {
-            return Err(AllocError);
+            // There is room for it.
+            return;
         };
     }
-    Ok(())
+    let Ok(()) = journal.append(&mut batches) else {
+        // And for all of them.
+        return;
+    };
 }
 
 // The greatest total.

@@ -37,13 +37,29 @@ fn ready_all<C: Counts>(
     Ok(())
 }
 
-// Stores the key and adds one to its count.
-fn count<C: Counts>(rt: &impl Abort, table: &mut C, key: u64) -> Result<(), TableFault> {
+// Stores the key, and then adds one to its count.
+fn ready_and_add<C: Counts>(rt: &impl Abort, table: &mut C, key: u64) -> Result<(), TableFault> {
     assert_key(rt, table, key);
     table.ready(key)?;
     assert!(rt; table.get(key) < 1 << 62);
     table.add(key);
     Ok(())
+}
+
+// Counts the key by one call: its new count.
+fn count<C: Counts>(rt: &impl Abort, table: &mut C, key: u64) -> Result<u64, TableFault> {
+    assert_key(rt, table, key);
+    assert!(rt; table.get(key) < 1 << 62);
+    table.count(key)
+}
+
+// Takes one away from the key's count, where that is at least 1: what is left.
+fn uncount<C: Counts>(rt: &impl Abort, table: &mut C, key: u64) -> u64 {
+    assert_key(rt, table, key);
+    if table.get(key) > 0 {
+        table.uncount(key);
+    }
+    table.get(key)
 }
 
 fn count_each<C: Counts>(rt: &impl Abort, table: &mut C, keys: &[u64]) -> Result<(), TableFault> {
@@ -103,10 +119,11 @@ fn assert_rows<C: Counts>(
     Ok(())
 }
 
-// Counts 0 once and 7 twice, and stores 3.
-fn count_0_and_7<C: Counts>(rt: &impl Abort, table: &mut C) -> Result<(), TableFault> {
-    count_each(rt, table, &[0, 7, 7])?;
-    ready(rt, table, 7)?;
+// Adds one to the count of 0 and two to that of 7, and stores 3.
+fn add_0_and_7<C: Counts>(rt: &impl Abort, table: &mut C) -> Result<(), TableFault> {
+    ready_and_add(rt, table, 0)?;
+    ready_and_add(rt, table, 7)?;
+    ready_and_add(rt, table, 7)?;
     ready(rt, table, 3)
 }
 
@@ -119,7 +136,7 @@ fn is_a_finite_map<C: Counts + Send>(
     readies_0(rt, table)?;
     assert_rows(rt, alloc, table, &[])?;
     assert_same(rt, "no count", &table.greatest(), &0);
-    count_0_and_7(rt, table)?;
+    add_0_and_7(rt, table)?;
     assert_counts(rt, table, &[(0, 1), (7, 2)]);
     assert_uncounted(rt, table, 1, 7);
     assert_same(rt, "the greatest count", &table.greatest(), &2);
@@ -144,51 +161,59 @@ fn each_type_is_a_finite_map(rt: HostRuntime) -> Result<(), Fail> {
     Ok(())
 }
 
-// Stores the key and counts it twice at its place: the place, and what is told of the count each time.
-fn count_at_its_place<C: Counts>(
+// Counts each key in turn, and asserts that these are the new counts.
+fn assert_counted<C: Counts>(
     rt: &impl Abort,
     table: &mut C,
-    key: u64,
-) -> Result<(u64, u64, u64), TableFault> {
-    assert_key(rt, table, key);
-    let place = table.store(key)?;
-    assert!(rt; table.get(key) < 1 << 62);
-    let once = table.increment_at(key, place);
-    assert!(rt; table.get(key) < 1 << 62);
-    let twice = table.increment_at(key, place);
-    Ok((place, once, twice))
+    rows: &[(u64, u64)],
+) -> Result<(), TableFault> {
+    for (key, new_count) in rows {
+        assert_same(rt, *key, &count(rt, table, *key)?, new_count);
+    }
+    Ok(())
 }
 
-// Stores the key and looks for its place.
-fn place_found<C: Counts>(rt: &impl Abort, table: &mut C, key: u64) -> Result<u64, TableFault> {
-    assert_key(rt, table, key);
-    table.ready(key)?;
-    Ok(table.place_of(key))
+// Takes one away from each key in turn, and asserts that so much is left.
+fn assert_taken<C: Counts>(rt: &impl Abort, table: &mut C, rows: &[(u64, u64)]) {
+    for (key, left) in rows {
+        assert_same(rt, *key, &uncount(rt, table, *key), left);
+    }
 }
 
-// Asserts that 5 stands at the place 5 of a table that has grown so far, and is counted there.
-fn assert_place<C: Counts>(rt: &impl Abort, table: &mut C, growth: u32) -> Result<(), TableFault> {
-    assert_same(
-        rt,
-        "counted",
-        &count_at_its_place(rt, table, 5)?,
-        &(5, 1, 2),
-    );
-    assert_same(rt, "found", &place_found(rt, table, 5)?, &5);
-    assert_same(rt, "growth", &table.growth(), &growth);
+// Counts two keys of 3 bits from an empty table on, takes some away, and counts one again.
+fn counts_and_takes_away<C: Counts>(
+    rt: &impl Abort,
+    alloc: Global,
+    table: &mut C,
+) -> Result<(), Fail> {
+    assert_counted(rt, table, &[(5, 1), (5, 2), (3, 1), (5, 3)])?;
+    assert_taken(rt, table, &[(5, 2), (3, 0)]);
+    assert_rows(rt, alloc, table, &[(5, 2)])?;
+    assert_counted(rt, table, &[(3, 1)])?;
+    Ok(assert_rows(rt, alloc, table, &[(3, 1), (5, 2)])?)
+}
+
+// A key from whose count all was taken away is stored still, so that the map for two keys takes no third one.
+#[test]
+fn each_type_counts_and_takes_away(rt: HostRuntime) -> Result<(), Fail> {
+    let alloc = rt.alloc();
+    counts_and_takes_away(&rt, alloc, &mut PlainCounts::new(alloc, 3))?;
+    let mut limited = LimitedCounts::new(alloc, 3, 2, TableFault::Full);
+    counts_and_takes_away(&rt, alloc, &mut limited)?;
+    assert_taken(&rt, &mut limited, &[(3, 0)]);
+    assert_same(&rt, 4, &count(&rt, &mut limited, 4), &Err(TableFault::Full));
+    counts_and_takes_away(&rt, alloc, &mut QuotientTable::new(alloc, 3, 3, 3)?)?;
     Ok(())
 }
 
 #[test]
-fn each_type_counts_a_key_at_its_place(rt: HostRuntime) -> Result<(), Fail> {
+fn a_table_has_slots_and_no_other_map(rt: HostRuntime) -> Result<(), Fail> {
     let alloc = rt.alloc();
-    assert_place(&rt, &mut PlainCounts::new(alloc, 3), 0)?;
-    assert_place(
-        &rt,
-        &mut LimitedCounts::new(alloc, 3, 3, TableFault::Full),
-        0,
-    )?;
-    assert_place(&rt, &mut QuotientTable::new(alloc, 3, 3, 3)?, 3)?;
+    let table = QuotientTable::new(alloc, 16, 8, 9)?;
+    assert_same(&rt, "table", &table.slots(), &256);
+    let limited = LimitedCounts::new(alloc, 16, 2, TableFault::Full);
+    assert_same(&rt, "limited", &limited.slots(), &0);
+    assert_same(&rt, "plain", &PlainCounts::new(alloc, 16).slots(), &0);
     Ok(())
 }
 
@@ -197,10 +222,11 @@ fn key_of_one_home(number: u8) -> u64 {
     256 * u64::from(number) + 5
 }
 
-// Counts the first 63 keys of one home.
+// Counts the first 63 keys of one home once each.
 fn count_home(rt: &impl Abort, table: &mut QuotientTable) -> Result<(), TableFault> {
     for number in 0..63 {
-        count(rt, table, key_of_one_home(number))?;
+        let told = count(rt, table, key_of_one_home(number))?;
+        assert_same(rt, number, &told, &1);
     }
     Ok(())
 }
@@ -240,6 +266,8 @@ fn a_home_is_shared_by_63_keys(rt: HostRuntime) -> Result<(), Fail> {
     let last = key_of_one_home(63);
     let refused = ready(&rt, &mut table, last);
     assert_same(&rt, "refused", &refused, &Err(TableFault::Full));
+    let refused = count(&rt, &mut table, last);
+    assert_same(&rt, "not counted", &refused, &Err(TableFault::Full));
     assert_same(&rt, "found", &find(&rt, &table, last), &None);
     assert_home(&rt, &table, 63);
     assert_same(&rt, "log", &table.log(), &8);
@@ -258,15 +286,24 @@ fn a_64th_key_of_a_home_is_taken_by_a_larger_table(rt: HostRuntime) -> Result<()
 }
 
 #[test]
+fn a_64th_key_of_a_home_is_counted_in_a_larger_table(rt: HostRuntime) -> Result<(), Fail> {
+    let mut table = QuotientTable::new(rt.alloc(), 16, 8, 9)?;
+    count_home(&rt, &mut table)?;
+    assert_same(&rt, "slots", &table.slots(), &256);
+    assert_counted(&rt, &mut table, &[(key_of_one_home(63), 1)])?;
+    assert_same(&rt, "slots", &table.slots(), &512);
+    assert_home(&rt, &table, 64);
+    Ok(())
+}
+
+#[test]
 fn a_growth_gives_a_key_another_place(rt: HostRuntime) -> Result<(), Fail> {
     let mut table = QuotientTable::new(rt.alloc(), 16, 8, 9)?;
     count_home(&rt, &mut table)?;
     let second = key_of_one_home(1);
-    assert_same(&rt, "before", &place_found(&rt, &mut table, second)?, &6);
-    assert_same(&rt, "growth", &table.growth(), &8);
+    assert_same(&rt, "before", &find(&rt, &table, second), &Some(6));
     ready(&rt, &mut table, key_of_one_home(63))?;
-    assert_same(&rt, "after", &place_found(&rt, &mut table, second)?, &261);
-    assert_same(&rt, "growth", &table.growth(), &9);
+    assert_same(&rt, "after", &find(&rt, &table, second), &Some(261));
     Ok(())
 }
 
@@ -368,6 +405,46 @@ fn counts_outgrow_their_slots(rt: HostRuntime) -> Result<(), Fail> {
     Ok(())
 }
 
+// Counts two keys of 62 bits in a table of 2^log slots, and takes away again, up and down past 2, 3, 4 and 5.
+fn carries_and_borrows(rt: &impl Abort, alloc: Global, log: u32) -> Result<(), Fail>
+    requires log { 4 ≤ log }
+    requires few_slots { log ≤ 40 }
+{
+    let mut table = QuotientTable::new(alloc, 62, log, 40)?;
+    let up = &[
+        (LONGEST, 1),
+        (LONGEST, 2),
+        (7, 1),
+        (LONGEST, 3),
+        (LONGEST, 4),
+        (LONGEST, 5),
+    ];
+    assert_counted(rt, &mut table, up)?;
+    assert_taken(rt, &mut table, &[(LONGEST, 4), (LONGEST, 3), (LONGEST, 2)]);
+    assert_counted(rt, &mut table, &[(LONGEST, 3), (LONGEST, 4), (7, 2)])?;
+    let down = &[
+        (LONGEST, 3),
+        (LONGEST, 2),
+        (7, 1),
+        (LONGEST, 1),
+        (LONGEST, 0),
+    ];
+    assert_taken(rt, &mut table, down);
+    assert_same(rt, "log", &table.log(), &log);
+    assert_rows(rt, alloc, &table, &[(7, 1)])?;
+    Ok(())
+}
+
+// Of a count none, 1 and 2 low bits stand in a slot's word.
+#[test]
+fn counts_pass_their_slots_up_and_down(rt: HostRuntime) -> Result<(), Fail> {
+    let alloc = rt.alloc();
+    carries_and_borrows(&rt, alloc, 4)?;
+    carries_and_borrows(&rt, alloc, 5)?;
+    carries_and_borrows(&rt, alloc, 6)?;
+    Ok(())
+}
+
 // Asserts that a table has 2^log slots, and the longest key so often.
 fn assert_longest(rt: &impl Abort, table: &QuotientTable, log: u32, count: u64) {
     assert_same(rt, "log", &table.log(), &log);
@@ -400,8 +477,10 @@ fn assert_refusal(rt: &impl Abort, alloc: Global, refusal: TableFault) -> Result
     let mut table = LimitedCounts::new(alloc, 16, 2, refusal);
     count_each(rt, &mut table, &[3, 7])?;
     assert_same(rt, 9, &ready(rt, &mut table, 9), &Err(refusal));
+    assert_same(rt, 9, &count(rt, &mut table, 9), &Err(refusal));
     assert_counts(rt, &table, &[(3, 1), (7, 1), (9, 0)]);
     assert_same(rt, 3, &ready(rt, &mut table, 3), &Ok(()));
+    assert_same(rt, 3, &count(rt, &mut table, 3), &Ok(2));
     Ok(())
 }
 
@@ -434,20 +513,57 @@ fn ready_and_count(
     ready_again(rt, table, number)?;
     let key = key_of_one_home(number);
     assert_same(rt, key, &count_of(rt, table, key), &0);
+    assert_counted(rt, table, &[(key, 1)])
+}
+
+// Counts the next key of one home. Where that is refused, asserts that the table is as it was, and counts it once more.
+fn count_again(rt: &impl Abort, table: &mut QuotientTable, number: u8) -> Result<u64, TableFault> {
+    let before = table.log();
+    let key = key_of_one_home(number);
+    let fault = match count(rt, table, key) {
+        Ok(told) => return Ok(told),
+        Err(fault) => fault,
+    };
+    assert_same(rt, number, &fault, &TableFault::Memory);
+    assert_same(rt, number, &table.log(), &before);
+    assert_home(rt, table, number);
     count(rt, table, key)
+}
+
+// Stores 64 keys of one home in turn, and counts each.
+fn ready_and_count_home(rt: &impl Abort, table: &mut QuotientTable) -> Result<(), TableFault> {
+    for number in 0..64 {
+        ready_and_count(rt, table, number)?;
+    }
+    Ok(())
+}
+
+// Counts 64 keys of one home in turn.
+fn count_home_again(rt: &impl Abort, table: &mut QuotientTable) -> Result<(), TableFault> {
+    for number in 0..64 {
+        let told = count_again(rt, table, number)?;
+        assert_same(rt, number, &told, &1);
+    }
+    Ok(())
+}
+
+// An empty table of 16 slots, for which memory is asked for once more where it is refused.
+fn table_of_16_slots(alloc: Global) -> Result<QuotientTable, AllocError> {
+    match QuotientTable::new(alloc, 16, 4, 16) {
+        Ok(table) => Ok(table),
+        Err(_) => QuotientTable::new(alloc, 16, 4, 16),
+    }
 }
 
 // Where a growth is refused the counts stay, and the next call finds memory again.
 #[test]
 fn a_refused_growth_leaves_the_table(rt: HostRuntime) -> Result<(), Fail> {
     let alloc = rt.alloc();
-    let mut table = match QuotientTable::new(alloc, 16, 4, 16) {
-        Ok(table) => table,
-        Err(_) => QuotientTable::new(alloc, 16, 4, 16)?,
-    };
-    for number in 0..64 {
-        ready_and_count(&rt, &mut table, number)?;
-    }
+    let mut table = table_of_16_slots(alloc)?;
+    ready_and_count_home(&rt, &mut table)?;
+    assert_same(&rt, "log", &table.log(), &9);
+    let mut table = table_of_16_slots(alloc)?;
+    count_home_again(&rt, &mut table)?;
     assert_same(&rt, "log", &table.log(), &9);
     Ok(())
 }
@@ -461,15 +577,28 @@ fn do_alike(
 ) -> Result<(), TableFault> {
     let key = drawn % 5000;
     match drawn >> 62 {
-        0 => assert_same(rt, key, &ready(rt, table, key), &ready(rt, plain, key)),
-        1 => assert_same(
-            rt,
-            key,
-            &count_of(rt, table, key),
-            &count_of(rt, plain, key),
-        ),
+        0 => add_to_both(rt, plain, table, key)?,
+        1 => assert_same(rt, key, &uncount(rt, table, key), &uncount(rt, plain, key)),
         _ => count_in_both(rt, plain, table, key)?,
     }
+    Ok(())
+}
+
+// Stores the key in both maps and adds one to its count.
+fn add_to_both(
+    rt: &impl Abort,
+    plain: &mut PlainCounts,
+    table: &mut QuotientTable,
+    key: u64,
+) -> Result<(), TableFault> {
+    ready_and_add(rt, plain, key)?;
+    ready_and_add(rt, table, key)?;
+    assert_same(
+        rt,
+        key,
+        &count_of(rt, table, key),
+        &count_of(rt, plain, key),
+    );
     Ok(())
 }
 
@@ -480,8 +609,8 @@ fn count_in_both(
     table: &mut QuotientTable,
     key: u64,
 ) -> Result<(), TableFault> {
-    count(rt, plain, key)?;
-    count(rt, table, key)
+    let told = count(rt, plain, key)?;
+    assert_counted(rt, table, &[(key, told)])
 }
 
 // Does many drawn things to both maps, and asserts that they answer alike.

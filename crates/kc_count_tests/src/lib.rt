@@ -6,6 +6,8 @@ mod count_assertions;
 #[cfg(test)]
 mod counting_tables;
 #[cfg(test)]
+mod counts_beside_slots;
+#[cfg(test)]
 mod growing_tallies;
 #[cfg(test)]
 mod hashes;
@@ -17,6 +19,8 @@ mod merged_tables;
 mod refusing_streams;
 #[cfg(test)]
 mod report_rows;
+#[cfg(test)]
+mod reports_by_threads;
 #[cfg(test)]
 mod selected_reads;
 #[cfg(test)]

@@ -113,34 +113,7 @@ impl Reading {
             → HasGiven start (S.seen source.old) limit reads self.old
             → HasGiven start (S.seen source.new) limit reads self.new) }
     {
-        if let Some(fault) = self.failed {
-            return Err(fault);
-        }
-        'reading: loop {
-            let whole = self.whole_lines();
-            let mut lines = LineCursor {
-                left: whole,
-                taken: self.lines_used,
-            };
-            lines.pass_blanks();
-            let next = next_record(alloc, &mut lines, self.is_fastq);
-            if !self.ended && !is_sure(&next, &lines) {
-                self.grow(source)?;
-                continue;
-            }
-            match next {
-                Ok(Some((read, is_fastq))) => {
-                    let count = whole.len() - lines.left.len();
-                    self.lines_used = lines.taken;
-                    self.is_fastq = is_fastq;
-                    self.used += count as u64;
-                    self.intake.use_up(count);
-                    return Ok(Some(read));
-                }
-                Ok(None) => return Ok(None),
-                Err(fault) => return Err(self.keep(fault)),
-            }
-        }
+        self.next_of(alloc, source, &mut Vec::new(alloc), false)
     }
 
     /// The next read, as `next_read` gives it, and its title, which takes the place of what stands in `title`: the rest
@@ -166,17 +139,7 @@ impl Reading {
             → HasGivenRecords start (S.seen source.old) limit records self.old
             → HasGivenRecords start (S.seen source.new) limit records self.new) }
     {
-        if let Some(fault) = self.failed {
-            return Err(fault);
-        }
-        'reading: loop {
-            match self.titled_of_whole(alloc, title) {
-                Ok(Next::Given(read)) => return Ok(Some(read)),
-                Ok(Next::End) => return Ok(None),
-                Ok(Next::Short) => self.grow(source)?,
-                Err(fault) => return Err(self.keep(fault)),
-            }
-        }
+        self.next_of(alloc, source, title, true)
     }
 
     /// How many bytes were taken. Condition: no fault was kept, as where `next_read` has answered a read or none.
@@ -200,6 +163,46 @@ impl Reading {
         match self.intake.skip_rest(source) {
             Ok(_) => fault,
             Err(why) => FastxFault::from(why),
+        }
+    }
+
+    // The next read, and its title where that is asked for; where it isn't, `title` stays as it is.
+    fn next_of<S: Source>(
+        &mut self,
+        alloc: Global,
+        source: &mut S,
+        title: &mut Vec<u8>,
+        is_titled: bool,
+    ) -> Result<Option<SeqRead>, FastxFault>
+        ensures given { (start : Seen) (limit : ℕ) (reads : List Read)
+            → HasGiven start (S.seen source.old) limit reads self.old
+            → GivesNext start (S.seen source.new) limit reads self.new result }
+        ensures titled { is_titled ≡ true → (start : Seen) (limit : ℕ) (records : List Record)
+            → HasGivenRecords start (S.seen source.old) limit records self.old
+            → GivesRecord start (S.seen source.new) limit records self.new title.new.items result }
+        ensures used { IfOk result (λ next. IfSome next (λ read. self.old.used < self.new.used)) }
+        ensures again { IfSome self.old.failed (λ fault. result ≡ Err fault) }
+        ensures unchanged { OnSome self.old.failed (self.new ≡ self.old) }
+        ensures untaken { OnSome self.old.failed (S.seen source.new ≡ S.seen source.old) }
+        ensures kept { IfErr result (UnlessMemory (λ fault. self.new.failed ≡ Some fault)) }
+        ensures resumed { OnErr result (self.new.failed ≡ None → (start : Seen) (limit : ℕ) (reads : List Read)
+            → HasGiven start (S.seen source.old) limit reads self.old
+            → HasGiven start (S.seen source.new) limit reads self.new) }
+        ensures resumed_titled { OnErr result (self.new.failed ≡ None
+            → (start : Seen) (limit : ℕ) (records : List Record)
+            → HasGivenRecords start (S.seen source.old) limit records self.old
+            → HasGivenRecords start (S.seen source.new) limit records self.new) }
+    {
+        if let Some(fault) = self.failed {
+            return Err(fault);
+        }
+        'reading: loop {
+            match self.next_of_whole(alloc, title, is_titled) {
+                Ok(Next::Given(read)) => return Ok(Some(read)),
+                Ok(Next::End) => return Ok(None),
+                Ok(Next::Short) => self.grow(source)?,
+                Err(fault) => return Err(self.keep(fault)),
+            }
         }
     }
 
@@ -240,13 +243,18 @@ impl Reading {
         fault
     }
 
-    // The next read and its title, as far as the lines that are whole in the block tell them.
-    fn titled_of_whole(&mut self, alloc: Global, title: &mut Vec<u8>) -> Result<Next, FastxFault>
+    // The next read, and its title where that is asked for, as far as the lines that are whole in the block tell them.
+    fn next_of_whole(
+        &mut self,
+        alloc: Global,
+        title: &mut Vec<u8>,
+        is_titled: bool,
+    ) -> Result<Next, FastxFault>
         requires { self.old.failed ≡ None }
         ensures tells { (start now : Seen) (limit : ℕ) (reads : List Read)
             → HasGiven start now limit reads self.old → TellsNext start now limit reads self.new result }
         ensures moves { Moves self.old self.new result }
-        ensures titled { TellsRecord self.old self.new title.new.items result }
+        ensures titled { is_titled ≡ true → TellsRecord self.old self.new title.new.items result }
     {
         let whole = self.whole_lines();
         let mut lines = LineCursor {
@@ -254,7 +262,7 @@ impl Reading {
             taken: self.lines_used,
         };
         lines.pass_blanks();
-        let line = lines.title();
+        let first = LineCursor { ..lines };
         let next = next_record(alloc, &mut lines, self.is_fastq);
         if !self.ended && !is_sure(&next, &lines) {
             return Ok(Next::Short);
@@ -262,8 +270,10 @@ impl Reading {
         let Some((read, is_fastq)) = next? else {
             return Ok(Next::End);
         };
-        title.clear();
-        title.extend_from_slice(line)?;
+        if is_titled {
+            title.clear();
+            title.extend_from_slice(first.title())?;
+        }
         let count = whole.len() - lines.left.len();
         self.lines_used = lines.taken;
         self.is_fastq = is_fastq;

@@ -54,7 +54,7 @@ pub(crate) fn joined_histogram<C: Counts>(
     for stripe in stripes {
         // for the proof: what is known of the bins
         stripe.is_lawful();
-        histogram.add(stripe.histogram());
+        histogram.add(&stripe.histogram(alloc)?);
     }
     Ok(histogram)
 }

@@ -1,11 +1,11 @@
 -- A dump, row by row.
 use Rattle.std.proofs.Common.{◌≡◌, ℕ, Bool, true, false, List, [], ◌∷◌, ◌++◌}
 use Rattle.std.proofs.Common.{refl, sym, ◌∙◌, ap, append_assoc}
-use Rattle.std.specs.Prelude.{filter, flat_map, if◌then◌else◌}
+use Rattle.std.specs.Prelude.{filter, flat_map, if◌then◌else◌, Result, Ok, Err}
 use Rattle.kc_report.specs.Dumping.{dump_text, row_text, is_shown, shown_text}
 use Rattle.kc_tally.specs.declared.row.Row.{Row}
-use Rattle.kc_io.specs.Sinks.{Written, Drains}
-use Rattle.kc_io.proofs.SinksLemmas.{Pending, SinkCall, drained}
+use Rattle.kc_io.specs.Sinks.{Written, Drains, HandsOver}
+use Rattle.kc_io.proofs.SinksLemmas.{Pending, SinkCall, drained, took_front, began_front, took_all}
 use Rattle.kc_report.specs.declared.dump.Dump.{Dump}
 
 -- The row at the front has its part.
@@ -48,3 +48,9 @@ next_row k dump row later s =
     ap (λ v. s.block ++ dump_text k dump v) s.split
     ∙ ap (λ v. s.block ++ v) (dump_text-cons k dump row later) ∙ sym (append_assoc s.block shown rest) in
     drained call (s.block ++ shown) s.next_block rest cut s.moved
+
+-- What is left is one text, which is handed over now, in either outcome.
+pub handed : {A E : Type 0} (s a b : Written) (text x : List ℕ) (r : Result A E) → Pending s a text (x ++ [])
+    → HandsOver a b r x → HandsOver s b r text
+handed s a b text x (Ok y) p w = took_all s b text (took_front s a b text x [] p w)
+handed s a b text x (Err f) p w = began_front s a b text x [] p w

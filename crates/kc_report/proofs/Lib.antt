@@ -1,6 +1,7 @@
 pub mod LetterLemmas
 pub mod CountLemmas
 pub mod DumpLemmas
+pub mod PieceLemmas
 pub mod TableLemmas
 pub mod TableLines
 pub mod TableFronts

@@ -1,5 +1,6 @@
 pub mod Bytes
 pub mod Dumping
+pub mod Pieces
 pub mod Table
 pub mod TableReading
 pub mod Faults

@@ -1,15 +1,18 @@
 //! The dump: the words of a tally with their counts.
-ghost use Rattle.std.specs.Prelude.{◌≡◌, ◌≤◌, ◌<◌, ◌+◌, ◌^◌, ◌++◌, length, OnOk, OnErr, IfErr, true, false};
+ghost use Rattle.std.specs.Prelude.{◌≡◌, ◌≤◌, ◌<◌, ◌+◌, ◌^◌, ◌++◌, length, OnOk, OnErr, IfErr, All, true, false};
 ghost use Rattle.kc_kmer.specs.Word.{text};
-ghost use Rattle.kc_io.specs.Sinks.{Writes, HasBegun, Drains};
+ghost use Rattle.kc_io.specs.Sinks.{Writes, HandsOver, HasBegun, Drains};
 ghost use Rattle.kc_report.specs.declared.report_faults.ReportFault.TheVariants.{Write};
 ghost use Rattle.kc_report.specs.Dumping.{dump_text, row_text, row_in_columns, row_in_lines, is_shown, shown_text};
 
 use crate::letters::{LETTERS_SIZE, letters_of};
 use crate::report_faults::ReportFault;
-use kc_io::{BLOCK_SIZE, Block, Failed, NUMBER_SIZE, Sink, write_out};
+use crate::row_pieces::hand_over_in_parallel;
+use kc_io::{BLOCK_SIZE, Block, Failed, NUMBER_SIZE, Sink, write_all};
 use kc_kmer::{K, Word};
-use kc_tally::{Row, Tally};
+use kc_tally::{Row, Rows, Tally};
+use std::alloc::Global;
+use std::thread::Threads;
 
 /// The greatest count that a dump can bound, which no count passes.
 pub const GREATEST_COUNT: u64 = 1 << 62;
@@ -74,15 +77,68 @@ pub fn write_dump<W: Sink>(writer: &mut W, tally: &Tally, dump: &Dump) -> Result
     Ok(dump_by_blocks(writer, tally, dump)?)
 }
 
+/// Writes the dump of a tally as `write_dump` does, with the text of neighbouring rows made by so many threads side by
+/// side: at most 8 MB of it by each at a time. Where memory for that is refused, the text is made without it.
+///
+/// # Errors
+/// `Write` where the writer failed or took no byte. It took a beginning of the dump.
+pub fn write_dump_in_parallel<W: Sink, H: Threads + Sync>(
+    rt: &H,
+    alloc: Global,
+    threads: u32,
+    writer: &mut W,
+    tally: &Tally,
+    dump: &Dump,
+) -> Result<(), ReportFault>
+    ensures written { Writes (W.seen writer.old) (W.seen writer.new) result
+        (dump_text tally.now.k dump.now tally.now.rows) }
+    ensures fault { IfErr result (λ fault. fault ≡ Write) }
+{
+    if threads < 2 {
+        return write_dump(writer, tally, dump);
+    }
+    Ok(dump_by_pieces(rt, alloc, threads, writer, tally, dump)?)
+}
+
 // Writes the dump of a tally, a block at a time.
 fn dump_by_blocks<W: Sink>(writer: &mut W, tally: &Tally, dump: &Dump) -> Result<(), Failed>
     ensures { Writes (W.seen writer.old) (W.seen writer.new) result (dump_text tally.now.k dump.now tally.now.rows) }
 {
+    hand_over_rows(writer, tally.rows(), tally.k(), dump)?;
+    writer.flush()
+}
+
+// Writes the dump of a tally, whose text so many threads make. Condition: one at the least.
+fn dump_by_pieces<W: Sink, H: Threads + Sync>(
+    rt: &H,
+    alloc: Global,
+    threads: u32,
+    writer: &mut W,
+    tally: &Tally,
+    dump: &Dump,
+) -> Result<(), Failed>
+    requires { 1 ≤ threads }
+    ensures { Writes (W.seen writer.old) (W.seen writer.new) result (dump_text tally.now.k dump.now tally.now.rows) }
+{
+    hand_over_in_parallel(rt, alloc, threads, writer, tally, dump)?;
+    writer.flush()
+}
+
+/// Hands over the dump of the rows, a block at a time. Condition: their words have k bases.
+pub(crate) fn hand_over_rows<W: Sink>(
+    writer: &mut W,
+    rows: Rows<'_>,
+    k: K,
+    dump: &Dump,
+) -> Result<(), Failed>
+    requires below { All (λ row. row.word < 4 ^ k) rows }
+    ensures { HandsOver (W.seen writer.old) (W.seen writer.new) result (dump_text k dump.now rows.entry) }
+{
     let mut block = Block::new();
-    for row in tally.rows() {
-        put_row(writer, &mut block, tally.k(), dump, row)?;
+    for row in rows {
+        put_row(writer, &mut block, k, dump, row)?;
     }
-    write_out(writer, block.as_slice())
+    write_all(writer, block.as_slice())
 }
 
 // Puts the row behind the block, where it is shown. A block without room goes to the writer first.

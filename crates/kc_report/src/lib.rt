@@ -7,6 +7,9 @@
 //! `merging_laws` says what holds of that. The `Block` of `kc_io` gathers the bytes of a
 //! text, so that the writer gets blocks of 64 KB.
 //!
+//! `write_dump_in_parallel` and `write_table_in_parallel` write the same texts, which several threads make: each that
+//! of pieces of 8,192 rows, and the writer gets the text of one piece at a time.
+//!
 //! ```ignore
 //! let mut sink = ToVec::new(Vec::new(rt.alloc()));
 //! let outcome = write_dump(&mut sink, tally, dump);
@@ -24,6 +27,7 @@ pub mod merging_laws;
 mod origin;
 mod queries;
 mod report_faults;
+mod row_pieces;
 mod statistics;
 mod table;
 pub mod table_laws;
@@ -32,13 +36,13 @@ mod table_reader;
 mod table_rows;
 mod table_sum;
 
-pub use dump::{Dump, GREATEST_COUNT, write_dump};
+pub use dump::{Dump, GREATEST_COUNT, write_dump, write_dump_in_parallel};
 pub use histogram_text::{GREATEST_HIGH, write_histo, write_histo_of_bins};
 pub use kc_io::{BLOCK_SIZE, Block, NUMBER_SIZE};
 pub use origin::Origin;
 pub use queries::query;
 pub use report_faults::ReportFault;
 pub use statistics::{write_stats, write_stats_of};
-pub use table::write_table;
+pub use table::{write_table, write_table_in_parallel};
 pub use table_reader::read_table;
 pub use table_sum::merge;

@@ -6,12 +6,15 @@ ghost use Rattle.kc_report.specs.Bytes.{space};
 ghost use Rattle.kc_report.specs.Table.{version, kind, selection, origin_text, header_line, IsOrigin};
 ghost use Rattle.kc_report.specs.Table.{end_line, ended, table_text};
 
-use crate::dump::{ROW_SIZE, push_columns};
+use crate::dump::{Dump, ROW_SIZE, push_columns};
 use crate::origin::Origin;
 use crate::report_faults::ReportFault;
-use kc_io::{BLOCK_SIZE, Block, Failed, NUMBER_SIZE, Sink, write_out};
+use crate::row_pieces::hand_over_in_parallel;
+use kc_io::{BLOCK_SIZE, Block, Failed, NUMBER_SIZE, Sink, write_all, write_out};
 use kc_kmer::K;
 use kc_tally::Tally;
+use std::alloc::Global;
+use std::thread::Threads;
 
 // The most bytes of an origin, of a header and of an end line, both with their line ends.
 const ORIGIN_SIZE: usize = 2 + 1 + NUMBER_SIZE + 1 + NUMBER_SIZE;
@@ -39,6 +42,31 @@ pub fn write_table<W: Sink>(
     Ok(table_by_blocks(writer, tally, origin.copied())?)
 }
 
+/// Writes the table text of a tally as `write_table` does, with the text of neighbouring rows made by so many threads
+/// side by side: at most 8 MB of it by each at a time. Where memory for that is refused, the text is made without it.
+/// Conditions: those of `write_table`.
+///
+/// # Errors
+/// `Write` where the writer failed or took no byte. It took a beginning of the text.
+pub fn write_table_in_parallel<W: Sink, H: Threads + Sync>(
+    rt: &H,
+    alloc: Global,
+    threads: u32,
+    writer: &mut W,
+    tally: &Tally,
+    origin: Option<&Origin>,
+) -> Result<(), ReportFault>
+    requires { IfSome origin (λ origin. IsOrigin origin.now) }
+    ensures written { Writes (W.seen writer.old) (W.seen writer.new) result
+        (table_text tally.now (option_map (λ said. said.now) origin.entry)) }
+    ensures fault { IfErr result (λ fault. fault ≡ Write) }
+{
+    if threads < 2 {
+        return write_table(writer, tally, origin);
+    }
+    Ok(table_by_pieces(rt, alloc, threads, writer, tally, origin.copied())?)
+}
+
 // Writes the table text of a tally, a block at a time.
 fn table_by_blocks<W: Sink>(
     writer: &mut W,
@@ -55,6 +83,28 @@ fn table_by_blocks<W: Sink>(
     }
     block.make_room(writer, END_SIZE)?;
     push_end(&mut block, tally.row_count(), tally.total());
+    write_out(writer, block.as_slice())
+}
+
+// Writes the table text of a tally, the rows of which so many threads make. Condition: one at the least.
+fn table_by_pieces<W: Sink, H: Threads + Sync>(
+    rt: &H,
+    alloc: Global,
+    threads: u32,
+    writer: &mut W,
+    tally: &Tally,
+    origin: Option<Origin>,
+) -> Result<(), Failed>
+    requires { 1 ≤ threads }
+    ensures { Writes (W.seen writer.old) (W.seen writer.new) result (table_text tally.now origin) }
+{
+    let (distinct, total) = (tally.row_count(), tally.total());
+    let mut block = Block::new();
+    push_header(&mut block, tally.k(), tally.both(), origin);
+    write_all(writer, block.as_slice())?;
+    hand_over_in_parallel(rt, alloc, threads, writer, tally, &Dump::in_columns())?;
+    block.clear();
+    push_end(&mut block, distinct, total);
     write_out(writer, block.as_slice())
 }
 

@@ -1,20 +1,18 @@
 -- Whole runs: what a worker has at its start and at its end, and with which fault a run ends. They are this project's
 -- own.
-use Rattle.std.specs.Prelude.{◌≡◌, ℕ, ◌+◌, ◌<◌, ◌≤◌, ◌⊎◌, List, [], All, Some, Result, Ok, Err, IfOk, IfErr}
-use Rattle.std.specs.Prelude.{length, map, sum_by, slice_get}
-use Rattle.kc_word.specs.Shared.{values}
+use Rattle.std.specs.Prelude.{◌≡◌, ℕ, ◌+◌, ◌-◌, ◌<◌, ◌≤◌, ◌⊎◌, max, List, [], All, Option, Some, None, Result, Ok, Err}
+use Rattle.std.specs.Prelude.{IfOk, IfErr}
+use Rattle.std.specs.Prelude.{length, map, sum_by, slice_get, take}
 use Rattle.kc_share.specs.declared.entry.Plan.{Plan}
 use Rattle.kc_share.specs.declared.entry.Booking.{Booking}
 use Rattle.kc_share.specs.Share.{ShareSeen, share_of, entry_total_in}
 use Rattle.kc_booking.specs.Setup.{StripeSetup, stripe_count}
 use Rattle.kc_booking.specs.Stripe.{StripeState}
-use Rattle.kc_booking.specs.Cuts.{rounds_of}
 use Rattle.kc_booking.specs.declared.booking_fault.BookFault.{BookFault}
 use Rattle.kc_booking.specs.declared.booking_fault.BookFault.TheVariants as book
 use Rattle.kc_gather.specs.declared.gather_fault.GatherFault.{GatherFault}
 use Rattle.kc_gather.specs.declared.gather_fault.GatherFault.TheVariants as gather
 use Rattle.kc_tickets.specs.Tickets.{TicketsSeen, SeatSeen, IsSeatOf, IsDone, answers_of}
-use Rattle.kc_run.specs.declared.round.Round.{Round}
 use Rattle.kc_run.specs.declared.run_fault.RunFault.{RunFault}
 use Rattle.kc_run.specs.declared.run_fault.RunFault.TheVariants as run
 
@@ -34,10 +32,6 @@ pub record IsFreshSeatOf (tickets : TicketsSeen) (seat : SeatSeen) : Type 0 wher
 pub record IsReady (tickets : TicketsSeen) (plan : Plan) (seat : SeatSeen) (share : ShareSeen) : Type 0 where
   pub seat_fresh : IsFreshSeatOf tickets seat
   pub unused : share ≡ share_of plan 1 []
-
--- the batches of a round are cut up by this setup
-abbrev pub IsCutUp : StripeSetup → Round → Type 0
-IsCutUp setup round = round.cuts.items ≡ rounds_of setup (values round.batches.items)
 
 -- in each of so many stripes n batches more were booked
 abbrev pub HaveMore : ℕ → ℕ → List Booking → List Booking → Type 0
@@ -133,3 +127,12 @@ module _ {W : Type 0} where
   abbrev pub IsFirstFault : List (Result W RunFault) → RunFault → Type 0
   IsFirstFault results fault =
       (i : ℕ) × (slice_get results i ≡ Some (Err fault)) × ((j : ℕ) → j < i → EndedWell results j)
+
+-- how many positions the least round has: 4 million or, where a list has more words than that, as many as it has words
+abbrev pub least_positions : Option (List ℕ) → ℕ
+least_positions None = 4000000
+least_positions (Some words) = max 4000000 (length words)
+
+-- a list without its last item
+abbrev pub but_last : {T : Type 0} → List T → List T
+but_last items = take (length items - 1) items

@@ -14,9 +14,9 @@ ghost use Rattle.kc_run.specs.Runs.{HaveCounted, IsReady, IsGatheringFault, IsRu
 
 use crate::crew::{joined, work_all, workers_of};
 use crate::gate::Gate;
-use crate::round::round_len;
 use crate::run_fault::RunFault;
 use crate::worker::{Job, Worker};
+use crate::worker_rounds::RoundLimits;
 use kc_gather::{gather_histogram, gather_in_parallel, gather_statistics};
 use kc_share::{Books, Plan, Sheet};
 use kc_stripe::{Setup, Stripe, Stripes};
@@ -184,7 +184,7 @@ fn counted<
         },
         tickets: &tickets,
         gate,
-        round_len: round_len(batches, setup, workers),
+        limits: RoundLimits::new(batches.len(), setup, workers),
         stripes_apart: (setup.stripes() / workers).max(1),
     };
     let ended = work_all(rt, alloc, &job, ready)?;

@@ -1,14 +1,15 @@
 //! One worker of a run: it draws numbers, and books the batch of each number into every stripe.
-ghost use Rattle.std.specs.Prelude.{◌≡◌, ◌+◌, ◌<◌, ◌≤◌, ◌⊎◌, IfOk, IfErr};
+ghost use Rattle.std.specs.Prelude.{◌≡◌, ◌+◌, ◌<◌, ◌≤◌, ◌⊎◌, [], IfOk, IfErr, OnOk};
 ghost use Rattle.std.specs.Prelude.{length};
 ghost use Rattle.kc_tickets.specs.Tickets.{IsSeatOf, IsDone, answers_of};
-ghost use Rattle.kc_run.specs.Runs.{IsJob, IsReady, HasWorked, IsWorkerFault};
+ghost use Rattle.kc_gather.specs.Gathering.{position_sum};
+ghost use Rattle.kc_run.specs.Runs.{IsJob, IsReady, HasWorked, IsWorkerFault, but_last};
 
 use crate::gate::Gate;
-use crate::round::{Round, book_range};
 use crate::run_fault::RunFault;
+use crate::worker_rounds::{RoundBuffers, RoundLimits, book_range};
 use kc_share::{Books, Plan, Share};
-use kc_stripe::{Stripes, cut_up_all};
+use kc_stripe::{Round, Stripes};
 use kc_table::Counts;
 use kc_tickets::{Seat, Tickets};
 use kc_word::Batch;
@@ -24,8 +25,8 @@ pub(crate) struct Job<'a, C: Counts, N: Books, G: Gate> {
     pub plan: Plan,
     pub tickets: &'a Tickets,
     pub gate: &'a G,
-    /// How many batches make a round.
-    pub round_len: u64,
+    /// How large the rounds are.
+    pub limits: RoundLimits,
     /// How far apart the rounds of two workers begin, so that they don't wait for the lock of one stripe.
     pub stripes_apart: u32,
 }
@@ -53,54 +54,85 @@ impl<N: Books> Worker<N> {
             HasWorked job.now.tickets.now job.now.plan worker.seat worker.share) }
         ensures refused { IfErr result (IsWorkerFault job.now.plan.stripes) }
     {
-        let stripes = job.stripes.setup().stripes();
-        // The rounds of neighbouring workers begin some stripes apart.
-        let first = number.wrapping_mul(job.stripes_apart) % stripes;
-        while !self.seat.is_done() {
-            let Some(drawn) = job.tickets.draw(&mut self.seat) else {
-                return Ok(self);
-            };
-            let batches = self.draw_batches(alloc, job, number, drawn)?;
-            let cuts = cut_up_all(alloc, job.stripes.setup(), &batches)?;
-            let round = Round { batches, cuts };
-            book_range(rt, job.stripes, &round, first, stripes, &mut self.share)?;
-            book_range(rt, job.stripes, &round, 0, first, &mut self.share)?;
-            tell_after(job.gate, number, &round.batches);
-        }
+        let mut buffers = RoundBuffers::new(alloc, job.stripes.setup())?;
+        self.work_in(rt, job, number, &mut buffers)?;
         Ok(self)
     }
 
-    // The batch of a number that was drawn, and those of as many more as a round has, or as there are. The gate is told
-    // of each as it is drawn.
+    // Works round by round, in these buffers, until no number is left. Condition: the round in them has no batches.
+    fn work_in<H: Wait, C: Counts, G: Gate>(
+        &mut self,
+        rt: &H,
+        job: &Job<'_, C, N, G>,
+        number: u32,
+        buffers: &mut RoundBuffers,
+    ) -> Result<(), RunFault>
+        requires job { IsJob job.now.tickets.now job.now.plan (length job.now.batches.now) job.now.stripes.now.setup }
+        requires ready { IsReady job.now.tickets.now job.now.plan self.old.seat self.old.share }
+        requires setup { buffers.old.round.setup ≡ job.now.stripes.now.setup }
+        requires none { buffers.old.round.batches ≡ [] }
+        ensures worked { OnOk result
+            (HasWorked job.now.tickets.now job.now.plan self.new.seat self.new.share) }
+        ensures refused { IfErr result (IsWorkerFault job.now.plan.stripes) }
+    {
+        let stripes = job.stripes.setup().stripes();
+        // The rounds of neighbouring workers begin some stripes apart.
+        let first = number.wrapping_mul(job.stripes_apart) % stripes;
+        let mut slots = 0;
+        while !self.seat.is_done() {
+            let Some(drawn) = job.tickets.draw(&mut self.seat) else {
+                return Ok(());
+            };
+            let positions = job.limits.positions_for(slots);
+            self.draw_batches(job, number, drawn, positions, &mut buffers.round)?;
+            let share = &mut self.share;
+            let behind = book_range(rt, job.stripes, buffers, first, stripes, share)?;
+            let before = book_range(rt, job.stripes, buffers, 0, first, share)?;
+            slots = behind.saturating_add(before);
+            tell_after(job.gate, number, buffers.round.batches());
+            buffers.round.clear();
+        }
+        Ok(())
+    }
+
+    // Cuts up the batch of a number that was drawn, and those of more numbers until the round has so many positions, or
+    // as many batches as it may have, or none is left. The gate is told of each as it is drawn.
     fn draw_batches<C: Counts, G: Gate>(
         &mut self,
-        alloc: Global,
         job: &Job<'_, C, N, G>,
         number: u32,
         mut drawn: u64,
-    ) -> Result<Vec<Arc<Batch>>, AllocError>
+        positions: u64,
+        round: &mut Round,
+    ) -> Result<(), AllocError>
         requires own { IsSeatOf job.now.tickets.now self.old.seat }
         requires more { ¬ IsDone self.old.seat }
         requires limit { job.now.tickets.now.limit ≡ length job.now.batches.now }
         requires drawn { drawn < length job.now.batches.now }
+        requires none { round.old.batches ≡ [] }
         ensures own { IsSeatOf job.now.tickets.now self.new.seat }
         ensures share { self.new.share ≡ self.old.share }
-        ensures answered { IfOk result (λ batches. length (answers_of self.new.seat) + 1
-            ≡ length (answers_of self.old.seat) + length batches.items) }
-        ensures some { IfOk result (λ batches. 1 ≤ length batches.items) }
-        ensures few { IfOk result (λ batches.
-            (length batches.items ≡ 1) ⊎ (length batches.items ≤ job.now.round_len)) }
+        ensures setup { round.new.setup ≡ round.old.setup }
+        ensures answered { OnOk result (length (answers_of self.new.seat) + 1
+            ≡ length (answers_of self.old.seat) + length round.new.batches) }
+        ensures some { OnOk result (1 ≤ length round.new.batches) }
+        ensures few { OnOk result
+            ((length round.new.batches ≡ 1) ⊎ (length round.new.batches ≤ job.now.limits.batches)) }
+        ensures bounded { OnOk result ((length round.new.batches ≡ 1)
+            ⊎ (position_sum round.old.setup.rule.k (but_last round.new.batches) < positions)) }
     {
-        let mut round = Vec::new(alloc);
+        let k = round.setup().rule().k();
+        let mut taken: u64 = 0;
         loop {
-            let batch = job.batches[drawn as usize].clone()?;
+            let batch = &job.batches[drawn as usize];
             job.gate.before_book(number, batch.number());
-            round.push(batch)?;
-            if round.len() as u64 >= job.round_len {
-                return Ok(round);
+            round.cut_up(batch)?;
+            taken = taken.saturating_add(batch.position_count(k) as u64);
+            if taken >= positions || round.batches().len() as u64 >= job.limits.batches {
+                return Ok(());
             }
             let Some(next) = job.tickets.draw(&mut self.seat) else {
-                return Ok(round);
+                return Ok(());
             };
             drawn = next;
         }

@@ -6,21 +6,16 @@ ghost use Rattle.kc_word.specs.Walking.{words_left};
 
 use kc_fastx::SeqRead;
 use kc_kmer::Rule;
-use kc_kmer::letter::NO_BASE;
-use kc_word::usable_code;
+use kc_word::{Rolled, usable_code};
 use std::marker::Model;
 
-// A place in a read whose words are taken: two numbers are rolled along its bases, and a word stands wherever the run
-// of usable bases is as long as a word. It is seen as a place in the piece of the read, in which N stands for the bases
-// that are not usable.
+// A place in a read whose words are taken. It is seen as a place in the piece of the read, in which N stands for the
+// bases that are not usable.
 #[derive(Drop)]
 pub(crate) struct BaseWalk<'a> {
     read: &'a SeqRead,
     at: usize,
-    rule: Rule,
-    forward: u64,
-    backward: u64,
-    run: usize,
+    rolled: Rolled,
 }
 
 impl<'a> Model for BaseWalk<'a> {
@@ -29,10 +24,10 @@ impl<'a> Model for BaseWalk<'a> {
 
     ghost Value = { Walking };
 
-    ghost view = { λ w. record { rule = w.rule; bytes = cleaned w.rule w.read.now; taken = w.at } };
+    ghost view = { λ w. record { rule = w.rolled.rule; bytes = cleaned w.rolled.rule w.read.now; taken = w.at } };
 
-    ghost invariant = { λ w. IsWalking (record { rule = w.rule; bytes = cleaned w.rule w.read.now; taken = w.at })
-        w.forward w.backward w.run };
+    ghost invariant = { λ w.
+        IsWalking (record { rule = w.rolled.rule; bytes = cleaned w.rolled.rule w.read.now; taken = w.at }) w.rolled };
 }
 
 impl<'a> BaseWalk<'a> {
@@ -42,16 +37,11 @@ impl<'a> BaseWalk<'a> {
         ensures words { words_left result ≡ words_in rule read.now }
         ensures few { length (words_left result) < 2 ^ 64 }
     {
-        rule.has_no_list();
-        let k = rule.k().get();
         let _count = read.bases().len();
         BaseWalk {
             read,
             at: 0,
-            rule,
-            forward: 0,
-            backward: (1u64 << (2 * k)) - 1,
-            run: 0,
+            rolled: Rolled::new(rule),
         }
     }
 
@@ -71,27 +61,9 @@ impl<'a> BaseWalk<'a> {
         ensures word { IfSome result (λ word. words_left self.old ≡ word ∷ words_left self.new) }
         ensures none { IfNone result (words_left self.new ≡ words_left self.old) }
     {
-        let k = self.rule.k().get();
-        let both = self.rule.both();
-        let mask = (1u64 << (2 * k)) - 1;
-        let code = usable_code(self.read, &self.rule, self.at) as u64;
-        let digit = code & 3;
-        let forward = (self.forward * 4 + digit) & mask;
-        let backward = (self.backward >> 2) + ((3 - digit) << (2 * (k - 1)));
-        let run = if code < NO_BASE as u64 {
-            self.run + 1
-        } else {
-            0
-        };
+        let code = usable_code(self.read, &self.rolled.rule, self.at);
         self.at += 1;
-        self.forward = forward;
-        self.backward = backward;
-        self.run = run;
-        if run < k as usize {
-            return None;
-        }
-        let word = if both { backward.min(forward) } else { forward };
-        Some(word)
+        self.rolled.push(code as u64)
     }
 
     // Takes bases up to the end of the next word, or all that are left where no word ends in them.

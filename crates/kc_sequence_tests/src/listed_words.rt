@@ -1,7 +1,8 @@
 //! Worked rows of lists of words.
 use crate::assertions::assert_same;
 use crate::sample_reads::{k_of, read_of, reads_of, rule_of};
-use kc_word::{Only, Rule, pack};
+use kc_fastx::SeqRead;
+use kc_word::{Only, Rule, Word, pack, read_words};
 use std::alloc::{AllocError, Global};
 use std::process::Abort;
 use std::test::Fail;
@@ -169,5 +170,50 @@ fn assert_equal<H: AllocGlobal + Abort>(
     let rule = rule_of(*k, *both)?;
     let other = list_of(rt.alloc(), *texts, &rule)?;
     assert_same(rt, row, &(*only == other), want);
+    Ok(())
+}
+
+// A read of so many bases in no order that one sees.
+fn made_read(alloc: Global, count: usize) -> Result<SeqRead, Fail> {
+    let mut bases = Vec::new(alloc);
+    let mut state = 1u64;
+    for _ in 0..count {
+        state = state
+            .wrapping_mul(6_364_136_223_846_793_005)
+            .wrapping_add(1);
+        bases.push(b"ACGT"[(state >> 62) as usize])?;
+    }
+    read_of(alloc, &bases, None)
+}
+
+// The length of words and the strands of a list of the words of 3,000 bases. Words of 31 bases are far apart; of those
+// of 5 bases nearly each one is listed.
+const MANY: &[(u32, bool)] = &[(5, false), (6, true), (8, false), (21, true), (31, false)];
+
+#[test]
+fn many_words_are_looked_up(rt: HostRuntime) -> Result<(), Fail> {
+    for (row, (k, both)) in MANY.iter().enumerate() {
+        assert_looked_up(&rt, row, &rule_of(*k, *both)?)?;
+    }
+    Ok(())
+}
+
+// Asserts which words of 6,000 bases, of which the first 3,000 make the list, it holds, and which are left by it.
+fn assert_looked_up<H: AllocGlobal + Abort>(rt: &H, row: usize, rule: &Rule) -> Result<(), Fail> {
+    let alloc = rt.alloc();
+    let mut reads = Vec::new(alloc);
+    reads.push(made_read(alloc, 3_000)?)?;
+    let only = Only::of(alloc, &reads, rule)?;
+    let mut words = read_words(alloc, &made_read(alloc, 6_000)?, rule)?;
+    let mut listed = Vec::new(alloc);
+    for word in &words {
+        let is_listed = only.words().binary_search(word).is_ok();
+        assert_same(rt, row, &only.holds(Word(*word)), &is_listed);
+        if is_listed {
+            listed.push(*word)?;
+        }
+    }
+    only.keep_listed(&mut words);
+    assert_same(rt, row, &words, &listed);
     Ok(())
 }

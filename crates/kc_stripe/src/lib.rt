@@ -17,7 +17,7 @@ mod seen;
 mod stripes;
 
 /// One stripe of a count, and what is booked into it.
-pub use kc_booking::{BookFault, Cut, Cuts, Setup, Stripe, cut_up, cut_up_all};
+pub use kc_booking::{BookFault, Cut, Cuts, Ordered, Round, Setup, Stripe, cut_up};
 /// What the shares of a count are made of.
 pub use kc_share::{Books, Share, Sheet};
 pub use seen::Seen;

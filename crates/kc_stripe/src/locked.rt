@@ -10,7 +10,7 @@ ghost use Rattle.kc_stripe.specs.Locked.{cut_entry, with_bookings};
 ghost use Rattle.kc_stripe.specs.Seen.{form_stripe, AreNamed, IsStripeOf};
 
 use crate::seen::Seen;
-use kc_booking::{BookFault, Cut, Cuts, Setup, Stripe};
+use kc_booking::{BookFault, Cut, Cuts, Ordered, Setup, Stripe};
 use kc_share::{Books, Keeper, OpenSheet, Share, share_laws};
 use kc_table::Counts;
 use kc_word::Word;
@@ -64,15 +64,17 @@ impl<C: Counts, N: Books> Locked<C, N> {
         Ok(())
     }
 
-    /// Books several batches into the stripe, and into a share, all or none. A refused booking leaves both as they
-    /// were.
+    /// Books several batches into the stripe, and into a share, all or none. It returns how many slots the
+    /// stripe's table has then. A refused booking leaves both as they were.
     pub(crate) fn book_all(
         &mut self,
         sheet: &OpenSheet<N>,
         share: &mut Share<N>,
         cuts: &Cuts,
-    ) -> Result<(), BookFault>
+        ordered: &mut Ordered,
+    ) -> Result<u64, BookFault>
         ensures share { OnOk result (share.new ≡ with_bookings share.old (cuts_in cuts.now)) }
+        ensures slots { IfOk result (λ slots. slots ≡ C.slots self.new.table) }
         ensures journal { OnOk result (self.new.journal ≡ self.old.journal ++ cuts.now.batches) }
         ensures refused { OnErr result (share.new ≡ share.old) }
         ensures unchanged { OnErr result (IsUnchanged C.counts self.old self.new) }
@@ -86,12 +88,12 @@ impl<C: Counts, N: Books> Locked<C, N> {
         ensures memory { result ≡ Err BookFault.Memory
             → self.old.total + length (all_keys_of cuts.now) ≤ 2 ^ 62 }
     {
-        self.stripe.book_all(cuts)?;
+        self.stripe.book_all(cuts, ordered)?;
         let keeper = &mut self.keeper;
         for i in 0..cuts.batches().len() {
             sheet.note(share, keeper, &cuts.batches()[i], cuts.sizes()[i] as u64);
         }
-        Ok(())
+        Ok(self.stripe.slots())
     }
 
     /// What the stripe tells of a word, where it is the one in which the word counts: it has this setup, and the number

@@ -10,7 +10,7 @@ ghost use Rattle.kc_stripe.specs.Seen.{form_stripe, AreNamed};
 
 use crate::locked::Locked;
 use crate::seen::Seen;
-use kc_booking::{BookFault, Cut, Cuts, Setup, Stripe};
+use kc_booking::{BookFault, Cut, Cuts, Ordered, Setup, Stripe};
 use kc_share::{Books, OpenSheet, Share, Sheet};
 use kc_table::Counts;
 use kc_word::Word;
@@ -145,13 +145,16 @@ impl<C: Counts, N: Books> Stripes<C, N> {
     /// Books several batches into one stripe by one call, under that stripe's lock, and into a share, all or none. The
     /// share has a booking more for each batch, in their order.
     ///
+    /// It returns how many slots the stripe's table has then: for speed alone, as no clause can say it behind a lock.
+    ///
     /// The stripe of the cuts is one of these. A refused booking leaves the share as it was.
     pub fn book_all<R: Wait>(
         &self,
         rt: &R,
         share: &mut Share<N>,
         cuts: &Cuts,
-    ) -> Result<(), BookFault>
+        ordered: &mut Ordered,
+    ) -> Result<u64, BookFault>
         requires { cuts.now.stripe < stripe_count self.now.setup }
         ensures booked { OnOk result (share.new ≡ with_bookings share.old (cuts_in cuts.now)) }
         ensures kept { (share.new.parts ≡ share.old.parts) × (share.new.plan ≡ share.old.plan) }
@@ -159,7 +162,7 @@ impl<C: Counts, N: Books> Stripes<C, N> {
     {
         self.locks[cuts.stripe() as usize]
             .lock(rt)
-            .book_all(&self.sheet, share, cuts)
+            .book_all(&self.sheet, share, cuts, ordered)
     }
 
     /// How often a word occurs in the batches that were booked, and in which: all that stand in the stripe of the form

@@ -211,17 +211,26 @@ const ONE_WORD: Held<'static> = Held {
 // Three words, and one word.
 const THREE_AND_ONE: &[&[u8]] = &[b"ACGTA", b"ACG"];
 
-// A stripe over a table that takes two keys, and refuses a third like this.
-pub(crate) fn limited_stripe(
+// A stripe over a table that takes so many keys, and refuses a further one like this.
+fn stripe_of_keys(
     alloc: Global,
+    keys: u64,
     refusal: TableFault,
 ) -> Result<Box<Stripe<LimitedCounts>>, Fail> {
     let setup = made_setup(3, 1)?;
     if setup.stripes() != 1 {
         return Err(Fail::from("another setup"));
     }
-    let table = LimitedCounts::new(alloc, setup.key_bits(), 2, refusal);
+    let table = LimitedCounts::new(alloc, setup.key_bits(), keys, refusal);
     Ok(Box::new(alloc, Stripe::new(alloc, &setup, 0, table)?)?)
+}
+
+// A stripe over a table that takes two keys, and refuses a third like this.
+pub(crate) fn limited_stripe(
+    alloc: Global,
+    refusal: TableFault,
+) -> Result<Box<Stripe<LimitedCounts>>, Fail> {
+    stripe_of_keys(alloc, 2, refusal)
 }
 
 // The stripe refuses a cut of three words so, and then takes one of one word.
@@ -277,6 +286,68 @@ fn a_full_table_refuses(rt: HostRuntime) -> Result<(), Fail> {
     let cuts = cuts_of_three(alloc, 1, THREE_AND_ONE, 3)?;
     refuses_three(&rt, alloc, &cuts, TableFault::Full, BookFault::Full)?;
     refuses_three(&rt, alloc, &cuts, TableFault::Memory, BookFault::Memory)
+}
+
+// AAC twice, ACA, CAA, AAA and ACG in batch 0, and AAA twice in batch 1.
+const NEW_AND_OLD: &[&[u8]] = &[b"AACAAACG", b"AAAA"];
+
+const OLD: Held<'static> = Held {
+    journal: &[1],
+    total: 2,
+    bins: [0, 1, 0],
+    counts: &[(0, 2)],
+};
+
+const NEW: Held<'static> = Held {
+    journal: &[1, 0],
+    total: 8,
+    bins: [3, 1, 1],
+    counts: &[(0, 3), (1, 2), (4, 1), (6, 1), (16, 1)],
+};
+
+// The stripe takes batch 1, and refuses batch 0 twice.
+fn refuses_new(
+    rt: &impl Abort,
+    stripe: &mut Stripe<LimitedCounts>,
+    cuts: &[Cut],
+    fault: BookFault,
+) -> Result<(), Fail> {
+    assert!(rt; cuts.len() == 2);
+    book_at(stripe, cuts, 1)?;
+    for _ in 0..2 {
+        assert_same(rt, "a booking", &stripe.book(&cuts[0]), &Err(fault));
+        assert_held(rt, stripe, &OLD);
+    }
+    Ok(())
+}
+
+// The stripe takes batch 1, and then batch 0.
+fn takes_new(
+    rt: &impl Abort,
+    stripe: &mut Stripe<LimitedCounts>,
+    cuts: &[Cut],
+) -> Result<(), Fail> {
+    book_at(stripe, cuts, 1)?;
+    book_at(stripe, cuts, 0)?;
+    assert_held(rt, stripe, &NEW);
+    Ok(())
+}
+
+#[test]
+fn a_refusal_at_any_key_leaves_all_as_it_was(rt: HostRuntime) -> Result<(), Fail> {
+    let alloc = rt.alloc();
+    let cuts = cuts_of_three(alloc, 1, NEW_AND_OLD, 6)?;
+    for keys in 1..5 {
+        let mut stripe = stripe_of_keys(alloc, keys, TableFault::Full)?;
+        refuses_new(&rt, &mut *stripe, &cuts, BookFault::Full)?;
+        let mut stripe = stripe_of_keys(alloc, keys, TableFault::Memory)?;
+        refuses_new(&rt, &mut *stripe, &cuts, BookFault::Memory)?;
+    }
+    takes_new(
+        &rt,
+        &mut *stripe_of_keys(alloc, 5, TableFault::Full)?,
+        &cuts,
+    )
 }
 
 // The same word 5,000 times, again 5,000 times, and 3 times.

@@ -1,7 +1,6 @@
 //! Two stripes that are booked at the same time, each under its own lock.
 ghost use Rattle.std.specs.Prelude.{◌≡◌, All, IfOk, vec_len};
 ghost use Rattle.std.specs.FinMap.{empty};
-ghost use Rattle.kc_table.specs.Counts.{IsItsOwnPlace};
 ghost use Rattle.kc_booking.specs.Setup.{stripe_count, key_bits};
 
 use crate::sample_batches::{cuts_in, made_setup};
@@ -23,7 +22,7 @@ struct Flags {
     met: (AtomicBool, AtomicBool),
 }
 
-// A table that raises its flag where a key is stored, and looks for the flag of another one.
+// A table that raises its flag where a key is stored or counted, and looks for the flag of another one.
 #[derive(Drop)]
 struct MeetingCounts<'a> {
     plain: PlainCounts,
@@ -55,9 +54,7 @@ impl Counts for MeetingCounts<'_> {
 
     ghost may_be_full = { λ _ _ _. ⊥ };
 
-    ghost stands_at = { λ t. IsItsOwnPlace t.plain.counts };
-
-    ghost growth = { λ _. 0 };
+    ghost slots = { λ _. 0 };
 
     fn key_bits(&self) -> u32 {
         self.plain.key_bits()
@@ -68,29 +65,21 @@ impl Counts for MeetingCounts<'_> {
         self.plain.ready(key)
     }
 
-    fn growth(&self) -> u32 {
-        self.plain.growth()
-    }
-
-    fn store(&mut self, key: u64) -> Result<u64, TableFault> {
+    fn count(&mut self, key: u64) -> Result<u64, TableFault> {
         look_for(self.other, self.own, self.met);
-        self.plain.store(key)
+        self.plain.count(key)
     }
 
-    fn place_of(&self, key: u64) -> u64 {
-        self.plain.place_of(key)
+    fn uncount(&mut self, key: u64) {
+        self.plain.uncount(key);
+    }
+
+    fn slots(&self) -> u64 {
+        self.plain.slots()
     }
 
     fn add(&mut self, key: u64) {
         self.plain.add(key);
-    }
-
-    fn increment(&mut self, key: u64) -> u64 {
-        self.plain.increment(key)
-    }
-
-    fn increment_at(&mut self, key: u64, place: u64) -> u64 {
-        self.plain.increment_at(key, place)
     }
 
     fn get(&self, key: u64) -> u64 {

@@ -4,12 +4,12 @@ ghost use Rattle.std.specs.Prelude.{◌≡◌, ◌<◌};
 ghost use Rattle.kc_booking.specs.Setup.{stripe_count, word_count};
 
 use crate::bookings::{Held, NOTHING, assert_held, map_stripe, quotient_stripe};
-use crate::rounds::{first_cuts, picked};
+use crate::rounds::{first_cuts, made_round, picked};
 use crate::sample_batches::{batches_in, cuts_of, cuts_of_three, made_setup};
 use crate::sharings::stripes_of;
 use crate::stripe_assertions::assert_same;
 use kc_share::{Books, Share, Sheet};
-use kc_stripe::{BookFault, Cut, Cuts, Setup, Stripe, Stripes};
+use kc_stripe::{BookFault, Cut, Cuts, Ordered, Round, Setup, Stripe, Stripes};
 use kc_table::{Counts, PlainCounts};
 use kc_word::Word;
 use std::alloc::Global;
@@ -92,10 +92,10 @@ fn a_refused_growth_leaves_the_stripe(rt: HostRuntime) -> Result<(), Fail> {
 }
 
 // Both batches as one round.
-fn round_of_both(alloc: Global) -> Result<Cuts, Fail> {
+fn round_of_both(alloc: Global) -> Result<Round, Fail> {
     let setup = made_setup(3, 1)?;
     let batches = batches_in(alloc, &setup, TEXTS, 40)?;
-    first_cuts(alloc, &setup, &picked(alloc, &batches, &[1, 0])?)
+    made_round(alloc, &setup, &picked(alloc, &batches, &[1, 0])?)
 }
 
 // Books both batches at once, again where memory is refused: the stripe is then as it was before.
@@ -104,8 +104,8 @@ fn is_round_booked_at_last<C: Counts>(
     alloc: Global,
     stripe: &mut Stripe<C>,
 ) -> Result<(), Fail> {
-    let cuts = round_of_both(alloc)?;
-    is_round_booked_again(rt, stripe, &cuts)?;
+    let round = round_of_both(alloc)?;
+    is_round_booked_again(rt, stripe, &first_cuts(&round), &mut Ordered::new(alloc)?)?;
     assert_once_each(rt, alloc, stripe)
 }
 
@@ -114,11 +114,12 @@ fn is_round_booked_again<C: Counts>(
     rt: &impl Abort,
     stripe: &mut Stripe<C>,
     cuts: &Cuts,
+    ordered: &mut Ordered,
 ) -> Result<(), Fail> {
-    if let Err(fault) = stripe.book_all(cuts) {
+    if let Err(fault) = stripe.book_all(cuts, ordered) {
         assert_same(rt, "a fault", &fault, &BookFault::Memory);
         assert_held(rt, stripe, &NOTHING);
-        stripe.book_all(cuts)?;
+        stripe.book_all(cuts, ordered)?;
     }
     Ok(())
 }

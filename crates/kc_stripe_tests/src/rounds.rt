@@ -7,7 +7,7 @@ use crate::sample_batches::{batches_in, made_setup};
 use crate::sharings::stripes_of;
 use crate::stripe_assertions::{assert_items, assert_same};
 use kc_share::{Books, Share, Sheet};
-use kc_stripe::{BookFault, Cuts, Setup, Stripe, Stripes, cut_up_all};
+use kc_stripe::{BookFault, Cuts, Ordered, Round, Setup, Stripe, Stripes};
 use kc_table::{Counts, PlainCounts, TableFault};
 use kc_word::Batch;
 use std::alloc::Global;
@@ -55,11 +55,12 @@ fn assert_cuts(
 }
 
 // There are as many stripes as rows, and each has the cuts of its row.
-fn assert_round(rt: &impl Abort, setup: &Setup, rounds: &[Cuts]) {
-    assert!(rt; rounds.len() == ROUND.len());
+fn assert_round(rt: &impl Abort, round: &Round) {
+    let setup = round.setup();
+    assert!(rt; setup.stripes() as usize == ROUND.len());
     for stripe in 0..ROUND.len() {
         let (keys, sizes) = ROUND[stripe];
-        assert_cuts(rt, setup, &rounds[stripe], stripe, keys, sizes);
+        assert_cuts(rt, setup, &round.cuts(stripe as u32), stripe, keys, sizes);
     }
 }
 
@@ -68,14 +69,14 @@ fn cuts_of_two_batches(rt: HostRuntime) -> Result<(), Fail> {
     let alloc = rt.alloc();
     let setup = made_setup(3, 4)?;
     let batches = batches_in(alloc, &setup, &[b"ACGT", b"ACG"], 2)?;
-    assert_round(&rt, &setup, &cut_up_all(alloc, &setup, &batches)?);
+    assert_round(&rt, &made_round(alloc, &setup, &batches)?);
     Ok(())
 }
 
 #[test]
 fn a_number_that_stands_twice(rt: HostRuntime) -> Result<(), Fail> {
-    let cuts = round_in(rt.alloc(), 1, TWO_BATCHES, &[1, 0, 1])?;
-    assert!(rt; !cuts.numbers_differ());
+    let round = round_in(rt.alloc(), 1, TWO_BATCHES, &[1, 0, 1])?;
+    assert!(rt; !first_cuts(&round).numbers_differ());
     Ok(())
 }
 
@@ -104,24 +105,33 @@ const STEPS: &[Step] = &[
     (1, &[0], Err(BookFault::Twice), TURNED),
 ];
 
-// The words of these places' batches of the texts in stripe 0 of so many.
-fn round_in(alloc: Global, stripes: u32, texts: &[&[u8]], places: &[usize]) -> Result<Cuts, Fail> {
+// The words of these places' batches of the texts in so many stripes.
+fn round_in(alloc: Global, stripes: u32, texts: &[&[u8]], places: &[usize]) -> Result<Round, Fail> {
     let setup = made_setup(3, stripes)?;
     let batches = batches_in(alloc, &setup, texts, 2)?;
-    first_cuts(alloc, &setup, &picked(alloc, &batches, places)?)
+    made_round(alloc, &setup, &picked(alloc, &batches, places)?)
 }
 
-// The words of the batches in stripe 0.
-pub(crate) fn first_cuts(
+// The batches cut up, one after another.
+pub(crate) fn made_round(
     alloc: Global,
     setup: &Setup,
     batches: &[Arc<Batch>],
-) -> Result<Cuts, Fail> {
-    let mut rounds = cut_up_all(alloc, setup, batches)?;
-    if rounds.is_empty() {
-        return Err(Fail::from("no stripe"));
+) -> Result<Round, Fail> {
+    let mut round = Round::new(alloc, setup)?;
+    for batch in batches {
+        round.cut_up(batch)?;
     }
-    Ok(rounds.swap_remove(0))
+    Ok(round)
+}
+
+// The words of the round's batches in stripe 0.
+pub(crate) fn first_cuts(round: &Round) -> Cuts<'_>
+    ensures { result.stripe ≡ 0 }
+{
+    // for the proof: there is a stripe
+    let _stripes = round.setup().stripes();
+    round.cuts(0)
 }
 
 // The stripe takes the steps, rounds of batches of these texts, one after another.
@@ -132,9 +142,10 @@ fn takes_the_steps<C: Counts>(
     texts: &[&[u8]],
     steps: &[Step],
 ) -> Result<(), Fail> {
+    let mut ordered = Ordered::new(alloc)?;
     for (stripes, places, answer, held) in steps {
-        let cuts = round_in(alloc, *stripes, texts, *places)?;
-        assert_round_booked(rt, stripe, &cuts, answer, held);
+        let round = round_in(alloc, *stripes, texts, *places)?;
+        assert_round_booked(rt, stripe, &first_cuts(&round), &mut ordered, answer, held);
     }
     Ok(())
 }
@@ -144,10 +155,11 @@ fn assert_round_booked<C: Counts>(
     rt: &impl Abort,
     stripe: &mut Stripe<C>,
     cuts: &Cuts,
+    ordered: &mut Ordered,
     answer: &Result<(), BookFault>,
     held: &Held<'_>,
 ) {
-    assert_same(rt, "a booking", &stripe.book_all(cuts), answer);
+    assert_same(rt, "a booking", &stripe.book_all(cuts, ordered), answer);
     assert_held(rt, stripe, held);
 }
 
@@ -223,7 +235,8 @@ fn share_twice<N: Books, R: Wait>(
         return Err(Fail::from("another stripe"));
     }
     let (stripes, mut share) = stripes_of::<N>(alloc, setup, sheet)?;
-    book_twice(rt, &stripes, &mut share, cuts)
+    let mut ordered = Ordered::new(alloc)?;
+    book_twice(rt, &stripes, &mut share, cuts, &mut ordered)
 }
 
 // Books the round twice in these stripes: what is answered, and what the share then tells of stripe 0.
@@ -232,25 +245,57 @@ fn book_twice<N: Books, R: Wait>(
     stripes: &Stripes<PlainCounts, N>,
     share: &mut Share<N>,
     cuts: &Cuts,
+    ordered: &mut Ordered,
 ) -> Result<(Result<(), BookFault>, [u64; 2]), Fail>
     requires cuts { cuts.now.stripe < stripe_count stripes.now.setup }
     requires plan { 0 < share.old.plan.stripes }
 {
-    stripes.book_all(rt, share, cuts)?;
-    let again = stripes.book_all(rt, share, cuts);
+    stripes.book_all(rt, share, cuts, ordered)?;
+    let again = match stripes.book_all(rt, share, cuts, ordered) {
+        Ok(_) => Ok(()),
+        Err(fault) => Err(fault),
+    };
     Ok((again, [share.words(0), share.entries(0)]))
+}
+
+#[test]
+fn a_cleared_round_has_the_next_batches_alone(rt: HostRuntime) -> Result<(), Fail> {
+    let alloc = rt.alloc();
+    let setup = made_setup(3, 1)?;
+    let batches = batches_in(alloc, &setup, TWO_BATCHES, 2)?;
+    let mut round = made_round(alloc, &setup, &batches)?;
+    round.clear();
+    let next = picked(alloc, &batches, &[1])?;
+    for batch in &next {
+        round.cut_up(batch)?;
+    }
+    let alone = made_round(alloc, &setup, &next)?;
+    assert_items(
+        &rt,
+        "keys",
+        first_cuts(&round).keys(),
+        first_cuts(&alone).keys(),
+    );
+    assert_items(
+        &rt,
+        "sizes",
+        first_cuts(&round).sizes(),
+        first_cuts(&alone).sizes(),
+    );
+    assert!(rt; first_cuts(&round).numbers_differ());
+    Ok(())
 }
 
 #[test]
 fn a_share_has_the_batches_of_a_round_once(rt: HostRuntime) -> Result<(), Fail> {
     let alloc = rt.alloc();
     let setup = made_setup(3, 1)?;
-    let cuts = round_in(alloc, 1, TWO_BATCHES, &[0, 1])?;
+    let round = round_in(alloc, 1, TWO_BATCHES, &[0, 1])?;
     if setup.stripes() != 1 {
         return Err(Fail::from("another setup"));
     }
     let sheet = Sheet::new(alloc, 1, 1)?;
-    let (again, told) = share_twice::<Brand, _>(&rt, alloc, &setup, sheet, &cuts)?;
+    let (again, told) = share_twice::<Brand, _>(&rt, alloc, &setup, sheet, &first_cuts(&round))?;
     assert_same(&rt, "a booking", &again, &Err(BookFault::Twice));
     assert_same(&rt, "a share", &told, &[3, 2]);
     Ok(())

@@ -1,5 +1,5 @@
 -- The finite map of a list of entries: what it finds, what one more entry does to it, and its rows.
-use Rattle.std.proofs.Common.{◌≡◌, ◌≢◌, ◌∙◌, ℕ, ◌+◌, ◌<◌, ◌≤◌, ◌^◌, Bool, true, false, cond, List, [], ◌∷◌, Some, None}
+use Rattle.std.proofs.Common.{◌≡◌, ◌≢◌, ◌∙◌, ℕ, ◌+◌, ◌-◌, ◌<◌, ◌≤◌, ◌^◌, Bool, true, false, cond, List, [], ◌∷◌, Some, None}
 use Rattle.std.proofs.Common.{Option, All, Contains, filter, nat_eq, nat_lt, nat_cmp, is_eq, get_or, unwrap_or, refl}
 use Rattle.std.proofs.Common.{sym, ap, subst, subst₂, arith, IsSome, is_some, inl, inr, slice_get, Result, Ok, Err}
 use Rattle.std.proofs.Common.{IfOk}
@@ -20,7 +20,7 @@ use Rattle.std.proofs.lemmas.Bool.{cases_eq, eqb-true}
 use Rattle.std.specs.FinMap.{get, insert, from_entries, find, contains_key, empty, len, len-insert, get-from_entries}
 use Rattle.std.specs.FinMap.{get-insert, get-empty, same_map, nat_cmp-IsAntisymmetric}
 use Rattle.kc_lemmas.proofs.Lists.{Contains-filter}
-use Rattle.kc_table.specs.Counts.{KeyCounts, AreRowsOf, IsWithin, count_at, readied, added, IsStored}
+use Rattle.kc_table.specs.Counts.{KeyCounts, AreRowsOf, IsWithin, count_at, readied, added, reduced, IsStored}
 
 abbrev pub Entries : Type 0
 Entries = List (ℕ × ℕ)
@@ -78,6 +78,13 @@ readied_stored m k v is = ap (λ o. cond (is_some o) m (insert m k 0)) is
 pub readied_new : (m : KeyCounts) (k : ℕ) → get m k ≡ None → readied m k ≡ insert m k 0
 readied_new m k is = ap (λ o. cond (is_some o) m (insert m k 0)) is
 
+-- a new key that is counted
+pub told_new : (m : KeyCounts) (k : ℕ) → get m k ≡ None → 1 ≡ count_at m k + 1
+told_new m k is = sym (ap (λ o. unwrap_or o 0 + 1) is)
+
+pub added_new : (m : KeyCounts) (k : ℕ) → get m k ≡ None → insert m k 1 ≡ added m k
+added_new m k is = sym (ap (λ o. insert m k (unwrap_or o 0 + 1)) is)
+
 -- fs is es with the number v at k
 abbrev pub Writes : Entries → Entries → ℕ → ℕ → Type 0
 Writes es fs k v =
@@ -105,6 +112,12 @@ pub added_by_write : (es fs : Entries) (k n : ℕ) → lookup (is_at (nat_cmp k)
 added_by_write es fs k n is writes =
     counts_updated es fs k (n + 1) writes
     ∙ ap (λ o. insert (from_entries es) k (unwrap_or o 0 + 1)) (sym (get-entries es k ∙ is))
+
+pub reduced_by_write : (es fs : Entries) (k n : ℕ) → lookup (is_at (nat_cmp k)) es ≡ Some n → Writes es fs k (n - 1)
+    → from_entries fs ≡ reduced (from_entries es) k
+reduced_by_write es fs k n is writes =
+    counts_updated es fs k (n - 1) writes
+    ∙ ap (λ o. insert (from_entries es) k (unwrap_or o 0 - 1)) (sym (get-entries es k ∙ is))
 
 pub writes_by_set_value : (es fs : Entries) (k v n : ℕ) → Some n ≡ lookup (is_at (nat_cmp k)) es
     → fs ≡ set_value (is_at (nat_cmp k)) es v → Writes es fs k v
@@ -188,8 +201,8 @@ len-readied_new m k new =
     ap len (ap (λ b. cond b m (insert m k 0)) new) ∙ len-insert nat_cmp_total m k 0
     ∙ ap (λ b. cond b (len m) (len m + 1)) new
 
-pub len-added : (m : KeyCounts) (k : ℕ) → IsStored m k → len (added m k) ≡ len m
-len-added m k stored = len-insert nat_cmp_total m k (count_at m k + 1) ∙ ap (λ b. cond b (len m) (len m + 1)) stored
+pub len-insert_stored : (m : KeyCounts) (k v : ℕ) → IsStored m k → len (insert m k v) ≡ len m
+len-insert_stored m k v stored = len-insert nat_cmp_total m k v ∙ ap (λ b. cond b (len m) (len m + 1)) stored
 
 pub stored_by_some : (m : KeyCounts) (k n : ℕ) → get m k ≡ Some n → IsStored m k
 stored_by_some m k n is = ap is_some is
@@ -233,17 +246,47 @@ count_at-readied m k q = elim (cases_eq q k) [
   | inr apart ↦ ap (λ o. unwrap_or o 0) (get-readied_other m k q apart)
 ]
 
-pub IsStored-added : (m : KeyCounts) (k q : ℕ) → IsStored m q → IsStored (added m k) q
-IsStored-added m k q stored = elim (cases_eq q k) [
-  | inl same ↦ ap (contains_key (added m k)) same ∙ ap is_some (get-insert_same m k (count_at m k + 1))
-  | inr apart ↦ ap is_some (get-insert_other m k (count_at m k + 1) q apart) ∙ stored
-]
-
 pub count_at-added_same : (m : KeyCounts) (k : ℕ) → count_at (added m k) k ≡ count_at m k + 1
 count_at-added_same m k = ap (λ o. unwrap_or o 0) (get-insert_same m k (count_at m k + 1))
 
 pub count_at-added_other : (m : KeyCounts) (k q : ℕ) → q ≢ k → count_at (added m k) q ≡ count_at m q
 count_at-added_other m k q apart = ap (λ o. unwrap_or o 0) (get-insert_other m k (count_at m k + 1) q apart)
+
+-- a key that is counted after it was readied has the count that it has without
+insert-readied : (m : KeyCounts) (k v : ℕ) → insert (readied m k) k v ≡ insert m k v
+insert-readied m k v = same_counts _ _ (λ q. elim (cases_eq q k) [
+  | inl same ↦ ap (get (insert (readied m k) k v)) same ∙ get-insert_same (readied m k) k v
+      ∙ sym (ap (get (insert m k v)) same ∙ get-insert_same m k v)
+  | inr apart ↦ get-insert_other (readied m k) k v q apart ∙ get-readied_other m k q apart
+      ∙ sym (get-insert_other m k v q apart)
+])
+
+pub added-readied : (m : KeyCounts) (k : ℕ) → added (readied m k) k ≡ added m k
+added-readied m k =
+    ap (λ n. insert (readied m k) k (n + 1)) (count_at-readied m k k) ∙ insert-readied m k (count_at m k + 1)
+
+-- what is asked of a key before it is counted, and what is known after it, where it was readied first
+pub room_readied : (m after : KeyCounts) (k n : ℕ) → after ≡ readied m k → count_at m k < n → count_at after k < n
+room_readied m after k n is room =
+    subst (λ c. c < n) (sym (ap (λ (x : KeyCounts). count_at x k) is ∙ count_at-readied m k k)) room
+
+pub told_readied : (m after : KeyCounts) (k n : ℕ) → after ≡ readied m k → n ≡ count_at after k + 1
+    → n ≡ count_at m k + 1
+told_readied m after k n is told =
+    told ∙ ap (λ c. c + 1) (ap (λ (x : KeyCounts). count_at x k) is ∙ count_at-readied m k k)
+
+pub counted_readied : (m after last : KeyCounts) (k : ℕ) → after ≡ readied m k → last ≡ added after k
+    → last ≡ added m k
+counted_readied m after last k is counted =
+    counted ∙ ap (λ (x : KeyCounts). added x k) is ∙ added-readied m k
+
+-- a key whose count is not 0 is stored
+count_found : (m : KeyCounts) (k : ℕ) (found : Option ℕ) → get m k ≡ found → 1 ≤ unwrap_or found 0 → IsStored m k
+count_found m k None is some = absurd (omega arith)
+count_found m k (Some n) is some = ap is_some is
+
+pub stored_by_count : (m : KeyCounts) (k : ℕ) → 1 ≤ count_at m k → IsStored m k
+stored_by_count m k some = count_found m k (get m k) refl some
 
 pub count_at-empty : (q : ℕ) → count_at empty q ≡ 0
 count_at-empty q = ap (λ o. unwrap_or o 0) (get-empty nat_cmp q)

@@ -1,5 +1,6 @@
 pub mod Contents
 pub mod Crowding
+pub mod GreatEntries
 pub mod KeyCounts
 pub mod Places
 pub mod ReprobingSteps

@@ -1,10 +1,10 @@
 -- The map of a table, carried over to a larger one, and what it says of a size that a key finds no place there.
 use Rattle.std.proofs.Common.{◌≡◌, ◌≢◌, ◌∙◌, ℕ, ◌+◌, ◌*◌, ◌/◌, ◌%◌, ◌^◌, ◌<◌, ◌≤◌, length, take, Some, None, sym}
-use Rattle.std.proofs.Common.{ap, subst, subst₂, arith, slice_get, inl, bit_and, pow_mono, le-add_right, take_all}
+use Rattle.std.proofs.Common.{◌↔◌, ap, subst, subst₂, arith, slice_get, inl, bit_and, pow_mono, le-add_right, take_all}
 use Rattle.std.specs.FinMap.{get, insert, empty}
 use Rattle.kc_table.specs.declared.slots.Slots.{Slots}
 use Rattle.kc_table.specs.Counts.{KeyCounts, IsStored}
-use Rattle.kc_table.specs.QuotientTable.{counts_in, Holds, IsCrowded, HasStoredCrowd, MayBeTooSmall}
+use Rattle.kc_table.specs.QuotientTable.{Table, counts_in, Holds, IsCrowded, HasStoredCrowd, MayBeTooSmall, MayBeFull}
 use Rattle.kc_table.specs.Reprobing.{triangle, reprobe_of, IsOut}
 use Rattle.kc_table.specs.Slot.{key_in, contents_of}
 use Rattle.kc_table.specs.Slots.{key_counts, slot_tags}
@@ -134,3 +134,9 @@ small_by_out bits log key counts table is below out = (
   inl (subst₂ (λ m l. IsCrowded m l key) is.same_counts is.same_log
       (crowded_by_out table.slots.items table.sound key out)),
 )
+
+-- tables with the same limits are full alike
+pub full_alike : (s t : Table) → s.bits ≡ t.bits → s.max_log ≡ t.max_log → (m : KeyCounts) (q : ℕ)
+    → MayBeFull s m q ↔ MayBeFull t m q
+full_alike s t bits max_log m q =
+    (subst₂ (λ b l. MayBeTooSmall b l m q) bits max_log, subst₂ (λ b l. MayBeTooSmall b l m q) (sym bits) (sym max_log))

@@ -11,7 +11,7 @@ use Rattle.std.proofs.lemmas.Option.{slice_get_within}
 use Rattle.std.proofs.lemmas.Grind.{common_steps}
 use Rattle.std.specs.FinMap.{get, empty, get-empty}
 use Rattle.kc_table.specs.Counts.{KeyCounts, IsStored, IsWithin}
-use Rattle.kc_table.specs.QuotientTable.{counts_in, Holds, HoldsKey, IsCrowded, different_places}
+use Rattle.kc_table.specs.QuotientTable.{Table, counts_in, Holds, HoldsKey, IsCrowded, different_places, IsFoundAfter, IsMissedAfter}
 use Rattle.kc_table.specs.Reprobing.{place, tag_of, reprobe_of, IsFound, IsFree, IsOut, AreTakenBefore}
 use Rattle.kc_table.specs.Sizes.{place_count}
 use Rattle.kc_table.specs.Slot.{Slot, key_in, IsSound, empty_slot, tag_at, slot_count, content_of, contents_from}
@@ -19,7 +19,7 @@ use Rattle.kc_table.specs.Slot.{contents_of, counts_of}
 use Rattle.kc_table.specs.Slots.{slot_list, counted_entries}
 use Rattle.kc_table.proofs.Crowding.{CrowdAt, crowded_from}
 use Rattle.kc_table.proofs.KeyCounts.{same_counts, stored_found}
-use Rattle.kc_table.proofs.Places.{place-lt, place-home, places_differ, reprobe_of-tag_of}
+use Rattle.kc_table.proofs.Places.{place-lt, place-home, places_differ, reprobe_of-tag_of, key_in-tag_of}
 use Rattle.kc_table.proofs.Contents.{Apart, IsNowhere, get-counts_in, get-counts_in_nowhere, IsStored-held}
 use Rattle.kc_table.proofs.Contents.{held_by_stored, counted_in, counted_in-none, counted_in-all}
 use Rattle.kc_table.proofs.Soundness.{reprobe_small, at_place, has_tag, absent_by_free, absent_by_out, found_some}
@@ -208,6 +208,17 @@ module _ {bits log : ℕ} (slots : List Slot) (sound : IsSound bits log (tag_at 
       subst (λ n. index < n) (sym sized) (subst (λ s. s < 2 ^ log) (sym free.here) (place-lt key free.reprobe log)) in
       ap (slice_get (contents_of log slots)) (sym free.here) ∙ empty_at log slots index fits free.empty
 
+  -- and where all places hold others, no walk finds one
+  pub out_by_others : (key : ℕ) → AreHeldByOthers key place_count → IsOut log (tag_at slots) key
+  out_by_others key others i below =
+      let s = place key i log in
+      let at = others i below in
+      let slot = slot_held log slots s at.0 at.2.0 at.2.1 in
+      record {
+        some = slot.some;
+        other = λ same. at.1 (sym slot.key ∙ ap (key_in log s) same ∙ key_in-tag_of key i log below);
+      }
+
   -- a place that is empty or holds the key is not taken by another
   pub not_shut_found : (key index : ℕ) → IsFound log (tag_at slots) key index → AreHeldByOthers key place_count → ⊥
   not_shut_found key index found shut =
@@ -223,6 +234,30 @@ module _ {bits log : ℕ} (slots : List Slot) (sound : IsSound bits log (tag_at 
       let here : Holds (contents_of log slots) index at.0 at.2.0 =
       ap (slice_get (contents_of log slots)) free.here ∙ at.2.1 in
       (slot_held log slots index at.0 at.2.0 here).some free.empty
+
+-- how many slots a search reads, by what its walk came to
+module _ {bits log : ℕ} (slots : List Slot) (sound : IsSound bits log (tag_at slots)) (max_log key reads : ℕ) where
+  abbrev searched : Table
+  searched = record { bits = bits; max_log = max_log; log = log; slots = contents_of log slots }
+
+  pub found_after : (index : ℕ) (found : IsFound log (tag_at slots) key index)
+      → AreTakenBefore log (tag_at slots) key found.reprobe → reads ≡ found.reprobe + 1
+      → IsFoundAfter searched key reads index
+  found_after index found before is =
+      (found.reprobe, found.small, found.here, taken_found slots sound key index found before, is)
+
+  pub free_after : length slots ≡ 2 ^ log → (index new : ℕ) (free : IsFree log (tag_at slots) key index new)
+      → reads ≡ free.reprobe + 1 → IsMissedAfter searched key reads
+  free_after sized index new free is = inl (
+    free.reprobe,
+    free.small,
+    empty_free slots sound sized key index new free,
+    taken_free slots sound key index new free,
+    is,
+  )
+
+  pub out_after : IsOut log (tag_at slots) key → reads ≡ place_count → IsMissedAfter searched key reads
+  out_after out is = inr (taken_out slots sound key out, is)
 
 tag_at-replicate : (n s : ℕ) → tag_at (replicate n empty_slot) s ≡ 0
 tag_at-replicate n s = elim (cases_lt s n) [

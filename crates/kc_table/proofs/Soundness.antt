@@ -198,21 +198,15 @@ remainder-lt {bits} {log} sound key below =
     let room : 2 ^ bits ≤ 2 ^ (58 + log) = pow_mono wide in
     shr_below key 58 log (omega arith)
 
--- A tag fits above the low bits of a count.
-pub tag_fits : {bits log : ℕ} {tag : ℕ → ℕ} → IsSound bits log tag → (low key i : ℕ) → bits + low ≡ log + 58
-    → key < 2 ^ bits → i < 63
-    → tag_of log key i * 2 ^ low < 2 ^ 64
-tag_fits {bits} {log} sound low key i shared below small =
+-- a tag has no more bits than the number of reprobes and what the slot leaves of a key
+pub tag_fits : {bits log : ℕ} {tag : ℕ → ℕ} → IsSound bits log tag → (tag_bits key i : ℕ) → bits + 6 ≡ log + tag_bits
+    → key < 2 ^ bits → i < 63 → tag_of log key i < 2 ^ tag_bits
+tag_fits {bits} {log} sound tag_bits key i shared below small =
     let wide : log ≤ bits = sound.no_wider in
-    let n = 6 + (bits - log) in
     let split : bits ≡ bits - log + log = omega arith in
     let remainder : key / 2 ^ log < 2 ^ (bits - log) =
     shr_below key (bits - log) log (subst (λ b. key < 2 ^ b) split below) in
     let narrow : tag_of log key i < 2 ^ 6 * 2 ^ (bits - log) =
     mul-add-lt (key / 2 ^ log) 64 (i + 1) (2 ^ (bits - log)) remainder (omega arith) in
-    let all : low + n ≡ 64 = omega arith in
-    let room : tag_of log key i * 2 ^ low + 0 < 2 ^ low * 2 ^ n =
-    mul-add-lt (tag_of log key i) (2 ^ low) 0 (2 ^ n)
-    (subst (λ m. tag_of log key i < m) (sym (pow-add 2 6 (bits - log))) narrow) (pow_pos low) in
-    let whole : 2 ^ low * 2 ^ n ≡ 2 ^ 64 = sym (pow-add 2 low n) ∙ ap (λ m. 2 ^ m) all in
-    omega arith
+    let all : 6 + (bits - log) ≡ tag_bits = omega arith in
+    subst (λ m. tag_of log key i < m) (sym (pow-add 2 6 (bits - log)) ∙ ap (λ n. 2 ^ n) all) narrow

@@ -1,5 +1,5 @@
 -- What the trait `Counts` is seen as.
-use Rattle.std.specs.Prelude.{◌≡◌, ℕ, ◌+◌, ◌<◌, ◌≤◌, ◌^◌, if◌then◌else◌, IsTrue, nat_eq}
+use Rattle.std.specs.Prelude.{◌≡◌, ℕ, ◌+◌, ◌-◌, ◌<◌, ◌≤◌, ◌^◌, if◌then◌else◌, IsTrue, nat_eq}
 use Rattle.std.specs.Prelude.{List, All, Contains, Some, map, unwrap_or}
 use Rattle.std.specs.List.{IsDistinct}
 use Rattle.std.specs.Ordering.{nat_cmp}
@@ -25,6 +25,10 @@ readied counts key = if contains_key counts key then counts else insert counts k
 abbrev pub added : KeyCounts → ℕ → KeyCounts
 added counts key = insert counts key (count_at counts key + 1)
 
+-- the map with the key's count one less
+abbrev pub reduced : KeyCounts → ℕ → KeyCounts
+reduced counts key = insert counts key (count_at counts key - 1)
+
 -- The rows are the keys whose count is at least 1, each once, with its count.
 pub record AreRowsOf (counts : KeyCounts) (rows : List (ℕ × ℕ)) : Type 0 where
   pub once : IsDistinct nat_eq (map (λ row. row.0) rows)
@@ -34,10 +38,6 @@ pub record AreRowsOf (counts : KeyCounts) (rows : List (ℕ × ℕ)) : Type 0 wh
 -- each stored key is a number of so many bits
 abbrev pub IsWithin : ℕ → KeyCounts → Type 0
 IsWithin bits counts = (key : ℕ) → IsStored counts key → key < 2 ^ bits
-
--- in a table without places a stored key is its own place
-abbrev pub IsItsOwnPlace : KeyCounts → ℕ → ℕ → Type 0
-IsItsOwnPlace counts key place = IsStored counts key × (place ≡ key)
 
 -- the number is the greatest count of a key, where the count of a key that is not stored is 0
 pub record IsGreatestCount (counts : KeyCounts) (greatest : ℕ) : Type 0 where

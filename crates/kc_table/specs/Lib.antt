@@ -1,5 +1,7 @@
 pub mod Counts
+pub mod GreatCounts
 pub mod LimitedCounts
+pub mod Numbers
 pub mod Packing
 pub mod PlainCounts
 pub mod QuotientTable

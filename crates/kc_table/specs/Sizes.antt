@@ -1,4 +1,4 @@
--- How many places a key has, how the 64 bits of a slot's number are shared out, and the bounds that follow.
+-- How many places a key has, how the bits of a slot's number are shared out, and the bounds that follow.
 use Rattle.std.specs.Prelude.{ℕ}
 
 -- How many places a key has. With more of them a table grows later and a tag has fewer bits for the remainder.
@@ -10,11 +10,15 @@ place_count = 63
 abbrev pub tag_step : ℕ
 tag_step = 64
 
+-- A tag has so many bits for the number of reprobes: `tag_step` is 2 to this.
+abbrev pub reprobe_bits : ℕ
+reprobe_bits = 6
+
 -- From 2 to this many slots on, which are `tag_step`, the places of a key differ.
 abbrev pub spread_log : ℕ
 spread_log = 6
 
--- A remainder has at most so many bits: those of a tag, 64, without the 6 of `tag_step`.
+-- A remainder has at most so many bits: those of a number, 64, without `reprobe_bits`.
 abbrev pub remainder_bits : ℕ
 remainder_bits = 58
 

@@ -1,5 +1,5 @@
 -- What a table of fixed size holds.
-use Rattle.std.specs.Prelude.{◌≡◌, ◌≢◌, ℕ, ◌*◌, ◌^◌, ◌<◌, List, filter, nat_lt, length, slice_set}
+use Rattle.std.specs.Prelude.{◌≡◌, ◌≢◌, ℕ, ◌^◌, ◌<◌, List, filter, nat_lt, length, slice_set}
 use Rattle.kc_table.specs.declared.reprobes.Reprobing.{Reprobing}
 use Rattle.kc_table.specs.declared.reprobes.Reprobing.TheVariants.{Found, Free, Crowded}
 use Rattle.kc_table.specs.declared.slots.Slots.{Slots}
@@ -28,7 +28,7 @@ pub record TakesTag (table : Slots) (place tag : ℕ) : Type 0 where
   pub in_range : place < length table.slots.items
   pub empty : slot_tags table place ≡ 0
   pub some : tag ≢ 0
-  pub fits : tag * 2 ^ table.slots.low < 2 ^ 64
+  pub fits : tag < 2 ^ table.slots.tag_bits
   pub sound : (count : ℕ)
       → IsSound table.bits table.log (tag_at (slice_set table.slots.items place (record { tag = tag; count = count })))
 

@@ -1,8 +1,8 @@
 //! `Counts`, the finite map from keys to counts that every table is.
 ghost use Rattle.std.specs.Prelude.{◌≡◌, ℕ, ◌+◌, ◌<◌, ◌≤◌, ◌^◌, ◌↔◌, OnOk, OnErr, IsOk, IfOk, All};
 ghost use Rattle.kc_table.specs.Sizes.{most_bits, most_parts, count_bits};
-ghost use Rattle.kc_table.specs.Counts.{KeyCounts, IsStored, IsWithin, count_at, readied, added, AreRowsOf};
-ghost use Rattle.kc_table.specs.Counts.{IsGreatestCount};
+ghost use Rattle.kc_table.specs.Counts.{KeyCounts, IsStored, IsWithin, count_at, readied, added, reduced};
+ghost use Rattle.kc_table.specs.Counts.{AreRowsOf, IsGreatestCount};
 
 use crate::table_fault::TableFault;
 use std::alloc::{AllocError, Global};
@@ -17,11 +17,8 @@ pub trait Counts {
     // For which maps and keys this table may answer `Full`.
     ghost may_be_full: { Self → KeyCounts → ℕ → Type 0 };
 
-    // The key stands at this place of the table.
-    ghost stands_at: { Self → ℕ → ℕ → Type 0 };
-
-    // How far the table has grown.
-    ghost growth: { Self → ℕ };
+    // How many slots the table has.
+    ghost slots: { Self → ℕ };
 
     /// The number of bits of the keys.
     fn key_bits(&self) -> u32
@@ -40,29 +37,31 @@ pub trait Counts {
         ensures same_bits { bits self.new ≡ bits self.old }
         ensures same_limits { (m : KeyCounts) (q : ℕ) → may_be_full self.new m q ↔ may_be_full self.old m q };
 
-    /// How far the table has grown: the number is greater after each growth.
-    fn growth(&self) -> u32
-        ensures { result ≡ growth self.now };
-
-    /// Stores the key, as `ready` does, and tells its place, at which `increment_at` counts it. Each key keeps its
-    /// place until the table grows.
-    fn store(&mut self, key: u64) -> Result<u64, TableFault>
-        requires { key < 2 ^ bits self.old }
-        ensures place { IfOk result (stands_at self.new key) }
-        ensures stored { OnOk result (counts self.new ≡ readied (counts self.old) key) }
+    /// Stores the key where it is not stored, adds one to its count, and returns the new count. `Full` comes only where
+    /// the type's `may_be_full` allows it, never for a stored key, and `Memory` where a growth was refused. After a
+    /// refusal no count has changed.
+    fn count(&mut self, key: u64) -> Result<u64, TableFault>
+        requires in_range { key < 2 ^ bits self.old }
+        requires room { count_at (counts self.old) key < 2 ^ count_bits }
+        ensures known { IsStored (counts self.old) key → ¬ (result ≡ Err TableFault.Full) }
+        ensures new_count { IfOk result (λ count. count ≡ count_at (counts self.old) key + 1) }
+        ensures counted { OnOk result (counts self.new ≡ added (counts self.old) key) }
         ensures refused { OnErr result (counts self.new ≡ counts self.old) }
         ensures full_only_there { result ≡ Err TableFault.Full → may_be_full self.old (counts self.old) key }
         ensures same_bits { bits self.new ≡ bits self.old }
-        ensures same_limits { (m : KeyCounts) (q : ℕ) → may_be_full self.new m q ↔ may_be_full self.old m q }
-        ensures grown { growth self.old ≤ growth self.new }
-        ensures kept { growth self.new ≡ growth self.old
-            → (q place : ℕ) → stands_at self.old q place → stands_at self.new q place };
+        ensures same_limits { (m : KeyCounts) (q : ℕ) → may_be_full self.new m q ↔ may_be_full self.old m q };
 
-    /// The place of a stored key.
-    fn place_of(&self, key: u64) -> u64
-        requires in_range { key < 2 ^ bits self.now }
-        requires stored { IsStored (counts self.now) key }
-        ensures { stands_at self.now key result };
+    /// Takes one away from the key's count, which is at least 1. The key stays stored. It takes no memory.
+    fn uncount(&mut self, key: u64)
+        requires in_range { key < 2 ^ bits self.old }
+        requires some { 1 ≤ count_at (counts self.old) key }
+        ensures counted { counts self.new ≡ reduced (counts self.old) key }
+        ensures same_bits { bits self.new ≡ bits self.old }
+        ensures same_limits { (m : KeyCounts) (q : ℕ) → may_be_full self.new m q ↔ may_be_full self.old m q };
+
+    /// How many slots the table has, 0 where it has none (a map that is no array): for speed alone.
+    fn slots(&self) -> u64
+        ensures { result ≡ slots self.now };
 
     /// Adds one to the count of a stored key. It takes no memory.
     fn add(&mut self, key: u64)
@@ -72,27 +71,6 @@ pub trait Counts {
         ensures counted { counts self.new ≡ added (counts self.old) key }
         ensures same_bits { bits self.new ≡ bits self.old }
         ensures same_limits { (m : KeyCounts) (q : ℕ) → may_be_full self.new m q ↔ may_be_full self.old m q };
-
-    /// Adds one to the count of a stored key, as `add` does, and tells the new count.
-    fn increment(&mut self, key: u64) -> u64
-        requires in_range { key < 2 ^ bits self.old }
-        requires stored { IsStored (counts self.old) key }
-        requires room { count_at (counts self.old) key < 2 ^ count_bits }
-        ensures told { result ≡ count_at (counts self.old) key + 1 }
-        ensures counted { counts self.new ≡ added (counts self.old) key }
-        ensures same_bits { bits self.new ≡ bits self.old }
-        ensures same_limits { (m : KeyCounts) (q : ℕ) → may_be_full self.new m q ↔ may_be_full self.old m q };
-
-    /// Adds one to the count of the key at its place, as `increment` does, without looking for the key.
-    fn increment_at(&mut self, key: u64, place: u64) -> u64
-        requires in_range { key < 2 ^ bits self.old }
-        requires there { stands_at self.old key place }
-        requires room { count_at (counts self.old) key < 2 ^ count_bits }
-        ensures told { result ≡ count_at (counts self.old) key + 1 }
-        ensures counted { counts self.new ≡ added (counts self.old) key }
-        ensures same_bits { bits self.new ≡ bits self.old }
-        ensures same_limits { (m : KeyCounts) (q : ℕ) → may_be_full self.new m q ↔ may_be_full self.old m q }
-        ensures kept { (q other : ℕ) → stands_at self.old q other → stands_at self.new q other };
 
     /// The key's count, and 0 where the key is not stored.
     fn get(&self, key: u64) -> u64

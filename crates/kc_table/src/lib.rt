@@ -4,18 +4,22 @@
 //! with: slots that hold only the part of a key that the slot's index does not give, grown by doubling. [`PlainCounts`]
 //! is the same map in a `BTreeMap`, to compare with, and [`LimitedCounts`] one that refuses keys as a test chooses.
 //!
-//! A key is first stored by `ready`, the one call that takes memory, which may be refused and then leaves the map as it
-//! was. After that it is counted by `add` or `increment`, which cannot fail. `rows` tells the keys that were counted:
+//! `count` counts a key, which it stores where it is new, and returns the new count. It is refused where the table may
+//! not grow, and then leaves each count as it was. `uncount` takes one away again. `rows` gives the keys that were
+//! counted:
 //!
 //! ```ignore
-//! table.ready(key)?;    // stored, or refused and all as before
 //! assert!(rt; table.get(key) < 1 << 62);
-//! table.add(key);
+//! table.count(key)    // the new count, or refused and no count changed
 //! ```
+//!
+//! A key can also be stored first, by `ready`, and counted later, by `add`, which cannot be refused.
 #![tactic(auto)]
 
 mod counts;
+mod great_counts;
 mod limited_counts;
+mod number_rows;
 mod packed_slots;
 mod plain_counts;
 mod quotient_table;

@@ -1,9 +1,9 @@
 //! A map that takes so many keys and no more, for tests.
-ghost use Rattle.std.specs.Prelude.{◌≡◌, ℕ, ◌<◌, ◌≤◌, ◌^◌, ◌↔◌, IsOk, OnOk, OnErr};
+ghost use Rattle.std.specs.Prelude.{◌≡◌, ℕ, ◌+◌, ◌<◌, ◌≤◌, ◌^◌, ◌↔◌, IsOk, IfOk, OnOk, OnErr};
 ghost use Rattle.std.specs.FinMap as map;
-ghost use Rattle.kc_table.specs.Counts.{KeyCounts, IsStored, IsItsOwnPlace, readied};
+ghost use Rattle.kc_table.specs.Counts.{KeyCounts, IsStored, count_at, readied, added};
 ghost use Rattle.kc_table.specs.LimitedCounts.{Limited, HasReachedLimit, IsAtLimit};
-ghost use Rattle.kc_table.specs.Sizes.{most_bits, most_parts};
+ghost use Rattle.kc_table.specs.Sizes.{most_bits, most_parts, count_bits};
 
 use crate::counts::Counts;
 use crate::plain_counts::PlainCounts;
@@ -56,9 +56,7 @@ impl Counts for LimitedCounts {
 
     ghost may_be_full = { IsAtLimit };
 
-    ghost stands_at = { λ t. IsItsOwnPlace t.counts };
-
-    ghost growth = { λ _. 0 };
+    ghost slots = { λ _. 0 };
 
     fn key_bits(&self) -> u32 {
         self.plain.key_bits()
@@ -88,29 +86,35 @@ impl Counts for LimitedCounts {
         Ok(())
     }
 
-    fn growth(&self) -> u32 {
-        self.plain.growth()
-    }
-
-    fn store(&mut self, key: u64) -> Result<u64, TableFault> {
+    /// Counts the key, as the trait says. Where the map has as many keys as it takes, a new key is refused.
+    fn count(&mut self, key: u64) -> Result<u64, TableFault>
+        requires in_range { key < 2 ^ self.old.bits }
+        requires room { count_at self.old.counts key < 2 ^ count_bits }
+        ensures known { IsStored self.old.counts key → ¬ (result ≡ Err TableFault.Full) }
+        ensures new_count { IfOk result (λ count. count ≡ count_at self.old.counts key + 1) }
+        ensures counted { OnOk result (self.new.counts ≡ added self.old.counts key) }
+        ensures refused { OnErr result (self.new.counts ≡ self.old.counts) }
+        ensures full { result ≡ Err TableFault.Full ↔ IsAtLimit self.old self.old.counts key }
+        ensures reached { HasReachedLimit self.old self.old.counts key → result ≡ Err self.old.refusal }
+        ensures same_bits { self.new.bits ≡ self.old.bits }
+        ensures same_limit { self.new.limit ≡ self.old.limit }
+        ensures same_refusal { self.new.refusal ≡ self.old.refusal }
+        ensures same_limits { (m : KeyCounts) (q : ℕ) → IsAtLimit self.new m q ↔ IsAtLimit self.old m q }
+    {
         self.ready(key)?;
-        Ok(key)
+        Ok(self.plain.increment(key))
     }
 
-    fn place_of(&self, key: u64) -> u64 {
-        self.plain.place_of(key)
+    fn uncount(&mut self, key: u64) {
+        self.plain.uncount(key);
+    }
+
+    fn slots(&self) -> u64 {
+        self.plain.slots()
     }
 
     fn add(&mut self, key: u64) {
         self.plain.add(key);
-    }
-
-    fn increment(&mut self, key: u64) -> u64 {
-        self.plain.increment(key)
-    }
-
-    fn increment_at(&mut self, key: u64, place: u64) -> u64 {
-        self.plain.increment_at(key, place)
     }
 
     fn get(&self, key: u64) -> u64 {

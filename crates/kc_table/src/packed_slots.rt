@@ -1,35 +1,61 @@
-//! The slots of a table packed into one number of 64 bits each, with the high bits of great counts beside them.
-ghost use Rattle.std.specs.Prelude.{◌≡◌, ◌≢◌, ℕ, ◌+◌, ◌*◌, ◌^◌, ◌<◌, max, length};
-ghost use Rattle.std.specs.Prelude.{slice_set, slice_index_or, vec_capacity};
-ghost use Rattle.kc_table.specs.Sizes.{count_bits};
-ghost use Rattle.kc_table.specs.Slot.{tag_at, slot_count};
+//! The slots of a table packed into one number each, with the great counts beside them.
+ghost use Rattle.std.specs.Prelude.{◌≡◌, ◌≢◌, ◌+◌, ◌-◌, ◌^◌, ◌<◌, ◌≤◌, IfOk, length, replicate, slice_set};
+ghost use Rattle.kc_table.specs.Sizes.{count_bits, most_log};
+ghost use Rattle.kc_table.specs.Slot.{tag_at, slot_count, empty_slot};
 
+use crate::great_counts::GreatCounts;
+use crate::number_rows::Numbers;
+use crate::sizes::LEAST_COUNT_BITS;
 use crate::tag::Tag;
+use std::alloc::{AllocError, Global};
 use std::marker::Model;
 
-/// The slots of a table, one behind another. A slot's number has the tag in its high bits, and below it the `low` low
-/// bits of the count. The high bits of the count stand in `high` at the slot's own index, and are 0 where `high` ends
-/// before it. The room of `high` is taken with the slots, but is memory only where a count outgrew its slot; no later
-/// call takes any.
+/// The slots of a table, one behind another. A slot's number has the tag in its high bits, and below it `low` bits for
+/// the count. Where these are all 1 the count stands in `great`, under the slot's index.
 #[derive(Drop)]
 pub(crate) struct PackedSlots {
-    pub low: u32,
-    pub numbers: Vec<u64>,
-    pub high: Vec<u64>,
+    low: u32,
+    numbers: Numbers,
+    great: GreatCounts,
 }
 
 impl Model for PackedSlots {
-    ghost use Rattle.std.specs.Prelude.{vec_capacity};
+    ghost use Rattle.std.specs.Prelude.{◌-◌};
+    ghost use Rattle.kc_table.specs.Numbers.{width_of, numbers_in};
     ghost use Rattle.kc_table.specs.Packing.{Packed, IsPacked, slots_of};
 
     ghost Value = { Packed };
 
-    ghost view = { λ p. record { low = p.low; items = slots_of p.low p.numbers.items p.high.items } };
+    ghost view = { λ p. record {
+      tag_bits = width_of p.numbers - p.low;
+      items = slots_of p.low (numbers_in p.numbers) p.great.counts;
+    } };
 
-    ghost invariant = { λ p. IsPacked p.low (vec_capacity p.high) p.numbers.items p.high.items };
+    ghost invariant = { λ p. IsPacked p.low (width_of p.numbers) p.great.places (numbers_in p.numbers) };
 }
 
 impl PackedSlots {
+    /// 2^log empty slots with so many bits for a tag. Their numbers have 32 bits where that leaves some for a count,
+    /// and else 64.
+    pub fn empty(alloc: Global, tag_bits: u32, log: u32) -> Result<PackedSlots, AllocError>
+        requires some_bits { 0 < tag_bits }
+        requires few_bits { tag_bits ≤ 64 }
+        requires few_slots { log ≤ most_log }
+        ensures tag_bits { IfOk result (λ slots. slots.tag_bits ≡ tag_bits) }
+        ensures empty { IfOk result (λ slots. slots.items ≡ replicate (2 ^ log) empty_slot) }
+    {
+        let count = 1 << log;
+        let great = GreatCounts::new(alloc, count)?;
+        let bits = (tag_bits + LEAST_COUNT_BITS).min(64);
+        let numbers = Numbers::zeros(alloc, bits, count)?;
+        let low = numbers.width() - tag_bits;
+        Ok(PackedSlots {
+            low,
+            numbers,
+            great,
+        })
+    }
+
     /// The tag in a slot.
     #[inline(always)]
     pub fn tag(&self, index: usize) -> Tag
@@ -37,7 +63,7 @@ impl PackedSlots {
         ensures { result ≡ tag_at self.now.items index }
     {
         Tag {
-            number: self.numbers[index] >> self.low,
+            number: self.numbers.get(index) >> self.low,
         }
     }
 
@@ -47,8 +73,13 @@ impl PackedSlots {
         requires { index < length self.now.items }
         ensures { result ≡ slot_count self.now.items index }
     {
-        let high = self.high.get(index).copied().unwrap_or(0);
-        (high << self.low) + (self.numbers[index] & ((1 << self.low) - 1))
+        let mask = all_ones(self.low);
+        let below = self.numbers.get(index) & mask;
+        if below < mask {
+            below
+        } else {
+            self.great.count(index)
+        }
     }
 
     /// Puts a tag and a count into an empty slot.
@@ -57,14 +88,17 @@ impl PackedSlots {
         requires in_range { index < length self.old.items }
         requires empty { tag_at self.old.items index ≡ 0 }
         requires some { tag ≢ 0 }
-        requires fits { tag * 2 ^ self.old.low < 2 ^ 64 }
-        ensures low { self.new.low ≡ self.old.low }
+        requires fits { tag < 2 ^ self.old.tag_bits }
+        ensures tag_bits { self.new.tag_bits ≡ self.old.tag_bits }
         ensures put { self.new.items ≡ slice_set self.old.items index (record { tag = tag; count = count }) }
     {
-        self.numbers[index] = (tag.number << self.low) + (count & ((1 << self.low) - 1));
-        let high = count >> self.low;
-        if high > 0 {
-            set_high_bits(&mut self.high, index, high);
+        let mask = all_ones(self.low);
+        let above = tag.number << self.low;
+        if count < mask {
+            self.numbers.set(index, above + count);
+        } else {
+            self.great.set(index, count);
+            self.numbers.set(index, above + mask);
         }
     }
 
@@ -74,54 +108,67 @@ impl PackedSlots {
         requires in_range { index < length self.old.items }
         requires some { tag_at self.old.items index ≢ 0 }
         requires room { slot_count self.old.items index < 2 ^ count_bits }
-        ensures low { self.new.low ≡ self.old.low }
+        ensures tag_bits { self.new.tag_bits ≡ self.old.tag_bits }
         ensures told { result ≡ slot_count self.old.items index + 1 }
         ensures counted { self.new.items ≡ slice_set self.old.items index
             (record { tag = tag_at self.old.items index; count = slot_count self.old.items index + 1 }) }
     {
-        let count = self.count(index) + 1;
-        let number = self.numbers[index];
-        let below = number & ((1 << self.low) - 1);
-        if (below + 1) >> self.low == 0 {
-            self.numbers[index] = number + 1;
+        let mask = all_ones(self.low);
+        let number = self.numbers.get(index);
+        let below = number & mask;
+        if below + 1 < mask {
+            self.numbers.set(index, number + 1);
+            below + 1
         } else {
-            self.numbers[index] = number - below;
-            carry_into(&mut self.high, index);
+            self.add_one_beside(index)
         }
-        count
+    }
+
+    // Adds one to the count in a slot, whose count becomes a great one if it is not.
+    #[cold]
+    #[inline(never)]
+    fn add_one_beside(&mut self, index: usize) -> u64
+        requires in_range { index < length self.old.items }
+        requires room { slot_count self.old.items index < 2 ^ count_bits }
+        ensures tag_bits { self.new.tag_bits ≡ self.old.tag_bits }
+        ensures told { result ≡ slot_count self.old.items index + 1 }
+        ensures counted { self.new.items ≡ slice_set self.old.items index
+            (record { tag = tag_at self.old.items index; count = slot_count self.old.items index + 1 }) }
+    {
+        let raised = self.count(index) + 1;
+        let mask = all_ones(self.low);
+        let number = self.numbers.get(index);
+        self.great.set(index, raised);
+        self.numbers.set(index, number - (number & mask) + mask);
+        raised
+    }
+
+    /// Takes one away from the count in a slot that is not empty.
+    #[inline(always)]
+    pub fn remove_one(&mut self, index: usize)
+        requires in_range { index < length self.old.items }
+        requires some { tag_at self.old.items index ≢ 0 }
+        requires counted { 1 ≤ slot_count self.old.items index }
+        ensures tag_bits { self.new.tag_bits ≡ self.old.tag_bits }
+        ensures reduced { self.new.items ≡ slice_set self.old.items index
+            (record { tag = tag_at self.old.items index; count = slot_count self.old.items index - 1 }) }
+    {
+        let mask = all_ones(self.low);
+        let number = self.numbers.get(index);
+        if number & mask < mask {
+            self.numbers.set(index, number - 1);
+        } else {
+            let lowered = self.great.count(index) - 1;
+            self.great.set(index, lowered);
+        }
     }
 }
 
-// Adds one to the high bits of the count in a slot. They are read here and not handed over, so that the compiler can
-// leave out their reading where nothing is carried and nobody asks for the new count.
-#[cold]
-#[inline(never)]
-fn carry_into(high: &mut Vec<u64>, index: usize)
-    requires room { index < vec_capacity high.old }
-    requires fits { slice_index_or high.old.items index 0 + 1 < 2 ^ 64 }
-    ensures room { vec_capacity high.new ≡ vec_capacity high.old }
-    ensures reach { length high.new.items ≡ max (length high.old.items) (index + 1) }
-    ensures here { slice_index_or high.new.items index 0 ≡ slice_index_or high.old.items index 0 + 1 }
-    ensures others { (i : ℕ) → i ≢ index
-        → slice_index_or high.new.items i 0 ≡ slice_index_or high.old.items i 0 }
+// The number of so many bits that are all 1.
+#[inline(always)]
+fn all_ones(bits: u32) -> u64
+    requires { bits < 64 }
+    ensures { result ≡ 2 ^ bits - 1 }
 {
-    let carried = high.get(index).copied().unwrap_or(0) + 1;
-    set_high_bits(high, index, carried);
-}
-
-// Sets the high bits of the count in a slot, within the room that was taken. Slots before it that have none written yet
-// get 0.
-#[cold]
-fn set_high_bits(high: &mut Vec<u64>, index: usize, value: u64)
-    requires { index < vec_capacity high.old }
-    ensures room { vec_capacity high.new ≡ vec_capacity high.old }
-    ensures reach { length high.new.items ≡ max (length high.old.items) (index + 1) }
-    ensures here { slice_index_or high.new.items index 0 ≡ value }
-    ensures others { (i : ℕ) → i ≢ index
-        → slice_index_or high.new.items i 0 ≡ slice_index_or high.old.items i 0 }
-{
-    for _ in high.len()..index + 1 {
-        high.push_reserved(0);
-    }
-    high[index] = value;
+    (1 << bits) - 1
 }

@@ -1,11 +1,11 @@
 //! The finite map as a `BTreeMap`, to compare the hash table with.
-ghost use Rattle.std.specs.Prelude.{◌≡◌, ◌<◌, ◌≤◌, ◌^◌, IfOk, filter, fold, max, nat_lt};
+ghost use Rattle.std.specs.Prelude.{◌≡◌, ◌+◌, ◌<◌, ◌≤◌, ◌^◌, IfOk, filter, fold, max, nat_lt};
 ghost use Rattle.std.specs.Ordering.{nat_cmp};
 ghost use Rattle.std.specs.BTreeMap.{IsOrdered, values};
 ghost use Rattle.std.specs.FinMap as map;
-ghost use Rattle.kc_table.specs.Counts.{IsItsOwnPlace};
+ghost use Rattle.kc_table.specs.Counts.{IsStored, count_at, added};
 ghost use Rattle.kc_table.specs.PlainCounts.{Plain};
-ghost use Rattle.kc_table.specs.Sizes.{most_bits, most_parts};
+ghost use Rattle.kc_table.specs.Sizes.{most_bits, most_parts, count_bits};
 
 use crate::counts::Counts;
 use crate::table_fault::TableFault;
@@ -54,6 +54,23 @@ impl PlainCounts {
     {
         self.map.contains_key(&key)
     }
+
+    // Adds one to the count of a stored key and returns the new count.
+    pub(crate) fn increment(&mut self, key: u64) -> u64
+        requires stored { IsStored self.old.counts key }
+        requires room { count_at self.old.counts key < 2 ^ count_bits }
+        ensures told { result ≡ count_at self.old.counts key + 1 }
+        ensures counted { self.new.counts ≡ added self.old.counts key }
+        ensures same_bits { self.new.bits ≡ self.old.bits }
+    {
+        match self.map.get_mut(&key) {
+            Some(count) => {
+                *count += 1;
+                *count
+            }
+            None => unreachable!(),
+        }
+    }
 }
 
 impl Counts for PlainCounts {
@@ -63,9 +80,7 @@ impl Counts for PlainCounts {
 
     ghost may_be_full = { λ _ _ _. ⊥ };
 
-    ghost stands_at = { λ p. IsItsOwnPlace p.counts };
-
-    ghost growth = { λ _. 0 };
+    ghost slots = { λ _. 0 };
 
     fn key_bits(&self) -> u32 {
         self.bits
@@ -81,36 +96,25 @@ impl Counts for PlainCounts {
         Ok(())
     }
 
-    /// The map has no size to grow.
-    fn growth(&self) -> u32 {
-        0
-    }
-
-    fn store(&mut self, key: u64) -> Result<u64, TableFault> {
+    fn count(&mut self, key: u64) -> Result<u64, TableFault> {
         self.ready(key)?;
-        Ok(key)
+        Ok(self.increment(key))
     }
 
-    fn place_of(&self, key: u64) -> u64 {
-        key
-    }
-
-    fn add(&mut self, key: u64) {
-        self.increment(key);
-    }
-
-    fn increment(&mut self, key: u64) -> u64 {
+    fn uncount(&mut self, key: u64) {
         match self.map.get_mut(&key) {
-            Some(count) => {
-                *count += 1;
-                *count
-            }
+            Some(count) => *count -= 1,
             None => unreachable!(),
         }
     }
 
-    fn increment_at(&mut self, key: u64, _place: u64) -> u64 {
-        self.increment(key)
+    /// The map is no array.
+    fn slots(&self) -> u64 {
+        0
+    }
+
+    fn add(&mut self, key: u64) {
+        self.increment(key);
     }
 
     fn get(&self, key: u64) -> u64 {

@@ -2,7 +2,7 @@
 ghost use Rattle.std.specs.Prelude.{◌≡◌, ℕ, ◌+◌, ◌-◌, ◌<◌, ◌≤◌, ◌^◌, ◌↔◌, min, true};
 ghost use Rattle.std.specs.Prelude.{IfOk, IfSome, IfNone, IsSome, IsOk, OnOk, OnErr};
 ghost use Rattle.std.specs.FinMap.{empty};
-ghost use Rattle.kc_table.specs.Counts.{KeyCounts, IsStored, count_at, readied, added};
+ghost use Rattle.kc_table.specs.Counts.{KeyCounts, IsStored, count_at, readied, added, reduced};
 ghost use Rattle.kc_table.specs.QuotientTable.{Table, counts_in, HoldsKey, IsShutOut, IsFoundAfter, IsMissedAfter};
 ghost use Rattle.kc_table.specs.QuotientTable.{IsSearchedBy};
 ghost use Rattle.kc_table.specs.QuotientTable.{IsCrowded, MayBeTooSmall, MayBeFull};
@@ -20,8 +20,8 @@ use std::alloc::{AllocError, Global};
 use std::marker::Model;
 
 /// The map as a table of 2^log slots, which grows up to 2^max_log. A slot is a number that holds a tag, which is the
-/// remainder of a key and its number of reprobes, and the low bits of the key's count; the slot's index gives the rest
-/// of the key, and the count's high bits stand apart.
+/// remainder of a key and its number of reprobes, and the key's count; the slot's index gives the rest of the key. A
+/// count that is too great for its slot stands apart.
 #[derive(Drop)]
 pub struct QuotientTable {
     alloc: Global,
@@ -100,7 +100,7 @@ impl QuotientTable {
 
     // The key's count, and 0 where the key is not stored. All slots that it reads the tag of are those of one find.
     #[inline(always)]
-    fn count_by_one_find(&self, key: u64, steps: &mut Counter) -> u64
+    fn get_by_one_find(&self, key: u64, steps: &mut Counter) -> u64
         requires { key < 2 ^ self.now.bits }
         ensures count { result ≡ count_at (counts_in self.now.slots) key }
         ensures one_find { IsSearchedBy self.now key (steps.new.count - steps.old.count) }
@@ -111,23 +111,54 @@ impl QuotientTable {
         }
     }
 
-    // Adds one to the key's count and tells the new count. All slots that it reads the tag of are those of one find.
+    // Counts the key at its place, which may be a free one, and returns the new count. None where its places all hold
+    // other keys. All slots that it reads the tag of are those of one find.
     #[inline(always)]
-    fn increment_by_one_find(&mut self, key: u64, steps: &mut Counter) -> u64
+    fn count_by_one_find(&mut self, key: u64, steps: &mut Counter) -> Option<u64>
         requires in_range { key < 2 ^ self.old.bits }
-        requires stored { IsStored (counts_in self.old.slots) key }
         requires room { count_at (counts_in self.old.slots) key < 2 ^ count_bits }
-        ensures told { result ≡ count_at (counts_in self.old.slots) key + 1 }
-        ensures counted { counts_in self.new.slots ≡ added (counts_in self.old.slots) key }
+        ensures new_count { IfSome result (λ count. count ≡ count_at (counts_in self.old.slots) key + 1) }
+        ensures counted { IfSome result (λ _. counts_in self.new.slots ≡ added (counts_in self.old.slots) key) }
+        ensures unchanged { IfNone result (self.new ≡ self.old) }
+        ensures known { IsStored (counts_in self.old.slots) key → IsSome result }
+        ensures placed { IfSome result (λ _. ¬ IsShutOut self.old key) }
+        ensures shut_out { IfNone result (IsShutOut self.old key) }
+        ensures crowded { IfNone result (IsCrowded (counts_in self.old.slots) self.old.log key) }
         ensures same_bits { self.new.bits ≡ self.old.bits }
         ensures same_log { self.new.log ≡ self.old.log }
         ensures same_max_log { self.new.max_log ≡ self.old.max_log }
+        ensures within_max_log { self.new.log ≤ self.new.max_log }
         ensures one_find { IsSearchedBy self.old key (steps.new.count - steps.old.count) }
     {
-        match self.find(key, steps) {
-            Some(place) => self.increment_at(key, place),
-            None => unreachable!(),
+        match self.slots.reprobe(key, steps) {
+            Reprobing::Found { place } => Some(self.slots.slots.add_one(place)),
+            Reprobing::Free { place, tag } => {
+                self.slots.slots.put(place, tag, 1);
+                Some(1)
+            }
+            Reprobing::Crowded => None,
         }
+    }
+
+    // Counts a key whose places all hold other keys, in a larger table.
+    #[cold]
+    #[inline(never)]
+    fn count_in_larger(&mut self, key: u64) -> Result<u64, TableFault>
+        requires in_range { key < 2 ^ self.old.bits }
+        requires shut_out { IsShutOut self.old key }
+        ensures new_count { IfOk result (λ count. count ≡ count_at (counts_in self.old.slots) key + 1) }
+        ensures counted { OnOk result (counts_in self.new.slots ≡ added (counts_in self.old.slots) key) }
+        ensures unchanged { OnErr result (self.new ≡ self.old) }
+        ensures full { result ≡ Err TableFault.Full → MayBeFull self.old (counts_in self.old.slots) key }
+        ensures same_bits { self.new.bits ≡ self.old.bits }
+        ensures same_max_log { self.new.max_log ≡ self.old.max_log }
+        ensures within_max_log { self.new.log ≤ self.new.max_log }
+        ensures grown { OnOk result (self.old.log < self.new.log) }
+        ensures smallest { (log : ℕ) → self.old.log ≤ log → log < self.new.log
+            → MayBeTooSmall self.old.bits log (counts_in self.old.slots) key }
+    {
+        self.slots = self.slots.grown(self.alloc, key, 1, self.max_log)?;
+        Ok(1)
     }
 }
 
@@ -138,9 +169,7 @@ impl Counts for QuotientTable {
 
     ghost may_be_full = { MayBeFull };
 
-    ghost stands_at = { λ t key place. HoldsKey t.slots place key };
-
-    ghost growth = { λ t. t.log };
+    ghost slots = { λ t. 2 ^ t.log };
 
     fn key_bits(&self) -> u32 {
         self.slots.bits
@@ -176,36 +205,61 @@ impl Counts for QuotientTable {
                 Ok(())
             }
             Reprobing::Crowded => {
-                self.slots = self.slots.grown(self.alloc, key, self.max_log)?;
+                self.slots = self.slots.grown(self.alloc, key, 0, self.max_log)?;
                 Ok(())
             }
         }
     }
 
-    fn growth(&self) -> u32 {
-        self.slots.log
-    }
-
+    /// Counts the key, as the trait says, and looks for it once. The table grows only where `ready` would make it grow,
+    /// and to the same size.
     #[inline]
-    fn store(&mut self, key: u64) -> Result<u64, TableFault> {
-        match self.slots.reprobe(key, &mut Counter::zero()) {
-            Reprobing::Found { place } => Ok(place as u64),
-            Reprobing::Free { place, tag } => {
-                self.slots.slots.put(place, tag, 0);
-                Ok(place as u64)
-            }
-            Reprobing::Crowded => {
-                self.ready(key)?;
-                Ok(self.place_of(key))
-            }
+    fn count(&mut self, key: u64) -> Result<u64, TableFault>
+        requires in_range { key < 2 ^ self.old.bits }
+        requires room { count_at (counts_in self.old.slots) key < 2 ^ count_bits }
+        ensures known { IsStored (counts_in self.old.slots) key → ¬ (result ≡ Err TableFault.Full) }
+        ensures new_count { IfOk result (λ count. count ≡ count_at (counts_in self.old.slots) key + 1) }
+        ensures counted { OnOk result (counts_in self.new.slots ≡ added (counts_in self.old.slots) key) }
+        ensures refused { OnErr result (counts_in self.new.slots ≡ counts_in self.old.slots) }
+        ensures full_only_there { result ≡ Err TableFault.Full → MayBeFull self.old (counts_in self.old.slots) key }
+        ensures same_bits { self.new.bits ≡ self.old.bits }
+        ensures same_limits { (m : KeyCounts) (q : ℕ) → MayBeFull self.new m q ↔ MayBeFull self.old m q }
+        ensures unchanged { OnErr result (self.new ≡ self.old) }
+        ensures same_max_log { self.new.max_log ≡ self.old.max_log }
+        ensures within_max_log { self.new.log ≤ self.new.max_log }
+        ensures placed { ¬ IsShutOut self.old key → IsOk result }
+        ensures stays { ¬ IsShutOut self.old key → self.new.log ≡ self.old.log }
+        ensures uncrowded { ¬ IsCrowded (counts_in self.old.slots) self.old.log key → self.new.log ≡ self.old.log }
+        ensures grown { OnOk result (IsShutOut self.old key → self.old.log < self.new.log) }
+        ensures never_smaller { self.old.log ≤ self.new.log }
+        ensures smallest { (log : ℕ) → self.old.log ≤ log → log < self.new.log
+            → MayBeTooSmall self.old.bits log (counts_in self.old.slots) key }
+    {
+        match self.count_by_one_find(key, &mut Counter::zero()) {
+            Some(count) => Ok(count),
+            None => self.count_in_larger(key),
         }
     }
 
-    fn place_of(&self, key: u64) -> u64 {
+    /// Takes one away from the key's count, as the trait says. The table keeps its size.
+    #[inline]
+    fn uncount(&mut self, key: u64)
+        requires in_range { key < 2 ^ self.old.bits }
+        requires some { 1 ≤ count_at (counts_in self.old.slots) key }
+        ensures counted { counts_in self.new.slots ≡ reduced (counts_in self.old.slots) key }
+        ensures same_bits { self.new.bits ≡ self.old.bits }
+        ensures same_limits { (m : KeyCounts) (q : ℕ) → MayBeFull self.new m q ↔ MayBeFull self.old m q }
+        ensures same_log { self.new.log ≡ self.old.log }
+        ensures same_max_log { self.new.max_log ≡ self.old.max_log }
+    {
         match self.find(key, &mut Counter::zero()) {
-            Some(place) => place,
+            Some(place) => self.slots.slots.remove_one(place as usize),
             None => unreachable!(),
         }
+    }
+
+    fn slots(&self) -> u64 {
+        1 << self.slots.log
     }
 
     /// Adds one to the key's count, as the trait says. The table keeps its size.
@@ -220,45 +274,15 @@ impl Counts for QuotientTable {
         ensures same_log { self.new.log ≡ self.old.log }
         ensures same_max_log { self.new.max_log ≡ self.old.max_log }
     {
-        self.increment(key);
-    }
-
-    /// Adds one to the key's count and tells the new count, as the trait says. The table keeps its size.
-    #[inline]
-    fn increment(&mut self, key: u64) -> u64
-        requires in_range { key < 2 ^ self.old.bits }
-        requires stored { IsStored (counts_in self.old.slots) key }
-        requires room { count_at (counts_in self.old.slots) key < 2 ^ count_bits }
-        ensures told { result ≡ count_at (counts_in self.old.slots) key + 1 }
-        ensures counted { counts_in self.new.slots ≡ added (counts_in self.old.slots) key }
-        ensures same_bits { self.new.bits ≡ self.old.bits }
-        ensures same_limits { (m : KeyCounts) (q : ℕ) → MayBeFull self.new m q ↔ MayBeFull self.old m q }
-        ensures same_log { self.new.log ≡ self.old.log }
-        ensures same_max_log { self.new.max_log ≡ self.old.max_log }
-    {
-        self.increment_by_one_find(key, &mut Counter::zero())
-    }
-
-    /// Adds one to the count of the key at its place, as the trait says. The table keeps its size.
-    #[inline]
-    fn increment_at(&mut self, key: u64, place: u64) -> u64
-        requires in_range { key < 2 ^ self.old.bits }
-        requires there { HoldsKey self.old.slots place key }
-        requires room { count_at (counts_in self.old.slots) key < 2 ^ count_bits }
-        ensures told { result ≡ count_at (counts_in self.old.slots) key + 1 }
-        ensures counted { counts_in self.new.slots ≡ added (counts_in self.old.slots) key }
-        ensures same_bits { self.new.bits ≡ self.old.bits }
-        ensures same_limits { (m : KeyCounts) (q : ℕ) → MayBeFull self.new m q ↔ MayBeFull self.old m q }
-        ensures kept { (q other : ℕ) → HoldsKey self.old.slots other q → HoldsKey self.new.slots other q }
-        ensures same_log { self.new.log ≡ self.old.log }
-        ensures same_max_log { self.new.max_log ≡ self.old.max_log }
-    {
-        self.slots.slots.add_one(place as usize)
+        match self.count_by_one_find(key, &mut Counter::zero()) {
+            Some(_) => (),
+            None => unreachable!(),
+        }
     }
 
     #[inline]
     fn get(&self, key: u64) -> u64 {
-        self.count_by_one_find(key, &mut Counter::zero())
+        self.get_by_one_find(key, &mut Counter::zero())
     }
 
     /// The part of the table in which the key's home is.

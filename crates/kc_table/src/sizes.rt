@@ -10,8 +10,8 @@ pub(crate) const REPROBE_BITS: u32 = 6;
 /// A tag is the key's remainder times this, and one more than its number of reprobes.
 pub(crate) const TAG_STEP: u64 = 1 << REPROBE_BITS;
 
-/// The most bits of a remainder.
-pub(crate) const REMAINDER_BITS: u32 = 64 - REPROBE_BITS;
+/// How many bits a slot of 32 bits has at least for a count.
+pub(crate) const LEAST_COUNT_BITS: u32 = 4;
 
 /// How many bits of a key's home tell in which part of a table the key stands.
 pub(crate) const PART_BITS: u32 = 10;

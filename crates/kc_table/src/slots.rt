@@ -6,25 +6,25 @@ ghost use Rattle.std.specs.Vec.{vec_capacity};
 ghost use Rattle.kc_table.specs.Counts.{IsGreatestCount};
 ghost use Rattle.kc_table.specs.QuotientTable.{Holds, HasStoredCrowd, MayBeTooSmall};
 ghost use Rattle.kc_table.specs.Reprobing.{IsOut, IsReprobing};
-ghost use Rattle.kc_table.specs.Sizes.{most_bits, most_log, remainder_bits};
+ghost use Rattle.kc_table.specs.Sizes.{most_bits, most_log, remainder_bits, reprobe_bits};
 ghost use Rattle.kc_table.specs.Slot.{key_in, IsSound, tag_at};
 
 use crate::packed_slots::PackedSlots;
 use crate::reprobes::Reprobing;
-use crate::sizes::{PLACES, REMAINDER_BITS, TAG_STEP};
+use crate::sizes::{PLACES, REPROBE_BITS, TAG_STEP};
 use crate::table_fault::TableFault;
 use crate::tag::Tag;
-use kc_lemmas::{Counter, zeros};
+use kc_lemmas::Counter;
 use std::alloc::{AllocError, Global};
 
-/// A table of 2^log slots for keys of so many bits. The low bits of a count have what the tag leaves of a slot.
+/// A table of 2^log slots for keys of so many bits.
 #[derive(Drop)]
 pub(crate) struct Slots {
     pub bits: u32,
     pub log: u32,
     pub slots: PackedSlots,
     ghost sized: { length slots.items ≡ 2 ^ log },
-    ghost shared: { bits + slots.low ≡ log + remainder_bits },
+    ghost shared: { bits + reprobe_bits ≡ log + slots.tag_bits },
     ghost sound: { IsSound bits log (tag_at slots.items) },
 }
 
@@ -41,13 +41,7 @@ impl Slots {
         ensures log { IfOk result (λ t. t.log ≡ log) }
         ensures empty { IfOk result (λ t. key_counts t ≡ empty) }
     {
-        let high = Vec::with_capacity(alloc, 1 << log)?;
-        let numbers = zeros(alloc, 1 << log)?;
-        let slots = PackedSlots {
-            low: REMAINDER_BITS + log - bits,
-            numbers,
-            high,
-        };
+        let slots = PackedSlots::empty(alloc, bits - log + REPROBE_BITS, log)?;
         Ok(Slots { bits, log, slots })
     }
 
@@ -145,8 +139,14 @@ impl Slots {
     }
 
     /// The smallest larger table, of up to 2^max_log slots, that takes all keys of this one and one
-    /// new key, whose count is 0.
-    pub fn grown(&self, alloc: Global, key: u64, max_log: u32) -> Result<Slots, TableFault>
+    /// new key with its count.
+    pub fn grown(
+        &self,
+        alloc: Global,
+        key: u64,
+        count: u64,
+        max_log: u32,
+    ) -> Result<Slots, TableFault>
         requires in_range { key < 2 ^ self.now.bits }
         requires new { get (key_counts self.now) key ≡ None }
         requires tight { MayBeTooSmall self.now.bits self.now.log (key_counts self.now) key }
@@ -158,7 +158,7 @@ impl Slots {
         ensures log { IfOk result (λ t. t.log ≤ max_log) }
         ensures smallest { IfOk result (λ t. (log : ℕ) → self.now.log ≤ log → log < t.log
             → MayBeTooSmall self.now.bits log (key_counts self.now) key) }
-        ensures taken { IfOk result (λ t. key_counts t ≡ insert (key_counts self.now) key 0) }
+        ensures taken { IfOk result (λ t. key_counts t ≡ insert (key_counts self.now) key count) }
         ensures full { result ≡ Err TableFault.Full → MayBeTooSmall self.now.bits max_log (key_counts self.now) key }
     {
         for log in self.log + 1..max_log + 1 {
@@ -168,7 +168,7 @@ impl Slots {
             let Some(mut table) = resized else {
                 continue;
             };
-            if table.take(key, 0) {
+            if table.take(key, count) {
                 return Ok(table);
             }
         }

@@ -1,5 +1,6 @@
 pub mod Bins
 pub mod MapCounts
+pub mod Fronts
 pub mod Parts
 pub mod Searches
 pub mod PackingLemmas

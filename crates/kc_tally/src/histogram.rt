@@ -42,6 +42,14 @@ impl Histogram {
         Ok(Histogram { bins })
     }
 
+    /// The histogram whose bins 1 to 10,001 have these sizes. Condition: there is a size for each.
+    pub fn of_sizes(sizes: Vec<u64>) -> Histogram
+        requires { length sizes.items ≡ last_bin }
+        ensures { result ≡ sizes.items }
+    {
+        Histogram { bins: sizes }
+    }
+
     /// The histogram of the counts of these rows.
     pub fn of_rows(alloc: Global, rows: &[Row]) -> Result<Histogram, AllocError>
         ensures { IfOk result (λ bins. bins ≡ bins_of (counts_of rows.now)) }

@@ -1,6 +1,6 @@
 //! The rows of one part of a tally, one after another, without memory.
-ghost use Rattle.std.specs.Prelude.{◌≡◌, [], ◌∷◌, IfSome, IfNone, if◌then◌else◌, drop};
-ghost use Rattle.kc_tally.specs.Packing.{rows_of};
+ghost use Rattle.std.specs.Prelude.{◌≡◌, ◌≤◌, [], ◌∷◌, ◌++◌, length, IfSome, IfNone, if◌then◌else◌, drop, count_by};
+ghost use Rattle.kc_tally.specs.Packing.{rows_of, is_apart};
 
 use crate::layout::Layout;
 use crate::row::Row;
@@ -60,6 +60,26 @@ impl<'a> PartRows<'a> {
         }
     }
 
+    /// How many rows there are.
+    pub(crate) fn len(&self) -> usize
+        ensures { result ≡ length self.now }
+    {
+        self.packed.len()
+    }
+
+    /// The first rows, so many of them, which are used up. Condition: there are so many.
+    pub(crate) fn take_front(&mut self, count: usize) -> PartRows<'a>
+        requires { count ≤ length self.old }
+        ensures rows { result ++ self.new ≡ self.old }
+        ensures count { length result ≡ count }
+    {
+        let (front, rest) = self.packed.split_at(count);
+        let taken = PartRows::new(self.layout, front, self.large);
+        self.large = large_behind(self.layout, front, self.large);
+        self.packed = rest;
+        taken
+    }
+
     /// The first row, which stays.
     #[inline(always)]
     pub(crate) fn first(&self) -> Option<Row>
@@ -109,4 +129,28 @@ fn without_first<T>(items: &[T], asked: bool) -> &[T]
 {
     let skipped = (asked as usize).min(items.len());
     &items[skipped..]
+}
+
+// The large rows of those behind the packed ones, where these are the large ones from the first packed row on.
+fn large_behind<'a>(layout: Layout, packed: &[u64], large: &'a [Row]) -> &'a [Row]
+    ensures { result.now ≡ drop (count_by (is_apart layout) packed.now) large.now }
+{
+    if large.is_empty() {
+        return large;
+    }
+    let passed = apart_count(layout, packed).min(large.len());
+    &large[passed..]
+}
+
+// How many of the packed rows have a count that stands apart.
+fn apart_count(layout: Layout, packed: &[u64]) -> usize
+    ensures { result ≡ count_by (is_apart layout) packed.now }
+{
+    let mut count = 0;
+    for packed in packed {
+        if layout.is_apart(*packed) {
+            count += 1;
+        }
+    }
+    count
 }

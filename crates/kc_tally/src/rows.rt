@@ -1,5 +1,5 @@
 //! The rows of a tally, one after another, without memory.
-ghost use Rattle.std.specs.Prelude.{◌≡◌, ◌+◌, ◌<◌, ◌≤◌, ◌^◌, IfSome, IfNone};
+ghost use Rattle.std.specs.Prelude.{◌≡◌, ◌+◌, ◌<◌, ◌≤◌, ◌^◌, ◌++◌, [], length, take, IfSome, IfNone};
 ghost use Rattle.std.specs.List.{flat_map};
 ghost use Rattle.kc_tally.specs.Tally.{row_of, total_of};
 ghost use Rattle.kc_tally.specs.Sum.{TakesSum};
@@ -39,13 +39,44 @@ impl<'a> Rows<'a> {
 
     /// A second walk over these rows, to look at those to come.
     #[inline(always)]
-    pub(crate) fn ahead(&self) -> Rows<'a>
+    pub fn ahead(&self) -> Rows<'a>
         ensures { result ≡ self.now }
     {
         Rows {
             part: self.part.ahead(),
             later: self.later,
         }
+    }
+
+    /// The next rows, at most so many of them, which are used up; None where there are no rows. Where they are rows of
+    /// several parts, they are all that is left of the first and the whole of the others, so there may be fewer than
+    /// the most. Condition: one at the least.
+    pub fn take_front(&mut self, most: usize) -> Option<Rows<'a>>
+        requires { 1 ≤ most }
+        ensures rows { IfSome result (λ front. front ++ self.new ≡ self.old) }
+        ensures some { IfSome result (λ front. 1 ≤ length front) }
+        ensures few { IfSome result (λ front. length front ≤ most) }
+        ensures none { IfNone result ((self.old ≡ []) × (self.new ≡ [])) }
+    {
+        let (mut part, later) = begun(self.part.ahead(), self.later);
+        let len = part.len();
+        if len == 0 {
+            return None;
+        }
+        if len > most {
+            let front = part.take_front(most);
+            *self = Rows { part, later };
+            return Some(Rows {
+                part: front,
+                later: &[],
+            });
+        }
+        let (whole, later) = later.split_at(whole_parts(later, most - len));
+        *self = Rows {
+            part: PartRows::none(),
+            later,
+        };
+        Some(Rows { part, later: whole })
     }
 
     /// The sum of the next rows of both, of which the one with the lesser word is used up, or both where the words are
@@ -69,6 +100,43 @@ impl<'a> Rows<'a> {
         other.part.pass(takes_second);
         Some(row)
     }
+}
+
+// The rows of the part and those of the parts behind it, where a part without rows gives way to the next one.
+fn begun<'a>(
+    mut part: PartRows<'a>,
+    mut later: &'a [PackedRows],
+) -> (PartRows<'a>, &'a [PackedRows])
+    ensures same { result.0 ++ flat_map (λ part. part) result.1.now
+        ≡ part.entry ++ flat_map (λ part. part) later.entry.now }
+    ensures some { result.0 ≡ [] → result.1.now ≡ [] }
+{
+    while part.len() == 0 {
+        match later.split_first() {
+            None => return (part, later),
+            Some((next, behind)) => {
+                part = next.rows();
+                later = behind;
+            }
+        }
+    }
+    (part, later)
+}
+
+// How many of the parts, from the first one on, have at most so many rows together.
+fn whole_parts(parts: &[PackedRows], most: usize) -> usize
+    ensures within { result ≤ length parts.now }
+    ensures few { length (flat_map (λ part. part) (take result parts.now)) ≤ most }
+{
+    let mut left = most;
+    for i in 0..parts.len() {
+        let len = parts[i].len();
+        if len > left {
+            return i;
+        }
+        left -= len;
+    }
+    parts.len()
 }
 
 // The row with the lesser word, or of both together where the words are the same.

@@ -36,7 +36,7 @@ use crate::counted_tally::CountedTally;
 use crate::files::{FileSource, NamedFiles, open_failed, open_files, take_sources};
 use crate::given_options::{dump_options, high_of, options, select_options};
 use crate::named_sources::NamedSource;
-use crate::reports::{Report, report_of, write_counted, write_report};
+use crate::reports::{Crew, Report, report_of, write_counted, write_report};
 use crate::selected_sources::select_files;
 use crate::task_tallies::{count_listed, known, sum_of, table_from, table_of};
 use crate::tool_faults::ToolFault;
@@ -212,7 +212,7 @@ fn answer<H: Threads + Wait + Sync, R: Source, F: Source, W: Sink, P: Progress +
     // what shows the count is cleared before the report, or the line of a fault, is written
     progress.ends();
     let (counted, origin) = taken?;
-    write_answer(alloc, task, &counted, origin, output)?;
+    write_answer(rt, alloc, task, &counted, origin, output)?;
     Ok(None)
 }
 
@@ -372,7 +372,8 @@ fn owned_texts(alloc: Global, texts: &[&str]) -> Result<Vec<String>, AllocError>
 
 // Writes what a task is to write about its tally, of which enough is known. Conditions: a histogram is for counts up to
 // 1 to 10,000,000, and the origin is one that a header can say.
-fn write_answer<W: Sink>(
+fn write_answer<H: Threads + Sync, W: Sink>(
+    rt: &H,
     alloc: Global,
     task: &Task,
     counted: &CountedTally,
@@ -389,9 +390,14 @@ fn write_answer<W: Sink>(
 {
     match task {
         Task::Count(options) | Task::CountListed(options) => {
-            write_counted(alloc, writer, counted, origin, report_of(options))
+            let threads = options.workers();
+            let crew = Crew { rt, threads };
+            write_counted(&crew, alloc, writer, counted, origin, report_of(options))
         }
-        Task::Report(report) => write_report(alloc, writer, counted.rows(), origin, *report),
+        Task::Report(report) => {
+            let crew = Crew { rt, threads: 1 };
+            write_report(&crew, alloc, writer, counted.rows(), origin, *report)
+        }
         Task::Query(words) => Ok(query(writer, counted.rows(), words)?),
         Task::Merge => Ok(write_table(writer, counted.rows(), origin.as_ref())?),
         Task::Select(_, _) => unreachable!(),

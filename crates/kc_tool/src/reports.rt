@@ -17,8 +17,8 @@ use crate::tool_faults::ToolFault;
 use kc_command::{Options, Print};
 use kc_io::{Sink, Source};
 use kc_report::{
-    Dump, Origin, write_dump, write_histo, write_histo_of_bins, write_stats, write_stats_of,
-    write_table,
+    Dump, Origin, write_dump_in_parallel, write_histo, write_histo_of_bins, write_stats,
+    write_stats_of, write_table_in_parallel,
 };
 use kc_tally::Tally;
 use kc_word::Only;
@@ -36,6 +36,15 @@ pub(crate) struct Report {
     pub dump: Dump,
     /// The greatest count that has a line of its own in a histogram.
     pub high: u64,
+}
+
+/// The threads that make the text of a report: so many, each started by the runtime.
+#[derive(Drop)]
+pub(crate) struct Crew<'a, H: Threads> {
+    /// The runtime.
+    pub rt: &'a H,
+    /// How many they are.
+    pub threads: u32,
 }
 
 /// Reads all sources in order, counts their words, and writes the report that the options ask for. Where `only` is
@@ -66,7 +75,9 @@ pub fn count_reads<H: Threads + Wait + Sync, Q: Source + Drop, R: Source + Drop,
         → Leaves options.now (W.seen writer.old) (W.seen writer.new) fault) }
 {
     let (counted, origin) = tally_of(rt, alloc, only, sources, options)?;
-    write_counted(alloc, writer, &counted, origin, report_of(options))
+    let threads = options.workers();
+    let crew = Crew { rt, threads };
+    write_counted(&crew, alloc, writer, &counted, origin, report_of(options))
 }
 
 // Counts the words of the reads of all sources, or those alone that occur in the reads of `only` where it is given, and
@@ -136,7 +147,8 @@ pub(crate) fn report_of(options: &Options) -> Report
 ///
 /// # Errors
 /// Those of `write_report`.
-pub(crate) fn write_counted<W: Sink>(
+pub(crate) fn write_counted<H: Threads + Sync, W: Sink>(
+    crew: &Crew<'_, H>,
     alloc: Global,
     writer: &mut W,
     counted: &CountedTally,
@@ -151,7 +163,7 @@ pub(crate) fn write_counted<W: Sink>(
         → WritesText (report_text report (tally, origin)) (W.seen writer.old) (W.seen writer.new) result }
 {
     match counted {
-        CountedTally::Rows(tally) => write_report(alloc, writer, tally, origin, report),
+        CountedTally::Rows(tally) => write_report(crew, alloc, writer, tally, origin, report),
         CountedTally::Bins(bins) => Ok(write_histo_of_bins(writer, bins, report.high)?),
         CountedTally::Numbers(numbers) => Ok(write_stats_of(writer, numbers)?),
     }
@@ -163,7 +175,8 @@ pub(crate) fn write_counted<W: Sink>(
 /// # Errors
 /// `Write` where the writer failed or took no byte; a beginning of the text was written. `Memory` where a growth was
 /// refused; nothing was written.
-pub(crate) fn write_report<W: Sink>(
+pub(crate) fn write_report<H: Threads + Sync, W: Sink>(
+    crew: &Crew<'_, H>,
     alloc: Global,
     writer: &mut W,
     tally: &Tally,
@@ -174,9 +187,12 @@ pub(crate) fn write_report<W: Sink>(
     requires origin { MaySay origin }
     ensures { WritesText (report_text report (tally.now, origin)) (W.seen writer.old) (W.seen writer.new) result }
 {
+    let Crew { rt, threads } = *crew;
     match report.print {
-        Print::Table => write_table(writer, tally, origin.as_ref())?,
-        Print::Dump => write_dump(writer, tally, &report.dump)?,
+        Print::Table => {
+            write_table_in_parallel(rt, alloc, threads, writer, tally, origin.as_ref())?
+        }
+        Print::Dump => write_dump_in_parallel(rt, alloc, threads, writer, tally, &report.dump)?,
         Print::Histo => write_histo(alloc, writer, tally, report.high)?,
         Print::Stats => write_stats(writer, tally)?,
     }

@@ -1,7 +1,6 @@
 -- The words of a piece as one byte more adds to them, and the rolled numbers as the code has them.
-use Rattle.std.proofs.Common.{◌≡◌, ℕ, ◌+◌, ◌-◌, ◌*◌, ◌/◌, ◌%◌, ◌^◌, ◌<◌, ◌≤◌, Bool, true, false, cond, List, [], ◌∷◌, ◌++◌, length, get_or, take, None, option_to_list, option_map, filter_map, refl, ap, sym, ◌∙◌, arith, bit_and, lit<, pow-suc, mul-le-mul_right}
+use Rattle.std.proofs.Common.{◌≡◌, ℕ, ◌+◌, ◌-◌, ◌*◌, ◌/◌, ◌%◌, ◌^◌, ◌<◌, ◌≤◌, List, [], ◌∷◌, ◌++◌, length, get_or, take, None, option_to_list, option_map, filter_map, refl, ap, sym, ◌∙◌, arith, bit_and, lit<, pow-suc, mul-le-mul_right}
 use Rattle.std.proofs.lemmas.List.{map_push, take_more, append-nil}
-use Rattle.std.proofs.lemmas.Bool.{cond-true, cond-false}
 use Rattle.std.proofs.lemmas.Nat.{one_shl, and_mask, shl_whole, pow_pos}
 use Rattle.std.proofs.Math.Nat.{pow-le-pow_right}
 use Rattle.kc_kmer.proofs.Letters.{pow-four}
@@ -13,6 +12,7 @@ use Rattle.kc_kmer.specs.Occurrences.{words_in, words_of, counted_at}
 use Rattle.kc_word.specs.Cutting.{as_reads}
 use Rattle.std.proofs.lemmas.List.Concat.{flat_map-append}
 use Rattle.kc_word.specs.Walking.{last_window, IsRolled}
+use Rattle.kc_word.specs.declared.rolled.Rolled.{Rolled}
 use Rattle.kc_word.proofs.Windows.{counted_word, words_push, words_in-windows}
 use Rattle.kc_word.proofs.Rolling.{IsRolled-forward-lt, IsRolled-backward-lt}
 
@@ -54,28 +54,21 @@ top-shifted k g d same some most =
     ∙ ap (λ n. (3 - d) * 2 ^ (2 * (n - 1))) same ∙ ap (λ m. (3 - d) * m) (sym (pow-four (k - 1)))
 
 -- the numbers stay below 2 ^ 62
-pub forward-fits : (k : ℕ) (seen : List ℕ) (forward backward run : ℕ) → k ≤ 31 → IsRolled k seen forward backward run → forward < 2 ^ 62
-forward-fits k seen forward backward run most rolled =
-    let small = IsRolled-forward-lt k seen forward backward run rolled in
+pub forward-fits : {k : ℕ} {seen : List ℕ} {now : Rolled} → k ≤ 31 → IsRolled k seen now → now.forward < 2 ^ 62
+forward-fits {k} most rolled =
+    let small = IsRolled-forward-lt rolled in
     let power = power-fits k most in
     omega (arith, small, power)
 
-pub backward-fits : (k : ℕ) {seen : List ℕ} {forward backward run : ℕ} (d g : ℕ) → g ≡ k → 1 ≤ k → k ≤ 31
-    → IsRolled k seen forward backward run → backward / 4 + (3 - d) * 2 ^ (2 * (g - 1)) % 2 ^ 64 < 2 ^ 62
-backward-fits k {seen} {forward} {backward} {run} d g same some most rolled =
-    let small = IsRolled-backward-lt k seen forward backward run rolled in
+pub backward-fits : {k : ℕ} {seen : List ℕ} {now : Rolled} (d g : ℕ) → g ≡ k → 1 ≤ k → k ≤ 31
+    → IsRolled k seen now → now.backward / 4 + (3 - d) * 2 ^ (2 * (g - 1)) % 2 ^ 64 < 2 ^ 62
+backward-fits {k} d g same some most rolled =
+    let small = IsRolled-backward-lt rolled in
     let power = power-fits k most in
     let whole : 4 ^ k ≡ 4 ^ (k - 1) * 4 = ap (λ n. 4 ^ n) (omega (arith, some)) ∙ pow-suc 4 (k - 1) in
     let top = top-shifted k g d same some most in
     let three : (3 - d) * 4 ^ (k - 1) ≤ 3 * 4 ^ (k - 1) = mul-le-mul_right (4 ^ (k - 1)) (omega arith) in
     omega (arith, small, power, whole, top, three)
-
--- the word that is pushed: the lesser number where both strands count
-pub word-lesser : (both b : Bool) (word less forward : ℕ) → b ≡ both → b ≡ true → word ≡ less → word ≡ cond both less forward
-word-lesser both b word less forward same h e = e ∙ sym (cond-true both less forward (sym same ∙ h))
-
-pub word-forward : (both b : Bool) (word less forward : ℕ) → b ≡ both → b ≡ false → word ≡ forward → word ≡ cond both less forward
-word-forward both b word less forward same h e = e ∙ sym (cond-false both less forward (sym same ∙ h))
 
 -- ---- the words of one piece after another
 

@@ -1,11 +1,10 @@
--- The words of a list: those of the reads, the starts by their high bits, and the search among words with the same high bits.
-use Rattle.std.proofs.Common.{◌≡◌, ℕ, zero, suc, ◌+◌, ◌-◌, ◌*◌, ◌/◌, ◌^◌, ◌<◌, ◌≤◌, ◌↔◌, ⊎_elim, eqb, List, [], ◌∷◌, ◌++◌, length, get_or, take, drop, Some, Result, Ok, Err, Contains, cond, refl, ap, sym, ◌∙◌, subst, arith, eq-eqb, eqb-true, ne_eqb}
-use Rattle.std.proofs.Math.Nat.{div-lt_iff_lt-mul, le-div_iff_mul-le, mul-div-le}
+-- The words of a list: those of the reads, that rising words are told by their elements, and the search by halving.
+use Rattle.std.proofs.Common.{◌≡◌, ℕ, zero, suc, ◌+◌, ◌^◌, ◌<◌, ◌≤◌, ◌↔◌, ⊎_elim, eqb, List, [], ◌∷◌, ◌++◌, length, get_or, take, drop, true, replicate, All, Some, Result, Ok, Err, Contains, cond, refl, ap, sym, ◌∙◌, subst, arith, eq-eqb, eqb-true, ne_eqb}
+use Rattle.std.proofs.Math.Nat.{pow-le-pow_right}
 use Rattle.std.proofs.lemmas.Bool.{cases_lt}
-use Rattle.std.proofs.lemmas.Nat.{pow_pos, pow-add}
-use Rattle.std.proofs.lemmas.List.{length_push, length-take-le, length-drop, get_or-take, get_or-drop, get_or_append_left, get_or_push, take_all, take_more, get_or_default, get_or_read, append-nil}
+use Rattle.std.proofs.lemmas.List.{get_or-drop, take_all, take_more, get_or_default, get_or_past, append-nil}
 use Rattle.std.proofs.lemmas.List.Concat.{flat_map-append}
-use Rattle.std.proofs.lemmas.List.Elements.{Contains-append_left, Contains-append_right, Contains-append_cases, All-contains, Contains-get_or}
+use Rattle.std.proofs.lemmas.List.Elements.{Contains-append_left, Contains-append_right, Contains-append_cases, All-contains, All-replicate, Contains-get_or}
 use Rattle.std.proofs.lemmas.List.Folds.{list_any_none, list_any_at}
 use Rattle.std.proofs.lemmas.List.Kept.{AllPairs-from_increasing}
 use Rattle.std.proofs.lemmas.List.Sorted.{searched}
@@ -20,10 +19,9 @@ use Rattle.kc_fastx.specs.Reads.{Read}
 use Rattle.kc_kmer.specs.Word.{text}
 use Rattle.kc_kmer.specs.Rule.{CountingRule, is_listed}
 use Rattle.kc_kmer.specs.Occurrences.{occurrences, words_in, words_of}
-use Rattle.kc_kmer.proofs.Letters.{pow-four}
 use Rattle.kc_kmer.proofs.WordCounts.{times-words_of, All-words_of}
-use Rattle.kc_word.specs.Marks.{Marking}
-use Rattle.kc_word.specs.Only.{WordList, AreListed, IsListOf, AreStarts, IsIndexed}
+use Rattle.kc_word.proofs.SlotsLemmas.{Contains-listed}
+use Rattle.kc_word.specs.Only.{WordList, AreListed, IsListOf}
 
 -- ---- the words of the reads
 
@@ -173,219 +171,53 @@ one-list rule reads list other is also =
         let below = All-contains (λ word. word < 4 ^ rule.k) one.words n first.listed.below h in
         (second.words n below).1 ((first.words n below).0 h)
 
--- ---- where words with the same high bits begin
-
-div-rises : (d x y : ℕ) → 0 < d → x ≤ y → x / d ≤ y / d
-div-rises d x y some le =
-    let least = mul-div-le x d in
-    (le-div_iff_mul-le {k = d} {x = x / d} {y = y} some).1 (omega (arith, least, le))
-
--- the words before an index have lesser high bits
-pub record ArePassed (words : List ℕ) (low_bits high from at : ℕ) : Type 0 where
-  pub within : at ≤ length words
-  pub passed : from ≤ at
-  pub lesser : (i : ℕ) → from ≤ i → i < at → get_or words i 0 / 2 ^ low_bits < high
-
-pub passed-none : (words : List ℕ) (low_bits high from : ℕ) → from ≤ length words → ArePassed words low_bits high from from
-passed-none words low_bits high from h = record {
-  within = h;
-  passed = omega arith;
-  lesser = λ i le less. absurd (omega (arith, le, less));
-}
-
-pub passed-more : (words : List ℕ) (low_bits high from at : ℕ) → at < length words → get_or words at 0 / 2 ^ low_bits < high
-    → ArePassed words low_bits high from at → ArePassed words low_bits high from (at + 1)
-passed-more words low_bits high from at within here passed = record {
-  within = omega (arith, within);
-  passed = let before = passed.passed in omega (arith, before);
-  lesser = λ i le less. ⊎_elim
-      (λ earlier. passed.lesser i le earlier)
-      (λ last. subst (λ m. get_or words m 0 / 2 ^ low_bits < high) (omega (arith, less, last)) here)
-      (cases_lt i at);
-}
-
--- the starts so far, and the words that the next one passes at least
-pub record AreStartsTo (words : List ℕ) (low_bits high : ℕ) (starts : List ℕ) (passed : ℕ) : Type 0 where
-  pub long : length starts ≡ high
-  pub made : AreStarts words low_bits starts
-  pub within : passed ≤ length words
-  pub lesser : (i : ℕ) → i < passed → get_or words i 0 / 2 ^ low_bits < high
-
-pub starts-none : (words : List ℕ) (low_bits : ℕ) (starts : List ℕ) → starts ≡ [] → AreStartsTo words low_bits 0 starts 0
-starts-none words low_bits starts none =
-    subst (λ ss. AreStartsTo words low_bits 0 ss 0) (sym none) (record {
-      long = refl;
-      made = record {
-        within = λ high h. absurd (omega (arith, h));
-        lesser = λ high i h less. absurd (omega (arith, h));
-        others = λ high i h le within. absurd (omega (arith, h));
-      };
-      within = omega arith;
-      lesser = λ i less. absurd (omega (arith, less));
-    })
-
--- the start that is found for the next number
-pub record NextStart (words : List ℕ) (low_bits high passed next : ℕ) : Type 0 where
-  pub within : next ≤ length words
-  pub passed_is : passed ≤ next
-  pub lesser : (i : ℕ) → passed ≤ i → i < next → get_or words i 0 / 2 ^ low_bits < high
-  pub stopped : next < length words → high ≤ get_or words next 0 / 2 ^ low_bits
-
-pub starts-more : (words : List ℕ) (low_bits high : ℕ) (starts more : List ℕ) (passed next : ℕ) → IsStrictlyIncreasing words
-    → more ≡ starts ++ next ∷ [] → NextStart words low_bits high passed next → AreStartsTo words low_bits high starts passed
-    → AreStartsTo words low_bits (high + 1) more next
-starts-more words low_bits high starts more passed next rising pushed found to =
-    subst (λ ss. AreStartsTo words low_bits (high + 1) ss next) (sym pushed) (record {
-      long = length_push starts next ∙ ap (λ n. n + 1) to.long;
-      made = record {
-        within = λ h less. at_each h less (λ s. s ≤ length words) (λ l. to.made.within h l) (λ e. found.within);
-        lesser = λ h i less. at_each h less (λ s. i < s → get_or words i 0 / 2 ^ low_bits < h)
-            (λ l. to.made.lesser h i l)
-            (λ e. λ before. subst (λ m. get_or words i 0 / 2 ^ low_bits < m) (sym e) (all_lesser i before));
-        others = λ h i less. at_each h less (λ s. s ≤ i → i < length words → h ≤ get_or words i 0 / 2 ^ low_bits)
-            (λ l. to.made.others h i l)
-            (λ e. λ behind within. subst (λ m. m ≤ get_or words i 0 / 2 ^ low_bits) (sym e) (all_others i behind within));
-      };
-      within = found.within;
-      lesser = λ i less. let here = all_lesser i less in omega (arith, here);
-    })
-  where
-    all_lesser : (i : ℕ) → i < next → get_or words i 0 / 2 ^ low_bits < high
-    all_lesser i before = ⊎_elim (λ l. to.lesser i l) (λ m. found.lesser i m before) (cases_lt i passed)
-
-    all_others : (i : ℕ) → next ≤ i → i < length words → high ≤ get_or words i 0 / 2 ^ low_bits
-    all_others i behind within =
-        let first = found.stopped (omega (arith, behind, within)) in
-        let up = div-rises (2 ^ low_bits) (get_or words next 0) (get_or words i 0) (pow_pos low_bits) (rises words rising next i behind within) in
-        omega (arith, first, up)
-
-    at_each : (h : ℕ) → h < length (starts ++ next ∷ []) → (P : ℕ → Type 0) → (h < length starts → P (get_or starts h 0))
-        → (h ≡ high → P next) → P (get_or (starts ++ next ∷ []) h 0)
-    at_each h less P earlier last =
-        let long = length_push starts next in
-        let to_here = to.long in
-        ⊎_elim
-        (λ l. subst P (sym (get_or_append_left starts (next ∷ []) 0 h l)) (earlier l))
-        (λ m. let e : length starts ≡ h = omega (arith, less, long, m) in
-        subst P (sym (get_or_push starts next 0 h e)) (last (omega (arith, e, to_here))))
-        (cases_lt h (length starts))
-
 -- ---- the search
 
--- the words with the same high bits as a word: from their start to the next one
-pub record IsRun (words : List ℕ) (low_bits : ℕ) (starts : List ℕ) (word start end : ℕ) : Type 0 where
-  pub start_is : start ≡ get_or starts (word / 2 ^ low_bits) 0
-  pub end_is : end ≡ get_or starts (word / 2 ^ low_bits + 1) 0
-  pub some : word / 2 ^ low_bits + 1 < length starts
-  pub starts_are : AreStarts words low_bits starts
-  pub rising : IsStrictlyIncreasing words
+-- what a search by halving finds in rising words
+pub found-by-halving : (words : List ℕ) (word : ℕ) (r : Result ℕ ℕ) → IsStrictlyIncreasing words
+    → IsBinarySearchResult (λ n. nat_cmp n word) words r → is_ok r ≡ is_listed (Some words) word
+unfolding is_listed
+found-by-halving words word r rising told = by r (searched words word r told (rises words rising))
+  where
+    by : (answer : Result ℕ ℕ) → MatchResult answer (λ i. (i < length words) × (get_or words i 0 ≡ word))
+        (λ i. (i ≤ length words) × ((k : ℕ) → k < i → get_or words k 0 < word) × ((k : ℕ) → i ≤ k → k < length words → word < get_or words k 0))
+        → is_ok answer ≡ list_any (eqb word) words
+    by (Ok i) (less, is) = sym (list_any_at (eqb word) words i 0 less (eq-eqb word _ (sym is)))
+    by (Err i) (most, lesser, greater) =
+        sym (list_any_none (eqb word) words (λ k d within. ne_eqb word (get_or words k d) (λ is.
+        let here : get_or words k 0 ≡ word = get_or_default words k 0 d within ∙ sym is in
+        ⊎_elim (λ l. let less = lesser k l in omega (arith, less, here)) (λ m. let more = greater k m within in omega (arith, more, here))
+        (cases_lt k i))))
 
--- the two starts that are read for a word
-pub run-of : {k low_bits : ℕ} {words starts : List ℕ} {marks : Marking} (word start end : ℕ) → IsIndexed k words low_bits starts marks → word < 4 ^ k
-    → start ≡ get_or starts (word / 2 ^ low_bits) start → end ≡ get_or starts (word / 2 ^ low_bits + 1) end
-    → IsRun words low_bits starts word start end
-run-of {k} {low_bits} {words} {starts} {marks} word start end indexed below first second =
-    let some = indexed.enough word below in
-    record {
-      start_is = get_or_read starts (word / 2 ^ low_bits) start (omega (arith, some)) first 0;
-      end_is = get_or_read starts (word / 2 ^ low_bits + 1) end some second 0;
-      some = some;
-      starts_are = indexed.starts_are;
-      rising = indexed.listed.rising;
-    }
+-- ---- the words that are left
 
-module _ {words : List ℕ} {low_bits : ℕ} {starts : List ℕ} {word start end : ℕ} (run : IsRun words low_bits starts word start end) where
-  pub end-within : end ≤ length words
-  end-within = subst (λ e. e ≤ length words) (sym run.end_is) (run.starts_are.within (word / 2 ^ low_bits + 1) run.some)
+-- each of these numbers is that of a listed word, or of no word at all
+abbrev pub AreNear : ℕ → List ℕ → List ℕ → Type 0
+AreNear k words near = All (λ n. n < 4 ^ k → is_listed (Some words) n ≡ true) near
 
-  start-within : start ≤ length words
-  start-within =
-      let some = run.some in
-      subst (λ e. e ≤ length words) (sym run.start_is) (run.starts_are.within (word / 2 ^ low_bits) (omega (arith, some)))
+-- what stands at an index of the list; no word behind its end
+pub near-at : (k : ℕ) (words : List ℕ) (i n : ℕ) → k ≤ 31 → n ≡ get_or words i 18446744073709551615
+    → n < 4 ^ k → is_listed (Some words) n ≡ true
+near-at k words i n few is below = ⊎_elim
+    (λ (within : i < length words). Contains-listed words n (i, within, get_or_default words i n 18446744073709551615 within ∙ sym is))
+    (λ (past : length words ≤ i).
+    let none : n ≡ 18446744073709551615 = is ∙ get_or_past words i 18446744073709551615 past in
+    let most : 4 ^ k ≤ 4 ^ 31 = pow-le-pow_right {n = 4} (omega arith) {i = k} {j = 31} few in
+    absurd (omega (arith, none, most, below)))
+    (cases_lt i (length words))
 
-  before-start : (i : ℕ) → i < start → get_or words i 0 / 2 ^ low_bits < word / 2 ^ low_bits
-  before-start i less =
-      let some = run.some in
-      run.starts_are.lesser (word / 2 ^ low_bits) i (omega (arith, some)) (subst (λ s. i < s) run.start_is less)
+pub near-none : (k : ℕ) (words near : List ℕ) → k ≤ 31 → near ≡ replicate 32 18446744073709551615 → AreNear k words near
+near-none k words near few is =
+    subst (AreNear k words) (sym is) (All-replicate (λ n. n < 4 ^ k → is_listed (Some words) n ≡ true) 32 18446744073709551615 (λ below.
+    let most : 4 ^ k ≤ 4 ^ 31 = pow-le-pow_right {n = 4} (omega arith) {i = k} {j = 31} few in
+    absurd (omega (arith, most, below))))
 
-  from-end : (i : ℕ) → end ≤ i → i < length words → word / 2 ^ low_bits + 1 ≤ get_or words i 0 / 2 ^ low_bits
-  from-end i le within =
-      run.starts_are.others (word / 2 ^ low_bits + 1) i run.some (subst (λ e. e ≤ i) run.end_is le) within
-
-  pub start-before-end : start ≤ end
-  start-before-end = ⊎_elim
-      (λ less.
-      let inside = start-within in
-      let lesser = before-start end less in
-      let greater = from-end end (omega arith) (omega (arith, less, inside)) in
-      absurd (omega (arith, lesser, greater)))
-      (λ h. h) (cases_lt end start)
-
-  abbrev part : List ℕ
-  part = take (end - start) (drop start words)
-
-  length-part : length part ≡ end - start
-  length-part =
-      let rest = length-drop start words in
-      let within = end-within in
-      length-take-le (end - start) (drop start words) (omega (arith, rest, within))
-
-  get_or-part : (j : ℕ) → j < end - start → get_or part j 0 ≡ get_or words (start + j) 0
-  get_or-part j less = get_or-take (end - start) (drop start words) j 0 less ∙ get_or-drop start words j 0
-
-  part-rises : (i j : ℕ) → i ≤ j → j < length part → get_or part i 0 ≤ get_or part j 0
-  part-rises i j le less =
-      let long = length-part in
-      let within = end-within in
-      let first = get_or-part i (omega (arith, le, less, long)) in
-      let second = get_or-part j (omega (arith, less, long)) in
-      let up = rises words run.rising (start + i) (start + j) (omega (arith, le)) (omega (arith, less, long, within)) in
-      omega (arith, first, second, up)
-
-  -- the word stands nowhere but in its run
-  in-run : (i : ℕ) → i < length words → get_or words i 0 ≡ word → (start ≤ i) × (i < end)
-  in-run i within is =
-      let same = ap (λ n. n / 2 ^ low_bits) is in (
-        ⊎_elim (λ less. let lesser = before-start i less in absurd (omega (arith, lesser, same))) (λ h. h) (cases_lt i start),
-        ⊎_elim (λ h. h) (λ more. let greater = from-end i more within in absurd (omega (arith, greater, same))) (cases_lt i end),
-      )
-
-  -- what the search in its run finds
-  pub found-in-run : (r : Result ℕ ℕ) → IsBinarySearchResult (λ n. nat_cmp n word) part r → is_ok r ≡ is_listed (Some words) word
-  unfolding is_listed
-  found-in-run r told = by r (searched part word r told part-rises)
-    where
-      by : (answer : Result ℕ ℕ) → MatchResult answer (λ i. (i < length part) × (get_or part i 0 ≡ word))
-          (λ i. (i ≤ length part) × ((k : ℕ) → k < i → get_or part k 0 < word) × ((k : ℕ) → i ≤ k → k < length part → word < get_or part k 0))
-          → is_ok answer ≡ list_any (eqb word) words
-      by (Ok i) (less, is) =
-          let long = length-part in
-          let within = end-within in
-          let value = get_or-part i (omega (arith, less, long)) in
-          sym (list_any_at (eqb word) words (start + i) 0 (omega (arith, less, long, within)) (eq-eqb word _ (sym is ∙ value)))
-      by (Err i) (most, lesser, greater) =
-          sym (list_any_none (eqb word) words (λ k d within. ne_eqb word (get_or words k d) (λ is. absent k d within (sym is))))
-        where
-          absent : (k d : ℕ) → k < length words → get_or words k d ≡ word → ⊥
-          absent k d within is =
-              let here : get_or words k 0 ≡ word = get_or_default words k 0 d within ∙ is in
-              let at = in-run k within here in
-              let first = at.0 in
-              let last = at.1 in
-              let long = length-part in
-              let value : get_or part (k - start) 0 ≡ get_or words k 0 =
-              get_or-part (k - start) (omega (arith, first, last)) ∙ ap (λ m. get_or words m 0) (omega (arith, first)) in
-              ⊎_elim
-              (λ l. let less = lesser (k - start) l in omega (arith, less, value, here))
-              (λ m. let more = greater (k - start) m (omega (arith, first, last, long)) in omega (arith, more, value, here))
-              (cases_lt (k - start) i)
-
--- ---- the parts of a list
-
--- each word has a start, and one stands behind it
-pub enough-starts : (k low_bits high_bits : ℕ) → low_bits + high_bits ≡ 2 * k → (word : ℕ) → word < 4 ^ k
-    → word / 2 ^ low_bits < 2 ^ high_bits
-enough-starts k low_bits high_bits whole word below =
-    let power : 4 ^ k ≡ 2 ^ high_bits * 2 ^ low_bits =
-    pow-four k ∙ ap (λ n. 2 ^ n) (sym whole ∙ omega arith) ∙ pow-add 2 high_bits low_bits in
-    (div-lt_iff_lt-mul {k = 2 ^ low_bits} {x = word} {y = 2 ^ high_bits} (pow_pos low_bits)).1 (omega (arith, below, power))
+-- what is not looked at yet is as it was, and below the bound
+pub still-below : (bound : ℕ) (xs ys : List ℕ) (i word : ℕ) → All (λ x. x < bound) xs → drop i ys ≡ drop i xs → i < length xs
+    → word ≡ get_or ys i word → word < bound
+still-below bound xs ys i word below rest within is =
+    let none : i + 0 ≡ i = omega arith in
+    let value : word ≡ get_or xs i word =
+    is ∙ ap (λ j. get_or ys j word) (sym none) ∙ sym (get_or-drop i ys 0 word) ∙ ap (λ zs. get_or zs 0 word) rest
+    ∙ get_or-drop i xs 0 word ∙ ap (λ j. get_or xs j word) none in
+    subst (λ m. m < bound) (sym value) (below i word within)

@@ -3,7 +3,7 @@ use Rattle.std.proofs.Common.{◌≡◌, ℕ, zero, suc, ◌+◌, ◌-◌, ◌*�
 use Rattle.std.proofs.lemmas.Bool.{cases_Bool, cond-true, cond-false, cond_both, and_parts, le-leb, lt-leb, cases_lt}
 use Rattle.std.proofs.lemmas.Nat.{mod-mul-add, and_mask}
 use Rattle.std.proofs.lemmas.List.{map_push, length-map, length-reverse, length-replicate, length-append, length-drop, drop_more, drop-append-le, drop-drop, append_assoc, reverse-append, take-append-drop, take_at, get_or-reverse, get_or-replicate, length_push, append-nil, get_or_past}
-use Rattle.std.proofs.lemmas.List.Sums.{prefix_len-le-length, prefix_len_is}
+use Rattle.std.proofs.lemmas.List.Sums.{prefix_len_is}
 use Rattle.std.proofs.lemmas.List.Folds.{list_all-append, list_all-map}
 use Rattle.std.proofs.lemmas.Int.Digits.{number_push, number_lt}
 use Rattle.std.specs.Int.Digits.{number_from_digits, number_from_digits_after, AllBelowBase}
@@ -13,7 +13,8 @@ use Rattle.kc_kmer.specs.Letter.{is_base, are_bases, code, complement}
 use Rattle.kc_word.specs.Cutting.{unusable}
 use Rattle.kc_kmer.specs.Word.{number, reverse_complement, form}
 use Rattle.kc_kmer.proofs.WordLemmas.{code-lt, code-complement, number-canonical, map-reverse}
-use Rattle.kc_word.specs.Walking.{last_window, is_letter, digit_of, other_digit, run_of, IsRolled}
+use Rattle.kc_word.specs.Walking.{last_window, is_letter, digit_of, other_digit, run_of, code_of, IsRolled}
+use Rattle.kc_word.specs.declared.rolled.Rolled.{Rolled}
 use Rattle.kc_word.proofs.Windows.{word_of, length-last_window}
 
 -- ---- digits
@@ -29,7 +30,7 @@ unfolding other_digit
 other_digit-lt byte = omega arith
 
 -- the digit, as the code takes it from the code of a byte
-pub digit_of-masked : (byte c : ℕ) → c ≡ cond (is_base (to_ascii_uppercase byte)) (code (to_ascii_uppercase byte)) 4 → bit_and c 3 ≡ digit_of byte
+digit_of-masked : (byte c : ℕ) → c ≡ code_of byte → bit_and c 3 ≡ digit_of byte
 unfolding digit_of
 digit_of-masked byte c e =
     and_mask c 2 ∙ ⊎_elim (λ h. let small = code-lt (to_ascii_uppercase byte) in
@@ -120,15 +121,6 @@ run_of-none k =
     get_or-replicate-any i =
         ⊎_elim (λ h. get_or-replicate k i unusable unusable h)
         (λ h. get_or_past (replicate k unusable) i unusable (let long = length-replicate k unusable in omega (arith, long, h))) (cases_lt i k)
-
-pub run_of-le : (k : ℕ) (bytes : List ℕ) → run_of k bytes ≤ k + length bytes
-unfolding run_of
-run_of-le k bytes =
-    let most = prefix_len-le-length is_letter (reverse (replicate k unusable ++ bytes)) in
-    let turned = length-reverse (replicate k unusable ++ bytes) in
-    let whole = length-append (replicate k unusable) bytes in
-    let pads = length-replicate k unusable in
-    omega (arith, most, turned, whole, pads)
 
 prefix-covers : {X : Type 0} (p : X → Bool) (k : ℕ) (xs : List X) → k ≤ length xs → leb k (prefix_len p xs) ≡ list_all p (take k xs)
 prefix-covers p zero xs h = le-leb 0 (prefix_len p xs) (omega arith)
@@ -234,112 +226,70 @@ others-none (suc k) =
     omega (arith, push, before, power)
 
 -- before the first byte: as if k bytes N had been seen
-pub IsRolled-none : (k backward : ℕ) → backward + 1 ≡ 4 ^ k → IsRolled k [] 0 backward 0
-IsRolled-none k backward e = record {
-  forward_is = sym (ap (λ w. number_from_digits 4 (map digit_of w)) (last_window-none k) ∙ digits-none k);
+pub IsRolled-none : (k : ℕ) (now : Rolled) → now.forward ≡ 0 → now.backward + 1 ≡ 4 ^ k → now.run ≡ 0 → IsRolled k [] now
+IsRolled-none k now front back run = record {
+  forward_is = front ∙ sym (ap (λ w. number_from_digits 4 (map digit_of w)) (last_window-none k) ∙ digits-none k);
   backward_is =
       let same = ap (λ w. number_from_digits 4 (reverse (map other_digit w))) (last_window-none k) in
       let none = others-none k in
-      omega (arith, same, none, e);
-  run_is = sym (run_of-none k);
+      omega (arith, same, none, back);
+  run_is = run ∙ sym (run_of-none k);
 }
 
--- one byte more: its code, and the two numbers and the run before it and behind it
-pub record RollStep (k : ℕ) : Type 0 where
-  pub byte : ℕ
-  pub found : ℕ
-  pub forward : ℕ
-  pub backward : ℕ
-  pub run : ℕ
-  pub next_forward : ℕ
-  pub next_backward : ℕ
-  pub next_run : ℕ
-  pub found_is : found ≡ cond (is_base (to_ascii_uppercase byte)) (code (to_ascii_uppercase byte)) 4
-  pub forward_is : next_forward ≡ (forward * 4 + bit_and found 3) % 4 ^ k
-  pub backward_is : next_backward ≡ backward / 4 + (3 - bit_and found 3) * 4 ^ (k - 1)
-  pub grows : found < 4 → next_run ≡ run + 1
-  pub breaks : 4 ≤ found → next_run ≡ 0
+-- the two numbers and the run before a code and behind it
+pub record RollStep (k found : ℕ) (old new : Rolled) : Type 0 where
+  pub forward_is : new.forward ≡ (old.forward * 4 + bit_and found 3) % 4 ^ k
+  pub backward_is : new.backward ≡ old.backward / 4 + (3 - bit_and found 3) * 4 ^ (k - 1)
+  pub grows : found < 4 → new.run ≡ old.run + 1
+  pub breaks : 4 ≤ found → new.run ≡ 0
 
-pub IsRolled-more : (k : ℕ) (seen : List ℕ) (s : RollStep k) → 1 ≤ k → IsRolled k seen s.forward s.backward s.run
-    → IsRolled k (seen ++ s.byte ∷ []) s.next_forward s.next_backward s.next_run
+pub IsRolled-more : (k : ℕ) (seen : List ℕ) (byte found : ℕ) (old new : Rolled) → 1 ≤ k → found ≡ code_of byte → RollStep k found old new
+    → IsRolled k seen old → IsRolled k (seen ++ byte ∷ []) new
 unfolding other_digit
-IsRolled-more k seen s some rolled =
+IsRolled-more k seen byte found old new some found_is s rolled =
     let first : ℕ = get_or (last_window k seen) 0 0 in
     let long = length-last_window k seen in
     let split : last_window k seen ≡ first ∷ drop 1 (last_window k seen) = drop_more (last_window k seen) 0 0 (omega (arith, long, some)) in
     let rest : length (drop 1 (last_window k seen)) ≡ k - 1 = length-drop 1 (last_window k seen) ∙ ap (λ n. n - 1) long in
-    let digit = digit_of-masked s.byte s.found s.found_is in
-    let next = last_window_push k seen s.byte some in
+    let digit = digit_of-masked byte found found_is in
+    let next = last_window_push k seen byte some in
     let whole : suc (k - 1) ≡ k = omega (arith, some) in
     record {
       forward_is =
           s.forward_is
-          ∙ ap (λ n. (n * 4 + bit_and s.found 3) % 4 ^ k) (rolled.forward_is ∙ ap (λ w. number_from_digits 4 (map digit_of w)) split)
+          ∙ ap (λ n. (n * 4 + bit_and found 3) % 4 ^ k) (rolled.forward_is ∙ ap (λ w. number_from_digits 4 (map digit_of w)) split)
           ∙ ap (λ d. (number_from_digits 4 (map digit_of (first ∷ drop 1 (last_window k seen))) * 4 + d) % 4 ^ k) digit
-          ∙ ap (λ m. (number_from_digits 4 (map digit_of (first ∷ drop 1 (last_window k seen))) * 4 + digit_of s.byte) % 4 ^ m) (sym whole)
-          ∙ forward-moved first s.byte (k - 1) (drop 1 (last_window k seen)) rest
+          ∙ ap (λ m. (number_from_digits 4 (map digit_of (first ∷ drop 1 (last_window k seen))) * 4 + digit_of byte) % 4 ^ m) (sym whole)
+          ∙ forward-moved first byte (k - 1) (drop 1 (last_window k seen)) rest
           ∙ ap (λ w. number_from_digits 4 (map digit_of w)) (sym next);
       backward_is =
           s.backward_is
-          ∙ ap (λ n. n / 4 + (3 - bit_and s.found 3) * 4 ^ (k - 1))
+          ∙ ap (λ n. n / 4 + (3 - bit_and found 3) * 4 ^ (k - 1))
           (rolled.backward_is ∙ ap (λ w. number_from_digits 4 (reverse (map other_digit w))) split)
           ∙ ap (λ d. number_from_digits 4 (reverse (map other_digit (first ∷ drop 1 (last_window k seen)))) / 4 + (3 - d) * 4 ^ (k - 1)) digit
-          ∙ backward-moved first s.byte (k - 1) (drop 1 (last_window k seen)) rest
+          ∙ backward-moved first byte (k - 1) (drop 1 (last_window k seen)) rest
           ∙ ap (λ w. number_from_digits 4 (reverse (map other_digit w))) (sym next);
       run_is =
           ⊎_elim
-          (λ h. s.grows (let small = code-lt (to_ascii_uppercase s.byte) in
-          let value : s.found ≡ code (to_ascii_uppercase s.byte) = s.found_is ∙ cond-true _ _ _ h in omega (arith, small, value))
+          (λ h. s.grows (let small = code-lt (to_ascii_uppercase byte) in
+          let value : found ≡ code (to_ascii_uppercase byte) = found_is ∙ cond-true _ _ _ h in omega (arith, small, value))
           ∙ ap (λ n. n + 1) rolled.run_is ∙ add_comm (run_of k seen) 1
-          ∙ sym (run_of_push k seen s.byte ∙ cond-true (is_letter s.byte) (1 + run_of k seen) 0 h))
-          (λ h. s.breaks (let value : s.found ≡ 4 = s.found_is ∙ cond-false _ _ _ h in omega (arith, value))
-          ∙ sym (run_of_push k seen s.byte ∙ cond-false (is_letter s.byte) (1 + run_of k seen) 0 h))
-          (cases_Bool (is_letter s.byte));
+          ∙ sym (run_of_push k seen byte ∙ cond-true (is_letter byte) (1 + run_of k seen) 0 h))
+          (λ h. s.breaks (let value : found ≡ 4 = found_is ∙ cond-false _ _ _ h in omega (arith, value))
+          ∙ sym (run_of_push k seen byte ∙ cond-false (is_letter byte) (1 + run_of k seen) 0 h))
+          (cases_Bool (is_letter byte));
     }
 
-pub IsRolled-forward-lt : (k : ℕ) (seen : List ℕ) (forward backward run : ℕ) → IsRolled k seen forward backward run → forward < 4 ^ k
-IsRolled-forward-lt k seen forward backward run rolled =
+pub IsRolled-forward-lt : {k : ℕ} {seen : List ℕ} {now : Rolled} → IsRolled k seen now → now.forward < 4 ^ k
+IsRolled-forward-lt {k} {seen} {now} rolled =
     let small : number_from_digits 4 (map digit_of (last_window k seen)) < 4 ^ k =
     subst (λ n. number_from_digits 4 (map digit_of (last_window k seen)) < 4 ^ n) (length-last_window k seen)
     (number_of_map-lt digit_of digit_of-lt (last_window k seen)) in
     let value = rolled.forward_is in
     omega (arith, small, value)
 
-pub IsRolled-run-le : (k : ℕ) (seen : List ℕ) (forward backward run : ℕ) → IsRolled k seen forward backward run → run ≤ k + length seen
-IsRolled-run-le k seen forward backward run rolled =
-    let most = run_of-le k seen in
-    let value = rolled.run_is in
-    omega (arith, most, value)
-
--- where the run covers a window, the word of the last window is the one that both numbers give
-pub word_of-rolled : (k : ℕ) (both : Bool) (seen : List ℕ) (forward backward run : ℕ) → IsRolled k seen forward backward run → k ≤ run
-    → word_of both (last_window k seen) ≡ Some (cond both (min backward forward) forward)
-unfolding word_of form
-word_of-rolled k both seen forward backward run rolled h =
-    let bases : are_bases (map to_ascii_uppercase (last_window k seen)) ≡ true =
-    sym (run_of-covers k seen) ∙ ap (leb k) (sym rolled.run_is) ∙ le-leb k run h in
-    cond-true _ (Some (number (form both (map to_ascii_uppercase (last_window k seen))))) None bases ∙ ap Some (numbers both bases)
-  where
-    numbers : (b : Bool) → are_bases (map to_ascii_uppercase (last_window k seen)) ≡ true
-        → number (form b (map to_ascii_uppercase (last_window k seen))) ≡ cond b (min backward forward) forward
-    numbers true bases =
-        let this : number (map to_ascii_uppercase (last_window k seen)) ≡ forward =
-        number-window (last_window k seen) bases ∙ sym rolled.forward_is in
-        let other : number (reverse_complement (map to_ascii_uppercase (last_window k seen))) ≡ backward =
-        number-other_window (last_window k seen) bases ∙ sym rolled.backward_is in
-        number-canonical (map to_ascii_uppercase (last_window k seen)) bases
-        ∙ ap (λ n. min n (number (map to_ascii_uppercase (last_window k seen)))) other ∙ ap (min backward) this
-    numbers false bases = number-window (last_window k seen) bases ∙ sym rolled.forward_is
-
-pub word_of-broken : (k : ℕ) (both : Bool) (seen : List ℕ) (forward backward run : ℕ) → IsRolled k seen forward backward run → run < k
-    → word_of both (last_window k seen) ≡ None
-unfolding word_of
-word_of-broken k both seen forward backward run rolled h =
-    cond-false _ (Some (number (form both (map to_ascii_uppercase (last_window k seen))))) None
-    (sym (run_of-covers k seen) ∙ ap (leb k) (sym rolled.run_is) ∙ lt-leb k run h)
-
-pub IsRolled-backward-lt : (k : ℕ) (seen : List ℕ) (forward backward run : ℕ) → IsRolled k seen forward backward run → backward < 4 ^ k
-IsRolled-backward-lt k seen forward backward run rolled =
+pub IsRolled-backward-lt : {k : ℕ} {seen : List ℕ} {now : Rolled} → IsRolled k seen now → now.backward < 4 ^ k
+IsRolled-backward-lt {k} {seen} {now} rolled =
     let long : length (reverse (last_window k seen)) ≡ k = length-reverse (last_window k seen) ∙ length-last_window k seen in
     let small : number_from_digits 4 (map other_digit (reverse (last_window k seen))) < 4 ^ k =
     subst (λ n. number_from_digits 4 (map other_digit (reverse (last_window k seen))) < 4 ^ n) long
@@ -348,3 +298,30 @@ IsRolled-backward-lt k seen forward backward run rolled =
     ≡ number_from_digits 4 (reverse (map other_digit (last_window k seen))) = ap (number_from_digits 4) (map-reverse other_digit (last_window k seen)) in
     let value = rolled.backward_is in
     omega (arith, small, turned, value)
+
+-- where the run covers a window, the word of the last window is the one that both numbers give
+pub word_of-rolled : (k : ℕ) (both : Bool) (seen : List ℕ) (now : Rolled) → IsRolled k seen now → k ≤ now.run
+    → word_of both (last_window k seen) ≡ Some (cond both (min now.backward now.forward) now.forward)
+unfolding word_of form
+word_of-rolled k both seen now rolled h =
+    let bases : are_bases (map to_ascii_uppercase (last_window k seen)) ≡ true =
+    sym (run_of-covers k seen) ∙ ap (leb k) (sym rolled.run_is) ∙ le-leb k now.run h in
+    cond-true _ (Some (number (form both (map to_ascii_uppercase (last_window k seen))))) None bases ∙ ap Some (numbers both bases)
+  where
+    numbers : (b : Bool) → are_bases (map to_ascii_uppercase (last_window k seen)) ≡ true
+        → number (form b (map to_ascii_uppercase (last_window k seen))) ≡ cond b (min now.backward now.forward) now.forward
+    numbers true bases =
+        let this : number (map to_ascii_uppercase (last_window k seen)) ≡ now.forward =
+        number-window (last_window k seen) bases ∙ sym rolled.forward_is in
+        let other : number (reverse_complement (map to_ascii_uppercase (last_window k seen))) ≡ now.backward =
+        number-other_window (last_window k seen) bases ∙ sym rolled.backward_is in
+        number-canonical (map to_ascii_uppercase (last_window k seen)) bases
+        ∙ ap (λ n. min n (number (map to_ascii_uppercase (last_window k seen)))) other ∙ ap (min now.backward) this
+    numbers false bases = number-window (last_window k seen) bases ∙ sym rolled.forward_is
+
+pub word_of-broken : (k : ℕ) (both : Bool) (seen : List ℕ) (now : Rolled) → IsRolled k seen now → now.run < k
+    → word_of both (last_window k seen) ≡ None
+unfolding word_of
+word_of-broken k both seen now rolled h =
+    cond-false _ (Some (number (form both (map to_ascii_uppercase (last_window k seen))))) None
+    (sym (run_of-covers k seen) ∙ ap (leb k) (sym rolled.run_is) ∙ lt-leb k now.run h)

@@ -1,6 +1,6 @@
 -- A list of words, to which a count may be kept.
 -- Source: the option --if of the Jellyfish user guide.
-use Rattle.std.specs.Prelude.{◌≡◌, ℕ, Bool, ◌+◌, ◌*◌, ◌<◌, ◌≤◌, ◌^◌, ◌/◌, ◌↔◌, ◌==◌, ◌&&◌, List, length, slice_index}
+use Rattle.std.specs.Prelude.{◌≡◌, ℕ, Bool, ◌<◌, ◌≤◌, ◌^◌, ◌↔◌, ◌==◌, ◌&&◌, List}
 use Rattle.std.specs.Prelude.{All, Contains}
 use Rattle.std.specs.Bool.{beq}
 use Rattle.std.specs.List.Sorted.{IsStrictlyIncreasing}
@@ -9,7 +9,7 @@ use Rattle.kc_fastx.specs.Reads.{Read}
 use Rattle.kc_kmer.specs.Word.{text}
 use Rattle.kc_kmer.specs.Rule.{CountingRule}
 use Rattle.kc_kmer.specs.Occurrences.{occurrences}
-use Rattle.kc_word.specs.Marks.{Marking, AreMarksOf}
+use Rattle.kc_word.specs.Slots.{Slotting, ArePlaced}
 
 -- a list of words as a value: their length, whether both strands count, and the numbers of the words
 pub record WordList : Type 0 where
@@ -34,23 +34,11 @@ pub record IsListOf (rule : CountingRule) (reads : List Read) (list : WordList) 
 abbrev pub is_same_list : WordList → WordList → Bool
 is_same_list list other = (list.k == other.k) && (beq list.both other.both && bytes_eq list.words other.words)
 
--- where the words begin that have the same bits above the low ones: the start of each number is how many words have
--- lesser ones
-pub record AreStarts (words : List ℕ) (low_bits : ℕ) (starts : List ℕ) : Type 0 where
-  pub within : (high : ℕ) → high < length starts → slice_index starts high ≤ length words
-  pub lesser : (high i : ℕ) → high < length starts → i < slice_index starts high
-      → slice_index words i / 2 ^ low_bits < high
-  pub others : (high i : ℕ) → high < length starts → slice_index starts high ≤ i → i < length words
-      → high ≤ slice_index words i / 2 ^ low_bits
-
--- what a list keeps: each word has a start, and one stands behind it; and the marks of its words
-pub record IsIndexed (k : ℕ) (words : List ℕ) (low_bits : ℕ) (starts : List ℕ) (marks : Marking) : Type 0 where
+-- what a list keeps: words below 4^31, each of which is placed in the slots
+pub record IsIndexed (k : ℕ) (words : List ℕ) (slots : Slotting) : Type 0 where
   pub listed : AreListed k words
-  pub low_bits_at_most : low_bits ≤ 2 * k
-  pub word_bits_at_most : 2 * k ≤ 62
-  pub enough : (word : ℕ) → word < 4 ^ k → word / 2 ^ low_bits + 1 < length starts
-  pub starts_are : AreStarts words low_bits starts
-  pub marks_are : AreMarksOf (2 * k) words marks
+  pub few_bases : k ≤ 31
+  pub placed : ArePlaced words slots
 
 -- the words that occur in reads have one list
 abbrev pub OneList : Type 0

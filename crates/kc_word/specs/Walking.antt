@@ -1,7 +1,8 @@
 -- The words of a piece, one byte after another: what two numbers that are rolled along it hold.
 -- Source: this project's own, with the two-bit codes of the Jellyfish paper (Marçais and Kingsford 2011).
-use Rattle.std.specs.Prelude.{◌≡◌, ℕ, Bool, ◌-◌, ◌^◌, ◌<◌, ◌≤◌, List, ◌++◌, map, length, take, drop, reverse}
-use Rattle.std.specs.Prelude.{replicate, None, if◌then◌else◌}
+use Rattle.std.specs.Prelude.{◌≡◌, ℕ, Bool, ◌+◌, ◌-◌, ◌^◌, ◌<◌, ◌≤◌, List, ◌++◌, map, length, take, drop, reverse}
+use Rattle.std.specs.Prelude.{replicate, slice_index, Option, None, if◌then◌else◌}
+use Rattle.std.specs.Option.{option_to_list}
 use Rattle.std.specs.List.{suffix_len}
 use Rattle.std.specs.Int.Digits.{number_from_digits}
 use Rattle.std.specs.Char.{to_ascii_uppercase}
@@ -9,6 +10,7 @@ use Rattle.kc_fastx.specs.Reads.{read_of}
 use Rattle.kc_kmer.specs.Letter.{is_base, code}
 use Rattle.kc_kmer.specs.Rule.{CountingRule}
 use Rattle.kc_kmer.specs.Occurrences.{words_in}
+use Rattle.kc_word.specs.declared.rolled.Rolled.{Rolled}
 use Rattle.kc_word.specs.Cutting.{unusable}
 
 -- the last k bytes, where k bytes N stand before the first one
@@ -32,16 +34,23 @@ unfoldable pub run_of : ℕ → List ℕ → ℕ
 run_of k bytes = suffix_len is_letter (replicate k unusable ++ bytes)
 
 -- what the two numbers and the run say of the bytes seen so far
-pub record IsRolled (k : ℕ) (seen : List ℕ) (forward backward run : ℕ) : Type 0 where
-  pub forward_is : forward ≡ number_from_digits 4 (map digit_of (last_window k seen))
-  pub backward_is : backward ≡ number_from_digits 4 (reverse (map other_digit (last_window k seen)))
-  pub run_is : run ≡ run_of k seen
+pub record IsRolled (k : ℕ) (seen : List ℕ) (now : Rolled) : Type 0 where
+  pub forward_is : now.forward ≡ number_from_digits 4 (map digit_of (last_window k seen))
+  pub backward_is : now.backward ≡ number_from_digits 4 (reverse (map other_digit (last_window k seen)))
+  pub run_is : now.run ≡ run_of k seen
 
 -- a place in a piece whose words are taken: how they count, the bytes of the piece, and how many of them were taken
 pub record Walking : Type 0 where
   pub rule : CountingRule
   pub bytes : List ℕ
   pub taken : ℕ
+
+-- the first place, and the place behind the next byte
+abbrev pub at_front : CountingRule → List ℕ → Walking
+at_front rule bytes = record { rule = rule; bytes = bytes; taken = 0 }
+
+abbrev pub behind_next : Walking → Walking
+behind_next walking = record { rule = walking.rule; bytes = walking.bytes; taken = walking.taken + 1 }
 
 -- the words of the piece without those that end in the bytes taken
 unfoldable pub words_left : Walking → List ℕ
@@ -50,9 +59,25 @@ words_left walking =
     (words_in walking.rule (read_of walking.bytes None))
 
 -- no list of words is given, and the numbers and the run are those of the bytes taken
-pub record IsWalking (walking : Walking) (forward backward run : ℕ) : Type 0 where
+pub record IsWalking (walking : Walking) (now : Rolled) : Type 0 where
+  pub rule : now.rule ≡ walking.rule
   pub unlisted : walking.rule.only ≡ None
-  pub rolled : IsRolled walking.rule.k (take walking.taken walking.bytes) forward backward run
-  pub short : run ≤ walking.taken
+  pub rolled : IsRolled walking.rule.k (take walking.taken walking.bytes) now
+  pub short : now.run ≤ walking.taken
   pub within : walking.taken ≤ length walking.bytes
   pub fits : length walking.bytes < 2 ^ 64
+
+-- the code of a base in either case, and 4 for every other byte
+abbrev pub code_of : ℕ → ℕ
+code_of byte = if is_letter byte then code (to_ascii_uppercase byte) else 4
+
+-- at this place a byte is left, and this is its code
+pub record IsNext (walking : Walking) (now : Rolled) (next : ℕ) : Type 0 where
+  pub walks : IsWalking walking now
+  pub left : walking.taken < length walking.bytes
+  pub code : next ≡ code_of (slice_index walking.bytes walking.taken)
+
+-- the next byte was taken, and this word ends there, or none
+pub record IsTaken (walking : Walking) (now : Rolled) (word : Option ℕ) : Type 0 where
+  pub walks : IsWalking (behind_next walking) now
+  pub words : words_left walking ≡ option_to_list word ++ words_left (behind_next walking)

@@ -1,12 +1,11 @@
 //! A list of words, to which a count may be kept.
-ghost use Rattle.std.specs.Prelude.{◌≡◌, ℕ, ◌<◌, ◌≤◌, ◌^◌, ◌/◌, ◌↔◌, Some, [], length, slice_index, IfOk, Contains};
+ghost use Rattle.std.specs.Prelude.{◌≡◌, ℕ, ◌<◌, ◌^◌, ◌↔◌, Some, true, All, filter, IfOk, Contains};
 ghost use Rattle.std.specs.List.Sorted.{IsStrictlyIncreasing};
-ghost use Rattle.std.specs.Vec.{vec_capacity};
 ghost use Rattle.kc_kmer.specs.Rule.{is_listed};
 ghost use Rattle.kc_kmer.specs.Occurrences.{words_of};
-ghost use Rattle.kc_word.specs.Only.{AreListed, IsListOf, AreStarts};
+ghost use Rattle.kc_word.specs.Only.{AreListed, IsListOf};
 
-use crate::marks::Marks;
+use crate::list_slots::{BLOCK, Slots};
 use crate::roll::read_words;
 use kc_fastx::SeqRead;
 use kc_kmer::{K, Rule, Word};
@@ -20,19 +19,15 @@ const LEAST_LIMIT: usize = 65_536;
 /// solid words of a table.
 ///
 /// It is seen as the length of the words, whether both strands count, and the numbers of the words in rising order. It
-/// takes some 18 bytes a word.
+/// takes 14 bytes a word and 1 KB, and 8 bytes a word where it has 2^31 words or more.
 #[derive(Debug, Drop)]
 pub struct Only {
     k: K,
     both: bool,
     // in rising order
     words: Vec<u64>,
-    // for each number that the high bits of a word may be, how many words have a lesser one; and the number of words
-    starts: Vec<usize>,
-    // how many bits of a word are not among its high bits
-    low_bits: u32,
-    // tells of most words that they are not in the list, and reads less memory than the starts do
-    marks: Marks,
+    // in these the number of a word is found
+    slots: Slots,
 }
 
 impl Model for Only {
@@ -42,7 +37,7 @@ impl Model for Only {
 
     ghost view = { λ o. record { k = o.k; both = o.both; words = o.words.items } };
 
-    ghost invariant = { λ o. IsIndexed o.k o.words.items o.low_bits o.starts.items o.marks };
+    ghost invariant = { λ o. IsIndexed o.k o.words.items o.slots };
 }
 
 impl Only {
@@ -59,19 +54,12 @@ impl Only {
         requires { AreListed k words.items }
         ensures { IfOk result (λ only. only ≡ record { k = k; both = both; words = words.items }) }
     {
-        let word_bits = 2 * k.get();
-        // about as many starts as words
-        let high_bits = words.len().max(1).ilog2().min(word_bits);
-        let low_bits = word_bits - high_bits;
-        let starts = starts_of(alloc, &words, low_bits, (1 << high_bits) + 1)?;
-        let marks = Marks::of(alloc, &words, word_bits)?;
+        let slots = Slots::of(alloc, &words)?;
         Ok(Only {
             k,
             both,
             words,
-            starts,
-            low_bits,
-            marks,
+            slots,
         })
     }
 
@@ -103,22 +91,43 @@ impl Only {
         requires { word.0 < 4 ^ self.now.k }
         ensures { result ≡ is_listed (Some self.now.words) word.0 }
     {
-        if !self.marks.may_be(word.0) {
-            return false;
-        }
-        self.finds(word)
+        self.slots.hold(&self.words, word.0)
     }
 
-    // Whether the word is found among those with the same high bits. Condition: it is below 4^k.
-    fn finds(&self, word: Word) -> bool
-        requires { word.0 < 4 ^ self.now.k }
-        ensures { result ≡ is_listed (Some self.now.words) word.0 }
+    /// Leaves out the words that are not in the list. Condition: each is below 4^k.
+    pub fn keep_listed(&self, words: &mut Vec<u64>)
+        requires { All (λ word. word < 4 ^ self.now.k) words.old.items }
+        ensures { words.new.items ≡ filter (λ word. is_listed (Some self.now.words) word) words.old.items }
     {
-        let high = (word.0 >> self.low_bits) as usize;
-        let start = self.starts[high];
-        let end = self.starts[high + 1];
-        let with_the_same_high_bits = &self.words.as_slice()[start..end];
-        with_the_same_high_bits.binary_search(&word.0).is_ok()
+        let mut near = self.near(words);
+        let mut kept = 0;
+        for i in 0..words.len() {
+            let word = words[i];
+            if near[i % BLOCK] == word || self.holds(Word(word)) {
+                words[kept] = word;
+                kept += 1;
+            }
+            if i % BLOCK == BLOCK - 1 {
+                near = self.near(&words[i + 1..]);
+            }
+        }
+        words.truncate(kept);
+    }
+
+    // For each of the first `BLOCK` words the one of the list of which its home slot tells, or no word at all. No
+    // reading of a slot or of the list waits for another one of its kind, so that the memory answers several at once.
+    #[inline(always)]
+    fn near(&self, words: &[u64]) -> [u64; BLOCK]
+        ensures { All (λ near. near < 4 ^ self.now.k → is_listed (Some self.now.words) near ≡ true) result }
+    {
+        let numbers = self.slots.numbers_at_home(words);
+        let mut near = [u64::MAX; BLOCK];
+        for i in 0..BLOCK {
+            // a number is 0 where the home slot does not tell of the word
+            let index = numbers[i].saturating_sub(1);
+            near[i] = self.words.get(index).copied().unwrap_or(u64::MAX);
+        }
+        near
     }
 }
 
@@ -171,49 +180,4 @@ fn keep_once(words: &mut Vec<u64>)
 {
     words.sort_unstable();
     words.dedup();
-}
-
-// The starts of so many numbers of high bits.
-fn starts_of(
-    alloc: Global,
-    words: &[u64],
-    low_bits: u32,
-    count: usize,
-) -> Result<Vec<usize>, AllocError>
-    requires rising { IsStrictlyIncreasing words.now }
-    requires low_bits { low_bits < 64 }
-    ensures count { IfOk result (λ starts. length starts.items ≡ count) }
-    ensures starts { IfOk result (λ starts. AreStarts words.now low_bits starts.items) }
-{
-    let mut starts = room_for_starts(alloc, count)?;
-    let mut passed = 0;
-    for high in 0..count {
-        passed = passed_to(words, passed, low_bits, high as u64);
-        starts.push(passed)?;
-    }
-    Ok(starts)
-}
-
-// No starts yet, with room for so many.
-fn room_for_starts(alloc: Global, count: usize) -> Result<Vec<usize>, AllocError>
-    ensures empty { IfOk result (λ room. room.items ≡ []) }
-    ensures bounded { IfOk result (λ room. vec_capacity room ≤ count) }
-{
-    Vec::with_capacity(alloc, count)
-}
-
-// The first index from this one on at which no word with lesser high bits stands.
-fn passed_to(words: &[u64], from: usize, low_bits: u32, high: u64) -> usize
-    requires from { from ≤ length words.now }
-    requires low_bits { low_bits < 64 }
-    ensures within { result ≤ length words.now }
-    ensures passed { from ≤ result }
-    ensures lesser { (i : ℕ) → from ≤ i → i < result → slice_index words.now i / 2 ^ low_bits < high }
-    ensures stopped { result < length words.now → high ≤ slice_index words.now result / 2 ^ low_bits }
-{
-    let mut at = from;
-    while at < words.len() && words[at] >> low_bits < high {
-        at += 1;
-    }
-    at
 }

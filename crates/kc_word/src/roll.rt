@@ -1,15 +1,17 @@
 //! The words of pieces, rolled along their bytes.
-ghost use Rattle.std.specs.Prelude.{◌≡◌, ◌^◌, ◌<◌, ◌≤◌, ◌++◌, ◌+◌, ◌∷◌, [], None, length, slice_range};
+ghost use Rattle.std.specs.Prelude.{◌≡◌, ◌^◌, ◌<◌, ◌≤◌, ◌++◌, ◌+◌, ◌∷◌, [], None, length};
+ghost use Rattle.std.specs.Prelude.{slice_index, slice_range};
 ghost use Rattle.std.specs.Prelude.{IfSome, IfNone, IfOk, OnOk, All};
 ghost use Rattle.std.specs.Vec.{vec_capacity};
 ghost use Rattle.kc_fastx.specs.Reads.{read_of};
 ghost use Rattle.kc_kmer.specs.Occurrences.{position_count, words_in, words_of};
 ghost use Rattle.kc_word.specs.Cutting.{as_reads, position_total};
-ghost use Rattle.kc_word.specs.Walking.{words_left};
+ghost use Rattle.kc_word.specs.Walking.{code_of, words_left};
 
 use crate::batch::Batch;
 use crate::packed_codes::{BASES, Packed};
 use crate::piece::Piece;
+use crate::rolled::Rolled;
 use crate::runs::Run;
 use crate::usable_codes::clean;
 use kc_fastx::SeqRead;
@@ -104,15 +106,36 @@ impl<'a> Model for Codes<'a> {
     ghost invariant = { λ c. IsReading c.bases.now c.runs.now c.next c.from c.at c.to };
 }
 
-/// A place in a piece whose words are taken: two numbers are rolled along its codes, and a word stands wherever the
-/// run of bases is as long as a word.
+impl<'a> Codes<'a> {
+    // Takes the next byte, and answers its code, or `NO_BASE`. Condition: not all bytes were taken.
+    #[inline(always)]
+    fn next_code(&mut self) -> u64
+        requires { self.old.taken < length self.old.bytes }
+        ensures taken { self.new ≡ record { bytes = self.old.bytes; taken = self.old.taken + 1 } }
+        ensures code { result ≡ code_of (slice_index self.old.bytes self.old.taken) }
+    {
+        let bases = self.bases;
+        let at = self.at;
+        let mut code = (bases.numbers[at / BASES] >> (62 - 2 * (at % BASES))) & 3;
+        self.at += 1;
+        // the next run has this byte, or ends before it
+        if self.next < self.runs.len() && self.runs[self.next].start <= at {
+            let run = self.runs[self.next];
+            if at - run.start < run.length {
+                code = NO_BASE as u64;
+            } else {
+                self.next += 1;
+            }
+        }
+        code
+    }
+}
+
+/// A place in a piece whose words are taken.
 #[derive(Drop)]
 pub(crate) struct Roll<'a> {
     codes: Codes<'a>,
-    rule: Rule,
-    forward: u64,
-    backward: u64,
-    run: usize,
+    rolled: Rolled,
 }
 
 impl<'a> Model for Roll<'a> {
@@ -120,10 +143,10 @@ impl<'a> Model for Roll<'a> {
 
     ghost Value = { Walking };
 
-    ghost view = { λ r. record { rule = r.rule; bytes = r.codes.bytes; taken = r.codes.taken } };
+    ghost view = { λ r. record { rule = r.rolled.rule; bytes = r.codes.bytes; taken = r.codes.taken } };
 
-    ghost invariant = { λ r. IsWalking (record { rule = r.rule; bytes = r.codes.bytes; taken = r.codes.taken })
-        r.forward r.backward r.run };
+    ghost invariant = { λ r. IsWalking (record { rule = r.rolled.rule; bytes = r.codes.bytes; taken = r.codes.taken })
+        r.rolled };
 }
 
 impl<'a> Roll<'a> {
@@ -137,8 +160,7 @@ impl<'a> Roll<'a> {
         ensures words { words_left result ≡ words_in rule (read_of (slice_range piece.now from to) None) }
         ensures some { 1 ≤ rule.k }
     {
-        rule.has_no_list();
-        let k = rule.k().get();
+        let rolled = Rolled::new(rule);
         let _count = piece.len();
         let runs = piece.runs.as_slice();
         let codes = Codes {
@@ -149,20 +171,14 @@ impl<'a> Roll<'a> {
             at: from,
             to,
         };
-        Roll {
-            codes,
-            rule,
-            forward: 0,
-            backward: (1u64 << (2 * k)) - 1,
-            run: 0,
-        }
+        Roll { codes, rolled }
     }
 
     /// The rule of the count: the length of its words, and whether both strands count.
     pub(crate) fn rule(&self) -> Rule
         ensures { result ≡ self.now.rule }
     {
-        self.rule
+        self.rolled.rule
     }
 
     /// Takes the next byte, and answers the word that ends in it, if one does. Condition: not all bytes were taken.
@@ -173,39 +189,8 @@ impl<'a> Roll<'a> {
         ensures word { IfSome result (λ word. words_left self.old ≡ word ∷ words_left self.new) }
         ensures none { IfNone result (words_left self.new ≡ words_left self.old) }
     {
-        let k = self.rule.k().get();
-        let both = self.rule.both();
-        let mask = (1u64 << (2 * k)) - 1;
-        let codes = &mut self.codes;
-        let bases = codes.bases;
-        let at = codes.at;
-        let mut code = (bases.numbers[at / BASES] >> (62 - 2 * (at % BASES))) & 3;
-        codes.at += 1;
-        // the next run has this byte, or ends before it
-        if codes.next < codes.runs.len() && codes.runs[codes.next].start <= at {
-            let run = codes.runs[codes.next];
-            if at - run.start < run.length {
-                code = NO_BASE as u64;
-            } else {
-                codes.next += 1;
-            }
-        }
-        let digit = code & 3;
-        let forward = (self.forward * 4 + digit) & mask;
-        let backward = (self.backward >> 2) + ((3 - digit) << (2 * (k - 1)));
-        let run = if code < NO_BASE as u64 {
-            self.run + 1
-        } else {
-            0
-        };
-        self.forward = forward;
-        self.backward = backward;
-        self.run = run;
-        if run < k as usize {
-            return None;
-        }
-        let word = if both { backward.min(forward) } else { forward };
-        Some(word)
+        let code = self.codes.next_code();
+        self.rolled.push(code)
     }
 
     // Takes the next bases, at most 32 and up to an N, and appends the words that end in them.
@@ -217,13 +202,7 @@ impl<'a> Roll<'a> {
         ensures words { IfOk result (λ next.
             words.new.items ++ words_left next ≡ words.old.items ++ words_left self.entry) }
     {
-        let rule = self.rule;
-        let k = rule.k().get();
-        let both = rule.both();
-        let mask = (1u64 << (2 * k)) - 1;
-        let mut forward = self.forward;
-        let mut backward = self.backward;
-        let mut run = self.run;
+        let mut rolled = self.rolled;
         let mut codes = self.codes;
         let at = codes.at;
         let mut count = (codes.to - at).min(BASES);
@@ -234,21 +213,11 @@ impl<'a> Roll<'a> {
         let number = if count > 0 { codes.bases.window(at) } else { 0 };
         codes.at = at + count;
         for i in 0..count {
-            let digit = (number >> (62 - 2 * i)) & 3;
-            forward = (forward * 4 + digit) & mask;
-            backward = (backward >> 2) + ((3 - digit) << (2 * (k - 1)));
-            run += 1;
-            if run >= k as usize {
-                words.push(if both { backward.min(forward) } else { forward })?;
+            if let Some(word) = rolled.push((number >> (62 - 2 * i)) & 3) {
+                words.push(word)?;
             }
         }
-        Ok(Roll {
-            codes,
-            rule,
-            forward,
-            backward,
-            run,
-        })
+        Ok(Roll { codes, rolled })
     }
 
     /// Takes bytes up to the end of the next word, or all that are left where no word ends in them.

@@ -9,13 +9,13 @@ pub add-requires : goal.add-requires
 add-requires g c =
     let i = c.loop-stripe.stripe-index in
     subst (All (λ size. size < 2 ^ 64))
-    (sym (bins-more c.args.stripes.now i c.stripe-item.result (c.loop-stripe-test.true, c.stripe-item.is) c.is_lawful.ensures c.loop-stripe.invariant c.histogram.ensures))
+    (sym (bins-more c.args.stripes.now i c.stripe-item.result (c.loop-stripe-test.true, c.stripe-item.is) c.is_lawful.ensures c.loop-stripe.invariant c.in_ok-histogram-2.ensures))
     (bins-fit c.args.stripes.now (i + 1) c.requires)
 
 pub loop-stripe-preserved : goal.loop-stripe-preserved
 loop-stripe-preserved g c =
     c.add.ensures
-    ∙ bins-more c.args.stripes.now c.loop-stripe.stripe-index c.stripe-item.result (c.loop-stripe-test.true, c.stripe-item.is) c.is_lawful.ensures c.loop-stripe.invariant c.histogram.ensures
+    ∙ bins-more c.args.stripes.now c.loop-stripe.stripe-index c.stripe-item.result (c.loop-stripe-test.true, c.stripe-item.is) c.is_lawful.ensures c.loop-stripe.invariant c.in_ok-histogram-2.ensures
 
 pub returns : goal.returns
 returns g c =

@@ -55,7 +55,7 @@ about g c =
 pub write_answer-requires-clause-known : goal.write_answer-requires-clause-known
 write_answer-requires-clause-known g c =
     let known = rw c.in_ok-counted.was at (tallied g (goal.at.write_answer-requires-clause-known g c).After-ends) in
-    (known.tally, known.knows)
+    λ lifetimes lives. (known.tally, known.knows)
 
 pub returns-in_err-write_answer-clause-done : goal.returns-in_err-write_answer-clause-done
 returns-in_err-write_answer-clause-done g c =

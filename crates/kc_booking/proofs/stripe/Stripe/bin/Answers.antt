@@ -1,5 +1,4 @@
-use Rattle.std.proofs.Common.{◌∙◌, ap}
-use Rattle.kc_tally.specs.Histogram.{bin_at}
+use Rattle.std.proofs.Common.{◌∙◌}
 use Rattle.kc_word.specs.Shared.{values}
 use Rattle.kc_booking.proofs.StripeRows.{bin_words}
 use Rattle.kc_booking.proofs.stripe.Stripe.bin.Goals as goal
@@ -7,5 +6,5 @@ use Rattle.kc_booking.proofs.stripe.Stripe.bin.Goals as goal
 pub returns-clause-words : goal.returns-clause-words
 returns-clause-words g c =
     rw (← c.self.view_is)
-    (c.bin.ensures ∙ ap (λ s. bin_at s.counted.bins c.args.bin) c.self-inside.view_is
+    (c.bin.ensures
     ∙ bin_words c.self.inside.setup c.self.inside.number (values c.self.inside.journal.items) c.self.inside.counted.bins c.args.bin c.self.invariant.0.bins_are c.requires.some c.requires.within)

@@ -3,7 +3,7 @@ use Rattle.std.specs.List.{list_any}
 use Rattle.kc_word.specs.Shared.{values}
 use Rattle.kc_booking.specs.Setup.{DividesWords, HasBits, StripeSetup, key_bits}
 use Rattle.kc_booking.specs.Stripe.{IsKept}
-use Rattle.kc_booking.proofs.CountedTables.{IsCounted-empty}
+use Rattle.kc_booking.proofs.CountedTables.{IsTold-empty}
 use Rattle.kc_booking.proofs.HashValues.{divides}
 use Rattle.kc_booking.proofs.Lawful.{IsLawful-none}
 use Rattle.kc_booking.proofs.stripe.Stripe.new.Goals as goal
@@ -18,7 +18,7 @@ few_bits {inside} has is same =
 pub invariant_of-counted : goal.invariant_of-counted
 invariant_of-counted g c =
     let few = few_bits c.setup.invariant.0 c.setup.view_is c.requires.key_bits in
-    IsCounted-empty _ _ _ few c.requires.empty c.in_ok-histogram.ensures
+    IsTold-empty _ _ _ few c.requires.empty c.in_ok-at_least.ensures
 
 pub invariant_of-result : goal.invariant_of-result
 invariant_of-result g c =
@@ -32,4 +32,4 @@ invariant_of-result g c =
       known_are = λ n. ap (list_any (nat_eq n)) c.new-3.ensures.empty;
     } in
     rw (nothing, c.in_ok-setup.ensures.cases)
-    (IsLawful-none kept (IsCounted-empty _ _ _ few c.requires.empty c.in_ok-histogram.ensures) c.requires.empty, kept)
+    (IsLawful-none kept (IsTold-empty _ _ _ few c.requires.empty c.in_ok-at_least.ensures).counted c.requires.empty, kept)

@@ -1,16 +1,20 @@
 use Rattle.std.proofs.Common.{◌≡◌, ◌+◌, ◌-◌, ◌<◌, ◌⊎◌, length}
 use Rattle.kc_tickets.specs.Tickets.{IsSeatOf, IsDone, answers_of}
+use Rattle.kc_gather.specs.Gathering.{position_sum}
 use Rattle.kc_run.proofs.worker.Worker.draw_batches.Given as goal
 
-abbrev pub invariant-loop-round : goal.invariant-loop-round
-invariant-loop-round g l = record {
+abbrev pub invariant-loop-taken : goal.invariant-loop-taken
+invariant-loop-taken g l = record {
   own : IsSeatOf l.job.tickets.now l.self.seat;
   more : ¬ IsDone l.self.seat;
   share : l.self.share ≡ l.initial.self.share;
   drawn : l.drawn < length l.job.batches.now;
-  answered : length (answers_of l.self.seat) ≡ length (answers_of l.initial.self.seat) + length l.round.items;
-  few : (length l.round.items ≡ 0) ⊎ (length l.round.items < l.job.round_len);
+  setup : l.round.setup ≡ l.initial.round.setup;
+  answered : length (answers_of l.self.seat) ≡ length (answers_of l.initial.self.seat) + length l.round.batches;
+  few : (length l.round.batches ≡ 0) ⊎ (length l.round.batches < l.job.limits.batches);
+  taken : l.taken ≡ position_sum l.initial.round.setup.rule.k l.round.batches;
+  small : (length l.round.batches ≡ 0) ⊎ (position_sum l.initial.round.setup.rule.k l.round.batches < l.positions);
 }
 
-abbrev pub decreases-loop-round : goal.decreases-loop-round
-decreases-loop-round g l = l.job.round_len - length l.round.items
+abbrev pub decreases-loop-taken : goal.decreases-loop-taken
+decreases-loop-taken g l = l.job.limits.batches - length l.round.batches

@@ -1,7 +1,7 @@
-use Rattle.std.proofs.Common.{◌≡◌, ◌<◌, ◌^◌, refl, sym, subst, inl, inr}
+use Rattle.std.proofs.Common.{◌≡◌, ◌<◌, ◌^◌, refl, sym, subst}
 use Rattle.kc_table.proofs.KeyCounts.{stored_by_some, stored_by_none}
-use Rattle.kc_table.proofs.SlotSteps.{get_found, get_free, get_out, stands_found, found_home, taken_found, taken_out}
-use Rattle.kc_table.proofs.SlotSteps.{taken_free, empty_free}
+use Rattle.kc_table.proofs.SlotSteps.{get_found, get_free, get_out, stands_found, found_home, found_after, free_after}
+use Rattle.kc_table.proofs.SlotSteps.{out_after}
 use Rattle.kc_table.proofs.quotient_table.QuotientTable.find.Goals as goal
 
 pub returns-in-Found-clause-stored : goal.returns-in-Found-clause-stored
@@ -38,34 +38,19 @@ returns-in-Found-clause-home c = λ full.
 
 pub returns-in-Found-clause-found_after : goal.returns-in-Found-clause-found_after
 returns-in-Found-clause-found_after c =
-    let found = c.in-Found.ensures.walked.0 in
-    rw (← c.self.view_is) (
-      found.reprobe,
-      found.small,
-      found.here,
-      taken_found c.self.inside.slots.slots.items c.self.inside.slots.sound c.args.key c.in-Found.place found
-          c.in-Found.ensures.walked.1,
-      c.in-Found.ensures.walked.2,
-    )
+    let walked = c.in-Found.ensures.walked in
+    rw (← c.self.view_is)
+    (found_after c.self.inside.slots.slots.items c.self.inside.slots.sound c.self.inside.max_log c.args.key _ c.in-Found.place walked.0 walked.1 walked.2)
 
 pub returns-in-Free-clause-missed_after : goal.returns-in-Free-clause-missed_after
 returns-in-Free-clause-missed_after c =
-    let free = c.in-Free.ensures.walked.0 in
+    let walked = c.in-Free.ensures.walked in
     rw (← c.self.view_is)
-    (inl (
-      free.reprobe,
-      free.small,
-      empty_free c.self.inside.slots.slots.items c.self.inside.slots.sound c.self.inside.slots.sized c.args.key
-          c.in-Free.place c.in-Free.tag free,
-      taken_free c.self.inside.slots.slots.items c.self.inside.slots.sound c.args.key c.in-Free.place c.in-Free.tag
-          free,
-      c.in-Free.ensures.walked.1,
-    ))
+    (free_after c.self.inside.slots.slots.items c.self.inside.slots.sound c.self.inside.max_log c.args.key _ c.self.inside.slots.sized
+    c.in-Free.place c.in-Free.tag walked.0 walked.1)
 
 pub returns-in-Crowded-clause-missed_after : goal.returns-in-Crowded-clause-missed_after
 returns-in-Crowded-clause-missed_after c =
+    let walked = c.in-Crowded.ensures.walked in
     rw (← c.self.view_is)
-    (inr (
-      taken_out c.self.inside.slots.slots.items c.self.inside.slots.sound c.args.key c.in-Crowded.ensures.walked.0,
-      c.in-Crowded.ensures.walked.1,
-    ))
+    (out_after c.self.inside.slots.slots.items c.self.inside.slots.sound c.self.inside.max_log c.args.key _ walked.0 walked.1)

@@ -9,7 +9,7 @@ use Rattle.kc_table.proofs.quotient_table.QuotientTableCounts.ready.Goals as goa
 
 pub invariant_of-self-inside : goal.invariant_of-self-inside
 invariant_of-self-inside c =
-    table_kept c.self.inside.slots c.in-Free.place _ _ _ (c.in-Free.ensures.room.sound 0) c.put.ensures.low c.put.ensures.put
+    table_kept c.self.inside.slots c.in-Free.place _ _ _ (c.in-Free.ensures.room.sound 0) c.put.ensures.tag_bits c.put.ensures.put
 
 pub grown-requires-clause-new : goal.grown-requires-clause-new
 grown-requires-clause-new c =

@@ -17,7 +17,7 @@ unreachable-requires c =
 
 pub invariant_of-self : goal.invariant_of-self
 invariant_of-self c =
-    table_kept c.args.self.now c.in-Free.place _ _ _ (c.in-Free.ensures.room.sound c.args.count) c.put.ensures.low c.put.ensures.put
+    table_kept c.args.self.now c.in-Free.place _ _ _ (c.in-Free.ensures.room.sound c.args.count) c.put.ensures.tag_bits c.put.ensures.put
 
 pub returns-in-Free-clause-taken : goal.returns-in-Free-clause-taken
 returns-in-Free-clause-taken c = λ _.

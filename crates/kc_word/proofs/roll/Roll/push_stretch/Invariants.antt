@@ -1,6 +1,10 @@
-use Rattle.kc_word.proofs.WalkLemmas.{IsStretched}
+use Rattle.std.proofs.Common.{◌≡◌, ◌+◌, ◌++◌}
+use Rattle.kc_word.specs.Walking.{words_left, IsWalking}
 use Rattle.kc_word.proofs.roll.Roll.push_stretch.Given as goal
 
 abbrev pub invariant-loop-i : goal.invariant-loop-i
-invariant-loop-i l =
-    IsStretched l.fn.self.rule l.fn.self.bytes l.fn.self.taken l.i l.fn.words.items l.words.items l.forward l.backward l.run
+invariant-loop-i l = record {
+  walks : IsWalking (record { rule = l.fn.self.rule; bytes = l.fn.self.bytes; taken = l.fn.self.taken + l.i }) l.rolled;
+  words : l.words.items ++ words_left (record { rule = l.fn.self.rule; bytes = l.fn.self.bytes; taken = l.fn.self.taken + l.i })
+      ≡ l.fn.words.items ++ words_left l.fn.self;
+}

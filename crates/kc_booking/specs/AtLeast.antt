@@ -1,0 +1,35 @@
+-- How many counts are at least so great, and the bins that follow.
+use Rattle.std.specs.Prelude.{ℕ, ◌+◌, ◌-◌, List, map, count_by, slice_index, slice_set, nat_le, if◌then◌else◌}
+use Rattle.std.specs.List.{range_with_len}
+use Rattle.kc_tally.specs.Histogram.{last_bin}
+
+-- how many of the counts are at least c
+unfoldable pub at_least : List ℕ → ℕ → ℕ
+at_least counts c = count_by (λ count. nat_le c count) counts
+
+-- the same for each c from 1 to 10,001
+unfoldable pub at_least_of : List ℕ → List ℕ
+at_least_of counts = map (λ c. at_least counts c) (range_with_len 1 last_bin)
+
+-- the number of these that belongs to c; none belongs to 10,002, which reads as 0
+abbrev pub number_at : List ℕ → ℕ → ℕ
+number_at numbers c = slice_index numbers (c - 1)
+
+-- So many counts fall in a bin: those that are at least so great, but for those that are greater. The last bin has all
+-- that are at least so great.
+abbrev pub difference_at : List ℕ → ℕ → ℕ
+difference_at numbers bin = number_at numbers bin - number_at numbers (bin + 1)
+
+-- the bins 1 to 10,001 that follow from these numbers
+unfoldable pub bins_from : List ℕ → List ℕ
+bins_from numbers = map (λ bin. difference_at numbers bin) (range_with_len 1 last_bin)
+
+-- the numbers after a count rose by one, to this count
+unfoldable pub risen : List ℕ → ℕ → List ℕ
+risen numbers count =
+    if nat_le count last_bin then slice_set numbers (count - 1) (number_at numbers count + 1) else numbers
+
+-- the numbers after a count fell by one, from this count
+unfoldable pub fallen : List ℕ → ℕ → List ℕ
+fallen numbers count =
+    if nat_le count last_bin then slice_set numbers (count - 1) (number_at numbers count - 1) else numbers

@@ -1,0 +1,101 @@
+use Rattle.std.proofs.Common.{rules, arith, refl, ◌≡◌, ◌∙◌, ap, sym, subst, true, true≢false, ◌-◌}
+use Rattle.std.proofs.Common.{inl, inr, ◌⊎◌, Ok, [], ◌∷◌, ◌++◌, length}
+use Rattle.std.proofs.lemmas.Result.{err_from_is_err_and}
+use Rattle.kc_fastx.specs.Lines.{Cursor, lines, skip_blanks}
+use Rattle.kc_fastx.specs.Reading.{Stand, HasGiven, IsSure}
+use Rattle.kc_fastx.specs.declared.record_reader.Next.TheVariants.{Given}
+use Rattle.kc_fastx.specs.Titles.{TellsRecord, title_at}
+use Rattle.kc_fastx.proofs.TailLemmas.{skip_blanks-again}
+use Rattle.kc_fastx.proofs.TitlesLemmas.{record_read}
+use Rattle.kc_fastx.proofs.ReadingLemmas.{ArePassed, IsRead, behind_is, given_fault, given_more, reaches, uses_some}
+use Rattle.kc_fastx.proofs.record_reader.Reading.next_of_whole.Goals as goal
+use Rattle.kc_fastx.proofs.record_reader.Reading.next_of_whole.Goals.{After-use_up, Joined-else-not-self}
+use Rattle.kc_fastx.proofs.record_reader.Reading.next_of_whole.Goals.{else-not-self-via-then-not-self+else-not-is_sure}
+use Rattle.kc_fastx.proofs.record_reader.Reading.next_of_whole.Goals.{else-not-self-via-else-not-self}
+use Rattle.kc_fastx.proofs.record_reader.Reading.next_of_whole.Goals.{then-is_titled+in_ok-extend_from_slice, else-is_titled}
+
+pub next_record-next-requires : goal.next_record-next-requires
+next_record-next-requires c =
+    let left = c.pass_blanks.ensures.left in
+    ap skip_blanks left ∙ skip_blanks-again (lines c.whole_lines-whole.result.now) ∙ sym left
+
+-- the answer stays right, whatever the source still gives
+is_sure : (c : Joined-else-not-self)
+    → (c.args.self.now.ended ≡ true) ⊎ IsSure c.next_record-next.result c.next_record-next.new.lines.left
+is_sure c = elim c.else-not-self.branch [
+  | else-not-self-via-then-not-self+else-not-is_sure w ↦ inr (w.is_sure.ensures (search rules))
+  | else-not-self-via-else-not-self w ↦ inl (search rules)
+]
+
+pub returns-in_err-read-clause-tells : goal.returns-in_err-read-clause-tells
+returns-in_err-read-clause-tells c = λ start now limit reads h.
+    let taken = ap (λ (s : Stand). s.lines_used) c.self.view_is in
+    let is_fastq = ap (λ (s : Stand). s.is_fastq) c.self.view_is in
+    let fails = rw (c.pass_blanks.ensures.counted, c.pass_blanks.ensures.left, taken, is_fastq)
+    at c.in_err-read.ensures.err in
+    let sure = rw c.in_err-read.was at (is_sure (goal.at.returns-in_err-read-clause-tells c).Joined-else-not-self) in
+    let p = err_from_is_err_and c.from_residual.result c.from_residual.ensures.1 in
+    rw (p.1, p.2) (given_fault h c.whole_lines-whole.result.now c.next_record-next.new.lines.left
+    c.in_err-read.field-0.0 c.whole_lines-whole.ensures fails sure)
+
+-- the blank lines and the record that were passed
+passed : (c : After-use_up) → ArePassed c.args.self.now (record {
+  taken = c.self.inside.lines_used;
+  left = lines c.whole_lines-whole.result.now;
+  bytes = c.whole_lines-whole.result.now;
+}) c.pass_blanks.new.self c.next_record-next.new.lines
+passed c = record {
+  taken = ap (λ (s : Stand). s.lines_used) c.self.view_is;
+  counted_blank = c.pass_blanks.ensures.counted;
+  passes_blank = c.pass_blanks.ensures.passes;
+  counted = c.in_ok-read.ensures.counted;
+  passes = c.in_ok-read.ensures.passes;
+}
+
+-- the record that was read
+one : (c : After-use_up) → IsRead c.args.self.now c.whole_lines-whole.result.now c.next_record-next.new.lines
+    (c.in-Some.read, c.in-Some.is_fastq) (length c.whole_lines-whole.result.now - length c.lines-2.inside.left.now)
+one c =
+    let whole = c.whole_lines-whole.result.now in
+    let after = c.next_record-next.new.lines in
+    let rest = ap (λ (s : Cursor). s.bytes) c.lines-2.view_is in
+    let left : after.left ≡ lines after.bytes = sym (ap (λ (s : Cursor). s.left) c.lines-2.view_is) ∙ ap lines rest in
+    let is_fastq = ap (λ (s : Stand). s.is_fastq) c.self.view_is in
+    record {
+      has_whole = c.whole_lines-whole.ensures;
+      reaches = reaches (passed c) whole refl refl left;
+      one = rw (is_fastq, c.pass_blanks.ensures.left, c.in-Some.is) at c.in_ok-read.ensures.ok;
+      sure = rw (c.in_ok-read.was, c.in-Some.is) at (is_sure (goal.at.After-use_up c).Joined-else-not-self);
+      used = ap (λ v. length whole - length v) rest;
+    }
+
+pub returns-clause-tells : goal.returns-clause-tells
+returns-clause-tells c = λ start now limit reads h.
+    let behind = behind_is (length c.whole_lines-whole.result.now - length c.lines-2.inside.left.now)
+    c.in-Some.is_fastq c.self.view_is c.use_up.ensures (ap (λ (s : Cursor). s.taken) c.lines-2.view_is) in
+    subst (λ v. HasGiven start now limit (reads ++ c.in-Some.read ∷ []) v) (sym behind)
+    (given_more (one c) start now limit reads h)
+
+pub returns-clause-titled : goal.returns-clause-titled
+returns-clause-titled c = λ wanted.
+    let stand = c.args.self.now in
+    let whole = c.whole_lines-whole.result.now in
+    let is : c.if-is_titled.title.items ≡ title_at (skip_blanks (lines whole)) = elim c.if-is_titled.branch [
+      | then-is_titled+in_ok-extend_from_slice w ↦ ap (λ v. v.items) w.title-is ∙ w.in_ok-extend_from_slice.ensures.items
+          ∙ ap (λ v. v ++ w.title.result.now) w.clear.ensures.items ∙ w.title.ensures
+          ∙ ap (λ (s : Cursor). title_at s.left) c.lines.view_is ∙ ap title_at c.pass_blanks.ensures.left
+      | else-is_titled w ↦ absurd (true≢false (sym wanted ∙ w.if-is_titled.false))
+    ] in
+    let behind = behind_is (length whole - length c.lines-2.inside.left.now) c.in-Some.is_fastq c.self.view_is
+    c.use_up.ensures (ap (λ (s : Cursor). s.taken) c.lines-2.view_is) in
+    subst (λ v. TellsRecord stand v c.if-is_titled.title.items (Ok (Given c.in-Some.read))) (sym behind)
+    (refl, λ more none. record_read (one c) _ is more none)
+
+pub returns-clause-moves : goal.returns-clause-moves
+returns-clause-moves c =
+    let next = rw c.in-Some.is at c.in_ok-read.ensures.ok in
+    let some = uses_some (passed c) c.self.inside.is_fastq (c.in-Some.read, c.in-Some.is_fastq)
+    c.pass_blanks.ensures.left next in
+    let rest = ap (λ (s : Cursor). length s.bytes) c.lines-2.view_is in
+    let used = ap (λ (s : Stand). s.used) c.self.view_is in
+    omega (arith, some, rest, used)
