@@ -81,7 +81,7 @@ fn count_back<C: Counts>(rt: &impl Abort, table: &mut C) -> Result<(), TableFaul
     for (key, times) in TIMES {
         uncount(rt, table, key);
         assert_key(rt, table, key);
-        assert_same(rt, key, &(table.get(key) + 1), &times);
+        assert_same(rt, key, &table.get(key).wrapping_add(1), &times);
         count_times(rt, table, key, 1)?;
     }
     Ok(())
