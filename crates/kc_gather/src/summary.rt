@@ -56,6 +56,7 @@ pub trait Summary: Sized {
     /// threads where rows are taken. It is refused where `gather` is.
     ///
     /// Conditions: those of `gather`, and at least one thread.
+    // It is final, since the checker takes no function of an impl that hands a bounded type to another thread.
     final fn gathered<C: Counts + Drop + Send, H: Threads + Sync>(
         rt: &H,
         alloc: Global,
