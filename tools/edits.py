@@ -104,7 +104,7 @@ def functions_of(path, text, homes):
                 at += 1
             header = " ".join(it.strip() for it in lines[head : at + 1]).rstrip("{} ")
             owner, is_of_trait = owner_of(header, module, homes), " for " in header or bool(re.match(r"(pub\S* )?trait\b", header))
-        begun = re.match(r"( *)(?:pub(?:\(\w+\))? )?(?:const )?fn (\w+)", lines[at])
+        begun = re.match(r"( *)(?:pub(?:\(\w+\))? )?(?:const |final )?fn (\w+)", lines[at])
         if begun:
             last = end_of(lines, at, begun[1])
             name = "::".join([*(owner if begun[1] else module), begun[2]])

@@ -1,5 +1,5 @@
 //! The tally that is gathered from the stripes of a count.
-ghost use Rattle.std.specs.Prelude.{◌≡◌, ◌≢◌, ℕ, ◌≤◌, ◌^◌, length, IfOk, OnOk, IfErr};
+ghost use Rattle.std.specs.Prelude.{◌≡◌, ◌≢◌, ℕ, ◌≤◌, ◌^◌, true, length, IfOk, OnOk, IfErr};
 ghost use Rattle.kc_word.specs.Shared.{values};
 ghost use Rattle.kc_tally.specs.Tally.{AreRows, IsTallyOf};
 ghost use Rattle.kc_booking.specs.Setup.{stripe_count};
@@ -11,6 +11,7 @@ ghost use Rattle.kc_gather.specs.Gathering.{IsRefusal, StandsThere};
 use crate::columns::{columns_of, sorted_each, sorted_in_parallel};
 use crate::gather_fault::GatherFault;
 use crate::placed::at_places;
+use crate::summary::Summary;
 use crate::taken_rows::{taken_in_parallel, taken_of_each};
 use kc_booking::{Setup, Stripe};
 use kc_table::Counts;
@@ -49,7 +50,7 @@ pub fn gather<C: Counts + Drop>(
 /// What `gather` answers. The stripes are looked at, and their rows taken and sorted, by at most so many threads.
 ///
 /// Conditions: those of `gather`, and at least one thread.
-pub fn gather_in_parallel<C: Counts + Drop + Send, H: Threads + Sync>(
+pub(crate) fn gather_in_parallel<C: Counts + Drop + Send, H: Threads + Sync>(
     rt: &H,
     alloc: Global,
     threads: u32,
@@ -71,6 +72,27 @@ pub fn gather_in_parallel<C: Counts + Drop + Send, H: Threads + Sync>(
     let columns = columns_of(alloc, setup.rule().k(), taken)?;
     let parts = sorted_in_parallel(rt, alloc, threads, columns)?;
     Ok(tally_of(alloc, parts, setup)?)
+}
+
+impl Summary for Tally {
+    ghost is_of = { IsTallyOf };
+
+    ghost TAKES_ROWS = { true };
+
+    const TAKES_ROWS: bool = true;
+
+    fn of_tally(tally: Tally) -> Option<Tally> {
+        Some(tally)
+    }
+
+    fn gathered_alone<C: Counts + Drop>(
+        alloc: Global,
+        stripes: Vec<Stripe<C>>,
+        batches: &[Arc<Batch>],
+        setup: &Setup,
+    ) -> Result<Tally, GatherFault> {
+        gather(alloc, stripes, batches, setup)
+    }
 }
 
 // The tally of the rows of these parts, which are sorted.

@@ -18,11 +18,11 @@ mod journal;
 mod parts;
 mod piles;
 mod placed;
+mod summary;
 mod taken_rows;
 
 pub use gather_fault::GatherFault;
-pub use gathered_histogram::gather_histogram;
-pub use gathered_statistics::gather_statistics;
-pub use gatherer::{gather, gather_in_parallel};
+pub use gatherer::gather;
 /// The tables with which a count begins.
 pub use kc_booking::{plain_tables, quotient_tables};
+pub use summary::Summary;

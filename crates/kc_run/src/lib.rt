@@ -1,11 +1,12 @@
 //! Whole runs: numbered batches are counted by several workers, and gathered.
 //!
 //! `run` counts numbered batches with several workers, each in a thread of its own, over one table in locked stripes,
-//! and answers the tally of all batches. The workers draw the numbers of the batches from the tickets of `kc_tickets`.
+//! and answers the tally of all batches, its histogram or its statistics. The workers draw the numbers of the batches
+//! from the tickets of `kc_tickets`.
 //!
 //! ```ignore
 //! let tables = plain_tables(alloc, &setup)?;
-//! let tally = run(&rt, alloc, &batches, &setup, tables, 2, &NoGate)?;    // by two workers
+//! let tally: Tally = run(&rt, alloc, &batches, &setup, tables, 2, &NoGate)?;    // by two workers
 //! assert_eq!(rt; tally.total(), 3);
 //! ```
 #![tactic(auto)]
@@ -19,7 +20,7 @@ mod worker_rounds;
 
 pub use crate::gate::{Gate, NoGate};
 pub use crate::run_fault::RunFault;
-pub use crate::whole_run::{run, run_histogram, run_statistics};
-pub use kc_gather::{GatherFault, gather, plain_tables, quotient_tables};
+pub use crate::whole_run::run;
+pub use kc_gather::{GatherFault, Summary, gather, plain_tables, quotient_tables};
 pub use kc_tally::{Histogram, Statistics, Tally};
 pub use kc_tickets::{Seat, Tickets, ticket_laws, tickets};

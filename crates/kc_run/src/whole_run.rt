@@ -2,14 +2,11 @@
 ghost use Rattle.std.specs.Prelude.{◌≡◌, ℕ, ◌<◌, ◌≤◌, ◌^◌, All, IfOk, IfErr, length, vec_len};
 ghost use Rattle.std.specs.FinMap.{empty};
 ghost use Rattle.kc_word.specs.Shared.{values};
-ghost use Rattle.kc_tally.specs.Tally.{IsTallyOf};
 ghost use Rattle.kc_share.specs.Sheet.{plan_of};
 ghost use Rattle.kc_share.specs.Share.{entry_total_in};
 ghost use Rattle.kc_booking.specs.Setup.{stripe_count, key_bits};
 ghost use Rattle.kc_booking.specs.Stripe.{reads_in};
 ghost use Rattle.kc_gather.specs.Gathering.{position_sum};
-ghost use Rattle.kc_gather.specs.TallyBins.{AreBinsOf};
-ghost use Rattle.kc_gather.specs.TallyStatistics.{AreStatisticsOf};
 ghost use Rattle.kc_run.specs.Runs.{HaveCounted, IsReady, IsGatheringFault, IsRunFault};
 
 use crate::crew::{joined, work_all, workers_of};
@@ -17,11 +14,10 @@ use crate::gate::Gate;
 use crate::run_fault::RunFault;
 use crate::worker::{Job, Worker};
 use crate::worker_rounds::RoundLimits;
-use kc_gather::{gather_histogram, gather_in_parallel, gather_statistics};
+use kc_gather::Summary;
 use kc_share::{Books, Plan, Sheet};
 use kc_stripe::{Setup, Stripe, Stripes};
 use kc_table::Counts;
-use kc_tally::{Histogram, Statistics, Tally};
 use kc_tickets::Tickets;
 use kc_word::Batch;
 use std::alloc::Global;
@@ -29,9 +25,10 @@ use std::marker::Brand;
 use std::sync::{Arc, Wait};
 use std::thread::Threads;
 
-/// Counts batches with so many workers over one table in locked stripes: the tally of all batches, whatever the
-/// workers, the stripes and the order in which threads are served. A refused run gives no tally; where its fault names
-/// a worker or a stripe, it is one of this run's.
+/// Counts batches with so many workers over one table in locked stripes, and answers the summary that the caller wants:
+/// the tally of all batches or, with no row taken from a stripe, the histogram or the statistics of that tally. The
+/// answer is the same whatever the workers, the stripes and the order in which threads are served. A refused run gives
+/// no summary; where its fault names a worker or a stripe, it is one of this run's.
 ///
 /// Each worker, in a thread of its own, draws numbers until there is none left, and books the batch of each number into
 /// every stripe. It does so in rounds of some 4 million positions: it cuts up all batches of a round, and books them
@@ -39,7 +36,7 @@ use std::thread::Threads;
 ///
 /// Conditions: 1 to 64 workers; at most 2^40 batches, with together at most 2^62 positions; a table for each stripe,
 /// with nothing stored and keys of the setup's `key_bits`.
-pub fn run<H: Threads + Wait + Sync, C: Counts + Drop + Send, G: Gate + Sync>(
+pub fn run<S: Summary, H: Threads + Wait + Sync, C: Counts + Drop + Send, G: Gate + Sync>(
     rt: &H,
     alloc: Global,
     batches: &[Arc<Batch>],
@@ -47,13 +44,13 @@ pub fn run<H: Threads + Wait + Sync, C: Counts + Drop + Send, G: Gate + Sync>(
     tables: Vec<C>,
     workers: u32,
     gate: &G,
-) -> Result<Tally, RunFault>
+) -> Result<S, RunFault>
     requires workers { (1 ≤ workers) × (workers ≤ 64) }
     requires few { length batches.now ≤ 2 ^ 40 }
     requires small { position_sum setup.now.rule.k (values batches.now) ≤ 2 ^ 62 }
     requires one_each { length tables.items ≡ stripe_count setup.now }
     requires tables { All (λ table. (C.counts table ≡ empty) × (C.bits table ≡ key_bits setup.now)) tables.items }
-    ensures tally { IfOk result (IsTallyOf setup.now.rule (reads_in (values batches.now))) }
+    ensures summary { IfOk result (S.is_of setup.now.rule (reads_in (values batches.now))) }
     ensures refused { IfErr result (IsRunFault workers (stripe_count setup.now)) }
 {
     let count = Count {
@@ -65,70 +62,6 @@ pub fn run<H: Threads + Wait + Sync, C: Counts + Drop + Send, G: Gate + Sync>(
     let sheet = Sheet::new(alloc, setup.stripes(), u64::from(workers))?;
     let stripes = counted::<H, C, G, Brand>(rt, alloc, &count, tables, sheet)?;
     gathered(rt, alloc, &count, stripes)
-}
-
-/// Counts batches as `run` does, and answers the histogram of their tally alone: no row is taken from a stripe. It is
-/// refused where `run` is.
-///
-/// Conditions: those of `run`.
-pub fn run_histogram<H: Threads + Wait + Sync, C: Counts + Drop + Send, G: Gate + Sync>(
-    rt: &H,
-    alloc: Global,
-    batches: &[Arc<Batch>],
-    setup: &Setup,
-    tables: Vec<C>,
-    workers: u32,
-    gate: &G,
-) -> Result<Histogram, RunFault>
-    requires workers { (1 ≤ workers) × (workers ≤ 64) }
-    requires few { length batches.now ≤ 2 ^ 40 }
-    requires small { position_sum setup.now.rule.k (values batches.now) ≤ 2 ^ 62 }
-    requires one_each { length tables.items ≡ stripe_count setup.now }
-    requires tables { All (λ table. (C.counts table ≡ empty) × (C.bits table ≡ key_bits setup.now)) tables.items }
-    ensures bins { IfOk result (AreBinsOf setup.now.rule (reads_in (values batches.now))) }
-    ensures refused { IfErr result (IsRunFault workers (stripe_count setup.now)) }
-{
-    let count = Count {
-        batches,
-        setup,
-        workers,
-        gate,
-    };
-    let sheet = Sheet::new(alloc, setup.stripes(), u64::from(workers))?;
-    let stripes = counted::<H, C, G, Brand>(rt, alloc, &count, tables, sheet)?;
-    histogram_gathered(alloc, &count, stripes)
-}
-
-/// Counts batches as `run` does, and answers the statistics of their tally alone: no row is taken from a stripe. It is
-/// refused where `run` is.
-///
-/// Conditions: those of `run`.
-pub fn run_statistics<H: Threads + Wait + Sync, C: Counts + Drop + Send, G: Gate + Sync>(
-    rt: &H,
-    alloc: Global,
-    batches: &[Arc<Batch>],
-    setup: &Setup,
-    tables: Vec<C>,
-    workers: u32,
-    gate: &G,
-) -> Result<Statistics, RunFault>
-    requires workers { (1 ≤ workers) × (workers ≤ 64) }
-    requires few { length batches.now ≤ 2 ^ 40 }
-    requires small { position_sum setup.now.rule.k (values batches.now) ≤ 2 ^ 62 }
-    requires one_each { length tables.items ≡ stripe_count setup.now }
-    requires tables { All (λ table. (C.counts table ≡ empty) × (C.bits table ≡ key_bits setup.now)) tables.items }
-    ensures statistics { IfOk result (AreStatisticsOf setup.now.rule (reads_in (values batches.now))) }
-    ensures refused { IfErr result (IsRunFault workers (stripe_count setup.now)) }
-{
-    let count = Count {
-        batches,
-        setup,
-        workers,
-        gate,
-    };
-    let sheet = Sheet::new(alloc, setup.stripes(), u64::from(workers))?;
-    let stripes = counted::<H, C, G, Brand>(rt, alloc, &count, tables, sheet)?;
-    statistics_gathered(alloc, &count, stripes)
 }
 
 // What is counted, and how.
@@ -194,58 +127,24 @@ fn counted<
     Ok(stripes)
 }
 
-// The tally that is gathered from the stripes. None lacks a batch, since each journal has as many entries as there are
-// batches.
-fn gathered<H: Threads + Sync, C: Counts + Drop + Send, G: Gate>(
+// The summary that is gathered from the stripes. No stripe lacks a batch, since each journal has as many entries as
+// there are batches.
+fn gathered<S: Summary, H: Threads + Sync, C: Counts + Drop + Send, G: Gate>(
     rt: &H,
     alloc: Global,
     count: &Count<G>,
     stripes: Vec<Stripe<C>>,
-) -> Result<Tally, RunFault>
+) -> Result<S, RunFault>
     requires workers { 1 ≤ count.now.workers }
     requires small { position_sum count.now.setup.now.rule.k (values count.now.batches.now) ≤ 2 ^ 62 }
     requires counted { HaveCounted count.now.setup.now (length count.now.batches.now) stripes.items }
-    ensures tally { IfOk result
-        (IsTallyOf count.now.setup.now.rule (reads_in (values count.now.batches.now))) }
+    ensures summary { IfOk result
+        (S.is_of count.now.setup.now.rule (reads_in (values count.now.batches.now))) }
     ensures refused { IfErr result (IsGatheringFault (stripe_count count.now.setup.now)) }
 {
     let (batches, setup) = (count.batches, count.setup);
-    match gather_in_parallel(rt, alloc, count.workers, stripes, batches, setup) {
-        Ok(tally) => Ok(tally),
-        Err(fault) => Err(RunFault::of_gathering(fault)),
-    }
-}
-
-// The histogram that is gathered from the stripes, of which none lacks a batch.
-fn histogram_gathered<C: Counts + Drop, G: Gate>(
-    alloc: Global,
-    count: &Count<G>,
-    stripes: Vec<Stripe<C>>,
-) -> Result<Histogram, RunFault>
-    requires { HaveCounted count.now.setup.now (length count.now.batches.now) stripes.items }
-    ensures bins { IfOk result (AreBinsOf count.now.setup.now.rule (reads_in (values count.now.batches.now))) }
-    ensures refused { IfErr result (IsGatheringFault (stripe_count count.now.setup.now)) }
-{
-    match gather_histogram(alloc, stripes, count.batches, count.setup) {
-        Ok(histogram) => Ok(histogram),
-        Err(fault) => Err(RunFault::of_gathering(fault)),
-    }
-}
-
-// The statistics that are gathered from the stripes, of which none lacks a batch.
-fn statistics_gathered<C: Counts + Drop, G: Gate>(
-    alloc: Global,
-    count: &Count<G>,
-    stripes: Vec<Stripe<C>>,
-) -> Result<Statistics, RunFault>
-    requires small { position_sum count.now.setup.now.rule.k (values count.now.batches.now) ≤ 2 ^ 62 }
-    requires counted { HaveCounted count.now.setup.now (length count.now.batches.now) stripes.items }
-    ensures statistics { IfOk result
-        (AreStatisticsOf count.now.setup.now.rule (reads_in (values count.now.batches.now))) }
-    ensures refused { IfErr result (IsGatheringFault (stripe_count count.now.setup.now)) }
-{
-    match gather_statistics(alloc, stripes, count.batches, count.setup) {
-        Ok(statistics) => Ok(statistics),
+    match S::gathered(rt, alloc, count.workers, stripes, batches, setup) {
+        Ok(summary) => Ok(summary),
         Err(fault) => Err(RunFault::of_gathering(fault)),
     }
 }

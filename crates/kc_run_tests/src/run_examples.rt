@@ -1,6 +1,6 @@
 //! The examples at the front of kc_tickets and kc_run.
 use crate::whole_runs::{batches_of, made_setup};
-use kc_run::{NoGate, Tickets, plain_tables, run};
+use kc_run::{NoGate, Tally, Tickets, plain_tables, run};
 use std::test::Fail;
 
 #[test]
@@ -20,7 +20,7 @@ fn two_workers_count_batches(rt: HostRuntime) -> Result<(), Fail> {
     let setup = made_setup(3, 2)?;
     let batches = batches_of(alloc, &setup, b"ACGTA", 1)?;
     let tables = plain_tables(alloc, &setup)?;
-    let tally = run(&rt, alloc, &batches, &setup, tables, 2, &NoGate)?;
+    let tally: Tally = run(&rt, alloc, &batches, &setup, tables, 2, &NoGate)?;
     assert_eq!(rt; tally.total(), 3);
     Ok(())
 }

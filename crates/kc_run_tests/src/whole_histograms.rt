@@ -1,7 +1,7 @@
 //! Histograms of whole runs, for which no row is taken.
 use crate::run_assertions::assert_same;
 use crate::whole_runs::{batches_of, made_setup};
-use kc_run::{Histogram, NoGate, plain_tables, run_histogram};
+use kc_run::{Histogram, NoGate, plain_tables, run};
 use std::alloc::Global;
 use std::process::Abort;
 use std::sync::Wait;
@@ -24,7 +24,7 @@ fn histogram_by<H: Threads + Wait + Sync>(
     let setup = made_setup(3, stripes)?;
     let batches = batches_of(alloc, &setup, b"ACGTANACG", 2)?;
     let tables = plain_tables(alloc, &setup)?;
-    Ok(run_histogram(rt, alloc, &batches, &setup, tables, workers, &NoGate)?)
+    Ok(run(rt, alloc, &batches, &setup, tables, workers, &NoGate)?)
 }
 
 // CGT and GTA occur once, ACG twice.

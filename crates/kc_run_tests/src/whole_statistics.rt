@@ -1,7 +1,7 @@
 //! Statistics of whole runs, for which no row is taken.
 use crate::run_assertions::assert_same;
 use crate::whole_runs::{batches_of, made_setup};
-use kc_run::{NoGate, Statistics, plain_tables, run_statistics};
+use kc_run::{NoGate, Statistics, plain_tables, run};
 use std::alloc::Global;
 use std::sync::Wait;
 use std::test::Fail;
@@ -23,7 +23,7 @@ fn statistics_by<H: Threads + Wait + Sync>(
     let setup = made_setup(3, stripes)?;
     let batches = batches_of(alloc, &setup, b"ACGTANACG", 2)?;
     let tables = plain_tables(alloc, &setup)?;
-    Ok(run_statistics(rt, alloc, &batches, &setup, tables, workers, &NoGate)?)
+    Ok(run(rt, alloc, &batches, &setup, tables, workers, &NoGate)?)
 }
 
 // CGT and GTA occur once, ACG twice.

@@ -1,8 +1,12 @@
 //! Histograms that are gathered from the stripes of a count, without a row.
+ghost use Rattle.std.specs.Prelude.{◌≤◌, ◌^◌};
+ghost use Rattle.kc_word.specs.Shared.{values};
+ghost use Rattle.kc_gather.specs.Gathering.{position_sum};
+
 use crate::gatherings::{batches_of, stripes_of};
 use crate::sample_batches::made_setup;
 use crate::stripe_assertions::assert_same;
-use kc_gather::{GatherFault, gather_histogram};
+use kc_gather::{GatherFault, Summary};
 use kc_stripe::Setup;
 use kc_tally::Histogram;
 use kc_word::Batch;
@@ -10,19 +14,23 @@ use std::alloc::Global;
 use std::process::Abort;
 use std::sync::Arc;
 use std::test::Fail;
+use std::thread::Threads;
 
 // What gathering the histogram answers, where these batches are given and those were booked.
-fn gathered(
+fn gathered<H: Threads + Sync>(
+    rt: &H,
     alloc: Global,
     setup: &Setup,
     batches: &[Arc<Batch>],
     booked: &[Arc<Batch>],
-) -> Result<Result<Histogram, GatherFault>, Fail> {
+) -> Result<Result<Histogram, GatherFault>, Fail>
+    requires { position_sum setup.now.rule.k (values batches.now) ≤ 2 ^ 62 }
+{
     let stripes = stripes_of(alloc, setup, booked)?;
     if stripes.len() != setup.stripes() as usize {
         return Err(Fail::from("not a stripe for each number"));
     }
-    Ok(gather_histogram(alloc, stripes, batches, setup))
+    Ok(Histogram::gathered(rt, alloc, 1, stripes, batches, setup))
 }
 
 // Numbers of stripes, and positions of a batch.
@@ -33,7 +41,7 @@ fn the_histogram_of_all_stripes(rt: HostRuntime) -> Result<(), Fail> {
     for (stripes, size) in COUNTS {
         let setup = made_setup(3, *stripes)?;
         let batches = batches_of(rt.alloc(), &setup, b"ACGTANACG", *size)?;
-        match gathered(rt.alloc(), &setup, &batches, &batches)? {
+        match gathered(&rt, rt.alloc(), &setup, &batches, &batches)? {
             Ok(histogram) => assert_bins(&rt, &histogram),
             Err(_) => return Err(Fail::from("no histogram")),
         }
@@ -64,7 +72,7 @@ fn a_stripe_that_lacks_a_batch_or_has_another_has_no_histogram(
     let booked = batches_of(rt.alloc(), &setup, b"AAAA", 2)?;
     for (bases, want) in REFUSALS {
         let batches = batches_of(rt.alloc(), &setup, *bases, 2)?;
-        match gathered(rt.alloc(), &setup, &batches, &booked)? {
+        match gathered(&rt, rt.alloc(), &setup, &batches, &booked)? {
             Ok(_) => return Err(Fail::from("a histogram")),
             Err(fault) => assert_same(&rt, "a fault", &fault, want),
         }

@@ -6,7 +6,7 @@ ghost use Rattle.kc_gather.specs.Gathering.{position_sum};
 
 use crate::sample_batches::{book_batch, made_setup, plain_stripes, read_of};
 use crate::stripe_assertions::{assert_items, assert_same};
-use kc_gather::{GatherFault, gather, gather_in_parallel, plain_tables, quotient_tables};
+use kc_gather::{GatherFault, Summary, gather, plain_tables, quotient_tables};
 use kc_stripe::{Setup, Stripe};
 use kc_table::{Counts, PlainCounts, QuotientTable};
 use kc_tally::{Row, Tally};
@@ -167,7 +167,7 @@ fn gather_by<H: Threads + Sync>(
     if threads == 0 {
         return gather(alloc, stripes, batches, setup);
     }
-    gather_in_parallel(rt, alloc, threads, stripes, batches, setup)
+    Tally::gathered(rt, alloc, threads, stripes, batches, setup)
 }
 
 // The tally has these rows and no others.

@@ -6,16 +6,18 @@ ghost use Rattle.kc_gather.specs.Gathering.{position_sum};
 use crate::gatherings::{batches_of, stripes_of};
 use crate::sample_batches::made_setup;
 use crate::stripe_assertions::assert_same;
-use kc_gather::{GatherFault, gather_statistics};
+use kc_gather::{GatherFault, Summary};
 use kc_stripe::Setup;
 use kc_tally::Statistics;
 use kc_word::Batch;
 use std::alloc::Global;
 use std::sync::Arc;
 use std::test::Fail;
+use std::thread::Threads;
 
 // What gathering the statistics answers, where these batches are given and those were booked.
-fn gathered(
+fn gathered<H: Threads + Sync>(
+    rt: &H,
     alloc: Global,
     setup: &Setup,
     batches: &[Arc<Batch>],
@@ -27,7 +29,7 @@ fn gathered(
     if stripes.len() != setup.stripes() as usize {
         return Err(Fail::from("not a stripe for each number"));
     }
-    Ok(gather_statistics(alloc, stripes, batches, setup))
+    Ok(Statistics::gathered(rt, alloc, 1, stripes, batches, setup))
 }
 
 // Numbers of stripes, and positions of a batch.
@@ -46,7 +48,7 @@ fn the_statistics_of_all_stripes(rt: HostRuntime) -> Result<(), Fail> {
     for (stripes, size) in COUNTS {
         let setup = made_setup(3, *stripes)?;
         let batches = batches_of(rt.alloc(), &setup, b"ACGTANACG", *size)?;
-        let found = gathered(rt.alloc(), &setup, &batches, &batches)?;
+        let found = gathered(&rt, rt.alloc(), &setup, &batches, &batches)?;
         assert_same(&rt, "statistics", &found, &Ok(WANT));
     }
     Ok(())
@@ -66,7 +68,7 @@ fn a_stripe_that_lacks_a_batch_or_has_another_has_no_statistics(
     let booked = batches_of(rt.alloc(), &setup, b"AAAA", 2)?;
     for (bases, want) in REFUSALS {
         let batches = batches_of(rt.alloc(), &setup, *bases, 2)?;
-        match gathered(rt.alloc(), &setup, &batches, &booked)? {
+        match gathered(&rt, rt.alloc(), &setup, &batches, &booked)? {
             Ok(_) => return Err(Fail::from("statistics")),
             Err(fault) => assert_same(&rt, "a fault", &fault, want),
         }

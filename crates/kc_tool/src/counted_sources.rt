@@ -35,7 +35,7 @@ use kc_fastx::{FastxFault, Reading, Source, read_all};
 use kc_hash::Hash;
 use kc_io::FromBytes;
 use kc_report::Origin;
-use kc_run::{quotient_tables, run, run_histogram, run_statistics};
+use kc_run::{quotient_tables, run};
 use kc_stripe::Setup;
 use kc_word::{Batch, Cutting, Only, Rule, clean};
 use std::alloc::{AllocError, Global};
@@ -117,11 +117,11 @@ pub(crate) fn count_given<H: Threads + Wait + Sync, R: Source, F: Source, P: Pro
     let workers = options.workers();
     match options.print() {
         Print::Histo if options.high() <= GREATEST_BIN => {
-            let bins = run_histogram(rt, alloc, &batches, &setup, tables, workers, progress)?;
+            let bins = run(rt, alloc, &batches, &setup, tables, workers, progress)?;
             Ok((CountedTally::Bins(bins), Some(origin)))
         }
         Print::Stats => {
-            let numbers = run_statistics(rt, alloc, &batches, &setup, tables, workers, progress)?;
+            let numbers = run(rt, alloc, &batches, &setup, tables, workers, progress)?;
             Ok((CountedTally::Numbers(numbers), Some(origin)))
         }
         _ => {

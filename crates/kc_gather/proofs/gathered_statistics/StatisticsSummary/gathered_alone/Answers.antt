@@ -4,8 +4,8 @@ use Rattle.kc_kmer.specs.Rule.{CountingRule}
 use Rattle.kc_word.specs.Shared.{values}
 use Rattle.kc_gather.specs.declared.gather_fault.GatherFault.TheVariants.{Missing}
 use Rattle.kc_gather.specs.Gathering.{AreWholeBefore, IsRefusal, StandsThere}
-use Rattle.kc_gather.proofs.JoinedLemmas.{AreOfCount, words-few, bins-of_tally}
-use Rattle.kc_gather.proofs.gathered_histogram.gather_histogram.Goals as goal
+use Rattle.kc_gather.proofs.JoinedLemmas.{AreOfCount, words-few, bins-few, total-few, statistics-of_tally}
+use Rattle.kc_gather.proofs.gathered_statistics.StatisticsSummary.gathered_alone.Goals as goal
 
 pub check_all-requires : goal.check_all-requires
 check_all-requires g c = ap length c.as_slice-all.ensures.value ∙ c.requires.one_each
@@ -40,8 +40,8 @@ joined_histogram-requires g c =
     } in
     words-few c.args.setup.now (values c.args.batches.now) c.as_slice-all.result.now of
 
-pub returns-clause-bins : goal.returns-clause-bins
-returns-clause-bins g c =
+pub words_in-requires : goal.words_in-requires
+words_in-requires g c =
     let short : c.args.setup.now.rule.k ≤ 31 = omega (arith, c.get-bases.ensures, c.k.ensures, ap (λ (rule : CountingRule). rule.k) c.rule.ensures) in
     let of : AreOfCount c.args.setup.now (values c.args.batches.now) c.as_slice-all.result.now = record {
       one_each = ap length c.as_slice-all.ensures.value ∙ c.requires.one_each;
@@ -49,4 +49,32 @@ returns-clause-bins g c =
       differ = c.in_ok-check_all.ensures.differ;
       short = short;
     } in
-    bins-of_tally c.args.setup.now (values c.args.batches.now) c.as_slice-all.result.now c.in_ok-histogram.histogram of c.in_ok-histogram.ensures
+    bins-few c.args.setup.now (values c.args.batches.now) c.as_slice-all.result.now c.in_ok-histogram.histogram of c.in_ok-histogram.ensures
+
+pub joined_total-requires : goal.joined_total-requires
+joined_total-requires g c =
+    let short : c.args.setup.now.rule.k ≤ 31 = omega (arith, c.get-bases.ensures, c.k.ensures, ap (λ (rule : CountingRule). rule.k) c.rule.ensures) in
+    let of : AreOfCount c.args.setup.now (values c.args.batches.now) c.as_slice-all.result.now = record {
+      one_each = ap length c.as_slice-all.ensures.value ∙ c.requires.one_each;
+      whole = c.in_ok-check_all.ensures.whole;
+      differ = c.in_ok-check_all.ensures.differ;
+      short = short;
+    } in
+    total-few c.args.setup.now (values c.args.batches.now) c.as_slice-all.result.now of c.requires.few
+
+pub returns-clause-summary : goal.returns-clause-summary
+returns-clause-summary g c =
+    let short : c.args.setup.now.rule.k ≤ 31 = omega (arith, c.get-bases.ensures, c.k.ensures, ap (λ (rule : CountingRule). rule.k) c.rule.ensures) in
+    let of : AreOfCount c.args.setup.now (values c.args.batches.now) c.as_slice-all.result.now = record {
+      one_each = ap length c.as_slice-all.ensures.value ∙ c.requires.one_each;
+      whole = c.in_ok-check_all.ensures.whole;
+      differ = c.in_ok-check_all.ensures.differ;
+      short = short;
+    } in
+    statistics-of_tally c.args.setup.now (values c.args.batches.now) c.as_slice-all.result.now c.in_ok-histogram.histogram _ of c.in_ok-histogram.ensures
+    (record {
+      unique = c.bin.ensures;
+      distinct = c.words_in.ensures;
+      total = c.joined_total.ensures;
+      greatest = c.joined_greatest.ensures;
+    })
