@@ -36,4 +36,4 @@ pub record Packed : Type 0 where
 pub record IsPacked (low width places : ℕ) (numbers : List ℕ) : Type 0 where
   pub some_bits : low < width
   pub few_bits : width ≤ 64
-  pub as_many : places ≡ length numbers
+  pub enough : length numbers ≤ places

@@ -10,6 +10,11 @@ use crate::tag::Tag;
 use std::alloc::{AllocError, Global};
 use std::marker::Model;
 
+// From how many slots on a table has room for at least `GREAT_ROOM` great counts.
+const MANY_SLOTS: usize = 1 << 18;
+
+const GREAT_ROOM: usize = 1 << 21;
+
 /// The slots of a table, one behind another. A slot's number has the tag in its high bits, and below it `low` bits for
 /// the count. Where these are all 1 the count stands in `great`, under the slot's index.
 #[derive(Drop)]
@@ -45,7 +50,7 @@ impl PackedSlots {
         ensures empty { IfOk result (λ slots. slots.items ≡ replicate (2 ^ log) empty_slot) }
     {
         let count = 1 << log;
-        let great = GreatCounts::new(alloc, count)?;
+        let great = GreatCounts::new(alloc, room_for_great(count))?;
         let bits = (tag_bits + LEAST_COUNT_BITS).min(64);
         let numbers = Numbers::zeros(alloc, bits, count)?;
         let low = numbers.width() - tag_bits;
@@ -161,6 +166,21 @@ impl PackedSlots {
             let lowered = self.great.count(index) - 1;
             self.great.set(index, lowered);
         }
+    }
+}
+
+// For how many great counts there is room beside so many slots. It is address space, and memory only where there are any.
+//
+// A block above 32 MB that is freed goes back to the system. Once a smaller one was freed, the C library (glibc) takes
+// blocks up to that size from a heap, where hash tables that have grown leave gaps: a third of a count's peak. So the
+// room is as large as that, or too small to matter.
+fn room_for_great(slots: usize) -> usize
+    ensures { slots ≤ result }
+{
+    if slots < MANY_SLOTS {
+        slots
+    } else {
+        slots.max(GREAT_ROOM)
     }
 }
 
