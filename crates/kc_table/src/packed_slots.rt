@@ -169,7 +169,8 @@ impl PackedSlots {
     }
 }
 
-// For how many great counts there is room beside so many slots. It is address space, and memory only where there are any.
+// For how many great counts there is room beside so many slots. It is address space, and memory only where there are
+// any.
 //
 // A block above 32 MB that is freed goes back to the system. Once a smaller one was freed, the C library (glibc) takes
 // blocks up to that size from a heap, where hash tables that have grown leave gaps: a third of a count's peak. So the
