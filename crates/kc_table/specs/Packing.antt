@@ -1,6 +1,6 @@
 -- How slots stand in numbers, and what a row of such slots is seen as.
 use Rattle.std.specs.Prelude.{◌≡◌, refl, ℕ, ◌-◌, ◌/◌, ◌%◌, ◌^◌, ◌<◌, ◌≤◌, ◌==◌, if◌then◌else◌}
-use Rattle.std.specs.Prelude.{List, [], ◌∷◌, length, map, slice_index_or}
+use Rattle.std.specs.Prelude.{List, [], ◌∷◌, length, map, max, slice_index_or}
 use Rattle.std.specs.List.{range_with_len}
 use Rattle.kc_table.specs.GreatCounts.{great_count}
 use Rattle.kc_table.specs.Slot.{Slot}
@@ -31,9 +31,16 @@ pub record Packed : Type 0 where
   pub tag_bits : ℕ
   pub items : List Slot
 
+-- The places for great counts beside so many slots: one for each slot; from 2 ^ 18 slots on there may be more of them,
+-- up to 2 ^ 21.
+pub record ArePlacesFor (slots places : ℕ) : Type 0 where
+  pub enough : slots ≤ places
+  pub few : slots < 2 ^ 18 → places ≡ slots
+  pub most : places ≤ max slots (2 ^ 21)
+
 -- What a row of slots keeps: each number has the bits of a tag above its low bits, and there is a place for a great
 -- count of each slot.
 pub record IsPacked (low width places : ℕ) (numbers : List ℕ) : Type 0 where
   pub some_bits : low < width
   pub few_bits : width ≤ 64
-  pub enough : length numbers ≤ places
+  pub places_for : ArePlacesFor (length numbers) places

@@ -1,5 +1,6 @@
 //! The slots of a table packed into one number each, with the great counts beside them.
 ghost use Rattle.std.specs.Prelude.{◌≡◌, ◌≢◌, ◌+◌, ◌-◌, ◌^◌, ◌<◌, ◌≤◌, IfOk, length, replicate, slice_set};
+ghost use Rattle.kc_table.specs.Packing.{ArePlacesFor};
 ghost use Rattle.kc_table.specs.Sizes.{count_bits, most_log};
 ghost use Rattle.kc_table.specs.Slot.{tag_at, slot_count, empty_slot};
 
@@ -176,7 +177,7 @@ impl PackedSlots {
 // blocks up to that size from a heap, where hash tables that have grown leave gaps: a third of a count's peak. So the
 // room is as large as that, or too small to matter.
 fn room_for_great(slots: usize) -> usize
-    ensures { slots ≤ result }
+    ensures { ArePlacesFor slots result }
 {
     if slots < MANY_SLOTS {
         slots

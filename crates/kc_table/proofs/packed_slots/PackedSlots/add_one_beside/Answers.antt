@@ -13,7 +13,7 @@ pub set-requires : goal.set-requires
 set-requires c =
     let below : c.args.index < length (numbers_in c.self.inside.numbers) =
     number_there _ _ _ _ _ _ c.self.view_is c.requires.in_range in
-    omega (arith, c.self.invariant.enough)
+    omega (arith, c.self.invariant.places_for.enough)
 
 pub overflow_add-number : goal.overflow_add-number
 overflow_add-number c =

@@ -35,7 +35,7 @@ pub set-requires-else-count-mask : goal.set-requires-else-count-mask
 set-requires-else-count-mask c =
     let below : c.args.index < length (numbers_in c.self.inside.numbers) =
     number_there _ _ _ _ _ _ c.self.view_is c.requires.in_range in
-    omega (arith, c.self.invariant.enough)
+    omega (arith, c.self.invariant.places_for.enough)
 
 pub overflow_add-above-else-count-mask : goal.overflow_add-above-else-count-mask
 overflow_add-above-else-count-mask c =

@@ -32,7 +32,7 @@ pub set-requires-else-number-mask : goal.set-requires-else-number-mask
 set-requires-else-number-mask c =
     let below : c.args.index < length (numbers_in c.self.inside.numbers) =
     number_there _ _ _ _ _ _ c.self.view_is c.requires.in_range in
-    omega (arith, c.self.invariant.enough)
+    omega (arith, c.self.invariant.places_for.enough)
 
 pub returns-then-number-mask-clause-reduced : goal.returns-then-number-mask-clause-reduced
 returns-then-number-mask-clause-reduced c =
