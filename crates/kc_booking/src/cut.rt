@@ -1,11 +1,11 @@
 //! The words of a batch divided among the stripes.
-ghost use Rattle.std.specs.Prelude.{◌≡◌, ℕ, ◌%◌, ◌^◌, ◌≤◌, ◌==◌, count_by, slice_index, IfOk};
+ghost use Rattle.std.specs.Prelude.{◌≡◌, ℕ, ◌%◌, ◌^◌, ◌≤◌, ◌==◌, count_by, slice_index, IfOk, OnOk};
 ghost use Rattle.kc_booking.specs.Cut.{StripeCut, keys_of, cuts_of, batch_hash_values};
 
 use crate::round::Round;
 use crate::setup::Setup;
 use kc_lemmas::room_for_each;
-use kc_word::{Batch, words};
+use kc_word::{Batch, put_words};
 use std::alloc::{AllocError, Global};
 use std::marker::Model;
 use std::sync::Arc;
@@ -83,26 +83,27 @@ pub fn cut_up(alloc: Global, setup: &Setup, batch: &Arc<Batch>) -> Result<Vec<Cu
     Ok(cuts)
 }
 
-/// The hash values of the batch's words that count, in order: where a list is given, those of the listed ones.
-pub(crate) fn hashed_words(
-    alloc: Global,
+/// Puts the hash values of the batch's words that count in place of the numbers that are there, in order: where a list is
+/// given, those of the listed words.
+pub(crate) fn put_hash_values(
+    hash_values: &mut Vec<u64>,
     setup: &Setup,
     batch: &Batch,
-) -> Result<Vec<u64>, AllocError>
-    ensures { IfOk result (λ hash_values. hash_values.items ≡ batch_hash_values setup.now batch.now) }
+) -> Result<(), AllocError>
+    ensures { OnOk result (hash_values.new.items ≡ batch_hash_values setup.now batch.now) }
 {
     // for the proof: what is known of the hash's bits
     let _bits = setup.stripe_bits;
-    let mut words = words(alloc, batch, setup.rule())?;
+    put_words(batch, setup.rule(), hash_values)?;
     match setup.list() {
         None => {}
-        Some(list) => list.keep_listed(&mut words),
+        Some(list) => list.keep_listed(hash_values),
     }
     let tables = setup.hash.forward_tables();
-    for word in words.iter_mut() {
+    for word in hash_values.iter_mut() {
         *word = tables.apply(*word);
     }
-    Ok(words)
+    Ok(())
 }
 
 /// How many hash values fall in each stripe.

@@ -8,7 +8,7 @@ ghost use Rattle.kc_booking.specs.Cuts.{all_keys_of, round_at};
 ghost use Rattle.kc_booking.specs.Round.{items_at, room_at, rooms_of, stripe_keys, with_an_eighth};
 
 use crate::buffers::{clear_each, empty_vecs, make_room};
-use crate::cut::{hashed_words, part_sizes};
+use crate::cut::{part_sizes, put_hash_values};
 use crate::cuts::Cuts;
 use crate::setup::Setup;
 use kc_word::Batch;
@@ -24,6 +24,8 @@ use std::sync::Arc;
 pub struct Round {
     setup: Setup,
     batches: Vec<Arc<Batch>>,
+    // the hash values of the batch that was cut up last
+    hash_values: Vec<u64>,
     // For each stripe the keys there: those of one batch stand behind those of another.
     keys: Vec<Vec<u64>>,
     // For each stripe, how many keys each batch has there.
@@ -60,6 +62,7 @@ impl Round {
         Ok(Round {
             setup: setup.clone()?,
             batches: Vec::new(alloc),
+            hash_values: Vec::new(alloc),
             keys: empty_vecs(alloc, stripes)?,
             sizes: empty_vecs(alloc, stripes)?,
             numbers: HashSet::new(alloc),
@@ -106,10 +109,9 @@ impl Round {
             (with_an_eighth (length (all_keys_of
             (round_at self.old.setup (self.old.batches ++ batch.now.value ∷ []) stripe)))) }
     {
-        let alloc = *self.batches.allocator();
         let stripe_bits = self.setup.stripe_bits();
-        let hash_values = hashed_words(alloc, &self.setup, batch)?;
-        let sizes = part_sizes(&hash_values, stripe_bits);
+        put_hash_values(&mut self.hash_values, &self.setup, batch)?;
+        let sizes = part_sizes(&self.hash_values, stripe_bits);
         let batch = batch.clone()?;
         // What can fail comes first.
         make_room(&mut self.keys, &sizes)?;
@@ -119,7 +121,7 @@ impl Round {
             return Err(AllocError);
         };
         self.numbers_differ &= is_new;
-        push_keys(&mut self.keys, &hash_values, stripe_bits);
+        push_keys(&mut self.keys, &self.hash_values, stripe_bits);
         push_sizes(&mut self.sizes, &sizes);
         self.batches.push_reserved(batch);
         Ok(())

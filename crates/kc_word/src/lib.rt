@@ -43,7 +43,7 @@ pub use kc_kmer::{
 pub use only::Only;
 pub use piece::Piece;
 pub use piece_views::{PieceView, PieceViews};
-pub use roll::{read_words, words};
+pub use roll::{put_words, read_words, words};
 pub use rolled::Rolled;
 pub use usable_codes::{clean, usable_code};
 pub use walk::Walk;

@@ -1,6 +1,6 @@
 //! The words of pieces, rolled along their bytes.
 ghost use Rattle.std.specs.Prelude.{◌≡◌, ◌^◌, ◌<◌, ◌≤◌, ◌++◌, ◌+◌, ◌∷◌, [], None, length};
-ghost use Rattle.std.specs.Prelude.{slice_index, slice_range};
+ghost use Rattle.std.specs.Prelude.{max, slice_index, slice_range};
 ghost use Rattle.std.specs.Prelude.{IfSome, IfNone, IfOk, OnOk, All};
 ghost use Rattle.std.specs.Vec.{vec_capacity};
 ghost use Rattle.kc_fastx.specs.Reads.{read_of};
@@ -40,14 +40,25 @@ pub fn words(alloc: Global, batch: &Batch, rule: &Rule) -> Result<Vec<u64>, Allo
     ensures below { IfOk result (λ words. All (λ word. word < 4 ^ rule.now.k) words.items) }
     ensures short { IfOk result (λ words. length words.items ≤ position_total rule.now.k batch.now.pieces) }
 {
+    let mut words = Vec::new(alloc);
+    put_words(batch, rule, &mut words)?;
+    Ok(words)
+}
+
+/// What `words` answers, in place of the numbers that are there. The room for these is used again.
+pub fn put_words(batch: &Batch, rule: &Rule, words: &mut Vec<u64>) -> Result<(), AllocError>
+    ensures words { OnOk result (words.new.items ≡ words_of rule.now (as_reads batch.now.pieces)) }
+    ensures below { OnOk result (All (λ word. word < 4 ^ rule.now.k) words.new.items) }
+    ensures short { OnOk result (length words.new.items ≤ position_total rule.now.k batch.now.pieces) }
+{
     let pieces = &batch.pieces;
-    let mut words = room_for_words(alloc, batch, rule.k())?;
+    clear_for_words(words, batch, rule.k())?;
     let mut start = 0;
     for end in &pieces.ends {
-        push_words(Roll::new(&pieces.bytes, start, *end, *rule), &mut words)?;
+        push_words(Roll::new(&pieces.bytes, start, *end, *rule), words)?;
         start = *end;
     }
-    Ok(words)
+    Ok(())
 }
 
 // No words yet, with room for as many as the piece has positions.
@@ -58,12 +69,13 @@ fn room_for_piece(alloc: Global, piece: &Piece, k: K) -> Result<Vec<u64>, AllocE
     Vec::with_capacity(alloc, k.positions(piece.len() as usize))
 }
 
-// No words yet, with room for as many as the batch has positions.
-fn room_for_words(alloc: Global, batch: &Batch, k: K) -> Result<Vec<u64>, AllocError>
-    ensures empty { IfOk result (λ room. room.items ≡ []) }
-    ensures bounded { IfOk result (λ room. vec_capacity room ≤ position_total k batch.now.pieces) }
+// No words, with room for as many as the batch has positions, and no more unless it was there.
+fn clear_for_words(words: &mut Vec<u64>, batch: &Batch, k: K) -> Result<(), AllocError>
+    ensures empty { words.new.items ≡ [] }
+    ensures bounded { vec_capacity words.new ≤ max (vec_capacity words.old) (position_total k batch.now.pieces) }
 {
-    Vec::with_capacity(alloc, batch.position_count(k))
+    words.clear();
+    words.reserve_exact(batch.position_count(k))
 }
 
 // Appends the words that are left.

@@ -27,27 +27,27 @@ make_room-requires-2 c =
 
 pub returns-in_err-make_room-clause-bounded : goal.returns-in_err-make_room-clause-bounded
 returns-in_err-make_room-clause-bounded c = rw (← c.self.view_is) (cut-bounded c.make_room.new.vecs.items c.self.invariant
-    (record { bits_are = c.stripe_bits-stripe_bits.ensures.value; seen_is = c.deref.ensures; hashed = c.in_ok-hash_values.ensures; passed_are = c.deref-2.ensures.value; counted = c.part_sizes-sizes.ensures })
+    (record { bits_are = c.stripe_bits-stripe_bits.ensures.value; seen_is = c.deref.ensures; hashed = c.in_ok-put_hash_values.ensures; passed_are = c.deref-2.ensures.value; counted = c.part_sizes-sizes.ensures })
     c.make_room.ensures.all c.make_room.ensures.bounded)
 
 pub returns-in_err-make_room-2-clause-bounded : goal.returns-in_err-make_room-2-clause-bounded
 returns-in_err-make_room-2-clause-bounded c = rw (← c.self.view_is) (cut-bounded c.make_room.new.vecs.items c.self.invariant
-    (record { bits_are = c.stripe_bits-stripe_bits.ensures.value; seen_is = c.deref.ensures; hashed = c.in_ok-hash_values.ensures; passed_are = c.deref-2.ensures.value; counted = c.part_sizes-sizes.ensures })
+    (record { bits_are = c.stripe_bits-stripe_bits.ensures.value; seen_is = c.deref.ensures; hashed = c.in_ok-put_hash_values.ensures; passed_are = c.deref-2.ensures.value; counted = c.part_sizes-sizes.ensures })
     c.make_room.ensures.all c.make_room.ensures.bounded)
 
 pub returns-in_err-reserve-clause-bounded : goal.returns-in_err-reserve-clause-bounded
 returns-in_err-reserve-clause-bounded c = rw (← c.self.view_is) (cut-bounded c.make_room.new.vecs.items c.self.invariant
-    (record { bits_are = c.stripe_bits-stripe_bits.ensures.value; seen_is = c.deref.ensures; hashed = c.in_ok-hash_values.ensures; passed_are = c.deref-2.ensures.value; counted = c.part_sizes-sizes.ensures })
+    (record { bits_are = c.stripe_bits-stripe_bits.ensures.value; seen_is = c.deref.ensures; hashed = c.in_ok-put_hash_values.ensures; passed_are = c.deref-2.ensures.value; counted = c.part_sizes-sizes.ensures })
     c.make_room.ensures.all c.make_room.ensures.bounded)
 
 pub returns-in_default-clause-bounded : goal.returns-in_default-clause-bounded
 returns-in_default-clause-bounded c = rw (← c.self.view_is) (cut-bounded c.make_room.new.vecs.items c.self.invariant
-    (record { bits_are = c.stripe_bits-stripe_bits.ensures.value; seen_is = c.deref.ensures; hashed = c.in_ok-hash_values.ensures; passed_are = c.deref-2.ensures.value; counted = c.part_sizes-sizes.ensures })
+    (record { bits_are = c.stripe_bits-stripe_bits.ensures.value; seen_is = c.deref.ensures; hashed = c.in_ok-put_hash_values.ensures; passed_are = c.deref-2.ensures.value; counted = c.part_sizes-sizes.ensures })
     c.make_room.ensures.all c.make_room.ensures.bounded)
 
 pub returns-clause-bounded : goal.returns-clause-bounded
 returns-clause-bounded c = rw (← c.self.view_is, c.push_keys.ensures.rooms) (cut-bounded c.make_room.new.vecs.items c.self.invariant
-    (record { bits_are = c.stripe_bits-stripe_bits.ensures.value; seen_is = c.deref.ensures; hashed = c.in_ok-hash_values.ensures; passed_are = c.deref-2.ensures.value; counted = c.part_sizes-sizes.ensures })
+    (record { bits_are = c.stripe_bits-stripe_bits.ensures.value; seen_is = c.deref.ensures; hashed = c.in_ok-put_hash_values.ensures; passed_are = c.deref-2.ensures.value; counted = c.part_sizes-sizes.ensures })
     c.make_room.ensures.all c.make_room.ensures.bounded)
 
 pub push_keys-requires-clause-room : goal.push_keys-requires-clause-room
@@ -89,7 +89,7 @@ invariant_of-self-2 c =
     subst (λ (all : List NumberedPieces). IsRound setup all c.push_keys.new.keys.items c.push_sizes.new.columns.items (contains nat_eq c.insert.new.self) (c.self.inside.numbers_differ && c.in-Ok.is_new)) (sym pushed)
     (IsRound-more batch is
     (record {
-      hashed = c.in_ok-hash_values.ensures ∙ ap (batch_hash_values setup) (c.deref.ensures ∙ sym c.in_ok-batch.ensures.cases);
+      hashed = c.in_ok-put_hash_values.ensures ∙ ap (batch_hash_values setup) (c.deref.ensures ∙ sym c.in_ok-batch.ensures.cases);
       counted = λ stripe. c.part_sizes-sizes.ensures stripe ∙ ap₂ (λ (s : ℕ) (xs : List ℕ). count_by (falls_in s stripe) xs) bits c.deref-2.ensures.value;
       keys_all = c.push_keys.ensures.all ∙ c.make_room.ensures.all;
       keys_are = λ stripe below. c.push_keys.ensures.keys stripe (subst (λ (s : ℕ). stripe < 2 ^ s) (sym bits) below)

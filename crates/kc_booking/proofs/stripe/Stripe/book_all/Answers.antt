@@ -1,4 +1,4 @@
-use Rattle.std.proofs.Common.{◌≡◌, ◌∙◌, ◌+◌, ◌++◌, ◌<◌, ◌^◌, ℕ, List, All, count_by, eqb, eqb-true, length, nat_eq, vec_len, Ok, Err, Result, OnErr, rules, inr, refl, ap, ap₂, arith, sym, subst}
+use Rattle.std.proofs.Common.{◌≡◌, ◌∙◌, ◌+◌, ◌++◌, ◌<◌, ◌^◌, ℕ, List, All, count_by, eqb, eqb-true, length, nat_eq, Ok, Err, Result, OnErr, inr, refl, ap, ap₂, arith, sym, subst}
 use Rattle.std.proofs.lemmas.Result.{err_from_is_err_and}
 use Rattle.std.proofs.lemmas.List.Sorted.{All-permutation, length_permutation}
 use Rattle.std.specs.HashSet.{contains}

@@ -8,7 +8,7 @@ use Rattle.kc_word.proofs.Counting.{words_of-none, words_of-more}
 use Rattle.kc_word.proofs.Cuttings.{length-words_of-pieces}
 use Rattle.kc_word.proofs.Splitting.{length-pieces_in, get_or-pieces_in, end-within, start-next}
 use Rattle.kc_kmer.proofs.WordCounts.{All-words_of}
-use Rattle.kc_word.proofs.roll.words.Goals as goal
+use Rattle.kc_word.proofs.roll.put_words.Goals as goal
 
 pub new-requires-clause-ordered : goal.new-requires-clause-ordered
 new-requires-clause-ordered c =
@@ -31,7 +31,7 @@ new-requires-clause-within c =
 
 pub loop-end-init : goal.loop-end-init
 loop-end-init c = record {
-  words = c.in_ok-words.ensures.empty ∙ sym (words_of-none c.args.rule.now);
+  words = c.clear_for_words.ensures.empty ∙ sym (words_of-none c.args.rule.now);
   begins = refl;
 }
 

@@ -2,7 +2,7 @@ use Rattle.std.proofs.Common.{◌≡◌, take}
 use Rattle.kc_kmer.specs.Occurrences.{words_of}
 use Rattle.kc_word.specs.Cutting.{as_reads}
 use Rattle.kc_word.specs.PackedBatch.{start_of}
-use Rattle.kc_word.proofs.roll.words.Given as goal
+use Rattle.kc_word.proofs.roll.put_words.Given as goal
 
 abbrev pub invariant-loop-end : goal.invariant-loop-end
 invariant-loop-end l = record {

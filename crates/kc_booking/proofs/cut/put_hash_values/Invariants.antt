@@ -1,7 +1,7 @@
 use Rattle.std.proofs.Common.{◌^◌, ◌<◌, length, All}
 use Rattle.kc_hash.specs.Product.{product}
 use Rattle.kc_booking.proofs.Parts.{IsMappedTo}
-use Rattle.kc_booking.proofs.cut.hashed_words.Given as goal
+use Rattle.kc_booking.proofs.cut.put_hash_values.Given as goal
 
 abbrev pub invariant-loop-word : goal.invariant-loop-word
 invariant-loop-word l = record {
