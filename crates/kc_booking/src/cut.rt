@@ -83,8 +83,8 @@ pub fn cut_up(alloc: Global, setup: &Setup, batch: &Arc<Batch>) -> Result<Vec<Cu
     Ok(cuts)
 }
 
-/// Puts the hash values of the batch's words that count in place of the numbers that are there, in order: where a list is
-/// given, those of the listed words.
+/// Puts the hash values of the batch's words that count in place of the numbers that are there, in order: where a list
+/// is given, those of the listed words.
 pub(crate) fn put_hash_values(
     hash_values: &mut Vec<u64>,
     setup: &Setup,
