@@ -27,7 +27,7 @@ use Rattle.kc_table.specs.declared.table_fault.TableFault.{TableFault}
 use Rattle.kc_table.specs.declared.table_fault.TableFault.TheVariants as table
 use Rattle.kc_booking.specs.declared.booking_fault.BookFault.TheVariants as book
 use Rattle.kc_booking.specs.Faults.{booking_fault}
-use Rattle.kc_booking.specs.Cut.{StripeCut, keys_of, keys_among, cut_at}
+use Rattle.kc_booking.specs.Cut.{keys_of, keys_among, cut_at}
 use Rattle.kc_booking.specs.Counted.{counts_of, IsCounted}
 use Rattle.kc_booking.specs.Stripe.{numbers_of, reads_in, word_occurrences, stripe_occurrences, IsLawful, IsBooked, IsKept}
 
@@ -180,20 +180,6 @@ occurrences-more setup number word journal batch laws divided below in_stripe =
     let whole = ap (λ reads. occurrences setup.rule reads (text setup.rule.k word)) (reads_in-push journal batch) in
     omega arith
 
--- what was known before of a stripe and a cut of it
-pub record IsBookedInto (setup : StripeSetup) (number : ℕ) (journal : List NumberedPieces) (old new : KeyCounts) (batch : NumberedPieces) : Type 0 where
-  pub divided : DividesWords setup
-  pub before : CountsWords setup number journal old
-  pub added : (q : ℕ) → count_at new q ≡ count_at old q + count_by (λ key. eqb key q) (keys_of (cut_at setup batch number))
-
-pub CountsWords-more : (setup : StripeSetup) (number : ℕ) (journal : List NumberedPieces) (old new : KeyCounts) (batch : NumberedPieces) → WordLaws
-    → IsBookedInto setup number journal old new batch → CountsWords setup number (journal ++ batch ∷ []) new
-CountsWords-more setup number journal old new batch laws booked word below in_stripe =
-    let sum = booked.added (key_of setup word) in
-    let was = booked.before word below in_stripe in
-    let occurs = occurrences-more setup number word journal batch laws booked.divided below in_stripe in
-    omega arith
-
 pub keys-fit : (setup : StripeSetup) (number bits : ℕ) (batch : NumberedPieces) → WordsAreBelow → DividesWords setup → bits ≡ key_bits setup
     → All (λ key. key < 2 ^ bits) (keys_of (cut_at setup batch number))
 keys-fit setup number bits batch are_below divided is =
@@ -246,19 +232,7 @@ IsBooked-missing journal {n} {number} {found} is same absent booked =
     let never : false ≡ true = sym absent ∙ is ∙ list_any-from_Contains nat_eq_equiv n (numbers_of journal) stands in
     absurd (cc)
 
--- ---- a cut of the stripe
-
-pub own_keys : (setup : StripeSetup) (number : ℕ) (batch : NumberedPieces) (cut : StripeCut) → cut.setup ≡ setup → cut.stripe ≡ number → cut.batch ≡ batch
-    → keys_of cut ≡ keys_of (cut_at setup batch number)
-own_keys setup number batch cut same_setup same_stripe same_batch =
-    let same : cut ≡ cut_at setup batch number = λ i. record { setup = same_setup i; stripe = same_stripe i; batch = same_batch i } in
-    ap keys_of same
-
-pub own_cut-keys-fit : (setup : StripeSetup) (number bits : ℕ) (cut : StripeCut) (keys : List ℕ) → keys ≡ keys_of cut
-    → (cut.setup ≡ setup) × (cut.stripe ≡ number) → WordsAreBelow → DividesWords setup → bits ≡ key_bits setup → All (λ key. key < 2 ^ bits) keys
-own_cut-keys-fit setup number bits cut keys is (same_setup, same_stripe) below divided bits_are =
-    subst (All (λ key. key < 2 ^ bits)) (sym (is ∙ own_keys setup number cut.batch cut same_setup same_stripe refl))
-    (keys-fit setup number bits cut.batch below divided bits_are)
+-- ---- a refusal
 
 -- what a refusal of the table was
 pub was_full : (why : TableFault) → booking_fault why ≡ book.Full → why ≡ table.Full

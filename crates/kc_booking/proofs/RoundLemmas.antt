@@ -258,6 +258,25 @@ none_refused journal [] Own none differ refused =
     (λ (again : Own × ¬ NumbersDiffer (journal ++ [])). again.1 (subst NumbersDiffer (sym (append-nil journal)) differ)) refused
 none_refused journal (batch ∷ batches) Own none differ refused = absurd (cc)
 
+-- ---- one cut as a round of one batch
+
+pub one_keys : (cut : StripeCut) → all_keys_of (round_at cut.setup (cut.batch ∷ []) cut.stripe) ≡ keys_of cut
+one_keys cut = append-nil (keys_of cut)
+
+pub one_differs : (batch : NumberedPieces) → NumbersDiffer (batch ∷ [])
+unfolding IsDistinct
+one_differs batch = (tt, tt)
+
+-- a batch that is refused alone was booked before, since there is no other beside it
+pub one_refused : (journal : List NumberedPieces) (batch : NumberedPieces) (Own : Type 0) → NumbersDiffer journal
+    → FirstIsBooked journal (batch ∷ []) ⊎ (Own × ¬ NumbersDiffer (journal ++ batch ∷ [])) → IsBooked journal batch.number
+one_refused journal batch Own differ refused = by (list_any (nat_eq batch.number) (numbers_of journal)) refl
+  where
+    by : (found : Bool) → found ≡ list_any (nat_eq batch.number) (numbers_of journal) → IsBooked journal batch.number
+    by true known = IsBooked-found journal known refl refl
+    by false known =
+        absurd (new_refused journal (batch ∷ []) Own (numbers_differ-more journal batch differ (IsBooked-missing journal known refl refl)) refused)
+
 -- ---- the stripe
 
 pub own_round_keys : (setup : StripeSetup) (number : ℕ) (round : RoundCut) → round.setup ≡ setup → round.stripe ≡ number

@@ -1,13 +1,16 @@
 //! The words of a batch divided among the stripes.
-ghost use Rattle.std.specs.Prelude.{◌≡◌, ℕ, ◌%◌, ◌^◌, ◌≤◌, ◌==◌, count_by, slice_index, IfOk, OnOk};
+ghost use Rattle.std.specs.Prelude.{◌≡◌, ℕ, ◌%◌, ◌^◌, ◌≤◌, ◌==◌, [], ◌∷◌, length, count_by, slice_index, IfOk, OnOk};
 ghost use Rattle.kc_booking.specs.Cut.{StripeCut, keys_of, cuts_of, batch_hash_values};
+ghost use Rattle.kc_booking.specs.Cuts.{round_at};
 
+use crate::cuts::Cuts;
 use crate::round::Round;
 use crate::setup::Setup;
 use kc_lemmas::room_for_each;
 use kc_word::{Batch, put_words};
 use std::alloc::{AllocError, Global};
 use std::marker::Model;
+use std::slice::from_ref;
 use std::sync::Arc;
 
 /// A cut: what one batch means to one stripe, the keys of its words that are counted there.
@@ -58,6 +61,21 @@ impl Cut {
         ensures { result.now ≡ keys_of self.now }
     {
         &self.keys
+    }
+
+    /// The same as a round of one batch. Condition: the size is how many keys there are.
+    pub(crate) fn as_round<'a>(&'a self, size: &'a usize) -> Cuts<'a>
+        requires { size.now ≡ length (keys_of self.now) }
+        ensures { result ≡ round_at self.now.setup (self.now.batch ∷ []) self.now.stripe }
+    {
+        Cuts {
+            setup: &self.setup,
+            stripe: self.stripe,
+            batches: from_ref(&self.batch),
+            keys: &self.keys,
+            sizes: from_ref(size),
+            numbers_differ: true,
+        }
     }
 }
 

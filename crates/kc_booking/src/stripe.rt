@@ -1,6 +1,7 @@
 //! A stripe, which always holds exactly the counts of the batches that its journal names.
 ghost use Rattle.std.specs.Prelude.{◌≡◌, ◌+◌, ◌<◌, ◌≤◌, ◌^◌, ◌≢◌, ◌==◌, ◌↔◌, ◌⊎◌, [], ◌∷◌, ◌++◌, length, sum_by};
-ghost use Rattle.std.specs.Prelude.{count_by, max, ◌*◌, ℕ, IfOk, OnOk, OnErr, nat_eq};
+ghost use Rattle.std.specs.Prelude.{count_by, max, ◌*◌, ℕ, IfOk, IfErr, OnOk, OnErr, nat_eq};
+ghost use Rattle.std.specs.List.Sorted.{IsPermutation};
 ghost use Rattle.std.specs.HashSet.{contains, spare};
 ghost use Rattle.std.specs.Vec.{vec_capacity};
 ghost use Rattle.std.specs.FinMap.{empty};
@@ -9,7 +10,7 @@ ghost use Rattle.kc_tally.specs.Histogram.{last_bin, bin_of, bin_at};
 ghost use Rattle.kc_tally.specs.Statistics.{greatest_of};
 ghost use Rattle.kc_booking.specs.Setup.{word_count, stripe_count, key_bits, stripe_of, stripe_words};
 ghost use Rattle.kc_booking.specs.Cut.{keys_of};
-ghost use Rattle.kc_booking.specs.Cuts.{all_keys_of, IsOwnRound, FirstIsBooked, FirstIsNew};
+ghost use Rattle.kc_booking.specs.Cuts.{all_keys_of, round_at, IsOwnRound, FirstIsBooked, FirstIsNew};
 ghost use Rattle.kc_booking.specs.Counted.{KeepsLimits, SomeMayBeFull, SomeMayBeFullInSomeOrder};
 ghost use Rattle.kc_booking.specs.Stripe.{StripeState, IsLawful, IsBooked, IsOwnCut, IsUnchanged, AreStripeRows};
 ghost use Rattle.kc_booking.specs.Stripe.{word_occurrences, stripe_occurrences, NumbersDiffer, KnowsNumbers};
@@ -227,36 +228,12 @@ impl<C: Counts> Stripe<C> {
         ensures memory { result ≡ Err BookFault.Memory → self.old.total + length (keys_of cut.now) ≤ 2 ^ 62 }
         ensures limits { KeepsLimits C.bits C.may_be_full self.old.table self.new.table }
     {
-        self.check(cut)?;
-        // what can fail comes first; where it does, no count and no name in the journal has changed
-        let batch = cut.batch.clone()?;
-        make_room(&mut self.journal, &mut self.booked, 1)?;
-        self.counted.count_all(&cut.keys)?;
-        enter(&mut self.journal, &mut self.booked, batch);
-        Ok(())
-    }
-
-    // Whether the cut is a new one of this stripe, and the total stays within its limit.
-    fn check(&self, cut: &Cut) -> Result<(), BookFault>
-        ensures new { OnOk result (¬ IsBooked self.now.journal cut.now.batch.number) }
-        ensures own { OnOk result (IsOwnCut self.now cut.now) }
-        ensures room { OnOk result (self.now.total + length (keys_of cut.now) ≤ 2 ^ 62) }
-        ensures twice { result ≡ Err BookFault.Twice ↔ IsBooked self.now.journal cut.now.batch.number }
-        ensures stranger { result ≡ Err BookFault.Stranger
-            ↔ (¬ IsBooked self.now.journal cut.now.batch.number × ¬ IsOwnCut self.now cut.now) }
-        ensures full { result ≡ Err BookFault.Full → 2 ^ 62 < self.now.total + length (keys_of cut.now) }
-        ensures memory { ¬ (result ≡ Err BookFault.Memory) }
-    {
-        if self.booked.contains(&cut.batch.number()) {
-            return Err(BookFault::Twice);
-        }
-        if cut.setup != self.setup || cut.stripe != self.number {
-            return Err(BookFault::Stranger);
-        }
-        if cut.keys.len() as u64 > MOST_WORDS - self.counted.total {
-            return Err(BookFault::Full);
-        }
-        Ok(())
+        // for the proof: what is known of the journal, in which no number stands twice
+        let _number = self.number;
+        let size = cut.keys.len();
+        let cuts = cut.as_round(&size);
+        self.check_all(&cuts)?;
+        self.enter_counted(cuts.batches, cuts.keys)
     }
 
     /// Books several batches, all or none: their words that fall in this stripe are counted, and the journal names
@@ -290,14 +267,8 @@ impl<C: Counts> Stripe<C> {
             return Ok(());
         }
         self.check_all(cuts)?;
-        // what can fail comes first; where it does, no count and no name in the journal has changed
-        let alloc = *self.journal.allocator();
         ordered.order(&self.counted.table, cuts.keys)?;
-        let batches = clones_of(alloc, cuts.batches)?;
-        make_room(&mut self.journal, &mut self.booked, batches.len())?;
-        self.counted.count_all(&ordered.keys)?;
-        enter_all(&mut self.journal, &mut self.booked, batches);
-        Ok(())
+        self.enter_counted(cuts.batches, &ordered.keys)
     }
 
     // Whether the batches are new ones of this stripe, and the total stays within its limit. Condition: there is one.
@@ -332,6 +303,32 @@ impl<C: Counts> Stripe<C> {
         }
         Ok(())
     }
+
+    // Counts the keys and names the batches in the journal, or neither. Conditions: the batches are new ones, the keys
+    // are those of their words in this stripe, in any order, and the total stays within its limit.
+    fn enter_counted(&mut self, batches: &[Arc<Batch>], keys: &[u64]) -> Result<(), BookFault>
+        requires new { NumbersDiffer (self.old.journal ++ values batches.now) }
+        requires keys { IsPermutation
+            (all_keys_of (round_at self.old.setup (values batches.now) self.old.number)) keys.now }
+        requires room { self.old.total + length keys.now ≤ 2 ^ 62 }
+        ensures setup { self.new.setup ≡ self.old.setup }
+        ensures number { self.new.number ≡ self.old.number }
+        ensures journal { OnOk result (self.new.journal ≡ self.old.journal ++ values batches.now) }
+        ensures total { OnOk result (self.new.total ≡ self.old.total + length keys.now) }
+        ensures small { OnOk result ((self.new.total ≤ 2 ^ 62) × (length self.new.journal < 2 ^ 64)) }
+        ensures unchanged { OnErr result (IsUnchanged C.counts self.old self.new) }
+        ensures refused { IfErr result (λ fault. (fault ≡ BookFault.Full) ⊎ (fault ≡ BookFault.Memory)) }
+        ensures full { result ≡ Err BookFault.Full
+            → SomeMayBeFull (C.may_be_full self.old.table) (C.counts self.old.table) keys.now }
+        ensures limits { KeepsLimits C.bits C.may_be_full self.old.table self.new.table }
+    {
+        // what can fail comes first; where it does, no count and no name in the journal has changed
+        let clones = clones_of(*self.journal.allocator(), batches)?;
+        make_room(&mut self.journal, &mut self.booked, batches.len())?;
+        self.counted.count_all(keys)?;
+        enter_all(&mut self.journal, &mut self.booked, clones);
+        Ok(())
+    }
 }
 
 // Makes room for so many batches more in the journal, and for their numbers among those that are booked. A journal with
@@ -352,22 +349,6 @@ fn make_room(
         journal.reserve_exact(journal.len().saturating_add(more))?;
     }
     booked.reserve(more)
-}
-
-// Puts a batch behind those of the journal, and its number to those that are booked. Conditions: there is room for it,
-// and what is booked are the numbers in the journal.
-fn enter(journal: &mut Vec<Arc<Batch>>, booked: &mut HashSet<u64>, batch: Arc<Batch>)
-    requires room { length journal.old.items + 1 ≤ vec_capacity journal.old }
-    requires spare { 1 ≤ spare booked.old }
-    requires known { KnowsNumbers (contains nat_eq booked.old) (values journal.old.items) }
-    ensures entered { values journal.new.items ≡ values journal.old.items ++ batch.value ∷ [] }
-    ensures known { KnowsNumbers (contains nat_eq booked.new) (values journal.new.items) }
-{
-    let Ok(_) = booked.insert(batch.number()) else {
-        // There is room for it.
-        return;
-    };
-    journal.push_reserved(batch);
 }
 
 // Puts several batches behind those of the journal, in order, and their numbers to those that are booked. Conditions:
