@@ -4,6 +4,7 @@ pub mod PartLemmas
 pub mod PileLemmas
 pub mod Ranges
 pub mod Stripes
+pub mod Taken
 pub mod Tallies
 pub mod LawLemmas
 pub mod JoinedLemmas

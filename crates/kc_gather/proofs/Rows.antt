@@ -1,16 +1,15 @@
 -- Rows that are dealt out among stripes, joined and sorted.
-use Rattle.std.proofs.Common.{◌≡◌, ◌≢◌, ℕ, zero, suc, ◌+◌, ◌-◌, ◌^◌, ◌<◌, ◌≤◌, ⊎_elim, Vec, Global, false, cond, eqb, nat_eq, List, [], ◌∷◌, ◌++◌, length, get_or, map, sum_by, All, Contains, refl, ap, sym, ◌∙◌, subst, arith}
+use Rattle.std.proofs.Common.{◌≡◌, ◌≢◌, ℕ, suc, ◌+◌, ◌^◌, ◌<◌, ◌≤◌, ⊎_elim, Vec, Global, false, cond, eqb, nat_eq, List, [], ◌∷◌, ◌++◌, length, get_or, map, sum_by, All, Contains, refl, ap, sym, ◌∙◌, subst, arith}
 use Rattle.std.specs.List.{IsDistinct, flat_map}
 use Rattle.std.specs.List.Sorted.{IsPermutation}
-use Rattle.std.proofs.lemmas.Bool.{cases_eq, cases_lt, eq-eqb, ne_eqb, cond-true, cond-false}
+use Rattle.std.proofs.lemmas.Bool.{cases_eq, eq-eqb, ne_eqb, cond-true, cond-false}
 use Rattle.std.proofs.lemmas.Bool.Decides.{eqb_tells}
 use Rattle.std.proofs.lemmas.Nat.{pow_pos}
 use Rattle.std.proofs.Math.Nat.{mod-lt}
-use Rattle.std.proofs.lemmas.List.{map-append, map_push, get_or_default, get_or-append_right, length-append}
-use Rattle.std.proofs.lemmas.List.Elements.{All-head, All-tail, All-append, All-push, All-nil, All-map, All-from_recursion, recursion_from_All}
+use Rattle.std.proofs.lemmas.List.{map-append, get_or_default}
+use Rattle.std.proofs.lemmas.List.Elements.{All-head, All-tail, All-append, All-nil, All-map, All-from_recursion, recursion_from_All}
 use Rattle.std.proofs.lemmas.List.Sums.{sum_by-cons, sum_by-append}
 use Rattle.std.proofs.lemmas.List.Sorted.{All-permutation, sum_by-IsPermutation, IsPermutation-map, IsPermutation-trans, IsPermutation-append_comm, IsPermutation-append_left}
-use Rattle.std.proofs.Math.ListN.{get_or-append}
 use Rattle.std.proofs.lemmas.Map.Keys.{IsDistinct-tail, IsDistinct-head, IsDistinct-cons, IsDistinct-IsPermutation}
 use Rattle.kc_lemmas.proofs.Distinct.{head_apart, equal_flips}
 use Rattle.kc_lemmas.proofs.Lists.{Contains-map}
@@ -24,8 +23,7 @@ use Rattle.kc_booking.specs.Setup.{StripeSetup, word_count, stripe_count, stripe
 use Rattle.kc_booking.specs.Stripe.{StripeState, numbers_of, word_occurrences, AreStripeRows}
 use Rattle.kc_tally.specs.Packing.{LooseSeen}
 use Rattle.kc_gather.specs.Parts.{ArePartsOf, part_rows}
-use Rattle.kc_gather.specs.declared.placed.Placed.{Placed}
-use Rattle.kc_gather.specs.Gathering.{IsWhole, IsWholeThere, AreRowsFrom, HasRowsOf, HaveRowsOf}
+use Rattle.kc_gather.specs.Gathering.{IsWhole, AreRowsFrom, HasRowsOf}
 use Rattle.kc_gather.proofs.Journals.{weighs_whole}
 
 abbrev pub words_in_rows : List Row → List ℕ
@@ -172,22 +170,17 @@ rows-whole setup batches i stripe rows distinct whole are =
 abbrev pub taken_rows : List (Vec LooseSeen Global) → List Row
 taken_rows taken = flat_map part_rows taken
 
-pub AreRowsFrom-taken : {C : Type 0} (setup : StripeSetup) (batches : List NumberedPieces) (n : ℕ) (stripes : List (StripeState C)) (taken : List (Vec LooseSeen Global))
-    → n + length stripes ≡ stripe_count setup → HaveRowsOf stripes taken
-    → ((i : ℕ) (stripe : StripeState C) → i < length stripes → IsWhole setup batches (n + i) (get_or stripes i stripe)) → AreRowsFrom setup batches n (taken_rows taken)
-AreRowsFrom-taken setup batches n [] [] all have whole = AreRowsFrom-none setup batches n (omega (arith, all))
-AreRowsFrom-taken setup batches n [] (parts ∷ taken) all have whole = absurd (let long = have.all in omega (arith, long))
-AreRowsFrom-taken setup batches n (stripe ∷ stripes) [] all have whole = absurd (let long = have.all in omega (arith, long))
-AreRowsFrom-taken {C} setup batches n (stripe ∷ stripes) (parts ∷ taken) all have whole =
-    let later = AreRowsFrom-taken setup batches (n + 1) stripes taken (omega (arith, all))
-    (record { all = (let long = have.all in omega (arith, long)); each = λ i s p within. have.each (suc i) s p (omega (arith, within)) })
-    (λ i s within. subst (λ k. IsWhole setup batches k (get_or stripes i s)) (plus i) (whole (suc i) s (omega (arith, within)))) in
-    let own = have.each 0 stripe parts (omega arith) in
-    let first = subst (λ k. IsWhole setup batches k stripe) zero_more (whole 0 stripe (omega arith)) in
+pub AreRowsFrom-taken : (setup : StripeSetup) (batches : List NumberedPieces) (n : ℕ) (taken : List (Vec LooseSeen Global)) → n + length taken ≡ stripe_count setup
+    → ((i : ℕ) (parts : Vec LooseSeen Global) → i < length taken → HasRowsOf setup batches (n + i) (get_or taken i parts)) → AreRowsFrom setup batches n (taken_rows taken)
+AreRowsFrom-taken setup batches n [] all have = AreRowsFrom-none setup batches n (omega (arith, all))
+AreRowsFrom-taken setup batches n (parts ∷ taken) all have =
+    let later = AreRowsFrom-taken setup batches (n + 1) taken (omega (arith, all))
+    (λ i p within. subst (λ k. HasRowsOf setup batches k (get_or taken i p)) (plus i) (have (suc i) p (omega (arith, within)))) in
+    let own = subst (λ k. HasRowsOf setup batches k parts) zero_more (have 0 parts (omega arith)) in
     AreRowsFrom-permuted setup batches n (taken_rows taken ++ own.rows) (part_rows parts ++ taken_rows taken)
     (IsPermutation-trans (taken_rows taken ++ own.rows) (own.rows ++ taken_rows taken) (part_rows parts ++ taken_rows taken)
     (IsPermutation-append_comm (taken_rows taken) own.rows) (IsPermutation-append_left (taken_rows taken) own.rows (part_rows parts) own.same))
-    (AreRowsFrom-more setup batches n (taken_rows taken) own.rows later (rows-whole setup batches n stripe own.rows own.numbers_differ first own.rows_are))
+    (AreRowsFrom-more setup batches n (taken_rows taken) own.rows later own.rows_are)
   where
     plus : (i : ℕ) → n + suc i ≡ n + 1 + i
     plus i = omega arith
@@ -199,63 +192,13 @@ AreRowsFrom-taken {C} setup batches n (stripe ∷ stripes) (parts ∷ taken) all
 pub row-words : {setup : StripeSetup} {number : ℕ} {journal : List NumberedPieces} {rows : List Row} → AreStripeRows setup number journal rows → All (λ row. row.word < 4 ^ setup.rule.k) rows
 row-words are k d within = (are.words k d within).0
 
-pub HaveRowsOf-none : {C : Type 0} → HaveRowsOf {C = C} {Z = Global} [] []
-HaveRowsOf-none {C} = record { all = refl; each = λ i stripe parts none. absurd (omega (arith, none)) }
-
-pub HaveRowsOf-append : {C : Type 0} (stripes more : List (StripeState C)) (taken others : List (Vec LooseSeen Global)) → HaveRowsOf stripes taken → HaveRowsOf more others
-    → HaveRowsOf (stripes ++ more) (taken ++ others)
-HaveRowsOf-append {C} stripes more taken others first second = record {
-  all = let long = first.all in let rest = second.all in omega (arith, long, rest, length-append stripes more, length-append taken others);
-  each = λ i s p within.
-      let long = first.all in
-      let rest = length-append stripes more in
-      ⊎_elim
-      (λ (early : i < length stripes).
-      subst (λ parts. HasRowsOf (get_or (stripes ++ more) i s) parts) (sym (get_or-append taken others p i (omega (arith, early, long))))
-      (subst (λ stripe. HasRowsOf stripe (get_or taken i p)) (sym (get_or-append stripes more s i early)) (first.each i s p early)))
-      (λ (late : length stripes ≤ i).
-      subst (λ parts. HasRowsOf (get_or (stripes ++ more) i s) parts) (sym (get_or-append_right taken others (length stripes) i p long late))
-      (subst (λ stripe. HasRowsOf stripe (get_or others (i - length stripes) p)) (sym (get_or-append_right stripes more (length stripes) i s refl late))
-      (second.each (i - length stripes) s p (omega (arith, late, rest, within)))))
-      (cases_lt i (length stripes));
+-- the rows of a stripe whose journal holds exactly the given batches, in parts, are those of this stripe of the count
+pub HasRowsOf-whole : {C : Type 0} (setup : StripeSetup) (batches : List NumberedPieces) (n : ℕ) (stripe : StripeState C) (rows : List Row) (parts : Vec LooseSeen Global)
+    → IsDistinct nat_eq (numbers_of stripe.journal) → IsWhole setup batches n stripe → AreStripeRows stripe.setup stripe.number stripe.journal rows
+    → ArePartsOf stripe.setup.rule.k parts.items → IsPermutation rows (part_rows parts) → HasRowsOf setup batches n parts
+HasRowsOf-whole setup batches n stripe rows parts differ whole are parted same = record {
+  parts_are = subst (λ (s : StripeSetup). ArePartsOf s.rule.k parts.items) whole.own.same_setup parted;
+  rows = rows;
+  rows_are = rows-whole setup batches n stripe rows differ whole are;
+  same = same;
 }
-
-pub HaveRowsOf-push : {C : Type 0} (stripes : List (StripeState C)) (stripe : StripeState C) (taken : List (Vec LooseSeen Global)) (parts : Vec LooseSeen Global)
-    → HaveRowsOf stripes taken → HasRowsOf stripe parts → HaveRowsOf (stripes ++ stripe ∷ []) (taken ++ parts ∷ [])
-HaveRowsOf-push {C} stripes stripe taken parts have has = HaveRowsOf-append stripes (stripe ∷ []) taken (parts ∷ []) have (record { all = refl; each = one })
-  where
-    one : (i : ℕ) (s : StripeState C) (p : Vec LooseSeen Global) → i < 1 → HasRowsOf (get_or (stripe ∷ []) i s) (get_or (parts ∷ []) i p)
-    one zero s p within = has
-    one (suc i) s p within = absurd (omega (arith, within))
-
--- what was taken of stripes at their places: each is whole, and these are its rows
-abbrev pub AreTaken : {C : Type 0} → StripeSetup → List NumberedPieces → List (Placed C) → List (Vec LooseSeen Global) → Type 0
-AreTaken setup batches placed taken = All (IsWholeThere setup batches) placed × HaveRowsOf (map (λ there. there.stripe) placed) taken
-
-pub AreTaken-none : {C : Type 0} (setup : StripeSetup) (batches : List NumberedPieces) → AreTaken {C = C} setup batches [] []
-AreTaken-none {C} setup batches = (All-nil (IsWholeThere setup batches), HaveRowsOf-none)
-
-pub AreTaken-append : {C : Type 0} (setup : StripeSetup) (batches : List NumberedPieces) (placed more : List (Placed C)) (taken others : List (Vec LooseSeen Global))
-    → AreTaken setup batches placed taken → AreTaken setup batches more others → AreTaken setup batches (placed ++ more) (taken ++ others)
-AreTaken-append {C} setup batches placed more taken others first second =
-    let stripe = λ (there : Placed C). there.stripe in (
-      All-append (IsWholeThere setup batches) placed more first.0 second.0,
-      subst (λ stripes. HaveRowsOf stripes (taken ++ others)) (sym (map-append stripe placed more)) (HaveRowsOf-append (map stripe placed) (map stripe more) taken others first.1 second.1),
-    )
-
-pub AreTaken-push : {C : Type 0} (setup : StripeSetup) (batches : List NumberedPieces) (placed : List (Placed C)) (there : Placed C) (taken : List (Vec LooseSeen Global))
-    (parts : Vec LooseSeen Global) → AreTaken setup batches placed taken → IsWholeThere setup batches there → HasRowsOf there.stripe parts
-    → AreTaken setup batches (placed ++ there ∷ []) (taken ++ parts ∷ [])
-AreTaken-push {C} setup batches placed there taken parts before whole has =
-    let stripe = λ (one : Placed C). one.stripe in (
-      All-push (IsWholeThere setup batches) placed there before.0 whole,
-      subst (λ stripes. HaveRowsOf stripes (taken ++ parts ∷ [])) (sym (map_push stripe placed there)) (HaveRowsOf-push (map stripe placed) there.stripe taken parts before.1 has),
-    )
-
--- of stripes of one setup they are parts of its words
-pub parts-all : {C : Type 0} (setup : StripeSetup) (stripes : List (StripeState C)) (taken : List (Vec LooseSeen Global)) → All (λ stripe. stripe.setup ≡ setup) stripes
-    → HaveRowsOf stripes taken → All (λ parts. ArePartsOf setup.rule.k parts.items) taken
-parts-all {C} setup [] taken same have i parts within = absurd (let long = have.all in omega (arith, within, long))
-parts-all {C} setup (stripe ∷ stripes) taken same have i parts within =
-    let inside : i < length (stripe ∷ stripes) = let long = have.all in omega (arith, within, long) in
-    subst (λ (s : StripeSetup). ArePartsOf s.rule.k (get_or taken i parts).items) (same i stripe inside) (have.each i stripe parts inside).parts_are

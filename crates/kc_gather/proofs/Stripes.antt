@@ -4,7 +4,7 @@ use Rattle.std.proofs.lemmas.Bool.{cases_lt}
 use Rattle.std.proofs.lemmas.List.{length-append, length-map, map_push, get_or-map, get_or_push, get_or_at}
 use Rattle.std.proofs.lemmas.List.Elements.{All-append}
 use Rattle.std.proofs.Math.ListN.{get_or-append}
-use Rattle.std.proofs.lemmas.Option.{slice_get-get_or, get_or_from_slice_get}
+use Rattle.std.proofs.lemmas.Option.{slice_get-get_or}
 use Rattle.kc_word.specs.Cutting.{NumberedPieces}
 use Rattle.kc_booking.specs.Setup.{StripeSetup}
 use Rattle.kc_booking.specs.Stripe.{StripeState}
@@ -44,7 +44,7 @@ stands-at {C} {stripes} {placed} i there at within is = (
   sym (get_or-map (λ (one : Placed C). one.stripe) placed i there there.stripe within ∙ ap (λ (p : Placed C). p.stripe) is) ∙ ap (λ xs. get_or xs i there.stripe) at.stripes_are,
 )
 
-item-at : {X : Type 0} (xs : List X) (i : ℕ) → i < length xs → (x : X) × (get_or xs i x ≡ x)
+pub item-at : {X : Type 0} (xs : List X) (i : ℕ) → i < length xs → (x : X) × (get_or xs i x ≡ x)
 item-at [] i within = absurd (omega (arith, within))
 item-at (x ∷ xs) zero within = (x, refl)
 item-at (x ∷ xs) (suc i) within = item-at xs i (omega (arith, within))
@@ -81,13 +81,6 @@ pub whole-more : {C : Type 0} {setup : StripeSetup} {batches : List NumberedPiec
     → stripe ≡ get_or stripes i stripe → AreWholeBefore setup batches stripes i → IsWhole setup batches i stripe → AreWholeBefore setup batches stripes (i + 1)
 whole-more {C} {setup} {batches} stripes i stripe within is before whole =
     below_more (λ n. StandsThere stripes n (IsWhole setup batches n)) i before (stripe, slice_get-get_or stripes i stripe within ∙ ap Some (sym is), whole)
-
--- whole stripes have the setup of the count
-pub setups-same : {C : Type 0} {setup : StripeSetup} {batches : List NumberedPieces} (stripes : List (StripeState C)) → AreWholeBefore setup batches stripes (length stripes)
-    → All (λ stripe. stripe.setup ≡ setup) stripes
-setups-same {C} {setup} {batches} stripes are k d within =
-    let (found, there, whole) = are k within in
-    ap (λ (s : StripeState C). s.setup) (get_or_from_slice_get stripes k found d there) ∙ whole.own.same_setup
 
 -- a stripe whose journal has another length
 pub other-length-at : {C : Type 0} {count : ℕ} (stripes : List (StripeState C)) (i : ℕ) (stripe : StripeState C) (index : ℕ) → (i < length stripes) × (stripe ≡ get_or stripes i stripe)

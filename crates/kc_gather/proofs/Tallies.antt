@@ -1,5 +1,5 @@
 -- The tally that the rows of all stripes are when they are sorted.
-use Rattle.std.proofs.Common.{◌≡◌, ℕ, ◌+◌, ◌^◌, ◌<◌, ◌≤◌, eqb, nat_eq, List, [], ◌∷◌, length, get_or, map, All, Vec, Global, refl, ap, sym, subst, ◌∙◌, arith}
+use Rattle.std.proofs.Common.{◌≡◌, ℕ, ◌+◌, ◌^◌, ◌<◌, ◌≤◌, eqb, nat_eq, List, [], ◌∷◌, length, get_or, All, Vec, Global, refl, ap, sym, subst, ◌∙◌, arith}
 use Rattle.std.specs.List.{IsDistinct, flat_map}
 use Rattle.std.specs.List.Sorted.{IsPermutation, IsNonDecreasingBy, IsStrictlyIncreasing}
 use Rattle.std.proofs.lemmas.Bool.{eq-eqb, cond-true}
@@ -9,7 +9,6 @@ use Rattle.std.proofs.lemmas.List.Concat.{flat_map-append}
 use Rattle.std.proofs.lemmas.List.Elements.{All-contains}
 use Rattle.std.proofs.lemmas.List.Sums.{sum_by-cons}
 use Rattle.std.proofs.lemmas.List.Sorted.{All-permutation, sum_by-IsPermutation, IsPermutation-trans}
-use Rattle.std.proofs.lemmas.Option.{get_or_from_slice_get}
 use Rattle.std.proofs.lemmas.Map.Keys.{IsStrictlyIncreasing-from_distinct}
 use Rattle.kc_lemmas.proofs.Distinct.{Contains-from_times}
 use Rattle.kc_lemmas.proofs.Sums.{term-le-sum_by}
@@ -21,15 +20,13 @@ use Rattle.kc_kmer.proofs.WordCounts.{times-words_of, All-forms}
 use Rattle.kc_tally.specs.declared.row.Row.{Row}
 use Rattle.kc_tally.specs.Tally.{TallySeen, row_of, AreRows, IsTally, IsTallyOf}
 use Rattle.kc_tally.proofs.Tallies.{tally_total}
-use Rattle.kc_booking.specs.Setup.{StripeSetup, word_count, stripe_count, stripe_of}
-use Rattle.kc_booking.specs.Stripe.{StripeState, reads_in}
+use Rattle.kc_booking.specs.Setup.{StripeSetup, word_count, stripe_of}
+use Rattle.kc_booking.specs.Stripe.{reads_in}
 use Rattle.kc_tally.specs.Packing.{LooseSeen, ListsSeen}
 use Rattle.kc_gather.specs.Parts.{ArePartsOf, AreColumnsOf, AreSorted, part_rows, part_shift}
-use Rattle.kc_gather.specs.declared.placed.Placed.{Placed}
-use Rattle.kc_gather.specs.Gathering.{AreRowsFrom, AreAtPlaces, HaveRowsOf, IsWhole, IsWholeThere, position_sum}
+use Rattle.kc_gather.specs.Gathering.{AreRowsFrom, AreAllParts, HasRowsOf, position_sum}
 use Rattle.kc_gather.proofs.PartLemmas.{in_column, AreSorted-permutation, AreSorted-rise}
-use Rattle.kc_gather.proofs.Rows.{words_in_rows, weight_of, count_of-sum, distinct-permuted, AreRowsFrom-taken, parts-all}
-use Rattle.kc_gather.proofs.Stripes.{whole-at_places, setups-same}
+use Rattle.kc_gather.proofs.Rows.{words_in_rows, weight_of, count_of-sum, distinct-permuted, AreRowsFrom-taken}
 
 rising-sorted : (sorted : List Row) → IsNonDecreasingBy (λ row. row.word) sorted → IsDistinct nat_eq (words_in_rows sorted) → IsStrictlyIncreasing (words_in_rows sorted)
 rising-sorted sorted up distinct =
@@ -110,28 +107,21 @@ record AreGathered (setup : StripeSetup) (batches : List NumberedPieces) (sorted
   pub same : IsPermutation rows sorted
   pub up : IsNonDecreasingBy (λ row. row.word) sorted
 
--- what was done of it: the stripes at their places are whole, their rows were taken and brought into columns, and these were sorted
-pub record IsGathering {C : Type 0} (setup : StripeSetup) (batches : List NumberedPieces) (stripes : List (StripeState C)) (sorted : List Row) : Type 0 where
-  pub placed : List (Placed C)
+-- what was done of it: the rows of each stripe were taken and brought into columns, and these were sorted
+pub record IsGathering (setup : StripeSetup) (batches : List NumberedPieces) (sorted : List Row) : Type 0 where
   pub taken : List (Vec LooseSeen Global)
   pub columns : List ListsSeen
   pub k : ℕ
-  pub one_each : length stripes ≡ stripe_count setup
-  pub at : AreAtPlaces stripes placed
-  pub whole : All (IsWholeThere setup batches) placed
-  pub have : HaveRowsOf (map (λ there. there.stripe) placed) taken
-  pub same_k : k ≡ setup.rule.k
+  pub parts_are : AreAllParts HasRowsOf setup batches taken
   pub parted : AreColumnsOf k columns
   pub same : IsPermutation (flat_map part_rows taken) (flat_map in_column columns)
   pub sorted_are : AreSorted in_column columns sorted
 
-are_gathered : {C : Type 0} (setup : StripeSetup) (batches : List NumberedPieces) (stripes : List (StripeState C)) (sorted : List Row) → IsGathering setup batches stripes sorted → AreGathered setup batches sorted
-are_gathered {C} setup batches stripes sorted of = record {
+are_gathered : (setup : StripeSetup) (batches : List NumberedPieces) (sorted : List Row) → IsGathering setup batches sorted → AreGathered setup batches sorted
+are_gathered setup batches sorted of = record {
   rows = flat_map part_rows of.taken;
-  from = AreRowsFrom-taken setup batches 0 stripes of.taken (let all = of.one_each in omega (arith, all)) (subst (λ xs. HaveRowsOf xs of.taken) of.at.stripes_are of.have) (λ i stripe within.
-      let (found, there, whole) = whole-at_places stripes of.placed of.at of.whole i within in
-      subst (λ n. IsWhole setup batches n (get_or stripes i stripe)) (from_zero i)
-      (subst (IsWhole setup batches i) (sym (get_or_from_slice_get stripes i found stripe there)) whole));
+  from = AreRowsFrom-taken setup batches 0 of.taken (let all = of.parts_are.all in omega (arith, all)) (λ i parts within.
+      subst (λ n. HasRowsOf setup batches n (get_or of.taken i parts)) (from_zero i) (of.parts_are.each i parts within));
   same = IsPermutation-trans (flat_map part_rows of.taken) (flat_map in_column of.columns) sorted of.same (AreSorted-permutation in_column of.columns sorted of.sorted_are);
   up = AreSorted-rise in_column (part_shift of.k) of.columns sorted of.parted.parted of.sorted_are;
 }
@@ -139,23 +129,20 @@ are_gathered {C} setup batches stripes sorted of = record {
     from_zero : (i : ℕ) → i ≡ 0 + i
     from_zero i = omega arith
 
--- the rows that were taken of whole stripes are in parts
-pub parts-taken : {C : Type 0} (setup : StripeSetup) (batches : List NumberedPieces) (stripes : List (StripeState C)) (placed : List (Placed C)) (taken : List (Vec LooseSeen Global)) (k : ℕ)
-    → AreAtPlaces stripes placed → All (IsWholeThere setup batches) placed → HaveRowsOf (map (λ there. there.stripe) placed) taken → k ≡ setup.rule.k
+-- the rows that were taken are in parts
+pub parts-taken : (setup : StripeSetup) (batches : List NumberedPieces) (taken : List (Vec LooseSeen Global)) (k : ℕ) → AreAllParts HasRowsOf setup batches taken → k ≡ setup.rule.k
     → All (λ parts. ArePartsOf k parts.items) taken
-parts-taken {C} setup batches stripes placed taken k at whole have same =
-    subst (λ n. All (λ parts. ArePartsOf n parts.items) taken) (sym same)
-    (parts-all setup stripes taken (setups-same stripes (whole-at_places stripes placed at whole)) (subst (λ xs. HaveRowsOf xs taken) at.stripes_are have))
+parts-taken setup batches taken k are same i parts within =
+    subst (λ n. ArePartsOf n (get_or taken i parts).items) (sym same) (are.each i parts within).parts_are
 
 -- what was gathered is one that a `Tally` may be, and is the tally
-pub AreRows-gathered : {C : Type 0} (setup : StripeSetup) (batches : List NumberedPieces) (stripes : List (StripeState C)) (sorted : List Row) → position_sum setup.rule.k batches ≤ 2 ^ 62
-    → IsGathering setup batches stripes sorted → AreRows setup.rule.k setup.rule.both sorted
-AreRows-gathered setup batches stripes sorted few of =
-    let made = are_gathered setup batches stripes sorted of in
-    AreRows-sorted setup batches made.rows sorted few made.from made.same made.up
+pub AreRows-gathered : (setup : StripeSetup) (batches : List NumberedPieces) (sorted : List Row) → IsGathering setup batches sorted → AreRows setup.rule.k setup.rule.both sorted
+AreRows-gathered setup batches sorted of =
+    let made = are_gathered setup batches sorted of in
+    AreRows-sorted setup batches made.rows sorted of.parts_are.few made.from made.same made.up
 
-pub IsTallyOf-gathered : {C : Type 0} (setup : StripeSetup) (batches : List NumberedPieces) (stripes : List (StripeState C)) (sorted : List Row) (tally : TallySeen)
-    → tally ≡ record { k = setup.rule.k; both = setup.rule.both; rows = sorted } → IsGathering setup batches stripes sorted → IsTallyOf setup.rule (reads_in batches) tally
-IsTallyOf-gathered setup batches stripes sorted tally is of =
-    let made = are_gathered setup batches stripes sorted of in
+pub IsTallyOf-gathered : (setup : StripeSetup) (batches : List NumberedPieces) (sorted : List Row) (tally : TallySeen)
+    → tally ≡ record { k = setup.rule.k; both = setup.rule.both; rows = sorted } → IsGathering setup batches sorted → IsTallyOf setup.rule (reads_in batches) tally
+IsTallyOf-gathered setup batches sorted tally is of =
+    let made = are_gathered setup batches sorted of in
     IsTallyOf-sorted setup batches sorted tally is (IsTally-sorted setup batches made.rows sorted made.from made.same made.up)

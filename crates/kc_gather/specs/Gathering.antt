@@ -1,14 +1,14 @@
 -- When the stripes of a count may be gathered, and why not.
 -- Source: this project's own.
-use Rattle.std.specs.Prelude.{◌≡◌, ◌≢◌, ℕ, ◌<◌, ◌≤◌, List, ◌∷◌, ◌++◌, length, map, sum_by, All, Some, nat_eq}
+use Rattle.std.specs.Prelude.{◌≡◌, ◌≢◌, ℕ, ◌<◌, ◌≤◌, ◌^◌, List, ◌∷◌, ◌++◌, length, map, sum_by, All, Some, nat_eq}
 use Rattle.std.specs.Prelude.{slice_get, slice_index_or, Vec}
 use Rattle.std.specs.List.{IsDistinct}
 use Rattle.std.specs.List.Sorted.{IsPermutation}
 use Rattle.kc_word.specs.Cutting.{NumberedPieces, position_total}
 use Rattle.kc_tally.specs.declared.row.Row.{Row}
 use Rattle.kc_tally.specs.Tally.{count_of}
-use Rattle.kc_booking.specs.Setup.{StripeSetup, word_count, stripe_of}
-use Rattle.kc_booking.specs.Stripe.{StripeState, IsBooked, AreStripeRows, numbers_of, word_occurrences}
+use Rattle.kc_booking.specs.Setup.{StripeSetup, word_count, stripe_count, stripe_of}
+use Rattle.kc_booking.specs.Stripe.{StripeState, IsBooked, AreStripeRows, word_occurrences}
 use Rattle.kc_tally.specs.Packing.{LooseSeen}
 use Rattle.kc_gather.specs.Parts.{ArePartsOf, part_rows}
 use Rattle.kc_gather.specs.declared.gather_fault.GatherFault.{GatherFault}
@@ -103,16 +103,24 @@ pub record AreRowsFrom (setup : StripeSetup) (batches : List NumberedPieces) (n 
   pub counts_are : (word : ℕ) → word < word_count setup → n ≤ stripe_of setup word
       → count_of rows word ≡ word_occurrences setup batches word
 
--- the parts have the rows of a stripe whose journal names no batch twice
-pub record HasRowsOf {C Z : Type 0} (stripe : StripeState C) (parts : Vec LooseSeen Z) : Type 0 where
-  pub numbers_differ : IsDistinct nat_eq (numbers_of stripe.journal)
-  pub parts_are : ArePartsOf stripe.setup.rule.k parts.items
+-- the parts have the rows of stripe n of a count of the batches
+pub record HasRowsOf {Z : Type 0} (setup : StripeSetup) (batches : List NumberedPieces) (n : ℕ)
+    (parts : Vec LooseSeen Z) : Type 0 where
+  pub parts_are : ArePartsOf setup.rule.k parts.items
   pub rows : List Row
-  pub rows_are : AreStripeRows stripe.setup stripe.number stripe.journal rows
+  pub rows_are : AreStripeRows setup n batches rows
   pub same : IsPermutation rows (part_rows parts)
 
--- each of the lists has the rows of the stripe at its index, and there is one for each stripe
-pub record HaveRowsOf {C Z : Type 0} (stripes : List (StripeState C)) (taken : List (Vec LooseSeen Z)) : Type 0 where
-  pub all : length taken ≡ length stripes
-  pub each : (i : ℕ) (stripe : StripeState C) (parts : Vec LooseSeen Z) → i < length stripes
-      → HasRowsOf (slice_index_or stripes i stripe) (slice_index_or taken i parts)
+-- what was taken from these stripes, wherever they were given: the part of each
+pub record HavePartsOf {C P : Type 0} (IsPart : ℕ → P → Type 0) (stripes : List (Placed C)) (parts : List P)
+    : Type 0 where
+  pub all : length parts ≡ length stripes
+  pub each : (i : ℕ) (there : Placed C) (part : P) → i < length stripes
+      → IsPart (slice_index_or stripes i there).index (slice_index_or parts i part)
+
+-- the parts of all stripes of a count of the batches, in order; the batches have together at most 2 ^ 62 positions
+pub record AreAllParts {P : Type 0} (IsPart : StripeSetup → List NumberedPieces → ℕ → P → Type 0) (setup : StripeSetup)
+    (batches : List NumberedPieces) (parts : List P) : Type 0 where
+  pub few : position_sum setup.rule.k batches ≤ 2 ^ 62
+  pub all : length parts ≡ stripe_count setup
+  pub each : (i : ℕ) (part : P) → i < length parts → IsPart setup batches i (slice_index_or parts i part)

@@ -1,9 +1,39 @@
 -- What the stripes of a count have together.
 -- Source: this project's own.
-use Rattle.std.specs.Prelude.{ℕ, List}
-use Rattle.std.specs.List.{flat_map}
-use Rattle.kc_booking.specs.Stripe.{StripeState, stripe_occurrences}
+use Rattle.std.specs.Prelude.{◌≡◌, ℕ, ◌<◌, List, length, sum, slice_index_or}
+use Rattle.std.specs.List.{flat_map, range_with_len}
+use Rattle.kc_word.specs.Cutting.{NumberedPieces}
+use Rattle.kc_tally.specs.Histogram.{bins_of}
+use Rattle.kc_tally.specs.Statistics.{greatest_of}
+use Rattle.kc_booking.specs.Setup.{StripeSetup}
+use Rattle.kc_booking.specs.Stripe.{stripe_occurrences}
+use Rattle.kc_gather.specs.declared.stripe_part.StripePart.{StripePart}
+use Rattle.kc_gather.specs.declared.stripe_part.StripeNumbers.{StripeNumbers}
 
--- how often the words of each stripe occur in the batches of its journal, one stripe after the other
-abbrev pub joined_occurrences : {C : Type 0} → List (StripeState C) → List ℕ
-joined_occurrences stripes = flat_map (λ stripe. stripe_occurrences stripe.setup stripe.number stripe.journal) stripes
+-- the counts of the first n parts, one part after the other
+abbrev pub first_counts : (ℕ → List ℕ) → ℕ → List ℕ
+first_counts counts n = flat_map counts (range_with_len 0 n)
+
+-- each part has the bins of its counts
+abbrev pub HaveBins : (ℕ → List ℕ) → List StripePart → Type 0
+HaveBins counts parts = (i : ℕ) (part : StripePart) → i < length parts
+    → (slice_index_or parts i part).numbers.histogram ≡ bins_of (counts i)
+
+-- the bins of the counts, their sum and the greatest one
+pub record AreNumbersOf (counts : List ℕ) (numbers : StripeNumbers) : Type 0 where
+  pub bins_are : numbers.histogram ≡ bins_of counts
+  pub total_is : numbers.total ≡ sum counts
+  pub greatest_is : numbers.greatest ≡ greatest_of counts
+
+-- each part has the numbers of its counts
+abbrev pub HaveNumbers : (ℕ → List ℕ) → List StripePart → Type 0
+HaveNumbers counts parts = (i : ℕ) (part : StripePart) → i < length parts
+    → AreNumbersOf (counts i) (slice_index_or parts i part).numbers
+
+-- the bins of stripe n in a count of the batches
+abbrev pub HasStripeBins : StripeSetup → List NumberedPieces → ℕ → StripePart → Type 0
+HasStripeBins setup batches n part = part.numbers.histogram ≡ bins_of (stripe_occurrences setup n batches)
+
+-- and its numbers
+abbrev pub HasStripeNumbers : StripeSetup → List NumberedPieces → ℕ → StripePart → Type 0
+HasStripeNumbers setup batches n part = AreNumbersOf (stripe_occurrences setup n batches) part.numbers

@@ -1,40 +1,49 @@
 //! The histogram that is gathered from the stripes of a count, without a row of the tally.
-ghost use Rattle.std.specs.Prelude.{false};
+ghost use Rattle.kc_gather.specs.JoinedStripes.{HasStripeBins};
 ghost use Rattle.kc_gather.specs.TallyBins.{AreBinsOf};
 
-use crate::gather_fault::GatherFault;
-use crate::joined_stripes::{check_all, joined_histogram};
-use crate::summary::Summary;
+use crate::joined_stripes::joined_histogram;
+use crate::stripe_part::{StripeNumbers, StripePart};
+use crate::summary::{Summary, TakesParts};
 use kc_booking::{Setup, Stripe};
 use kc_table::Counts;
-use kc_tally::{Histogram, Tally};
-use kc_word::Batch;
-use std::alloc::Global;
-use std::sync::Arc;
+use kc_tally::{Histogram, LooseLists, PackedRows};
+use std::alloc::{AllocError, Global};
+
+impl TakesParts for Histogram {
+    ghost is_part = { HasStripeBins };
+
+    /// The histogram that the stripe keeps.
+    fn part_of<C: Counts + Drop>(
+        alloc: Global,
+        stripe: Stripe<C>,
+    ) -> Result<StripePart, AllocError> {
+        // for the proof: what is known of the bins
+        stripe.is_lawful();
+        let histogram = stripe.histogram(alloc)?;
+        Ok(StripePart {
+            rows: Vec::new(alloc),
+            numbers: StripeNumbers {
+                histogram,
+                total: 0,
+                greatest: 0,
+            },
+        })
+    }
+}
 
 impl Summary for Histogram {
     ghost is_of = { AreBinsOf };
 
-    ghost TAKES_ROWS = { false };
-
-    const TAKES_ROWS: bool = false;
-
-    fn of_tally(_tally: Tally) -> Option<Histogram> {
-        None
-    }
-
-    /// The histogram of the tally that `gather` answers, from the histograms that the stripes keep.
-    fn gathered_alone<C: Counts + Drop>(
+    fn of_parts<F: Fn(Vec<LooseLists>) -> Result<Vec<PackedRows>, AllocError>>(
         alloc: Global,
-        stripes: Vec<Stripe<C>>,
-        batches: &[Arc<Batch>],
+        parts: Vec<StripePart>,
         setup: &Setup,
-    ) -> Result<Histogram, GatherFault> {
+        _sort: &F,
+    ) -> Result<Histogram, AllocError> {
         // for the proof: what is known of the length of words
         let _bases = setup.rule().k().get();
-        let all = stripes.as_slice();
-        check_all(alloc, all, batches, setup)?;
-        let histogram = joined_histogram(alloc, all)?;
+        let histogram = joined_histogram(alloc, &parts)?;
         Ok(histogram)
     }
 }

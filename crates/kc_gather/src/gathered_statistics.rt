@@ -1,45 +1,55 @@
 //! The statistics that are gathered from the stripes of a count, without a row of the tally.
-ghost use Rattle.std.specs.Prelude.{◌≡◌, ◌<◌, ◌^◌, false, sum};
+ghost use Rattle.std.specs.Prelude.{◌≡◌, ◌<◌, ◌^◌, sum};
+ghost use Rattle.kc_gather.specs.JoinedStripes.{HasStripeNumbers};
 ghost use Rattle.kc_gather.specs.TallyStatistics.{AreStatisticsOf};
 
-use crate::gather_fault::GatherFault;
-use crate::joined_stripes::{check_all, joined_greatest, joined_histogram, joined_total};
-use crate::summary::Summary;
+use crate::joined_stripes::joined_numbers;
+use crate::stripe_part::{StripeNumbers, StripePart};
+use crate::summary::{Summary, TakesParts};
 use kc_booking::{Setup, Stripe};
 use kc_table::Counts;
-use kc_tally::{Histogram, Statistics, Tally};
-use kc_word::Batch;
-use std::alloc::Global;
-use std::sync::Arc;
+use kc_tally::{Histogram, LooseLists, PackedRows, Statistics};
+use std::alloc::{AllocError, Global};
+
+impl TakesParts for Statistics {
+    ghost is_part = { HasStripeNumbers };
+
+    /// What the stripe keeps, and the greatest count that one look over its table finds.
+    fn part_of<C: Counts + Drop>(
+        alloc: Global,
+        stripe: Stripe<C>,
+    ) -> Result<StripePart, AllocError> {
+        // for the proof: what is known of the bins
+        stripe.is_lawful();
+        let histogram = stripe.histogram(alloc)?;
+        Ok(StripePart {
+            rows: Vec::new(alloc),
+            numbers: StripeNumbers {
+                histogram,
+                total: stripe.total(),
+                greatest: stripe.greatest(),
+            },
+        })
+    }
+}
 
 impl Summary for Statistics {
     ghost is_of = { AreStatisticsOf };
 
-    ghost TAKES_ROWS = { false };
-
-    const TAKES_ROWS: bool = false;
-
-    fn of_tally(_tally: Tally) -> Option<Statistics> {
-        None
-    }
-
-    /// The statistics of the tally that `gather` answers, from what the stripes keep and one look over their tables.
-    fn gathered_alone<C: Counts + Drop>(
+    fn of_parts<F: Fn(Vec<LooseLists>) -> Result<Vec<PackedRows>, AllocError>>(
         alloc: Global,
-        stripes: Vec<Stripe<C>>,
-        batches: &[Arc<Batch>],
+        parts: Vec<StripePart>,
         setup: &Setup,
-    ) -> Result<Statistics, GatherFault> {
+        _sort: &F,
+    ) -> Result<Statistics, AllocError> {
         // for the proof: what is known of the length of words
         let _bases = setup.rule().k().get();
-        let all = stripes.as_slice();
-        check_all(alloc, all, batches, setup)?;
-        let histogram = joined_histogram(alloc, all)?;
+        let all = joined_numbers(alloc, &parts)?;
         Ok(Statistics {
-            unique: histogram.bin(1),
-            distinct: words_in(&histogram),
-            total: joined_total(all),
-            greatest: joined_greatest(all),
+            unique: all.histogram.bin(1),
+            distinct: words_in(&all.histogram),
+            total: all.total,
+            greatest: all.greatest,
         })
     }
 }

@@ -18,7 +18,9 @@ mod journal;
 mod parts;
 mod piles;
 mod placed;
+mod stripe_part;
 mod summary;
+mod taken_parts;
 mod taken_rows;
 
 pub use gather_fault::GatherFault;

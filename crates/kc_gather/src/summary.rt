@@ -1,59 +1,67 @@
 //! `Summary`, what a count may end in: the tally of its batches, or something of that tally for which no row is taken.
-ghost use Rattle.std.specs.Prelude.{◌≡◌, ◌≢◌, ℕ, ◌≤◌, ◌^◌, Bool, true, List, length, IfOk, OnOk, IfErr, IfSome, IsSome};
+ghost use Rattle.std.specs.Prelude.{◌≡◌, ◌≢◌, ℕ, ◌≤◌, ◌^◌, List, length, IfOk, OnOk, IfErr};
 ghost use Rattle.kc_fastx.specs.Reads.{Read};
 ghost use Rattle.kc_kmer.specs.Rule.{CountingRule};
+ghost use Rattle.kc_word.specs.Cutting.{NumberedPieces};
 ghost use Rattle.kc_word.specs.Shared.{values};
-ghost use Rattle.kc_tally.specs.Tally.{IsTallyOf};
-ghost use Rattle.kc_booking.specs.Setup.{stripe_count};
+ghost use Rattle.kc_booking.specs.Setup.{StripeSetup, stripe_count};
 ghost use Rattle.kc_booking.specs.Stripe.{reads_in};
 ghost use Rattle.kc_gather.specs.Gathering.{position_sum, AreWholeBefore, IsRefusal, StandsThere};
+ghost use Rattle.kc_gather.specs.Gathering.{IsWhole, AreAllParts};
+ghost use Rattle.kc_gather.specs.Parts.{AreSorted, list_rows};
 
+use crate::columns::sorted_in_parallel;
 use crate::gather_fault::GatherFault;
-use crate::gatherer::gather_in_parallel;
+use crate::placed::at_places;
+use crate::stripe_part::StripePart;
+use crate::taken_parts::taken_in_parallel;
 use kc_booking::{Setup, Stripe};
 use kc_table::Counts;
-use kc_tally::Tally;
+use kc_tally::{LooseLists, PackedRows};
 use kc_word::Batch;
-use std::alloc::Global;
+use std::alloc::{AllocError, Global};
 use std::sync::Arc;
 use std::thread::Threads;
 
+/// What is taken from the stripes for a summary.
+// It stands alone, since the checker takes no trait with a function of its own that starts threads where threads are
+// started.
+pub trait TakesParts {
+    ghost use Rattle.kc_gather.specs.declared.stripe_part.StripePart.{StripePart};
+
+    // Whether this is the part of the stripe of this number in a count of these batches.
+    ghost is_part: { StripeSetup → List NumberedPieces → ℕ → StripePart → Type 0 };
+
+    /// What is taken from a stripe. The stripe is freed.
+    fn part_of<C: Counts + Drop>(alloc: Global, stripe: Stripe<C>) -> Result<StripePart, AllocError>
+        ensures { (setup : StripeSetup) (batches : List NumberedPieces) (n : ℕ) → IsWhole setup batches n stripe
+            → IfOk result (is_part setup batches n) };
+}
+
 /// What a count may end in: the `Tally` of its batches or, without a row of it, its `Histogram` or its `Statistics`.
-pub trait Summary: Sized {
+pub trait Summary: TakesParts + Sized + Send {
     // Whether this is the summary of the tally of these reads.
     ghost is_of: { CountingRule → List Read → Self → Type 0 };
 
-    ghost TAKES_ROWS: { Bool };
-
-    /// Whether rows are taken for it from the stripes, so that it is made of a tally.
-    const TAKES_ROWS: bool;
-
-    /// The summary that is made of this tally. There is none only where no rows are taken for it.
-    fn of_tally(tally: Tally) -> Option<Self>
-        ensures made { TAKES_ROWS ≡ true → IsSome result }
-        ensures summary { (rule : CountingRule) (reads : List Read) → IsTallyOf rule reads tally
-            → IfSome result (is_of rule reads) };
-
-    /// What `gathered` answers, by this thread alone.
+    /// The summary that is made of the parts. Where it has rows, `sort` sorts them.
     ///
-    /// Conditions: those of `gather`.
-    fn gathered_alone<C: Counts + Drop>(
+    /// Conditions: the parts are those of all stripes, in order, in a count of batches that have together at most 2^62
+    /// positions; `sort` answers the rows of each column sorted by their words.
+    fn of_parts<F: Fn(Vec<LooseLists>) -> Result<Vec<PackedRows>, AllocError>>(
         alloc: Global,
-        stripes: Vec<Stripe<C>>,
-        batches: &[Arc<Batch>],
+        parts: Vec<StripePart>,
         setup: &Setup,
-    ) -> Result<Self, GatherFault>
-        requires one_each { length stripes.items ≡ stripe_count setup.now }
-        requires few { position_sum setup.now.rule.k (values batches.now) ≤ 2 ^ 62 }
-        ensures whole { OnOk result
-            (AreWholeBefore setup.now (values batches.now) stripes.items (length stripes.items)) }
-        ensures summary { IfOk result (is_of setup.now.rule (reads_in (values batches.now))) }
-        ensures refused { IfErr result (IsRefusal setup.now (values batches.now) stripes.items) }
-        ensures counted { (index batch : ℕ) → result ≡ Err (GatherFault.Missing index batch)
-            → StandsThere stripes.items index (λ stripe. length stripe.journal ≢ length batches.now) };
+        sort: &F,
+    ) -> Result<Self, AllocError>
+        requires parts { (batches : List NumberedPieces) × AreAllParts Self.is_part setup.now batches parts.items }
+        requires callable { F.IsAlwaysCallable sort.now }
+        requires sorts { (columns result : _) → F.post sort.now columns result
+            → IfOk result (λ sorted. AreSorted (λ column. column.rows) columns.items (list_rows sorted)) }
+        ensures { (batches : List NumberedPieces) → AreAllParts Self.is_part setup.now batches parts.items
+            → IfOk result (is_of setup.now.rule (reads_in batches)) };
 
     /// The summary of the tally of the batches, gathered from the stripes in which they were booked, by at most so many
-    /// threads where rows are taken. It is refused where `gather` is.
+    /// threads. It is refused where `gather` is.
     ///
     /// Conditions: those of `gather`, and at least one thread.
     // It is final, since the checker takes no function of an impl that hands a bounded type to another thread.
@@ -75,16 +83,13 @@ pub trait Summary: Sized {
         ensures counted { (index batch : ℕ) → result ≡ Err (GatherFault.Missing index batch)
             → StandsThere stripes.items index (λ stripe. length stripe.journal ≢ length batches.now) }
     {
-        if !Self::TAKES_ROWS {
-            return Self::gathered_alone(alloc, stripes, batches, setup);
-        }
-        let tally = match gather_in_parallel(rt, alloc, threads, stripes, batches, setup) {
-            Ok(tally) => tally,
-            Err(fault) => return Err(fault),
-        };
-        let Some(summary) = Self::of_tally(tally) else {
-            unreachable!()
-        };
+        let placed = at_places(alloc, stripes, setup)?;
+        let parts = taken_in_parallel::<Self, C, H>(rt, alloc, threads, placed, batches, setup)?;
+        let sort = |columns: Vec<LooseLists>| -> Result<Vec<PackedRows>, AllocError>
+            requires { 1 ≤ threads }
+            ensures { IfOk result (λ sorted. AreSorted (λ column. column.rows) columns.items (list_rows sorted)) }
+        { sorted_in_parallel(rt, alloc, threads, columns) };
+        let summary = Self::of_parts(alloc, parts, setup, &sort)?;
         Ok(summary)
     }
 }

@@ -7,21 +7,22 @@ use Rattle.kc_gather.specs.declared.gather_fault.GatherFault.{GatherFault}
 use Rattle.kc_gather.specs.declared.placed.Placed.{Placed}
 use Rattle.kc_gather.specs.declared.gather_fault.GatherFault.TheVariants.{Memory}
 use Rattle.kc_gather.specs.Piles.{IsFirstFault}
-use Rattle.kc_gather.specs.Gathering.{IsWholeThere, IsFirstRefusal, HaveRowsOf}
+use Rattle.kc_gather.specs.Gathering.{IsWholeThere, IsFirstRefusal, HavePartsOf}
 use Rattle.kc_gather.proofs.PileLemmas.{all_items, Joins, in_piles, answer-at, answer-count, Faults, Tells, first_fault}
-use Rattle.kc_gather.proofs.Rows.{AreTaken, AreTaken-none, AreTaken-append}
+use Rattle.kc_gather.proofs.Taken.{AreTaken, AreTaken-none, AreTaken-append}
 use Rattle.kc_gather.proofs.Stripes.{refusal-front, refusal-behind}
-use Rattle.kc_gather.proofs.taken_rows.taken_in_parallel.Goals as goal
+use Rattle.kc_gather.proofs.taken_parts.taken_in_parallel.Goals as goal
 
 -- the fault is that of the first of these stripes that is refused, but for want of memory
 abbrev AreRefused : {C : Type 0} → StripeSetup → List NumberedPieces → List (Placed C) → GatherFault → Type 0
 AreRefused setup batches stripes fault = fault ≢ Memory → IsFirstRefusal setup batches stripes fault
 
 -- what was taken of all piles
-taken : (g : _) (c : goal.In_ok-taken g) → AreTaken c.args.setup.now (values c.args.batches.now) c.args.stripes.items c.in_ok-taken.taken.items
+taken : (g : _) (c : goal.In_ok-taken g) → AreTaken (g.S.TakesParts.is_part c.args.setup.now (values c.args.batches.now)) c.args.setup.now (values c.args.batches.now) c.args.stripes.items c.in_ok-taken.taken.items
 taken g c =
     let setup = c.args.setup.now in
     let batches = values c.args.batches.now in
+    let IsPart = g.S.TakesParts.is_part setup batches in
     let piles = c.in_ok-piles.piles.items in
     let answers = c.in_ok-answers.answers.items in
     let lists = c.in_ok-lists.lists.items in
@@ -31,24 +32,24 @@ taken g c =
     let given : vec_len c.in_ok-answers.answers ≡ length answers = search rules in
     let len = c.in_ok-answers.ensures.len in
     let as_many : length piles ≡ length lists = omega (arith, counted, jobs, given, len) in
-    let joins : Joins (AreTaken setup batches) = record { none = AreTaken-none setup batches; both = AreTaken-append setup batches } in
-    subst (AreTaken setup batches c.args.stripes.items) (sym c.in_ok-taken.ensures)
-    (subst (λ stripes. AreTaken setup batches stripes (all_items lists)) c.in_ok-piles.ensures.all
+    let joins : Joins (AreTaken IsPart setup batches) = record { none = AreTaken-none IsPart setup batches; both = AreTaken-append IsPart setup batches } in
+    subst (AreTaken IsPart setup batches c.args.stripes.items) (sym c.in_ok-taken.ensures)
+    (subst (λ stripes. AreTaken IsPart setup batches stripes (all_items lists)) c.in_ok-piles.ensures.all
     (in_piles joins piles lists as_many (λ i pile list within.
     let gave = (c.in_ok-answers.ensures.each i (Ok list) within).1 in
     let whole : OnOk (get_or answers i (Ok list)) (All (IsWholeThere setup batches) gave.job.items) = search rules in
-    let rows : IfOk (get_or answers i (Ok list)) (λ rows. HaveRowsOf (map (λ there. there.stripe) gave.job.items) rows.items) = search rules in
+    let parts : IfOk (get_or answers i (Ok list)) (λ parts. HavePartsOf IsPart gave.job.items parts.items) = search rules in
     let is = answer-at lists answers told i list (omega (arith, within, as_many)) in
-    subst (λ p. AreTaken setup batches p.items (get_or lists i list).items) (sym (gave.job_is pile)) (
+    subst (λ p. AreTaken IsPart setup batches p.items (get_or lists i list).items) (sym (gave.job_is pile)) (
       subst (λ r. OnOk r (All (IsWholeThere setup batches) gave.job.items)) is whole,
-      subst (λ r. IfOk r (λ rows. HaveRowsOf (map (λ there. there.stripe) gave.job.items) rows.items)) is rows,
+      subst (λ r. IfOk r (λ parts. HavePartsOf IsPart gave.job.items parts.items)) is parts,
     ))))
 
 pub returns-clause-whole : goal.returns-clause-whole
 returns-clause-whole g c = (taken g c).0
 
-pub returns-clause-rows : goal.returns-clause-rows
-returns-clause-rows g c = (taken g c).1
+pub returns-clause-parts : goal.returns-clause-parts
+returns-clause-parts g c = (taken g c).1
 
 pub returns-in_err-lists-clause-refused : goal.returns-in_err-lists-clause-refused
 returns-in_err-lists-clause-refused g c =

@@ -5,22 +5,22 @@ use Rattle.std.proofs.lemmas.List.{map-id}
 use Rattle.std.proofs.lemmas.Result.{err_from_is_err_and}
 use Rattle.kc_word.specs.Shared.{values}
 use Rattle.kc_gather.proofs.PileLemmas.{yielded-split}
-use Rattle.kc_gather.proofs.Rows.{AreTaken, AreTaken-push}
-use Rattle.kc_gather.proofs.taken_rows.taken_of_each.Goals as goal
+use Rattle.kc_gather.proofs.Taken.{AreTaken, AreTaken-push}
+use Rattle.kc_gather.proofs.taken_parts.taken_of_each.Goals as goal
 
 pub loop-placed-preserved : goal.loop-placed-preserved
 loop-placed-preserved g c =
-    let pushed : c.push.new.self.items ≡ c.loop-placed.taken.items ++ c.in_ok-parts.parts ∷ [] = search rules in
-    subst (AreTaken c.args.setup.now (values c.args.batches.now) (c.loop-placed.yielded ++ c.in-Some.placed ∷ [])) (sym pushed)
-    (AreTaken-push c.args.setup.now (values c.args.batches.now) c.loop-placed.yielded c.in-Some.placed c.loop-placed.taken.items c.in_ok-parts.parts c.loop-placed.invariant
-    c.in_ok-parts.ensures.whole c.in_ok-parts.ensures.rows)
+    let pushed : c.push.new.self.items ≡ c.loop-placed.taken.items ++ c.in_ok-part.part ∷ [] = search rules in
+    subst (AreTaken (g.S.TakesParts.is_part c.args.setup.now (values c.args.batches.now)) c.args.setup.now (values c.args.batches.now) (c.loop-placed.yielded ++ c.in-Some.placed ∷ [])) (sym pushed)
+    (AreTaken-push (g.S.TakesParts.is_part c.args.setup.now (values c.args.batches.now)) c.args.setup.now (values c.args.batches.now) c.loop-placed.yielded c.in-Some.placed c.loop-placed.taken.items c.in_ok-part.part c.loop-placed.invariant
+    c.in_ok-part.ensures.whole c.in_ok-part.ensures.part)
 
-pub returns-in_err-parts-clause-refused : goal.returns-in_err-parts-clause-refused
-returns-in_err-parts-clause-refused g c =
+pub returns-in_err-part-clause-refused : goal.returns-in_err-part-clause-refused
+returns-in_err-part-clause-refused g c =
     let road = YieldsList-from_vec {s = c.into_iter-placed-iterator.result} c.args.stripes.items (search rules) (search rules) in
     let turn = YieldsList-turn road c.loop-placed.yielded c.loop-placed.placed-iterator c.loop-placed.yielded_by c.next.result c.next.new.self c.in-Some.placed c.in-Some.is c.next.ensures.steps in
     let front = YieldsList-so_far road c.loop-placed.yielded c.loop-placed.placed-iterator c.loop-placed.yielded_by in
-    let p = err_from_is_err_and c.from_residual-in_err-parts.result c.from_residual-in_err-parts.ensures.1 in
+    let p = err_from_is_err_and c.from_residual-in_err-part.result c.from_residual-in_err-part.ensures.1 in
     rw (p.1, p.2)
     (λ _. record {
       before = c.loop-placed.yielded;
@@ -28,18 +28,18 @@ returns-in_err-parts-clause-refused g c =
       behind = drop (length c.loop-placed.yielded + 1) c.args.stripes.items;
       stripes_are = yielded-split c.args.stripes.items c.loop-placed.yielded c.in-Some.placed front turn;
       whole = c.loop-placed.invariant.0;
-      refusal = c.in_err-parts.ensures.refused;
-      counted = λ index n is. c.in_err-parts.ensures.counted index n (ap Err is);
+      refusal = c.in_err-part.ensures.refused;
+      counted = λ index n is. c.in_err-part.ensures.counted index n (ap Err is);
     })
 
 pub returns-clause-whole : goal.returns-clause-whole
 returns-clause-whole g c =
     let road = YieldsList-from_vec {s = c.into_iter-placed-iterator.result} c.args.stripes.items (search rules) (search rules) in
     let end = YieldsList-end road c.loop-placed.yielded c.loop-placed.placed-iterator c.loop-placed.yielded_by c.next.result c.next.new.self c.in-None.is c.next.ensures.steps in
-    (subst (λ placed. AreTaken c.args.setup.now (values c.args.batches.now) placed c.loop-placed.taken.items) (sym (map-id c.loop-placed.yielded) ∙ end.0) c.loop-placed.invariant).0
+    (subst (λ placed. AreTaken (g.S.TakesParts.is_part c.args.setup.now (values c.args.batches.now)) c.args.setup.now (values c.args.batches.now) placed c.loop-placed.taken.items) (sym (map-id c.loop-placed.yielded) ∙ end.0) c.loop-placed.invariant).0
 
-pub returns-clause-rows : goal.returns-clause-rows
-returns-clause-rows g c =
+pub returns-clause-parts : goal.returns-clause-parts
+returns-clause-parts g c =
     let road = YieldsList-from_vec {s = c.into_iter-placed-iterator.result} c.args.stripes.items (search rules) (search rules) in
     let end = YieldsList-end road c.loop-placed.yielded c.loop-placed.placed-iterator c.loop-placed.yielded_by c.next.result c.next.new.self c.in-None.is c.next.ensures.steps in
-    (subst (λ placed. AreTaken c.args.setup.now (values c.args.batches.now) placed c.loop-placed.taken.items) (sym (map-id c.loop-placed.yielded) ∙ end.0) c.loop-placed.invariant).1
+    (subst (λ placed. AreTaken (g.S.TakesParts.is_part c.args.setup.now (values c.args.batches.now)) c.args.setup.now (values c.args.batches.now) placed c.loop-placed.taken.items) (sym (map-id c.loop-placed.yielded) ∙ end.0) c.loop-placed.invariant).1

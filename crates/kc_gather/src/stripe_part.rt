@@ -1,0 +1,20 @@
+//! What is taken from a stripe of a count for its summary.
+
+use kc_tally::{Histogram, LooseRows};
+
+/// What is taken from a stripe: its rows in parts, where a tally is wanted, and else its numbers.
+// It is one type for all summaries, since the checker takes no associated type that goes to another thread.
+#[derive(Drop)]
+pub struct StripePart {
+    pub(crate) rows: Vec<LooseRows>,
+    pub(crate) numbers: StripeNumbers,
+}
+
+/// What is known of the counts of words without a row: their bins, their sum, and the greatest one, 0 where there is
+/// none.
+#[derive(Drop)]
+pub struct StripeNumbers {
+    pub(crate) histogram: Histogram,
+    pub(crate) total: u64,
+    pub(crate) greatest: u64,
+}
