@@ -8,7 +8,7 @@ use Rattle.std.proofs.lemmas.List.Sums.{count_by-le-length}
 use Rattle.kc_lemmas.proofs.Sums.{sum_by-plus, sum_by-same, sum_by-at_most}
 use Rattle.kc_tally.specs.Histogram.{last_bin, bin_of, bin_size, bins_of}
 use Rattle.kc_tally.proofs.Bins.{IsOneMore, bins_of-from, one_at}
-use Rattle.kc_booking.specs.AtLeast.{at_least, at_least_of, number_at, difference_at, bins_from, risen, fallen}
+use Rattle.kc_booking.specs.AtLeast.{at_least, at_least_of, number_at, difference_at, bins_from, changed, risen, fallen}
 
 -- 1 where the count is at least c
 abbrev from_on : ℕ → ℕ → ℕ
@@ -148,26 +148,15 @@ sizes-more f sizes new i size pushed long is each k below =
 
 -- ---- one number more, and less
 
-pub risen-beyond : (numbers : List ℕ) (count : ℕ) → last_bin < count → numbers ≡ risen numbers count
-unfolding risen
-risen-beyond numbers count beyond = sym (cond-false (leb count last_bin) _ numbers (grind (arith, nat_tests)))
+pub changed-beyond : (f : ℕ → ℕ) (numbers : List ℕ) (count : ℕ) → last_bin < count → numbers ≡ changed f numbers count
+unfolding changed
+changed-beyond f numbers count beyond = sym (cond-false (leb count last_bin) _ numbers (grind (arith, nat_tests)))
 
-pub fallen-beyond : (numbers : List ℕ) (count : ℕ) → last_bin < count → numbers ≡ fallen numbers count
-unfolding fallen
-fallen-beyond numbers count beyond = sym (cond-false (leb count last_bin) _ numbers (grind (arith, nat_tests)))
-
-pub risen-within : (items numbers : List ℕ) (count number : ℕ) → items ≡ numbers → number ≡ get_or items (count - 1) 0 → count ≤ last_bin
-    → set items (count - 1) (number + 1) ≡ risen numbers count
-unfolding risen
-risen-within items numbers count number same is within =
-    ap (λ n. set items (count - 1) (n + 1)) is ∙ ap (λ xs. set xs (count - 1) (get_or xs (count - 1) 0 + 1)) same
-    ∙ sym (cond-true (leb count last_bin) _ numbers (le-leb count last_bin within))
-
-pub fallen-within : (items numbers : List ℕ) (count number : ℕ) → items ≡ numbers → number ≡ get_or items (count - 1) 0 → count ≤ last_bin
-    → set items (count - 1) (number - 1) ≡ fallen numbers count
-unfolding fallen
-fallen-within items numbers count number same is within =
-    ap (λ n. set items (count - 1) (n - 1)) is ∙ ap (λ xs. set xs (count - 1) (get_or xs (count - 1) 0 - 1)) same
+pub changed-within : (f : ℕ → ℕ) (items numbers : List ℕ) (count number : ℕ) → items ≡ numbers
+    → number ≡ get_or items (count - 1) 0 → count ≤ last_bin → set items (count - 1) (f number) ≡ changed f numbers count
+unfolding changed
+changed-within f items numbers count number same is within =
+    ap (λ n. set items (count - 1) (f n)) is ∙ ap (λ xs. set xs (count - 1) (f (get_or xs (count - 1) 0))) same
     ∙ sym (cond-true (leb count last_bin) _ numbers (le-leb count last_bin within))
 
 -- ---- no counts
@@ -197,6 +186,33 @@ at_least-more : (old new : List ℕ) (count c : ℕ) → IsOneMore old new count
 unfolding at_least
 at_least-more old new count c more = omega (arith, more (from_on c), from_on-more c count)
 
+-- the numbers of counts of which others are at least so great as one number, and as many at least as any other
+at_least_of-changed : (f : ℕ → ℕ) (old new : List ℕ) (count : ℕ) → f (at_least old (count + 1)) ≡ at_least new (count + 1)
+    → ((c : ℕ) → (c ≡ count + 1 → ⊥) → at_least old c ≡ at_least new c)
+    → changed f (at_least_of old) (count + 1) ≡ at_least_of new
+unfolding changed
+at_least_of-changed f old new count here elsewhere = ⊎_elim
+    (λ (within : count < last_bin).
+    let place : count + 1 - 1 ≡ count = omega arith in
+    let was = get_or-at_least_of old count within in
+    let number = f (get_or (at_least_of old) count 0) in
+    cond-true (leb (count + 1) last_bin) _ _ (le-leb (count + 1) last_bin (omega (arith, within)))
+    ∙ ap (λ k. set (at_least_of old) k (f (get_or (at_least_of old) k 0))) place
+    ∙ at_least_of-from new _ (length-set (at_least_of old) count _ ∙ length-at_least_of old)
+    (λ i inside. ⊎_elim
+    (λ (same : i ≡ count).
+    subst (λ k. get_or (set (at_least_of old) count number) k 0 ≡ at_least new (k + 1)) (sym same)
+    (get_or-set_same (at_least_of old) count number 0 (omega (arith, within, length-at_least_of old)) ∙ ap f was ∙ here))
+    (λ other.
+    get_or-set_other (at_least_of old) count i number 0 other
+    ∙ get_or-at_least_of old i inside ∙ elsewhere (i + 1) (λ e. other (omega (arith, e))))
+    (cases_eq i count)))
+    (λ (past : last_bin ≤ count).
+    cond-false (leb (count + 1) last_bin) _ _ (grind (arith, nat_tests))
+    ∙ at_least_of-from new (at_least_of old) (length-at_least_of old)
+    (λ i inside. get_or-at_least_of old i inside ∙ elsewhere (i + 1) (λ e. omega (arith, e, inside, past))))
+    (cases_lt count last_bin)
+
 module _ (old new : List ℕ) (count : ℕ) (more : IsOneMore old new count) where
   -- the number of a count that was just reached
   pub number_at-reached : count + 1 ≤ last_bin → 1 ≤ number_at (at_least_of new) (count + 1)
@@ -208,61 +224,11 @@ module _ (old new : List ℕ) (count : ℕ) (more : IsOneMore old new count) whe
       omega (arith, is, at_least-more old new count (count + 1) more, one)
 
   pub at_least_of-risen : risen (at_least_of old) (count + 1) ≡ at_least_of new
-  unfolding risen
-  at_least_of-risen = ⊎_elim
-      (λ (within : count < last_bin).
-      let here : count + 1 - 1 ≡ count = omega arith in
-      cond-true (leb (count + 1) last_bin) _ _ (le-leb (count + 1) last_bin (omega (arith, within)))
-      ∙ ap (λ k. set (at_least_of old) k (get_or (at_least_of old) k 0 + 1)) here
-      ∙ at_least_of-from new _ (length-set (at_least_of old) count _ ∙ length-at_least_of old)
-      (λ i inside. ⊎_elim
-      (λ (same : i ≡ count).
-      let set_to = get_or-set_same (at_least_of old) count (get_or (at_least_of old) count 0 + 1) 0 (omega (arith, within, length-at_least_of old)) in
-      let was = get_or-at_least_of old count within in
-      let one = one-same (count + 1) (count + 1) refl in
-      let is = at_least-more old new count (count + 1) more in
-      subst (λ k. get_or (set (at_least_of old) count (get_or (at_least_of old) count 0 + 1)) k 0 ≡ at_least new (k + 1)) (sym same) (omega (arith, set_to, was, one, is)))
-      (λ other.
-      let kept = get_or-set_other (at_least_of old) count i (get_or (at_least_of old) count 0 + 1) 0 other in
-      let was = get_or-at_least_of old i inside in
-      let none = none-other (i + 1) (count + 1) (λ e. other (omega (arith, e))) in
-      omega (arith, kept, was, none, at_least-more old new count (i + 1) more))
-      (cases_eq i count)))
-      (λ (past : last_bin ≤ count).
-      cond-false (leb (count + 1) last_bin) _ _ (grind (arith, nat_tests))
-      ∙ at_least_of-from new (at_least_of old) (length-at_least_of old)
-      (λ i inside.
-      let was = get_or-at_least_of old i inside in
-      let none = none-other (i + 1) (count + 1) (λ e. omega (arith, e, inside, past)) in
-      omega (arith, was, none, at_least-more old new count (i + 1) more)))
-      (cases_lt count last_bin)
+  at_least_of-risen = at_least_of-changed (λ n. n + 1) old new count
+      (omega (arith, at_least-more old new count (count + 1) more, one-same (count + 1) (count + 1) refl))
+      (λ c other. omega (arith, at_least-more old new count c more, none-other c (count + 1) other))
 
   pub at_least_of-fallen : fallen (at_least_of new) (count + 1) ≡ at_least_of old
-  unfolding fallen
-  at_least_of-fallen = ⊎_elim
-      (λ (within : count < last_bin).
-      let here : count + 1 - 1 ≡ count = omega arith in
-      cond-true (leb (count + 1) last_bin) _ _ (le-leb (count + 1) last_bin (omega (arith, within)))
-      ∙ ap (λ k. set (at_least_of new) k (get_or (at_least_of new) k 0 - 1)) here
-      ∙ at_least_of-from old _ (length-set (at_least_of new) count _ ∙ length-at_least_of new)
-      (λ i inside. ⊎_elim
-      (λ (same : i ≡ count).
-      let set_to = get_or-set_same (at_least_of new) count (get_or (at_least_of new) count 0 - 1) 0 (omega (arith, within, length-at_least_of new)) in
-      let was = get_or-at_least_of new count within in
-      let one = one-same (count + 1) (count + 1) refl in
-      let is = at_least-more old new count (count + 1) more in
-      subst (λ k. get_or (set (at_least_of new) count (get_or (at_least_of new) count 0 - 1)) k 0 ≡ at_least old (k + 1)) (sym same) (omega (arith, set_to, was, one, is)))
-      (λ other.
-      let kept = get_or-set_other (at_least_of new) count i (get_or (at_least_of new) count 0 - 1) 0 other in
-      let was = get_or-at_least_of new i inside in
-      let none = none-other (i + 1) (count + 1) (λ e. other (omega (arith, e))) in
-      omega (arith, kept, was, none, at_least-more old new count (i + 1) more))
-      (cases_eq i count)))
-      (λ (past : last_bin ≤ count).
-      cond-false (leb (count + 1) last_bin) _ _ (grind (arith, nat_tests))
-      ∙ at_least_of-from old (at_least_of new) (length-at_least_of new)
-      (λ i inside.
-      let was = get_or-at_least_of new i inside in
-      let none = none-other (i + 1) (count + 1) (λ e. omega (arith, e, inside, past)) in
-      omega (arith, was, none, at_least-more old new count (i + 1) more)))
-      (cases_lt count last_bin)
+  at_least_of-fallen = at_least_of-changed (λ n. n - 1) new old count
+      (omega (arith, at_least-more old new count (count + 1) more, one-same (count + 1) (count + 1) refl))
+      (λ c other. omega (arith, at_least-more old new count c more, none-other c (count + 1) other))

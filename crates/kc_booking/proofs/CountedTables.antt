@@ -98,15 +98,12 @@ IsTold-empty bits m numbers narrow none nothing =
         (All-range (λ q. h (count_at m q) ≡ 0) 0 (2 ^ bits) (λ q _ _. ap h (ap (λ (n : KeyCounts). count_at n q) none ∙ count_at-empty q) ∙ zero_weighs))
 
 -- the same counts have the same bins and total
-pub same-bins : (bits : ℕ) (m n : KeyCounts) (bins others : List ℕ) (total other : ℕ) → ((q : ℕ) → count_at n q ≡ count_at m q)
-    → IsCounted bits m bins total → IsCounted bits n others other → others ≡ bins
-same-bins bits m n bins others total other same old new =
-    new.bins_are ∙ ap bins_of (counts_of-same bits m n same) ∙ sym old.bins_are
-
-pub same-total : (bits : ℕ) (m n : KeyCounts) (bins others : List ℕ) (total other : ℕ) → ((q : ℕ) → count_at n q ≡ count_at m q)
-    → IsCounted bits m bins total → IsCounted bits n others other → other ≡ total
-same-total bits m n bins others total other same old new =
-    new.total_is ∙ ap sum (counts_of-same bits m n same) ∙ sym old.total_is
+pub counted-same : {bits now : ℕ} {m n : KeyCounts} {bins others : List ℕ} {total other : ℕ} → now ≡ bits
+    → ((q : ℕ) → count_at n q ≡ count_at m q) → IsCounted bits m bins total → IsCounted now n others other
+    → (others ≡ bins) × (other ≡ total)
+counted-same {bits} {now} {m} {n} same_bits same old new =
+    let is : counts_of now n ≡ counts_of bits m = ap (λ b. counts_of b n) same_bits ∙ counts_of-same bits m n same in
+    (new.bins_are ∙ ap bins_of is ∙ sym old.bins_are, new.total_is ∙ ap sum is ∙ sym old.total_is)
 
 -- each count is at most the total
 pub count_at-at_most : (bits : ℕ) (m : KeyCounts) (bins : List ℕ) (total q : ℕ) → IsCounted bits m bins total → q < 2 ^ bits → count_at m q ≤ total

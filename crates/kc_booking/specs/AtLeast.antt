@@ -24,12 +24,15 @@ difference_at numbers bin = number_at numbers bin - number_at numbers (bin + 1)
 unfoldable pub bins_from : List ℕ → List ℕ
 bins_from numbers = map (λ bin. difference_at numbers bin) (range_with_len 1 last_bin)
 
+-- the numbers with that of a count changed, where it has one
+unfoldable pub changed : (ℕ → ℕ) → List ℕ → ℕ → List ℕ
+changed change numbers count =
+    if nat_le count last_bin then slice_set numbers (count - 1) (change (number_at numbers count)) else numbers
+
 -- the numbers after a count rose by one, to this count
-unfoldable pub risen : List ℕ → ℕ → List ℕ
-risen numbers count =
-    if nat_le count last_bin then slice_set numbers (count - 1) (number_at numbers count + 1) else numbers
+abbrev pub risen : List ℕ → ℕ → List ℕ
+risen numbers count = changed (λ n. n + 1) numbers count
 
 -- the numbers after a count fell by one, from this count
-unfoldable pub fallen : List ℕ → ℕ → List ℕ
-fallen numbers count =
-    if nat_le count last_bin then slice_set numbers (count - 1) (number_at numbers count - 1) else numbers
+abbrev pub fallen : List ℕ → ℕ → List ℕ
+fallen numbers count = changed (λ n. n - 1) numbers count
