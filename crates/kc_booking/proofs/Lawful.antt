@@ -1,5 +1,6 @@
 -- A lawful stripe: when nothing was booked, and when one batch more is booked.
 use Rattle.std.proofs.Common.{◌≡◌, ◌≢◌, ℕ, ◌+◌, ◌<◌, ◌^◌, Bool, true, false, cond, ◌||◌, eqb, nat_eq, List, [], ◌∷◌, ◌++◌, get_or, filter, sum, sum_by, count_by, All, append-nil, refl, ap, sym, subst, ◌∙◌, arith, ⊎_elim}
+use Rattle.std.specs.Bool.{MatchBool}
 use Rattle.std.specs.List.{range_with_len, list_any, IsDistinct}
 use Rattle.std.proofs.lemmas.Bool.{eqb-true, eq-eqb, ne_eqb, cases_eq}
 use Rattle.std.proofs.lemmas.Bool.Decides.{eqb_tells}
@@ -221,15 +222,12 @@ numbers_differ-more journal batch distinct new =
     rw (numbers_of-push journal batch) (IsDistinct-push_new nat_eq eqb_tells (numbers_of journal) batch.number distinct new)
 
 -- what the test of a batch's number tells
-pub IsBooked-found : (journal : List NumberedPieces) {n number : ℕ} {found : Bool} → found ≡ list_any (nat_eq n) (numbers_of journal) → n ≡ number
-    → found ≡ true → IsBooked journal number
-IsBooked-found journal {n} {number} {found} is same there = subst (IsBooked journal) same (Contains-from_any eqb-true n (numbers_of journal) (sym is ∙ there))
-
-pub IsBooked-missing : (journal : List NumberedPieces) {n number : ℕ} {found : Bool} → found ≡ list_any (nat_eq n) (numbers_of journal) → n ≡ number
-    → found ≡ false → ¬ IsBooked journal number
-IsBooked-missing journal {n} {number} {found} is same absent booked =
+pub booked-told : (journal : List NumberedPieces) {n number : ℕ} (found : Bool) → found ≡ list_any (nat_eq n) (numbers_of journal)
+    → n ≡ number → MatchBool found (IsBooked journal number) (¬ IsBooked journal number)
+booked-told journal {n} true is same = subst (IsBooked journal) same (Contains-from_any eqb-true n (numbers_of journal) (sym is))
+booked-told journal {n} {number} false is same = λ (booked : IsBooked journal number).
     let stands = subst (IsBooked journal) (sym same) booked in
-    let never : false ≡ true = sym absent ∙ is ∙ list_any-from_Contains nat_eq_equiv n (numbers_of journal) stands in
+    let never : false ≡ true = is ∙ list_any-from_Contains nat_eq_equiv n (numbers_of journal) stands in
     absurd (cc)
 
 -- ---- a refusal

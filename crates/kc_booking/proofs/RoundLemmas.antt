@@ -21,11 +21,11 @@ use Rattle.kc_word.specs.declared.batch.Batch.{Batch}
 use Rattle.kc_table.specs.Counts.{KeyCounts, count_at}
 use Rattle.kc_booking.specs.Setup.{StripeSetup, DividesWords, key_bits, word_count, stripe_of, key_of}
 use Rattle.kc_booking.specs.Cut.{StripeCut, keys_of, cut_at, batch_hash_values}
-use Rattle.kc_booking.specs.Cuts.{RoundCut, round_at, cuts_in, all_keys_of, sizes_of, FirstIsBooked, FirstIsNew}
+use Rattle.kc_booking.specs.Cuts.{RoundCut, round_at, cuts_in, all_keys_of, sizes_of, OfFirst, FirstIsBooked, FirstIsNew}
 use Rattle.kc_booking.specs.Stripe.{numbers_of, NumbersDiffer, KnowsNumbers, IsBooked, word_occurrences}
 use Rattle.kc_booking.specs.Round.{stripe_keys}
 use Rattle.kc_booking.proofs.Parts.{falls_in, keys_in-hashed}
-use Rattle.kc_booking.proofs.Lawful.{CountsWords, WordLaws, occurrences-more, keys-fit, known-more, numbers_differ-more, IsBooked-found, IsBooked-missing}
+use Rattle.kc_booking.proofs.Lawful.{CountsWords, WordLaws, occurrences-more, keys-fit, known-more, numbers_differ-more, booked-told}
 
 -- ---- the keys of several batches
 
@@ -136,8 +136,8 @@ differ-more batches batch false new before _ = λ (all : NumbersDiffer (batches 
 pub is-new : (batches : List NumberedPieces) {n number : ℕ} (found added : Bool) → found ≡ list_any (nat_eq n) (numbers_of batches) → n ≡ number
     → added ≡ not found → MatchBool added (¬ IsBooked batches number) (IsBooked batches number)
 is-new batches {n} {number} true true known is told = absurd (cc)
-is-new batches {n} {number} true false known is told = IsBooked-found batches known is refl
-is-new batches {n} {number} false true known is told = IsBooked-missing batches known is refl
+is-new batches {n} {number} true false known is told = booked-told batches true known is
+is-new batches {n} {number} false true known is told = booked-told batches false known is
 is-new batches {n} {number} false false known is told = absurd (cc)
 
 -- one batch more is known
@@ -213,20 +213,11 @@ pub no_values : (batches : List Shared) (more : List NumberedPieces) → values 
 no_values [] more is none = sym is
 no_values (batch ∷ batches) more is none = absurd (omega arith)
 
--- the first of them, whose number is found in the journal or not
-pub first_found : (journal : List NumberedPieces) (batches : List Shared) {first : Shared} {number : ℕ} {found : Bool} → 1 ≤ length (values batches)
-    → first ≡ get_or batches 0 first → found ≡ list_any (nat_eq number) (numbers_of journal) → number ≡ first.value.number → found ≡ true
-    → FirstIsBooked journal (values batches)
-first_found journal [] some at known is there = absurd (omega (arith, some))
-first_found journal (batch ∷ batches) {first} {number} {found} some at known is there =
-    IsBooked-found journal known (is ∙ ap (λ (b : Shared). b.value.number) at) there
-
-pub first_missing : (journal : List NumberedPieces) (batches : List Shared) {first : Shared} {number : ℕ} {found : Bool} → 1 ≤ length (values batches)
-    → first ≡ get_or batches 0 first → found ≡ list_any (nat_eq number) (numbers_of journal) → number ≡ first.value.number → found ≡ false
-    → FirstIsNew journal (values batches)
-first_missing journal [] some at known is absent = absurd (omega (arith, some))
-first_missing journal (batch ∷ batches) {first} {number} {found} some at known is absent =
-    IsBooked-missing journal known (is ∙ ap (λ (b : Shared). b.value.number) at) absent
+-- what holds of the first of them
+pub of_first : (P : NumberedPieces → Type 0) (batches : List Shared) (d : Shared) → 1 ≤ length (values batches)
+    → P (get_or batches 0 d).value → OfFirst P (values batches)
+of_first P [] d some holds = absurd (omega (arith, some))
+of_first P (batch ∷ batches) d some holds = holds
 
 pub new_first : (journal batches : List NumberedPieces) → FirstIsNew journal batches → ¬ FirstIsBooked journal batches
 new_first journal [] new booked = booked
@@ -273,9 +264,9 @@ pub one_refused : (journal : List NumberedPieces) (batch : NumberedPieces) (Own 
 one_refused journal batch Own differ refused = by (list_any (nat_eq batch.number) (numbers_of journal)) refl
   where
     by : (found : Bool) → found ≡ list_any (nat_eq batch.number) (numbers_of journal) → IsBooked journal batch.number
-    by true known = IsBooked-found journal known refl refl
+    by true known = booked-told journal true known refl
     by false known =
-        absurd (new_refused journal (batch ∷ []) Own (numbers_differ-more journal batch differ (IsBooked-missing journal known refl refl)) refused)
+        absurd (new_refused journal (batch ∷ []) Own (numbers_differ-more journal batch differ (booked-told journal false known refl)) refused)
 
 -- ---- the stripe
 

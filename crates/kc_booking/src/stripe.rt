@@ -1,6 +1,6 @@
 //! A stripe, which always holds exactly the counts of the batches that its journal names.
 ghost use Rattle.std.specs.Prelude.{◌≡◌, ◌+◌, ◌<◌, ◌≤◌, ◌^◌, ◌≢◌, ◌==◌, ◌↔◌, ◌⊎◌, [], ◌∷◌, ◌++◌, length, sum_by};
-ghost use Rattle.std.specs.Prelude.{count_by, max, ◌*◌, ℕ, IfOk, IfErr, OnOk, OnErr, nat_eq};
+ghost use Rattle.std.specs.Prelude.{count_by, max, ◌*◌, ℕ, IfOk, IfErr, OnOk, OnErr, MatchBool, nat_eq};
 ghost use Rattle.std.specs.List.Sorted.{IsPermutation};
 ghost use Rattle.std.specs.HashSet.{contains, spare};
 ghost use Rattle.std.specs.Vec.{vec_capacity};
@@ -284,7 +284,7 @@ impl<C: Counts> Stripe<C> {
         ensures full { result ≡ Err BookFault.Full → 2 ^ 62 < self.now.total + length (all_keys_of cuts.now) }
         ensures memory { ¬ (result ≡ Err BookFault.Memory) }
     {
-        if self.booked.contains(&cuts.batches[0].number()) {
+        if self.has_booked(&cuts.batches[0]) {
             return Err(BookFault::Twice);
         }
         if *cuts.setup != self.setup || cuts.stripe != self.number {
@@ -294,7 +294,7 @@ impl<C: Counts> Stripe<C> {
             return Err(BookFault::Twice);
         }
         for batch in cuts.batches {
-            if self.booked.contains(&batch.number()) {
+            if self.has_booked(batch) {
                 return Err(BookFault::Twice);
             }
         }
@@ -302,6 +302,14 @@ impl<C: Counts> Stripe<C> {
             return Err(BookFault::Full);
         }
         Ok(())
+    }
+
+    // Whether a batch of this number was booked.
+    fn has_booked(&self, batch: &Arc<Batch>) -> bool
+        ensures { MatchBool result (IsBooked self.now.journal batch.now.value.number)
+            (¬ IsBooked self.now.journal batch.now.value.number) }
+    {
+        self.booked.contains(&batch.number())
     }
 
     // Counts the keys and names the batches in the journal, or neither. Conditions: the batches are new ones, the keys

@@ -13,15 +13,17 @@ order-requires g c =
     let keys = c.cuts.invariant.keys_are ∙ ap all_keys_of c.cuts.view_is in
     let same = ap (λ s. s.counted.table) c.self-inside.view_is in
     subst (λ (table : g.row.C.Denot). All (λ key. key < 2 ^ g.C.Counts.bits table) c.cuts.inside.keys.now) (sym same)
-    (own-keys-fit c.self.inside.setup c.self.inside.number (g.C.Counts.bits c.self.inside.counted.table) c.args.cuts.now c.cuts.inside.keys.now keys own
-    All-words_of kept.divided kept.bits_are)
+    (own-keys-fit c.self.inside.setup c.self.inside.number (g.C.Counts.bits c.self.inside.counted.table) c.args.cuts.now
+    c.cuts.inside.keys.now keys own All-words_of kept.divided kept.bits_are)
 
 pub enter_counted-requires-clause-room : goal.enter_counted-requires-clause-room
 enter_counted-requires-clause-room g c =
-    let order = ordered-keys (c.cuts.invariant.keys_are ∙ ap all_keys_of c.cuts.view_is) c.in_ok-order.ensures (c.deref.ensures.value ∙ c.ordered.view_is) in
+    let keys = c.cuts.invariant.keys_are ∙ ap all_keys_of c.cuts.view_is in
+    let order = ordered-keys keys c.in_ok-order.ensures (c.deref.ensures.value ∙ c.ordered.view_is) in
     omega (arith, c.in_ok-check_all.ensures.room, length_permutation _ _ order)
 
 pub returns-clause-total : goal.returns-clause-total
 returns-clause-total g c =
-    let order = ordered-keys (c.cuts.invariant.keys_are ∙ ap all_keys_of c.cuts.view_is) c.in_ok-order.ensures (c.deref.ensures.value ∙ c.ordered.view_is) in
+    let keys = c.cuts.invariant.keys_are ∙ ap all_keys_of c.cuts.view_is in
+    let order = ordered-keys keys c.in_ok-order.ensures (c.deref.ensures.value ∙ c.ordered.view_is) in
     rw (← length_permutation _ _ order) c.enter_counted.ensures.total

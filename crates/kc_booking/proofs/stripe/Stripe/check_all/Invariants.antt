@@ -3,4 +3,4 @@ use Rattle.kc_word.specs.Shared.{values}
 use Rattle.kc_booking.proofs.stripe.Stripe.check_all.Given as goal
 
 abbrev pub invariant-loop-batch : goal.invariant-loop-batch
-invariant-loop-batch g l = NoneBooked (values l.self-inside.journal.items) (values l.batch-items) l.batch-index
+invariant-loop-batch g l = NoneBooked l.self.journal (values l.batch-items) l.batch-index
