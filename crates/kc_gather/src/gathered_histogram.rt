@@ -4,13 +4,15 @@ ghost use Rattle.kc_gather.specs.TallyBins.{AreBinsOf};
 
 use crate::joined_stripes::joined_histogram;
 use crate::stripe_part::{StripeNumbers, StripePart};
-use crate::summary::{Summary, TakesParts};
+use crate::summary::Summary;
 use kc_booking::{Setup, Stripe};
 use kc_table::Counts;
 use kc_tally::{Histogram, LooseLists, PackedRows};
 use std::alloc::{AllocError, Global};
 
-impl TakesParts for Histogram {
+impl Summary for Histogram {
+    ghost is_of = { AreBinsOf };
+
     ghost is_part = { HasStripeBins };
 
     /// The histogram that the stripe keeps.
@@ -30,10 +32,6 @@ impl TakesParts for Histogram {
             },
         })
     }
-}
-
-impl Summary for Histogram {
-    ghost is_of = { AreBinsOf };
 
     fn of_parts<F: Fn(Vec<LooseLists>) -> Result<Vec<PackedRows>, AllocError>>(
         alloc: Global,

@@ -5,13 +5,15 @@ ghost use Rattle.kc_gather.specs.TallyStatistics.{AreStatisticsOf};
 
 use crate::joined_stripes::joined_numbers;
 use crate::stripe_part::{StripeNumbers, StripePart};
-use crate::summary::{Summary, TakesParts};
+use crate::summary::Summary;
 use kc_booking::{Setup, Stripe};
 use kc_table::Counts;
 use kc_tally::{Histogram, LooseLists, PackedRows, Statistics};
 use std::alloc::{AllocError, Global};
 
-impl TakesParts for Statistics {
+impl Summary for Statistics {
+    ghost is_of = { AreStatisticsOf };
+
     ghost is_part = { HasStripeNumbers };
 
     /// What the stripe keeps, and the greatest count that one look over its table finds.
@@ -31,10 +33,6 @@ impl TakesParts for Statistics {
             },
         })
     }
-}
-
-impl Summary for Statistics {
-    ghost is_of = { AreStatisticsOf };
 
     fn of_parts<F: Fn(Vec<LooseLists>) -> Result<Vec<PackedRows>, AllocError>>(
         alloc: Global,

@@ -12,7 +12,7 @@ use crate::columns::{columns_of, sorted_each};
 use crate::gather_fault::GatherFault;
 use crate::placed::at_places;
 use crate::stripe_part::{StripeNumbers, StripePart};
-use crate::summary::{Summary, TakesParts};
+use crate::summary::Summary;
 use crate::taken_parts::taken_of_each;
 use crate::taken_rows::{rows_in, rows_of};
 use kc_booking::{Setup, Stripe};
@@ -48,7 +48,9 @@ pub fn gather<C: Counts + Drop>(
     Ok(tally)
 }
 
-impl TakesParts for Tally {
+impl Summary for Tally {
+    ghost is_of = { IsTallyOf };
+
     ghost is_part = { λ setup batches n part. HasRowsOf setup batches n part.rows };
 
     /// The stripe's rows in parts.
@@ -67,10 +69,6 @@ impl TakesParts for Tally {
             },
         })
     }
-}
-
-impl Summary for Tally {
-    ghost is_of = { IsTallyOf };
 
     /// The tally of the rows of all stripes.
     fn of_parts<F: Fn(Vec<LooseLists>) -> Result<Vec<PackedRows>, AllocError>>(

@@ -3,7 +3,8 @@
 use kc_tally::{Histogram, LooseRows};
 
 /// What is taken from a stripe: its rows in parts, where a tally is wanted, and else its numbers.
-// It is one type for all summaries, since the checker takes no associated type that goes to another thread.
+// It is one type for all summaries, since the checker gives no method that takes an associated type the clauses of its
+// trait.
 #[derive(Drop)]
 pub struct StripePart {
     pub(crate) rows: Vec<LooseRows>,

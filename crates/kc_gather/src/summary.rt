@@ -23,25 +23,21 @@ use std::alloc::{AllocError, Global};
 use std::sync::Arc;
 use std::thread::Threads;
 
-/// What is taken from the stripes for a summary.
-// It stands alone, since the checker takes no trait with a function of its own that starts threads where threads are
-// started.
-pub trait TakesParts {
+/// What a count may end in: the `Tally` of its batches or, without a row of it, its `Histogram` or its `Statistics`.
+// It is `Send`, since the checker takes no call in another thread that rests on a bound of a type that is not.
+pub trait Summary: Sized + Send {
     ghost use Rattle.kc_gather.specs.declared.stripe_part.StripePart.{StripePart};
+
+    // Whether this is the summary of the tally of these reads.
+    ghost is_of: { CountingRule → List Read → Self → Type 0 };
 
     // Whether this is the part of the stripe of this number in a count of these batches.
     ghost is_part: { StripeSetup → List NumberedPieces → ℕ → StripePart → Type 0 };
 
-    /// What is taken from a stripe. The stripe is freed.
+    /// What is taken from a stripe for it. The stripe is freed.
     fn part_of<C: Counts + Drop>(alloc: Global, stripe: Stripe<C>) -> Result<StripePart, AllocError>
         ensures { (setup : StripeSetup) (batches : List NumberedPieces) (n : ℕ) → IsWhole setup batches n stripe
             → IfOk result (is_part setup batches n) };
-}
-
-/// What a count may end in: the `Tally` of its batches or, without a row of it, its `Histogram` or its `Statistics`.
-pub trait Summary: TakesParts + Sized + Send {
-    // Whether this is the summary of the tally of these reads.
-    ghost is_of: { CountingRule → List Read → Self → Type 0 };
 
     /// The summary that is made of the parts. Where it has rows, `sort` sorts them.
     ///
@@ -53,11 +49,11 @@ pub trait Summary: TakesParts + Sized + Send {
         setup: &Setup,
         sort: &F,
     ) -> Result<Self, AllocError>
-        requires parts { (batches : List NumberedPieces) × AreAllParts Self.is_part setup.now batches parts.items }
+        requires parts { (batches : List NumberedPieces) × AreAllParts is_part setup.now batches parts.items }
         requires callable { F.IsAlwaysCallable sort.now }
         requires sorts { (columns result : _) → F.post sort.now columns result
             → IfOk result (λ sorted. AreSorted (λ column. column.rows) columns.items (list_rows sorted)) }
-        ensures { (batches : List NumberedPieces) → AreAllParts Self.is_part setup.now batches parts.items
+        ensures { (batches : List NumberedPieces) → AreAllParts is_part setup.now batches parts.items
             → IfOk result (is_of setup.now.rule (reads_in batches)) };
 
     /// The summary of the tally of the batches, gathered from the stripes in which they were booked, by at most so many

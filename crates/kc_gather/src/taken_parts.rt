@@ -9,7 +9,7 @@ use crate::journal::check_stripe;
 use crate::piles::{all_ok, dealt, joined};
 use crate::placed::Placed;
 use crate::stripe_part::StripePart;
-use crate::summary::TakesParts;
+use crate::summary::Summary;
 use kc_booking::Setup;
 use kc_lemmas::room_for_each;
 use kc_table::Counts;
@@ -21,7 +21,7 @@ use std::thread::Threads;
 
 /// The part of each stripe. It is refused at the first stripe that isn't that of its index, or whose journal doesn't
 /// hold exactly the given batches. Each stripe is freed as soon as its part is taken.
-pub(crate) fn taken_of_each<S: TakesParts, C: Counts + Drop>(
+pub(crate) fn taken_of_each<S: Summary, C: Counts + Drop>(
     alloc: Global,
     stripes: Vec<Placed<C>>,
     batches: &[Arc<Batch>],
@@ -44,7 +44,7 @@ pub(crate) fn taken_of_each<S: TakesParts, C: Counts + Drop>(
 }
 
 // The part of a stripe, where it is that of its index, and its journal holds exactly the given batches.
-fn taken_of<S: TakesParts, C: Counts + Drop>(
+fn taken_of<S: Summary, C: Counts + Drop>(
     alloc: Global,
     placed: Placed<C>,
     batches: &[Arc<Batch>],
@@ -65,7 +65,7 @@ fn taken_of<S: TakesParts, C: Counts + Drop>(
 /// The parts of all stripes, taken as `taken_of_each` takes them, by at most so many threads, each of which looks at
 /// the stripes whose parts it takes. A single one is started too: the C library lets threads use again what the threads
 /// before them freed, and so rows come to lie where tables were. Condition: one at the least.
-pub(crate) fn taken_in_parallel<S: TakesParts + Send, C: Counts + Drop + Send, H: Threads + Sync>(
+pub(crate) fn taken_in_parallel<S: Summary + Send, C: Counts + Drop + Send, H: Threads + Sync>(
     rt: &H,
     alloc: Global,
     threads: u32,

@@ -18,11 +18,11 @@ abbrev AreRefused : {C : Type 0} → StripeSetup → List NumberedPieces → Lis
 AreRefused setup batches stripes fault = fault ≢ Memory → IsFirstRefusal setup batches stripes fault
 
 -- what was taken of all piles
-taken : (g : _) (c : goal.In_ok-taken g) → AreTaken (g.S.TakesParts.is_part c.args.setup.now (values c.args.batches.now)) c.args.setup.now (values c.args.batches.now) c.args.stripes.items c.in_ok-taken.taken.items
+taken : (g : _) (c : goal.In_ok-taken g) → AreTaken (g.S.Summary.is_part c.args.setup.now (values c.args.batches.now)) c.args.setup.now (values c.args.batches.now) c.args.stripes.items c.in_ok-taken.taken.items
 taken g c =
     let setup = c.args.setup.now in
     let batches = values c.args.batches.now in
-    let IsPart = g.S.TakesParts.is_part setup batches in
+    let IsPart = g.S.Summary.is_part setup batches in
     let piles = c.in_ok-piles.piles.items in
     let answers = c.in_ok-answers.answers.items in
     let lists = c.in_ok-lists.lists.items in

@@ -11,8 +11,8 @@ use Rattle.kc_gather.proofs.taken_parts.taken_of_each.Goals as goal
 pub loop-placed-preserved : goal.loop-placed-preserved
 loop-placed-preserved g c =
     let pushed : c.push.new.self.items ≡ c.loop-placed.taken.items ++ c.in_ok-part.part ∷ [] = search rules in
-    subst (AreTaken (g.S.TakesParts.is_part c.args.setup.now (values c.args.batches.now)) c.args.setup.now (values c.args.batches.now) (c.loop-placed.yielded ++ c.in-Some.placed ∷ [])) (sym pushed)
-    (AreTaken-push (g.S.TakesParts.is_part c.args.setup.now (values c.args.batches.now)) c.args.setup.now (values c.args.batches.now) c.loop-placed.yielded c.in-Some.placed c.loop-placed.taken.items c.in_ok-part.part c.loop-placed.invariant
+    subst (AreTaken (g.S.Summary.is_part c.args.setup.now (values c.args.batches.now)) c.args.setup.now (values c.args.batches.now) (c.loop-placed.yielded ++ c.in-Some.placed ∷ [])) (sym pushed)
+    (AreTaken-push (g.S.Summary.is_part c.args.setup.now (values c.args.batches.now)) c.args.setup.now (values c.args.batches.now) c.loop-placed.yielded c.in-Some.placed c.loop-placed.taken.items c.in_ok-part.part c.loop-placed.invariant
     c.in_ok-part.ensures.whole c.in_ok-part.ensures.part)
 
 pub returns-in_err-part-clause-refused : goal.returns-in_err-part-clause-refused
@@ -36,10 +36,10 @@ pub returns-clause-whole : goal.returns-clause-whole
 returns-clause-whole g c =
     let road = YieldsList-from_vec {s = c.into_iter-placed-iterator.result} c.args.stripes.items (search rules) (search rules) in
     let end = YieldsList-end road c.loop-placed.yielded c.loop-placed.placed-iterator c.loop-placed.yielded_by c.next.result c.next.new.self c.in-None.is c.next.ensures.steps in
-    (subst (λ placed. AreTaken (g.S.TakesParts.is_part c.args.setup.now (values c.args.batches.now)) c.args.setup.now (values c.args.batches.now) placed c.loop-placed.taken.items) (sym (map-id c.loop-placed.yielded) ∙ end.0) c.loop-placed.invariant).0
+    (subst (λ placed. AreTaken (g.S.Summary.is_part c.args.setup.now (values c.args.batches.now)) c.args.setup.now (values c.args.batches.now) placed c.loop-placed.taken.items) (sym (map-id c.loop-placed.yielded) ∙ end.0) c.loop-placed.invariant).0
 
 pub returns-clause-parts : goal.returns-clause-parts
 returns-clause-parts g c =
     let road = YieldsList-from_vec {s = c.into_iter-placed-iterator.result} c.args.stripes.items (search rules) (search rules) in
     let end = YieldsList-end road c.loop-placed.yielded c.loop-placed.placed-iterator c.loop-placed.yielded_by c.next.result c.next.new.self c.in-None.is c.next.ensures.steps in
-    (subst (λ placed. AreTaken (g.S.TakesParts.is_part c.args.setup.now (values c.args.batches.now)) c.args.setup.now (values c.args.batches.now) placed c.loop-placed.taken.items) (sym (map-id c.loop-placed.yielded) ∙ end.0) c.loop-placed.invariant).1
+    (subst (λ placed. AreTaken (g.S.Summary.is_part c.args.setup.now (values c.args.batches.now)) c.args.setup.now (values c.args.batches.now) placed c.loop-placed.taken.items) (sym (map-id c.loop-placed.yielded) ∙ end.0) c.loop-placed.invariant).1

@@ -3,7 +3,7 @@ use Rattle.std.specs.Prelude.{sum}
 use Rattle.kc_tally.specs.Histogram.{bins_of}
 use Rattle.kc_tally.specs.Statistics.{greatest_of}
 use Rattle.kc_gather.proofs.JoinedLemmas.{occurrences-whole}
-use Rattle.kc_gather.proofs.gathered_statistics.StatisticsTakesParts.part_of.Goals as goal
+use Rattle.kc_gather.proofs.gathered_statistics.StatisticsSummary.part_of.Goals as goal
 
 pub returns : goal.returns
 returns g c = λ setup batches n whole.

@@ -1,7 +1,7 @@
 use Rattle.std.proofs.Common.{◌∙◌, ap}
 use Rattle.kc_tally.specs.Histogram.{bins_of}
 use Rattle.kc_gather.proofs.JoinedLemmas.{occurrences-whole}
-use Rattle.kc_gather.proofs.gathered_histogram.HistogramTakesParts.part_of.Goals as goal
+use Rattle.kc_gather.proofs.gathered_histogram.HistogramSummary.part_of.Goals as goal
 
 pub returns : goal.returns
 returns g c = λ setup batches n whole.
