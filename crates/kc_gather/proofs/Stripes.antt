@@ -1,5 +1,5 @@
 -- Stripes that are looked at in order, and at the places at which they were given.
-use Rattle.std.proofs.Common.{◌≡◌, ◌≢◌, ℕ, zero, suc, ◌+◌, ◌<◌, ◌≤◌, List, [], ◌∷◌, ◌++◌, length, get_or, All, Some, slice_get, append-nil, append_assoc, refl, ap, sym, subst, ◌∙◌, ⊎_elim, arith, below_more}
+use Rattle.std.proofs.Common.{◌≡◌, ◌≢◌, ℕ, zero, suc, ◌<◌, ◌≤◌, List, [], ◌∷◌, ◌++◌, length, get_or, All, Some, slice_get, append-nil, append_assoc, refl, ap, sym, subst, ◌∙◌, ⊎_elim, arith}
 use Rattle.std.proofs.lemmas.Bool.{cases_lt}
 use Rattle.std.proofs.lemmas.List.{length-append, length-map, map_push, get_or-map, get_or_push, get_or_at}
 use Rattle.std.proofs.lemmas.List.Elements.{All-append}
@@ -75,12 +75,6 @@ refusal-at {C} {setup} {batches} stripes i stripe (Missing at n) within is befor
   (stripe, ap (slice_get stripes) refused.0 ∙ slice_get-get_or stripes i stripe within ∙ ap Some (sym is), (subst (λ m. IsOwn setup batches m stripe) (sym refused.0) refused.1, refused.2)),
 )
 refusal-at {C} {setup} {batches} stripes i stripe Memory within is before refused = tt
-
--- one whole stripe more
-pub whole-more : {C : Type 0} {setup : StripeSetup} {batches : List NumberedPieces} (stripes : List (StripeState C)) (i : ℕ) (stripe : StripeState C) → i < length stripes
-    → stripe ≡ get_or stripes i stripe → AreWholeBefore setup batches stripes i → IsWhole setup batches i stripe → AreWholeBefore setup batches stripes (i + 1)
-whole-more {C} {setup} {batches} stripes i stripe within is before whole =
-    below_more (λ n. StandsThere stripes n (IsWhole setup batches n)) i before (stripe, slice_get-get_or stripes i stripe within ∙ ap Some (sym is), whole)
 
 -- a stripe whose journal has another length
 pub other-length-at : {C : Type 0} {count : ℕ} (stripes : List (StripeState C)) (i : ℕ) (stripe : StripeState C) (index : ℕ) → (i < length stripes) × (stripe ≡ get_or stripes i stripe)
