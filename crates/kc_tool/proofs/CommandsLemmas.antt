@@ -8,7 +8,7 @@ use Rattle.clap.specs.Words.{Row, Text}
 use Rattle.kc_io.specs.History.{no_history}
 use Rattle.kc_io.specs.Sinks.{Written}
 use Rattle.kc_io.specs.Sources.{Seen}
-use Rattle.kc_tool.specs.Tallies.{Given, TableSeen}
+use Rattle.kc_tool.specs.Tallies.{TableSeen}
 use Rattle.kc_tool.specs.FileEvents.{FileEvent, created, not_created, opened, wrote}
 use Rattle.kc_tool.specs.NamedSources.{names_of, seen_of}
 use Rattle.kc_tool.specs.Files.{AreOf, AreOpened, FailsToOpen, FileRead, LacksFile, OpensAll, TellsName}

@@ -258,10 +258,14 @@ fn report_table<H: Threads + Sync, R: Source, F: Source, W: Sink>(
     requires few { length files.old ≤ 1 }
     requires writable { IsWritable report }
     ensures done { DoesByTally (Task.Report report)
-        (record { given = given None (sources_from (R.seen input.old) (seen_of F.seen files.old));
-        output = W.seen output.old })
-        (record { given = given None (sources_from (R.seen input.new) (seen_of F.seen files.new));
-        output = W.seen output.new })
+        (record {
+          given = given None (sources_from (R.seen input.old) (seen_of F.seen files.old));
+          output = W.seen output.old;
+        })
+        (record {
+          given = given None (sources_from (R.seen input.new) (seen_of F.seen files.new));
+          output = W.seen output.new;
+        })
         result }
     ensures input { KeepsInput (seen_of F.seen files.old) (R.seen input.old) (R.seen input.new) }
     ensures names { names_of files.new ≡ names_of files.old }
@@ -282,10 +286,14 @@ fn query_table<R: Source, F: Source, W: Sink>(
 ) -> Result<(), ToolFault>
     requires { length files.old ≤ 1 }
     ensures done { DoesByTally (Task.Query words.now)
-        (record { given = given None (sources_from (R.seen input.old) (seen_of F.seen files.old));
-        output = W.seen output.old })
-        (record { given = given None (sources_from (R.seen input.new) (seen_of F.seen files.new));
-        output = W.seen output.new })
+        (record {
+          given = given None (sources_from (R.seen input.old) (seen_of F.seen files.old));
+          output = W.seen output.old;
+        })
+        (record {
+          given = given None (sources_from (R.seen input.new) (seen_of F.seen files.new));
+          output = W.seen output.new;
+        })
         result }
     ensures input { KeepsInput (seen_of F.seen files.old) (R.seen input.old) (R.seen input.new) }
     ensures names { names_of files.new ≡ names_of files.old }

@@ -59,7 +59,12 @@ pub(crate) fn report_listed<
     ensures names { names_of files.new ≡ names_of files.old }
 {
     let rule = counting.options.rule();
-    let list = match read_list(counting.alloc, &mut files[0].source, &rule, counting.progress) {
+    let list = match read_list(
+        counting.alloc,
+        &mut files[0].source,
+        &rule,
+        counting.progress,
+    ) {
         Ok(list) => list,
         Err(fault) => {
             counting.progress.ends();

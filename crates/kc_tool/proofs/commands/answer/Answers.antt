@@ -23,7 +23,7 @@ returns-in-Count-clause-done g c =
     let old : Stage = record { given = before; output = g.W.Sink.seen c.args.output.now } in
     let new : Stage = record { given = after; output = g.W.Sink.seen c.report_given.new.writer } in
     let done = put_otherwise settings c.report_given.result (sources_counted None None None before.sources after.sources settings tt)
-        (λ fault is. sources_refused None None None before.sources after.sources settings tt fault) c.report_given.ensures.done in
+    (λ fault is. sources_refused None None None before.sources after.sources settings tt fault) c.report_given.ensures.done in
     rw (c.in-Count.is, c.untold.ensures) (tells_nothing (Count settings) old new c.report_given.result tt
     (reported (Count settings) old new settings (λ table. refl) (λ table. tt) (not_counted before after settings) c.report_given.result done))
 
@@ -70,8 +70,8 @@ returns-in-Merge-clause-done g c =
     let two : length (seen_of seen files) ≡ 2 = rw c.in-Merge.is at c.requires.files in
     let some = λ (none : files ≡ []). let no : 0 ≡ 2 = rw none at two in absurd (omega (arith, no)) in
     let done = from_files seen input input files later (λ (old new : List Seen). DoesByTally Merge
-        (record { given = given None old; output = before }) (record { given = given None new; output = after }) c.write_sum.result)
-        some c.write_sum.ensures.names c.write_sum.ensures.done in
+    (record { given = given None old; output = before }) (record { given = given None new; output = after }) c.write_sum.result)
+    some c.write_sum.ensures.names c.write_sum.ensures.done in
     rw (c.in-Merge.is, c.untold-in-Merge.ensures)
     (tells_nothing Merge (record { given = given_alone input (seen_of seen files); output = before })
     (record { given = given_alone input (seen_of seen later); output = after }) c.write_sum.result tt done)

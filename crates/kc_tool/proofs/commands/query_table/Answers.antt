@@ -47,7 +47,7 @@ returns-in_err-query-clause-done g c =
     let p = err_from_is_err_and again.result again.ensures.1 in
     let why = c.in_err-query.field-0.0 in
     let refused = subst (λ (v : List (String Global)). Queried {A = Unit {0}} old new c.in_ok-tally.tally (map string_bytes v) (Err why))
-        c.deref.ensures.value c.in_err-query.ensures in
+    c.deref.ensures.value c.in_err-query.ensures in
     let table : TableSeen = (c.in_ok-tally.tally, c.in_ok-tally._origin) in
     rw (p.1, p.2) (answered (Query c.args.words.now) (record { given = before; output = old }) (record { given = after; output = new })
     table (Err (report_fault why)) c.in_ok-tally.ensures.table (unanswered c.args.words.now table old new why refused))

@@ -18,11 +18,11 @@ returns g c =
     let after = seen_of g.R.Source.seen c.report_sources.new.sources in
     let later = given list.0 after in
     let told = reads_reported (given only (map g.R.Source.seen c.args.sources.items)) settings (g.W.Sink.seen c.args.writer.now)
-        (g.W.Sink.seen c.report_sources.new.writer) c.report_sources.result
-        (put_otherwise settings c.report_sources.result
-        (λ table h. (later, subst (λ v. Counts (given only v) later settings table) is (sources_counted words only list.0 _ after settings list.1 table h)))
-        (λ fault is_err h. (later, subst (λ v. RefusesCount (given only v) later settings fault) is (sources_refused words only list.0 _ after settings list.1 fault h)))
-        c.report_sources.ensures) in
+    (g.W.Sink.seen c.report_sources.new.writer) c.report_sources.result
+    (put_otherwise settings c.report_sources.result
+    (λ table h. (later, subst (λ v. Counts (given only v) later settings table) is (sources_counted words only list.0 _ after settings list.1 table h)))
+    (λ fault is_err h. (later, subst (λ v. RefusesCount (given only v) later settings fault) is (sources_refused words only list.0 _ after settings list.1 fault h)))
+    c.report_sources.ensures) in
     record { written = told.0; begun = told.1; refused = told.2 }
 
 pub returns-in_err-list : goal.returns-in_err-list
@@ -34,7 +34,7 @@ returns-in_err-list g c =
     let fault = c.in_err-list.field-0.0 in
     let old = g.W.Sink.seen c.args.writer.now in
     let told = reads_reported (given only sources) c.args.options.now old old again.result
-        (inr (fault, p.1 ∙ ap Err p.2, list_left only sources c.args.options.now fault c.in_err-list.ensures.fault, refl)) in
+    (inr (fault, p.1 ∙ ap Err p.2, list_left only sources c.args.options.now fault c.in_err-list.ensures.fault, refl)) in
     record { written = told.0; begun = told.1; refused = told.2 }
 
 pub returns-in_err-sources : goal.returns-in_err-sources
@@ -43,5 +43,5 @@ returns-in_err-sources g c =
     let p = err_from_is_err_and again.result again.ensures.1 in
     let old = g.W.Sink.seen c.args.writer.now in
     let told = reads_reported (given (option_map g.Q.Source.seen c.args.only) (map g.R.Source.seen c.args.sources.items)) c.args.options.now
-        old old again.result (inr (Memory, p.1 ∙ ap Err p.2, (given None [], tt), refl)) in
+    old old again.result (inr (Memory, p.1 ∙ ap Err p.2, (given None [], tt), refl)) in
     record { written = told.0; begun = told.1; refused = told.2 }

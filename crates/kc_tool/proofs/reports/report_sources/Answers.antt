@@ -31,8 +31,13 @@ returns-in-Ok g c =
 
 pub returns-then-reader_lacks_memory : goal.returns-then-reader_lacks_memory
 returns-then-reader_lacks_memory g c =
-    inr (Memory, refl, tt, reader_lacked c.args.counting.now.options.now _ _ c.in-Err.fault
-    (sym c.reader_lacks_memory.ensures ∙ c.if-reader_lacks_memory.true) c.in-Err.ensures.done)
+    inr (
+      Memory,
+      refl,
+      tt,
+      reader_lacked c.args.counting.now.options.now _ _ c.in-Err.fault
+          (sym c.reader_lacks_memory.ensures ∙ c.if-reader_lacks_memory.true) c.in-Err.ensures.done,
+    )
 
 pub returns : goal.returns
 returns g c =

@@ -1,4 +1,4 @@
-use Rattle.std.proofs.Common.{Err, Some, inr, refl}
+use Rattle.std.proofs.Common.{Some, inr, refl}
 use Rattle.kc_tool.specs.Reports.{ReportsCount}
 use Rattle.kc_tool.proofs.ReportsLemmas.{put_otherwise}
 use Rattle.kc_tool.proofs.TablesLemmas.{first_named, listed_done, listed_kept, listed_named, listed_refused, same_input}
@@ -33,8 +33,13 @@ returns-in-Err g c =
     let later = c.read_list.new.source in
     let fault = c.in-Err.fault in
     record {
-      done = inr (fault, refl, listed_refused seen input files c.requires c.index-files-0.result later
-          c.args.counting.now.options.now fault c.in-Err.ensures.fault, refl);
+      done = inr (
+        fault,
+        refl,
+        listed_refused seen input files c.requires c.index-files-0.result later
+            c.args.counting.now.options.now fault c.in-Err.ensures.fault,
+        refl,
+      );
       input = same_input input _;
       names = first_named seen files c.index-files-0.result later;
     }
