@@ -1,5 +1,5 @@
 -- The commands and their tasks.
-use Rattle.std.proofs.Common.{◌≡◌, ◌≤◌, ◌∙◌, ◌++◌, Bor, List, [], ◌∷◌, Option, Some, None, length, map, take, refl, sym, ap, ap₂, subst, inl, inr, Result, Ok, Err, ℕ, true, false, arith}
+use Rattle.std.proofs.Common.{◌≡◌, ◌≤◌, ◌∙◌, ◌++◌, Bor, List, [], ◌∷◌, Option, Some, None, length, map, take, refl, sym, ap, ap₂, subst, inl, inr, Result, Ok, Err, ℕ, true, false, arith, ⊎_elim}
 use Rattle.std.proofs.Common.{append_assoc, append-nil}
 use Rattle.std.specs.Prelude.{◌==◌, ◌⊎◌, unwrap_or, All}
 use Rattle.std.proofs.lemmas.List.{length-map, nil_from_length}
@@ -8,12 +8,12 @@ use Rattle.clap.specs.Words.{Row, Text}
 use Rattle.kc_io.specs.History.{no_history}
 use Rattle.kc_io.specs.Sinks.{Written}
 use Rattle.kc_io.specs.Sources.{Seen}
-use Rattle.kc_tool.specs.Tallies.{Given, TableSeen}
+use Rattle.kc_tool.specs.Tallies.{TableSeen}
 use Rattle.kc_tool.specs.FileEvents.{FileEvent, created, not_created, opened, wrote}
 use Rattle.kc_tool.specs.NamedSources.{names_of, seen_of}
 use Rattle.kc_tool.specs.Files.{AreOf, AreOpened, FailsToOpen, FileRead, LacksFile, OpensAll, TellsName}
 use Rattle.kc_tool.specs.Files.{files_named, given_back, openings, output_of, returned, unread}
-use Rattle.kc_tool.specs.Commands.{DoesByTally, IsAboutTally, Stage}
+use Rattle.kc_tool.specs.Commands.{DoesByTally, HasFaultFor, HasNoAnswer, HasNoTallyFor, IsAboutTally, IsAnswer, Stage, untold}
 use Rattle.kc_tool.specs.Selections.{Told}
 use Rattle.kc_tool.specs.Commands.{Answers, Does, HasFilesFor, IsTallyFor, behind_list, given_of, sources_from, sources_in}
 use Rattle.kc_tool.specs.Commands.{AsksForTask, DoesTaskInto, EndsSo, IsRefused, IsRefusedOption, KeepsInput, LacksOutput}
@@ -25,7 +25,10 @@ use Rattle.kc_tool.specs.declared.commands.Task.{Task}
 use Rattle.kc_tool.specs.declared.commands.Task.TheVariants.{Count, CountListed, Report, Query, Merge, Select}
 use Rattle.kc_tool.specs.declared.commands.Verb.{Verb}
 use Rattle.kc_tool.specs.declared.commands.Verb.TheVariants as verb
+use Rattle.kc_tool.specs.Reports.{ReportsOn, report_of, report_text}
+use Rattle.kc_command.specs.Settings.{Settings}
 use Rattle.kc_tool.proofs.FilesLemmas.{PairedTo, unread_back}
+use Rattle.kc_tool.proofs.ReportsLemmas.{text_fault}
 
 -- a task is done with sources that were opened, and they are given back
 pub record DoesTask (sources : List (NamedSource Seen)) (task : Task) (old new : Surroundings)
@@ -147,45 +150,75 @@ has_opened command rows task names {sources = sources} asks named opens =
     as_named task names sources opens.named
     (as_many task (map (λ (name : Bor Text). name.now) names) names many (has_files rows command task _ asks named))
 
-module _ (old new : Given) (task : Task) where
+module _ (task : Task) (old new : Stage) where
+  -- Nothing was written.
+  undone : (fault : ToolFault) → (fault ≡ Write → ⊥) → new.output ≡ old.output → HasFaultFor old.given new.given task fault
+      → DoesByTally task old new (Err fault)
+  undone Write other same why = absurd (other refl)
+  undone (Fastx number fault) other same why = (same, why)
+  undone BadHeader other same why = (same, why)
+  undone (BadRow line) other same why = (same, why)
+  undone BadEnd other same why = (same, why)
+  undone TableTooLong other same why = (same, why)
+  undone TableRead other same why = (same, why)
+  undone Memory other same why = (same, why)
+  undone (BadOption name) other same why = (same, why)
+  undone (BadWord number) other same why = (same, why)
+  undone (Run fault) other same why = (same, why)
+  undone (OpenFailed name) other same why = (same, why)
+  undone Unlike other same why = (same, why)
+  undone TooLarge other same why = (same, why)
+
   -- The answer about the tally was written, or a beginning of it, or nothing.
-  pub answered : (before after : Written) (table : TableSeen) (outcome : Result (Unit {0}) ToolFault) → IsTallyFor old new task table
-      → Answers task table before after outcome → DoesByTally task (record { given = old; output = before }) (record { given = new; output = after }) outcome
-  answered before after table (Ok done) is h = (h.0, (table, is, h.1), h.2)
-  answered before after table (Err Write) is h = (h.0, (table, is, h.1), h.2)
-  answered before after table (Err (Fastx number fault)) is h = (h.0, inr (table, is, h.1))
-  answered before after table (Err BadHeader) is h = (h.0, inr (table, is, h.1))
-  answered before after table (Err (BadRow line)) is h = (h.0, inr (table, is, h.1))
-  answered before after table (Err BadEnd) is h = (h.0, inr (table, is, h.1))
-  answered before after table (Err TableTooLong) is h = (h.0, inr (table, is, h.1))
-  answered before after table (Err TableRead) is h = (h.0, inr (table, is, h.1))
-  answered before after table (Err Memory) is h = (h.0, inr (table, is, h.1))
-  answered before after table (Err (BadOption name)) is h = (h.0, inr (table, is, h.1))
-  answered before after table (Err (BadWord number)) is h = (h.0, inr (table, is, h.1))
-  answered before after table (Err (Run fault)) is h = (h.0, inr (table, is, h.1))
-  answered before after table (Err (OpenFailed name)) is h = (h.0, inr (table, is, h.1))
-  answered before after table (Err Unlike) is h = (h.0, inr (table, is, h.1))
-  answered before after table (Err TooLarge) is h = (h.0, inr (table, is, h.1))
+  pub answered : (table : TableSeen) (outcome : Result (Unit {0}) ToolFault) → IsTallyFor old.given new.given task table
+      → Answers task table old.output new.output outcome → DoesByTally task old new outcome
+  answered table (Ok done) is h = (h.0, (table, is, h.1), h.2)
+  answered table (Err Write) is h = (h.0, (table, is, h.1), h.2)
+  answered table (Err (Fastx number fault)) is h = (h.0, inr (table, is, h.1))
+  answered table (Err BadHeader) is h = (h.0, inr (table, is, h.1))
+  answered table (Err (BadRow line)) is h = (h.0, inr (table, is, h.1))
+  answered table (Err BadEnd) is h = (h.0, inr (table, is, h.1))
+  answered table (Err TableTooLong) is h = (h.0, inr (table, is, h.1))
+  answered table (Err TableRead) is h = (h.0, inr (table, is, h.1))
+  answered table (Err Memory) is h = (h.0, inr (table, is, h.1))
+  answered table (Err (BadOption name)) is h = (h.0, inr (table, is, h.1))
+  answered table (Err (BadWord number)) is h = (h.0, inr (table, is, h.1))
+  answered table (Err (Run fault)) is h = (h.0, inr (table, is, h.1))
+  answered table (Err (OpenFailed name)) is h = (h.0, inr (table, is, h.1))
+  answered table (Err Unlike) is h = (h.0, inr (table, is, h.1))
+  answered table (Err TooLarge) is h = (h.0, inr (table, is, h.1))
+
+  -- So it is of the report on what was counted.
+  pub reported : (settings : Settings) → ((table : TableSeen) → IsAnswer task table (report_text (report_of settings) table))
+      → ((table : TableSeen) → HasNoAnswer task table Memory) → (HasNoTallyFor old.given new.given task Write → ⊥)
+      → (outcome : Result (Unit {0}) ToolFault)
+      → ReportsOn (λ table. IsTallyFor old.given new.given task table) (λ fault. HasNoTallyFor old.given new.given task fault)
+      settings old.output new.output outcome
+      → DoesByTally task old new outcome
+  reported settings text memory tallied (Ok done) (inl h) = (report_text (report_of settings) h.0, (h.0, h.1, text h.0), h.2)
+  reported settings text memory tallied (Err fault) (inl h) =
+      ⊎_elim (λ begun. subst (λ v. DoesByTally task old new (Err v)) (sym begun.0)
+      (report_text (report_of settings) h.0, (h.0, h.1, text h.0), begun.1))
+      (λ none. subst (λ v. DoesByTally task old new (Err v)) (sym none.0) (none.1, inr (h.0, h.1, memory h.0)))
+      (text_fault _ old.output new.output fault h.2)
+  reported settings text memory tallied outcome (inr h) =
+      subst (λ v. DoesByTally task old new v) (sym h.1)
+      (undone h.0 (λ is. tallied (subst (λ v. HasNoTallyFor old.given new.given task v) is h.2)) h.3 (inl h.2))
 
 -- What a task does about a tally is what it does, where it is no selection, and it tells nothing.
-pub about_tally : (task : Task) (old new : Stage) → IsAboutTally task → DoesByTally task old new (Ok tt)
-    → Does task old new (Ok None)
-about_tally (Count settings) old new about done = (refl, done)
-about_tally (CountListed settings) old new about done = (refl, done)
-about_tally (Report report) old new about done = (refl, done)
-about_tally (Query words) old new about done = (refl, done)
-about_tally Merge old new about done = (refl, done)
-about_tally (Select rule tells) old new about done = absurd about
-
--- So it is where there is a fault.
-pub about_no_tally : (task : Task) (old new : Stage) (fault : ToolFault) → IsAboutTally task
-    → DoesByTally task old new (Err fault) → Does task old new (Err fault)
-about_no_tally (Count settings) old new fault about done = done
-about_no_tally (CountListed settings) old new fault about done = done
-about_no_tally (Report report) old new fault about done = done
-about_no_tally (Query words) old new fault about done = done
-about_no_tally Merge old new fault about done = done
-about_no_tally (Select rule tells) old new fault about done = absurd about
+pub tells_nothing : (task : Task) (old new : Stage) (outcome : Result (Unit {0}) ToolFault) → IsAboutTally task
+    → DoesByTally task old new outcome → Does task old new (untold outcome)
+tells_nothing (Count settings) old new (Ok done) about does = (refl, does)
+tells_nothing (Count settings) old new (Err fault) about does = does
+tells_nothing (CountListed settings) old new (Ok done) about does = (refl, does)
+tells_nothing (CountListed settings) old new (Err fault) about does = does
+tells_nothing (Report report) old new (Ok done) about does = (refl, does)
+tells_nothing (Report report) old new (Err fault) about does = does
+tells_nothing (Query words) old new (Ok done) about does = (refl, does)
+tells_nothing (Query words) old new (Err fault) about does = does
+tells_nothing Merge old new (Ok done) about does = (refl, does)
+tells_nothing Merge old new (Err fault) about does = does
+tells_nothing (Select rule tells) old new outcome about does = absurd about
 
 -- Sources that were lent are given back as they were left.
 pub back_as_left : (asked : List FileEvent) {asked_after : List FileEvent} {lent left : List (NamedSource Seen)} → asked_after ≡ asked ++ given_back lent → lent ≡ left
@@ -443,10 +476,3 @@ not_into {sources} {input} {asked} {mid} {asked_after} {name} fault lacks back t
   unread = refl;
   log = back ∙ ap (λ v. v ++ given_back sources) lacks ∙ append_assoc asked (not_created name ∷ []) (given_back sources);
 }
-
--- What holds of tasks of two kinds holds of one that is of either.
-pub of_either : {A B : Type 0} {first : A → Task} {second : B → Task} {task : Task} (Holds : Task → Type 0)
-    → ((x : A) → Holds (first x)) → ((x : B) → Holds (second x))
-    → ((x : A) × (task ≡ first x)) ⊎ ((x : B) × (task ≡ second x)) → Holds task
-of_either Holds one other (inl is) = subst Holds (sym is.1) (one is.0)
-of_either Holds one other (inr is) = subst Holds (sym is.1) (other is.0)

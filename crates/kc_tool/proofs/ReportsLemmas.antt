@@ -1,66 +1,97 @@
--- From a tally of the reads of sources to the report on it.
-use Rattle.std.proofs.Common.{◌≡◌, ℕ, List, ap, refl, subst}
-use Rattle.std.specs.Prelude.{◌≢◌, Result, Ok, Err, OnOk, IfErr, IsErrOf}
-use Rattle.kc_io.specs.Sinks.{Written}
-use Rattle.kc_tool.specs.Tallies.{Counts, Given, IsRefusedCountOf, RefusesCount, TableSeen}
-use Rattle.kc_tool.specs.Reports.{BeginsReport, IsReportOf, LeavesUnwritten, WritesReport, WritesText}
+-- From what is counted to the report on it.
+use Rattle.std.proofs.Common.{◌≡◌, ℕ, List, inl, inr, refl, subst, sym, true, ⊎_elim}
+use Rattle.std.specs.Prelude.{◌≢◌, ◌⊎◌, Result, Ok, Err, OnOk, IfErr, IsErrOf}
+use Rattle.kc_io.specs.Sinks.{HasBegun, Written}
+use Rattle.kc_tool.specs.Tallies.{Counts, Given, IsCountOf, IsRefusedCountOf, RefusesCount, TableSeen, reader_lacks_memory}
+use Rattle.kc_tool.specs.Reports.{BeginsReport, IsReportOf, LeavesUnwritten, ReportsOn, WritesReport, WritesText}
 use Rattle.kc_tool.specs.Reports.{report_of, report_text}
 use Rattle.kc_command.specs.Settings.{Settings}
 use Rattle.kc_tool.specs.declared.tool_faults.ToolFault.{ToolFault}
 use Rattle.kc_tool.specs.declared.tool_faults.ToolFault.TheVariants.{Fastx, BadHeader, BadRow, BadEnd, TableTooLong}
 use Rattle.kc_tool.specs.declared.tool_faults.ToolFault.TheVariants.{TableRead, Memory, BadOption, BadWord, Write, Run}
 use Rattle.kc_tool.specs.declared.tool_faults.ToolFault.TheVariants.{OpenFailed, Unlike, TooLarge}
-use Rattle.kc_tool.specs.declared.reports.Report.{Report}
 use Rattle.kc_tool.proofs.SourcesLemmas.{not_counted}
 
-module _ (given later : Given) (settings : Settings) where
-  -- A text that was refused without a write leaves nothing.
-  pub unwritten : (text : List ℕ) (old new : Written) (result : Result (Unit {0}) ToolFault)
-      → WritesText text old new result
-      → IfErr result (λ fault. fault ≢ Write → LeavesUnwritten given settings old new fault)
-  unwritten text old new (Ok done) h = tt
-  unwritten text old new (Err Write) h = λ other. absurd (other refl)
-  unwritten text old new (Err Memory) h = λ other. (h, (later, tt))
-  unwritten text old new (Err (Fastx number fault)) h = absurd h
-  unwritten text old new (Err BadHeader) h = absurd h
-  unwritten text old new (Err (BadRow line)) h = absurd h
-  unwritten text old new (Err BadEnd) h = absurd h
-  unwritten text old new (Err TableTooLong) h = absurd h
-  unwritten text old new (Err TableRead) h = absurd h
-  unwritten text old new (Err (BadOption name)) h = absurd h
-  unwritten text old new (Err (BadWord number)) h = absurd h
-  unwritten text old new (Err (Run fault)) h = absurd h
-  unwritten text old new (Err (OpenFailed name)) h = absurd h
-  unwritten text old new (Err Unlike) h = absurd h
-  unwritten text old new (Err TooLarge) h = absurd h
+-- Why a text was not written, and what is left then.
+pub text_fault : (text : List ℕ) (old new : Written) (fault : ToolFault) → WritesText {A = Unit {0}} text old new (Err fault)
+    → ((fault ≡ Write) × HasBegun old new text) ⊎ ((fault ≡ Memory) × (new ≡ old))
+text_fault text old new Write h = inl (refl, h)
+text_fault text old new Memory h = inr (refl, h)
+text_fault text old new (Fastx number fault) h = absurd h
+text_fault text old new BadHeader h = absurd h
+text_fault text old new (BadRow line) h = absurd h
+text_fault text old new BadEnd h = absurd h
+text_fault text old new TableTooLong h = absurd h
+text_fault text old new TableRead h = absurd h
+text_fault text old new (BadOption name) h = absurd h
+text_fault text old new (BadWord number) h = absurd h
+text_fault text old new (Run fault) h = absurd h
+text_fault text old new (OpenFailed name) h = absurd h
+text_fault text old new Unlike h = absurd h
+text_fault text old new TooLarge h = absurd h
 
-module _ (given later : Given) (settings : Settings) {report : Report} (table : TableSeen)
-    (counted : Counts given later settings table) (asked : report ≡ report_of settings) where
-  is_report : IsReportOf given settings (report_text report table)
-  is_report = record {
-    later = later;
-    table = table;
-    counted = counted;
-    is_text = ap (λ r. report_text r table) asked;
-  }
+-- What is counted, and why nothing is, put otherwise.
+pub put_otherwise : {Counted Other : TableSeen → Type 0} {Refused Another : ToolFault → Type 0} (settings : Settings) {old new : Written}
+    (outcome : Result (Unit {0}) ToolFault) → ((table : TableSeen) → Counted table → Other table)
+    → ((fault : ToolFault) → outcome ≡ Err fault → Refused fault → Another fault) → ReportsOn Counted Refused settings old new outcome
+    → ReportsOn Other Another settings old new outcome
+put_otherwise settings outcome counted refused (inl h) = inl (h.0, counted h.0 h.1, h.2)
+put_otherwise settings outcome counted refused (inr h) = inr (h.0, h.1, refused h.0 h.1 h.2, h.3)
+
+-- Where there was no memory for a reader, nothing was written.
+pub reader_lacked : {Counted : TableSeen → Type 0} {Refused : ToolFault → Type 0} (settings : Settings) (old new : Written) (fault : ToolFault)
+    → reader_lacks_memory fault ≡ true → ReportsOn Counted Refused settings old new (Err fault) → new ≡ old
+reader_lacked settings old new fault lacks (inr h) = h.3
+reader_lacked settings old new fault lacks (inl h) =
+    ⊎_elim (λ begun.
+    let same = subst (λ v. reader_lacks_memory v ≡ true) begun.0 lacks in
+    let no : ⊥ = cc in absurd no)
+    (λ none. none.1) (text_fault _ old new fault h.2)
+
+module _ (given : Given) (settings : Settings) (old new : Written) where
+  is_report : (later : Given) (table : TableSeen) → Counts given later settings table
+      → IsReportOf given settings (report_text (report_of settings) table)
+  is_report later table counted = record { later = later; table = table; counted = counted; is_text = refl }
 
   -- What was written is the report.
-  pub writes_report : (old new : Written) (result : Result (Unit {0}) ToolFault)
-      → WritesText (report_text report table) old new result
-      → OnOk result (WritesReport given settings old new)
-  writes_report old new (Ok done) h = (report_text report table, is_report, h)
-  writes_report old new (Err fault) h = tt
+  written : (outcome : Result (Unit {0}) ToolFault)
+      → ReportsOn (IsCountOf given settings) (IsRefusedCountOf given settings) settings old new outcome
+      → OnOk outcome (WritesReport given settings old new)
+  written (Ok done) (inl h) = (report_text (report_of settings) h.0, is_report h.1.0 h.0 h.1.1, h.2)
+  written (Ok done) (inr h) = let is = h.1 in let no : ⊥ = cc in absurd no
+  written (Err fault) h = tt
 
   -- So is what was begun.
-  pub begins_report : (old new : Written) (result : Result (Unit {0}) ToolFault)
-      → WritesText (report_text report table) old new result → IsErrOf result Write
-      → BeginsReport given settings old new
-  begins_report old new result h failed = (report_text report table, is_report, rw failed at h)
+  begun : (outcome : Result (Unit {0}) ToolFault)
+      → ReportsOn (IsCountOf given settings) (IsRefusedCountOf given settings) settings old new outcome
+      → IsErrOf outcome Write → BeginsReport given settings old new
+  begun outcome (inl h) failed = (report_text (report_of settings) h.0, is_report h.1.0 h.0 h.1.1, rw failed at h.2)
+  begun outcome (inr h) failed =
+      let is = h.1 in
+      let same : h.0 ≡ Write = cc in
+      let refused = subst (λ v. IsRefusedCountOf given settings v) same h.2 in
+      absurd (not_counted given refused.0 settings refused.1)
 
--- Where nothing was counted, no writer failed.
-pub not_begun : (given : Given) (settings : Settings) (old new : Written) (result : Result (Unit {0}) ToolFault)
-    (fault : ToolFault) → result ≡ Err fault → IsRefusedCountOf given settings fault → IsErrOf result Write
-    → BeginsReport given settings old new
-not_begun given settings old new result fault is refused failed =
-    let same : fault ≡ Write = cc in
-    absurd (not_counted given refused.0 settings (subst (λ v. RefusesCount given refused.0 settings v) same refused.1))
+  -- Else nothing was written.
+  no_text : (later : Given) (text : List ℕ) (fault : ToolFault)
+      → ((fault ≡ Write) × HasBegun old new text) ⊎ ((fault ≡ Memory) × (new ≡ old))
+      → fault ≢ Write → LeavesUnwritten given settings old new fault
+  no_text later text fault (inl h) other = absurd (other h.0)
+  no_text later text fault (inr h) other = (h.1, (later, subst (λ v. RefusesCount given later settings v) (sym h.0) tt))
+
+  unwritten : (outcome : Result (Unit {0}) ToolFault)
+      → ReportsOn (IsCountOf given settings) (IsRefusedCountOf given settings) settings old new outcome
+      → IfErr outcome (λ fault. fault ≢ Write → LeavesUnwritten given settings old new fault)
+  unwritten (Ok done) h = tt
+  unwritten (Err fault) (inl h) = no_text h.1.0 _ fault (text_fault _ old new fault h.2)
+  unwritten (Err fault) (inr h) =
+      let is = h.1 in
+      let same : h.0 ≡ fault = cc in
+      λ other. (h.3, subst (λ v. IsRefusedCountOf given settings v) same h.2)
+
+  -- All of this.
+  pub reads_reported : (outcome : Result (Unit {0}) ToolFault)
+      → ReportsOn (IsCountOf given settings) (IsRefusedCountOf given settings) settings old new outcome
+      → OnOk outcome (WritesReport given settings old new) × (IsErrOf outcome Write → BeginsReport given settings old new)
+      × IfErr outcome (λ fault. fault ≢ Write → LeavesUnwritten given settings old new fault)
+  reads_reported outcome h = (written outcome h, begun outcome h, unwritten outcome h)

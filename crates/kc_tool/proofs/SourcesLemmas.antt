@@ -28,12 +28,10 @@ use Rattle.kc_gather.proofs.LawLemmas.{cutting_tally}
 use Rattle.kc_report.specs.declared.origin.Origin.{Origin}
 use Rattle.kc_command.specs.Settings.{Settings, rule_of}
 use Rattle.kc_tool.specs.Tallies.{Counts, CutsBatches, FailsAt, GaveReads, GivesList, IsCuttingOf, ListFailsIn, RefusesCount, ReadsSources, RefusesSource, RefusesSources, TableSeen, TalliesSources}
-use Rattle.kc_tool.specs.CountedTallies.{Knows, KnowsOne}
+use Rattle.kc_tool.specs.CountedTallies.{KnowsOne}
 use Rattle.kc_tool.specs.Commands.{sources_from}
 use Rattle.kc_tool.specs.NamedSources.{names_of, seen_of}
 use Rattle.kc_tool.specs.declared.named_sources.NamedSource.{NamedSource}
-use Rattle.kc_tool.specs.declared.counted_tally.CountedTally.{CountedTally}
-use Rattle.kc_tool.specs.declared.counted_tally.CountedTally.TheVariants.{Rows}
 use Rattle.kc_tool.proofs.ReadCountLemmas.{read_count-within}
 use Rattle.kc_tool.proofs.TalliesLemmas.{few_batches, few_enough, small_cutting, small_enough}
 use Rattle.kc_tool.specs.Tallies.{Given, given, kept_to, origin_of, pieces_of, reader_lacks_memory}
@@ -90,11 +88,11 @@ pub small_kept : (list : Option (List ℕ)) (settings : Settings) (rule : Counti
 small_kept list settings rule same batches small = rw (same, k-kept list (rule_of settings)) small
 
 -- What is known of the tally of the batches is known of that of the reads, with its origin.
-pub tally_known : {old new : List Seen} {settings : Settings} {list : Option (List ℕ)} {batches : List NumberedPieces} {origin : Origin}
-    → (cut : CutsBatches old new settings list batches origin) → (rule : CountingRule) → rule ≡ kept_to list (rule_of settings)
-    → (counted : CountedTally) → KnowsOne counted (IsTallyOf rule (reads_in batches))
-    → KnowsOne counted (λ tally. TalliesSources old new settings list (tally, Some origin))
-tally_known {settings = settings} {list = list} cut rule same counted known =
+pub tally_known : {S : Type 0} (Knows : S → TallySeen → Type 0) (summary : S) {old new : List Seen} {settings : Settings} {list : Option (List ℕ)}
+    {batches : List NumberedPieces} {origin : Origin} → (cut : CutsBatches old new settings list batches origin)
+    → (rule : CountingRule) → rule ≡ kept_to list (rule_of settings) → KnowsOne Knows summary (IsTallyOf rule (reads_in batches))
+    → KnowsOne Knows summary (λ tally. TalliesSources old new settings list (tally, Some origin))
+tally_known Knows summary {settings = settings} {list = list} cut rule same known =
     record {
       tally = known.tally;
       knows = known.knows;
@@ -283,15 +281,6 @@ pub list_left : (source : Option Seen) (sources : List Seen) (settings : Setting
 list_left None sources settings fault h = absurd h
 list_left (Some source) sources settings fault h =
     (given (Some h.0) sources, list_refused source h.0 sources settings fault h.1)
-
--- The whole of a tally is known.
-pub whole_known : {P : TallySeen → Type 0} (counted : CountedTally) (tally : TallySeen) → counted ≡ Rows tally → P tally
-    → KnowsOne counted P
-whole_known counted tally is h = record {
-  tally = tally;
-  knows = subst (λ known. Knows known tally) (sym is) refl;
-  holds = h;
-}
 
 -- Nothing is uncounted since a writer failed.
 pub not_counted : (old new : Given) (settings : Settings) → RefusesCount old new settings Write → ⊥

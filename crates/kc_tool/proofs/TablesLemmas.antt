@@ -162,14 +162,3 @@ module _ {S : Type 0} (seen : S → Seen) (input input_after : Seen) where
   only_file [] one some d later Holds h = absurd (some refl)
   only_file (f ∷ []) one some d later Holds h = h
   only_file (f ∷ g ∷ files) one some d later Holds h = absurd (omega (arith, one))
-
--- A sum is one of files, so the given input is not read in their place.
-pub sum_of_files : (input input_after : Seen) (files later : List Seen) (sum : TableSeen) → TellSum files later sum
-    → TellSum (sources_from input files) (sources_from input_after later) sum
-sum_of_files input input_after (first ∷ second ∷ []) (first_after ∷ second_after ∷ []) sum h = h
-sum_of_files input input_after [] later sum h = absurd h
-sum_of_files input input_after (first ∷ []) later sum h = absurd h
-sum_of_files input input_after (first ∷ second ∷ third ∷ files) later sum h = absurd h
-sum_of_files input input_after (first ∷ second ∷ []) [] sum h = absurd h
-sum_of_files input input_after (first ∷ second ∷ []) (first_after ∷ []) sum h = absurd h
-sum_of_files input input_after (first ∷ second ∷ []) (first_after ∷ second_after ∷ third ∷ later) sum h = absurd h

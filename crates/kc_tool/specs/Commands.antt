@@ -27,7 +27,6 @@ use Rattle.kc_tool.specs.Files.{TellsName}
 use Rattle.kc_tool.specs.Files.{files_named, given_back, log_with_output, log_without_output, output_of, returned}
 use Rattle.kc_tool.specs.Files.{words_asked}
 use Rattle.kc_tool.specs.declared.named_sources.NamedSource.{NamedSource}
-use Rattle.kc_tool.specs.CountedTallies.{IsEnoughFor, IsWhole}
 use Rattle.kc_tool.specs.Reports.{IsWritable, report_of, report_text}
 use Rattle.kc_tally.specs.Tally.{TallySeen}
 use Rattle.kc_report.specs.declared.origin.Origin.{Origin}
@@ -37,7 +36,6 @@ use Rattle.kc_tool.specs.declared.tool_faults.ToolFault.TheVariants.{Memory, Bad
 use Rattle.kc_tool.specs.declared.commands.Task.{Task}
 use Rattle.kc_tool.specs.declared.commands.Task.TheVariants.{Count, CountListed, Report, Query, Merge, Select}
 use Rattle.kc_tool.specs.declared.commands.Verb.{Verb}
-use Rattle.kc_tool.specs.declared.counted_tally.CountedTally.{CountedTally}
 use Rattle.kc_tool.specs.declared.commands.Verb.TheVariants as verb
 
 -- the most bytes that a table may have
@@ -139,15 +137,6 @@ HasFilesFor (Query words) files = length files ≤ 1
 HasFilesFor Merge files = length files ≡ 2
 HasFilesFor (Select rule tells) files = 1 ≤ length files
 
--- what is known of the tally is enough for the task
-abbrev pub IsEnoughForTask : CountedTally → Task → Type 0
-IsEnoughForTask counted (Count settings) = IsEnoughFor counted (report_of settings)
-IsEnoughForTask counted (CountListed settings) = IsEnoughFor counted (report_of settings)
-IsEnoughForTask counted (Report report) = IsWhole counted
-IsEnoughForTask counted (Query words) = IsWhole counted
-IsEnoughForTask counted Merge = IsWhole counted
-IsEnoughForTask counted (Select rule tells) = IsWhole counted
-
 -- the tally that a task is about, and its origin where that is told: of the reads that were given, of the table that
 -- its source told, or of the two that were told together
 abbrev pub IsTallyFor : Given → Given → Task → TableSeen → Type 0
@@ -212,6 +201,11 @@ IsTextFor old new task text = (table : TableSeen) × IsTallyFor old new task tab
 abbrev pub HasFaultFor : Given → Given → Task → ToolFault → Type 0
 HasFaultFor old new task fault = HasNoTallyFor old new task fault
     ⊎ ((table : TableSeen) × IsTallyFor old new task table × HasNoAnswer task table fault)
+
+-- what is told of a task that has nothing to tell
+abbrev pub untold : Result (Unit {0}) ToolFault → Result Told ToolFault
+untold (Ok done) = Ok None
+untold (Err fault) = Err fault
 
 -- what is told of a selection, where it is asked to tell it
 abbrev pub told_of : Bool → Result SelectionCounts ToolFault → Result Told ToolFault

@@ -1,7 +1,10 @@
 -- Reports on a tally, and what counting the words of sources writes: source, our formats page ("Reports").
-use Rattle.std.specs.Prelude.{◌≡◌, ◌≤◌, ℕ, List, Result, Ok, Err}
+use Rattle.std.specs.Prelude.{◌≡◌, ◌≤◌, ◌⊎◌, ℕ, List, Option, Some, None, Result, Ok, Err}
 use Rattle.kc_io.specs.Sinks.{Written, HasWritten, HasBegun}
-use Rattle.kc_tool.specs.Tallies.{Counts, Given, IsRefusedCountOf, TableSeen}
+use Rattle.kc_io.specs.Sources.{Seen}
+use Rattle.kc_tool.specs.Tallies.{Counts, Given, IsRefusedCountOf, RefusesCount, RefusesSources, TableSeen}
+use Rattle.kc_tool.specs.Tallies.{TalliesSources}
+use Rattle.kc_tally.specs.Tally.{TallySeen}
 use Rattle.kc_report.specs.declared.dump.Dump.{Dump}
 use Rattle.kc_report.specs.Dumping.{dump_text}
 use Rattle.kc_report.specs.Histo.{histo_text}
@@ -40,6 +43,15 @@ WritesText text old new (Err Write) = HasBegun old new text
 WritesText text old new (Err Memory) = new ≡ old
 WritesText text old new (Err fault) = ⊥
 
+-- the report was written, or a beginning of it, or nothing for want of memory; or the tally is answered, and nothing was
+-- written
+abbrev pub WritesOrGives : {A : Type 0} → (A → TallySeen) → TableSeen → Report → Written → Written
+    → Result (Option A) ToolFault → Type 0
+WritesOrGives seen table report old new (Ok (Some tally)) = (seen tally ≡ table.0) × (new ≡ old)
+WritesOrGives seen table report old new (Ok None) = HasWritten old new (report_text report table)
+WritesOrGives seen table report old new (Err fault) =
+    WritesText {A = Unit {0}} (report_text report table) old new (Err fault)
+
 -- the text is the report that is set, of what is counted of what was given, up to later states of it
 pub record IsReportOf (given : Given) (settings : Settings) (text : List ℕ) : Type 0 where
   pub later : Given
@@ -59,3 +71,22 @@ BeginsReport given settings old new = (text : List ℕ) × IsReportOf given sett
 abbrev pub LeavesUnwritten : Given → Settings → Written → Written → ToolFault → Type 0
 LeavesUnwritten given settings old new fault =
     (new ≡ old) × IsRefusedCountOf given settings fault
+
+-- the report that is set was written on a table that was counted, or a beginning of it, or nothing for want of memory;
+-- or nothing was counted for this reason, and nothing was written
+abbrev pub ReportsOn : (TableSeen → Type 0) → (ToolFault → Type 0) → Settings → Written → Written
+    → Result (Unit {0}) ToolFault → Type 0
+ReportsOn Counted Refused settings old new outcome =
+    ((table : TableSeen) × Counted table × WritesText (report_text (report_of settings) table) old new outcome)
+    ⊎ ((fault : ToolFault) × (outcome ≡ Err fault) × Refused fault × (new ≡ old))
+
+-- so it is of the sources, with the words of a list where one is given
+abbrev pub ReportsSources : List Seen → List Seen → Option (List ℕ) → Settings → Written → Written
+    → Result (Unit {0}) ToolFault → Type 0
+ReportsSources old new list settings before after outcome =
+    ReportsOn (TalliesSources old new settings list) (RefusesSources old new) settings before after outcome
+
+-- so it is of what was given
+abbrev pub ReportsCount : Given → Given → Settings → Written → Written → Result (Unit {0}) ToolFault → Type 0
+ReportsCount old new settings before after outcome =
+    ReportsOn (Counts old new settings) (RefusesCount old new settings) settings before after outcome

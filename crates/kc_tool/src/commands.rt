@@ -3,18 +3,15 @@ ghost use Rattle.std.specs.Prelude.{◌≡◌, ◌≤◌, ◌⊎◌, [], ◌∷�
 ghost use Rattle.std.specs.Prelude.{unwrap_or};
 ghost use Rattle.std.specs.Prelude.{IfErr, IfOk, None};
 ghost use Rattle.clap.specs.Words.{all_of, found_of, rows_of};
-ghost use Rattle.kc_tool.specs.CountedTallies.{Knows, KnowsOne};
 ghost use Rattle.kc_tool.specs.NamedSources.{names_of, seen_of};
 ghost use Rattle.kc_tool.specs.Commands.{
-  Answers,
   AsksForTask,
   Does,
+  DoesByTally,
   DoesTaskInto,
   EndsSo,
   HasFilesFor,
   HasWritableReport,
-  IsAboutTally,
-  IsEnoughForTask,
   IsRefusedOption,
   KeepsInput,
   LacksOutput,
@@ -23,28 +20,29 @@ ghost use Rattle.kc_tool.specs.Commands.{
   first_refused,
   given_listed,
   given_of,
+  sources_from,
   sources_in,
   told_of,
+  untold,
   verb_named,
 };
-ghost use Rattle.kc_report.specs.Table.{MaySay};
-ghost use Rattle.kc_tally.specs.Tally.{TallySeen};
+ghost use Rattle.kc_tool.specs.Reports.{IsWritable};
+ghost use Rattle.kc_tool.specs.Tallies.{given};
 
 use crate::count_progress::Progress;
-use crate::counted_sources::count_given;
-use crate::counted_tally::CountedTally;
+use crate::counted_sources::Counting;
 use crate::files::{FileSource, NamedFiles, open_failed, open_files, take_sources};
 use crate::given_options::{dump_options, high_of, options, select_options};
 use crate::named_sources::NamedSource;
-use crate::reports::{Crew, Report, report_of, write_counted, write_report};
+use crate::reports::{Crew, Report, report_given, write_report};
 use crate::selected_sources::select_files;
-use crate::task_tallies::{count_listed, known, sum_of, table_from, table_of};
+use crate::task_tallies::{report_listed, sum_of, table_from, table_of};
 use crate::tool_faults::ToolFault;
 use clap::ArgMatches;
 use kc_command::command::{COUNT, DUMP, HISTO, MERGE, QUERY, SELECT, STATS};
 use kc_command::{Options, Print, has_flag, text_of};
 use kc_io::{Sink, Source};
-use kc_report::{Dump, Origin, query, write_table};
+use kc_report::{Dump, query, write_table};
 use kc_select::{Selection, SelectionCounts};
 use std::alloc::{AllocError, Global};
 use std::rt::Files;
@@ -180,8 +178,8 @@ fn answer_into<H: Threads + Wait + Sync, S: Files, R: Source, P: Progress + Sync
     outcome
 }
 
-// Does a task with its files, which keep their names: it takes the tally that the task is about, and writes its answer,
-// or it selects reads. How far a count has come is told.
+// Does a task with its files, which keep their names: it takes what the task is about, and writes its answer. How far a
+// count has come is told.
 fn answer<H: Threads + Wait + Sync, R: Source, F: Source, W: Sink, P: Progress + Sync>(
     rt: &H,
     alloc: Global,
@@ -200,20 +198,125 @@ fn answer<H: Threads + Wait + Sync, R: Source, F: Source, W: Sink, P: Progress +
     ensures input { KeepsInput (sources_in task.now (seen_of F.seen files.old)) (R.seen input.old) (R.seen input.new) }
     ensures names { names_of files.new ≡ names_of files.old }
 {
-    let taken = match task {
-        Task::Count(options) => count_given(rt, alloc, None, options, files, input, progress),
-        Task::CountListed(options) => count_listed(rt, alloc, options, files, input, progress),
-        Task::Report(_) | Task::Query(_) => table_of(alloc, files, input).map(known),
-        Task::Merge => sum_of(alloc, files).map(known),
-        Task::Select(selection, tells) => {
-            return select_by_table(alloc, *selection, *tells, files, input, output);
+    match task {
+        Task::Count(options) => {
+            let counting = Counting {
+                rt,
+                alloc,
+                options,
+                progress,
+            };
+            untold(report_given(&counting, None, files, input, output))
         }
-    };
-    // what shows the count is cleared before the report, or the line of a fault, is written
-    progress.ends();
-    let (counted, origin) = taken?;
-    write_answer(rt, alloc, task, &counted, origin, output)?;
-    Ok(None)
+        Task::CountListed(options) => {
+            let counting = Counting {
+                rt,
+                alloc,
+                options,
+                progress,
+            };
+            untold(report_listed(&counting, files, input, output))
+        }
+        Task::Report(report) => {
+            progress.ends();
+            untold(report_table(rt, alloc, *report, files, input, output))
+        }
+        Task::Query(words) => {
+            progress.ends();
+            untold(query_table(alloc, words, files, input, output))
+        }
+        Task::Merge => {
+            progress.ends();
+            untold(write_sum(alloc, files, output))
+        }
+        Task::Select(selection, tells) => {
+            select_by_table(alloc, *selection, *tells, files, input, output)
+        }
+    }
+}
+
+// What is told of a task that has nothing to tell.
+fn untold(done: Result<(), ToolFault>) -> Result<Option<SelectionCounts>, ToolFault>
+    ensures { result ≡ untold done }
+{
+    match done {
+        Ok(()) => Ok(None),
+        Err(fault) => Err(fault),
+    }
+}
+
+// Reads the table of the one file or, where there is none, of the given input, and writes a report on it. The file
+// keeps its name.
+fn report_table<H: Threads + Sync, R: Source, F: Source, W: Sink>(
+    rt: &H,
+    alloc: Global,
+    report: Report,
+    files: &mut [NamedSource<'_, F>],
+    input: &mut R,
+    output: &mut W,
+) -> Result<(), ToolFault>
+    requires few { length files.old ≤ 1 }
+    requires writable { IsWritable report }
+    ensures done { DoesByTally (Task.Report report)
+        (record {
+          given = given None (sources_from (R.seen input.old) (seen_of F.seen files.old));
+          output = W.seen output.old;
+        })
+        (record {
+          given = given None (sources_from (R.seen input.new) (seen_of F.seen files.new));
+          output = W.seen output.new;
+        })
+        result }
+    ensures input { KeepsInput (seen_of F.seen files.old) (R.seen input.old) (R.seen input.new) }
+    ensures names { names_of files.new ≡ names_of files.old }
+{
+    let (tally, origin) = table_of(alloc, files, input)?;
+    let crew = Crew { rt, threads: 1 };
+    write_report(&crew, alloc, output, &tally, origin, report)
+}
+
+// Reads the table of the one file or, where there is none, of the given input, and writes the counts of these words.
+// The file keeps its name.
+fn query_table<R: Source, F: Source, W: Sink>(
+    alloc: Global,
+    words: &Vec<String>,
+    files: &mut [NamedSource<'_, F>],
+    input: &mut R,
+    output: &mut W,
+) -> Result<(), ToolFault>
+    requires { length files.old ≤ 1 }
+    ensures done { DoesByTally (Task.Query words.now)
+        (record {
+          given = given None (sources_from (R.seen input.old) (seen_of F.seen files.old));
+          output = W.seen output.old;
+        })
+        (record {
+          given = given None (sources_from (R.seen input.new) (seen_of F.seen files.new));
+          output = W.seen output.new;
+        })
+        result }
+    ensures input { KeepsInput (seen_of F.seen files.old) (R.seen input.old) (R.seen input.new) }
+    ensures names { names_of files.new ≡ names_of files.old }
+{
+    let (tally, _origin) = table_of(alloc, files, input)?;
+    Ok(query(output, &tally, words)?)
+}
+
+// Reads the tables of the two files, and writes their sum. The files keep their names.
+fn write_sum<F: Source, W: Sink>(
+    alloc: Global,
+    files: &mut [NamedSource<'_, F>],
+    output: &mut W,
+) -> Result<(), ToolFault>
+    requires { length files.old ≡ 2 }
+    ensures done { DoesByTally Task.Merge
+        (record { given = given None (seen_of F.seen files.old); output = W.seen output.old })
+        (record { given = given None (seen_of F.seen files.new); output = W.seen output.new })
+        result }
+    ensures names { names_of files.new ≡ names_of files.old }
+{
+    let (sum, origin) = sum_of(alloc, files)?;
+    Ok(write_table(output, &sum, origin.as_ref())?)
 }
 
 // Reads the table of the first file, and writes the reads of the others that it selects or, where there are none, those
@@ -368,38 +471,4 @@ fn owned_texts(alloc: Global, texts: &[&str]) -> Result<Vec<String>, AllocError>
         strings.push(String::from_str(alloc, *text)?)?;
     }
     Ok(strings)
-}
-
-// Writes what a task is to write about its tally, of which enough is known. Conditions: a histogram is for counts up to
-// 1 to 10,000,000, and the origin is one that a header can say.
-fn write_answer<H: Threads + Sync, W: Sink>(
-    rt: &H,
-    alloc: Global,
-    task: &Task,
-    counted: &CountedTally,
-    origin: Option<Origin>,
-    writer: &mut W,
-) -> Result<(), ToolFault>
-    requires writable { HasWritableReport task.now }
-    requires about { IsAboutTally task.now }
-    requires origin { MaySay origin }
-    requires known { (tally : TallySeen) × Knows counted.now tally }
-    requires enough { IsEnoughForTask counted.now task.now }
-    ensures { (tally : TallySeen) → Knows counted.now tally
-        → Answers task.now (tally, origin) (W.seen writer.old) (W.seen writer.new) result }
-{
-    match task {
-        Task::Count(options) | Task::CountListed(options) => {
-            let threads = options.workers();
-            let crew = Crew { rt, threads };
-            write_counted(&crew, alloc, writer, counted, origin, report_of(options))
-        }
-        Task::Report(report) => {
-            let crew = Crew { rt, threads: 1 };
-            write_report(&crew, alloc, writer, counted.rows(), origin, *report)
-        }
-        Task::Query(words) => Ok(query(writer, counted.rows(), words)?),
-        Task::Merge => Ok(write_table(writer, counted.rows(), origin.as_ref())?),
-        Task::Select(_, _) => unreachable!(),
-    }
 }

@@ -1,15 +1,14 @@
 //! The tally of the reads of all sources: they are read, cleaned and cut into batches, and the words of the batches are
-//! counted by as many threads as are asked for, all of them or those of a list. Of the tally no more is gathered than
-//! the report is about.
+//! counted by as many threads as are asked for, all of them or those of a list. The caller says whether the tally is
+//! wanted, or no more than its histogram or its statistics.
 ghost use Rattle.std.specs.Prelude.{◌≡◌, ◌≤◌, ◌<◌, ◌+◌, ◌^◌, length, IfOk, IfErr, IfSome, OnOk};
 ghost use Rattle.kc_fastx.specs.Parsing.{most_bytes};
 ghost use Rattle.kc_word.specs.Shared.{values};
 ghost use Rattle.kc_booking.specs.Setup.{stripe_count};
 ghost use Rattle.kc_gather.specs.Gathering.{position_sum};
-ghost use Rattle.kc_tool.specs.CountedTallies.{IsEnoughFor, KnowsOne};
+ghost use Rattle.kc_tool.specs.CountedTallies.{KnowsOne};
 ghost use Rattle.kc_tool.specs.Commands.{KeepsInput, sources_from};
 ghost use Rattle.kc_tool.specs.NamedSources.{names_of, seen_of};
-ghost use Rattle.kc_tool.specs.Reports.{report_of};
 ghost use Rattle.kc_report.specs.Table.{IsOrigin, MaySay};
 ghost use Rattle.kc_tool.specs.Tallies.{
   CutsBatches,
@@ -27,13 +26,12 @@ ghost use Rattle.kc_tool.specs.Tallies.{
 ghost use Rattle.kc_command.specs.Settings.{rule_of};
 
 use crate::count_progress::Progress;
-use crate::counted_tally::CountedTally;
 use crate::named_sources::NamedSource;
+use crate::reported::Reported;
 use crate::tool_faults::ToolFault;
-use kc_command::{Options, Print};
+use kc_command::Options;
 use kc_fastx::{FastxFault, Reading, Source, read_all};
 use kc_hash::Hash;
-use kc_io::FromBytes;
 use kc_report::Origin;
 use kc_run::{quotient_tables, run};
 use kc_stripe::Setup;
@@ -50,9 +48,6 @@ const POSITIONS_A_WORD: u64 = 4;
 
 /// The most positions to which a list enlarges a batch: as many as make a round of a worker.
 const LISTED_POSITIONS: u64 = 4_000_000;
-
-/// The greatest count with a bin of its own: a histogram up to it needs the bins of the stripes alone.
-const GREATEST_BIN: u64 = 10_000;
 
 /// The seed of the hash that divides the words among the stripes. No report depends on it.
 const SEED: u64 = 1;
@@ -80,98 +75,69 @@ pub(crate) fn read_list<R: Source, P: Progress>(
     }
 }
 
+/// How words are counted: by threads of the runtime, with this memory, as the options say; and who is told how far it
+/// has come.
+#[derive(Drop)]
+pub(crate) struct Counting<'a, H: Threads, P: Progress> {
+    /// The runtime.
+    pub rt: &'a H,
+    /// The memory.
+    pub alloc: Global,
+    /// The options.
+    pub options: &'a Options,
+    /// Who is told.
+    pub progress: &'a P,
+}
+
 /// Counts the words of the reads of these files, in order, or, where there are none, of the given input, as the options
-/// say, or those of the list alone, by as many threads as are asked for. It answers as much of their tally as the
-/// report needs, and its origin. How many bytes each read gave is told, how many batches there are, and each that was
-/// booked. The files keep their names, and the input is as it was where there is a file. Condition: the list is one
-/// under the rule of the options.
+/// say, or those of the list alone, by as many threads as are asked for. It answers what the caller wants of their
+/// tally, and its origin. How many bytes each read gave is told, how many batches there are, and each that was booked.
+/// The files keep their names, and the input is as it was where there is a file. Condition: the list is one under the
+/// rule of the options.
 ///
 /// # Errors
 /// `Fastx` with the fault of the first source that has one, and its number from 1; the sources behind it are as they
 /// were. `Run` where a thread, a place in a table or memory for them was refused. `Memory` where a growth was refused
 /// elsewhere.
-pub(crate) fn count_given<H: Threads + Wait + Sync, R: Source, F: Source, P: Progress + Sync>(
-    rt: &H,
-    alloc: Global,
+pub(crate) fn count_given<
+    S: Reported,
+    H: Threads + Wait + Sync,
+    R: Source,
+    F: Source,
+    P: Progress + Sync,
+>(
+    counting: &Counting<'_, H, P>,
     list: Option<Only>,
-    options: &Options,
     files: &mut [NamedSource<'_, F>],
     input: &mut R,
-    progress: &P,
-) -> Result<(CountedTally, Option<Origin>), ToolFault>
-    requires { IfSome list (IsListUnder (rule_of options.now)) }
+) -> Result<(S, Option<Origin>), ToolFault>
+    requires { IfSome list (IsListUnder (rule_of counting.now.options.now)) }
     ensures tally { let Tallies = TalliesSources (sources_from (R.seen input.old) (seen_of F.seen files.old))
-        (sources_from (R.seen input.new) (seen_of F.seen files.new)) options.now (words_of list) in
-        IfOk result (λ table. KnowsOne table.0 (λ tally. Tallies (tally, table.1))) }
-    ensures enough { IfOk result (λ table. IsEnoughFor table.0 (report_of options.now)) }
+        (sources_from (R.seen input.new) (seen_of F.seen files.new)) counting.now.options.now (words_of list) in
+        IfOk result (λ table. KnowsOne S.knows table.0 (λ tally. Tallies (tally, table.1))) }
     ensures origin { IfOk result (λ table. MaySay table.1) }
     ensures fault { let Refuses = RefusesSources (sources_from (R.seen input.old) (seen_of F.seen files.old)) in
         IfErr result (Refuses (sources_from (R.seen input.new) (seen_of F.seen files.new))) }
     ensures input { KeepsInput (seen_of F.seen files.old) (R.seen input.old) (R.seen input.new) }
     ensures names { names_of files.new ≡ names_of files.old }
 {
+    let Counting {
+        rt,
+        alloc,
+        options,
+        progress,
+    } = *counting;
     let (batches, origin) = batches_given(alloc, &list, options, files, input, progress)?;
     progress.counting_begins(batches.len() as u64);
     let setup = setup_of(alloc, list, options)?;
     let tables = quotient_tables(alloc, &setup, options.size())?;
     let workers = options.workers();
-    match options.print() {
-        Print::Histo if options.high() <= GREATEST_BIN => {
-            let bins = run(rt, alloc, &batches, &setup, tables, workers, progress)?;
-            Ok((CountedTally::Bins(bins), Some(origin)))
-        }
-        Print::Stats => {
-            let numbers = run(rt, alloc, &batches, &setup, tables, workers, progress)?;
-            Ok((CountedTally::Numbers(numbers), Some(origin)))
-        }
-        _ => {
-            let tally = run(rt, alloc, &batches, &setup, tables, workers, progress)?;
-            Ok((CountedTally::Rows(tally), Some(origin)))
-        }
-    }
+    let summary = run(rt, alloc, &batches, &setup, tables, workers, progress)?;
+    Ok((summary, Some(origin)))
 }
 
-/// What `count_given` answers, of the reads of these sources alone, which may be none.
-///
-/// # Errors
-/// Those of `count_given`.
-pub(crate) fn count_sources<H: Threads + Wait + Sync, R: Source, P: Progress + Sync>(
-    rt: &H,
-    alloc: Global,
-    list: Option<Only>,
-    sources: &mut [NamedSource<'_, R>],
-    options: &Options,
-    progress: &P,
-) -> Result<(CountedTally, Option<Origin>), ToolFault>
-    requires list { IfSome list (IsListUnder (rule_of options.now)) }
-    ensures tally { let Tallies = TalliesSources (seen_of R.seen sources.old) (seen_of R.seen sources.new) options.now
-        in IfOk result (λ table. KnowsOne table.0 (λ tally. Tallies (words_of list) (tally, table.1))) }
-    ensures enough { IfOk result (λ table. IsEnoughFor table.0 (report_of options.now)) }
-    ensures origin { IfOk result (λ table. MaySay table.1) }
-    ensures fault { IfErr result (RefusesSources (seen_of R.seen sources.old) (seen_of R.seen sources.new)) }
-    ensures names { names_of sources.new ≡ names_of sources.old }
-{
-    let is_empty = sources.is_empty();
-    let mut nothing = FromBytes::new(b"");
-    let counted = count_given(rt, alloc, list, options, sources, &mut nothing, progress);
-    if !is_empty {
-        return counted;
-    }
-    // for the proof: no read of it failed
-    let _rest = nothing.as_slice();
-    let fault = match counted {
-        Ok(counted) => return Ok(counted),
-        Err(fault) => fault,
-    };
-    // no bytes have no fault, so their reader can only have lacked memory
-    if reader_lacks_memory(&fault) {
-        return Err(ToolFault::Memory);
-    }
-    Err(fault)
-}
-
-// Whether there was no memory for the reader of a source.
-fn reader_lacks_memory(fault: &ToolFault) -> bool
+/// Whether there was no memory for the reader of a source.
+pub(crate) fn reader_lacks_memory(fault: &ToolFault) -> bool
     ensures { result ≡ reader_lacks_memory fault.now }
 {
     match fault {

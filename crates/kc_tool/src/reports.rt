@@ -1,30 +1,31 @@
 //! Reports on a tally: which one is written, and from sources of reads to the report on their tally.
-ghost use Rattle.std.specs.Prelude.{◌≡◌, ◌≢◌, OnOk, IfErr, IfOk, IsErrOf, map, option_map};
-ghost use Rattle.kc_tally.specs.Tally.{TallySeen};
-ghost use Rattle.kc_tool.specs.CountedTallies.{IsEnoughFor, Knows, KnowsOne};
-ghost use Rattle.kc_tool.specs.NamedSources.{seen_of};
+ghost use Rattle.std.specs.Prelude.{◌≡◌, ◌≢◌, OnOk, IfErr, IfOk, IfSome, IsErrOf, map, option_map};
+ghost use Rattle.kc_tool.specs.Commands.{KeepsInput, sources_from};
+ghost use Rattle.kc_tool.specs.NamedSources.{names_of, seen_of};
 ghost use Rattle.kc_tool.specs.Reports.{BeginsReport, IsWritable, LeavesUnwritten, WritesReport, WritesText};
-ghost use Rattle.kc_tool.specs.Reports.{report_of, report_text};
-ghost use Rattle.kc_tool.specs.Tallies.{GivesListOf, IsCountOf, IsRefusedCountOf, ListFailsIn, given};
+ghost use Rattle.kc_tool.specs.Reports.{ReportsSources, report_of, report_text};
+ghost use Rattle.kc_tool.specs.Tallies.{GivesListOf, IsListUnder, ListFailsIn, given, words_of};
 ghost use Rattle.kc_report.specs.Table.{MaySay};
 ghost use Rattle.kc_command.specs.Settings.{rule_of};
 
-use crate::count_progress::NoProgress;
-use crate::counted_sources::{count_sources, read_list};
-use crate::counted_tally::CountedTally;
+use crate::count_progress::{NoProgress, Progress};
+use crate::counted_sources::{Counting, count_given, read_list, reader_lacks_memory};
 use crate::named_sources::NamedSource;
+use crate::reported::Reported;
 use crate::tool_faults::ToolFault;
 use kc_command::{Options, Print};
-use kc_io::{Sink, Source};
+use kc_io::{FromBytes, Sink, Source};
 use kc_report::{
-    Dump, Origin, write_dump_in_parallel, write_histo, write_histo_of_bins, write_stats,
-    write_stats_of, write_table_in_parallel,
+    Dump, Origin, write_dump_in_parallel, write_histo, write_stats, write_table_in_parallel,
 };
-use kc_tally::Tally;
+use kc_tally::{Histogram, Statistics, Tally};
 use kc_word::Only;
 use std::alloc::{AllocError, Global};
 use std::sync::Wait;
 use std::thread::Threads;
+
+/// The greatest count with a bin of its own: a histogram up to it needs the bins of the stripes alone.
+const GREATEST_BIN: u64 = 10_000;
 
 /// A report on a tally: which one, how it is laid out where it is a dump, and the greatest count that has a line of its
 /// own where it is a histogram.
@@ -74,31 +75,15 @@ pub fn count_reads<H: Threads + Wait + Sync, Q: Source + Drop, R: Source + Drop,
         IfErr result (λ fault. fault ≢ ToolFault.Write
         → Leaves options.now (W.seen writer.old) (W.seen writer.new) fault) }
 {
-    let (counted, origin) = tally_of(rt, alloc, only, sources, options)?;
-    let threads = options.workers();
-    let crew = Crew { rt, threads };
-    write_counted(&crew, alloc, writer, &counted, origin, report_of(options))
-}
-
-// Counts the words of the reads of all sources, or those alone that occur in the reads of `only` where it is given, and
-// answers as much of their tally as the report needs, and its origin.
-fn tally_of<H: Threads + Wait + Sync, Q: Source + Drop, R: Source + Drop>(
-    rt: &H,
-    alloc: Global,
-    only: Option<Q>,
-    sources: Vec<R>,
-    options: &Options,
-) -> Result<(CountedTally, Option<Origin>), ToolFault>
-    ensures tally { let Counted = IsCountOf (given (option_map Q.seen only) (map R.seen sources.items)) options.now in
-        IfOk result (λ table. KnowsOne table.0 (λ tally. Counted (tally, table.1))) }
-    ensures enough { IfOk result (λ table. IsEnoughFor table.0 (report_of options.now)) }
-    ensures origin { IfOk result (λ table. MaySay table.1) }
-    ensures fault { let Refused = IsRefusedCountOf (given (option_map Q.seen only) (map R.seen sources.items)) in
-        IfErr result (Refused options.now) }
-{
     let mut sources = unnamed(alloc, sources)?;
     let list = list_of(alloc, only, options)?;
-    count_sources(rt, alloc, list, &mut sources, options, &NoProgress)
+    let counting = Counting {
+        rt,
+        alloc,
+        options,
+        progress: &NoProgress,
+    };
+    report_sources(&counting, list, &mut sources, writer)
 }
 
 // The list of the words that occur in the reads of this source, where there is one.
@@ -143,30 +128,108 @@ pub(crate) fn report_of(options: &Options) -> Report
     }
 }
 
-/// Writes a report on a tally of which enough is known, as `write_report` does on a whole one.
+// What `report_given` does, of the reads of these sources alone, which may be none.
+fn report_sources<H: Threads + Wait + Sync, R: Source, W: Sink, P: Progress + Sync>(
+    counting: &Counting<'_, H, P>,
+    list: Option<Only>,
+    sources: &mut [NamedSource<'_, R>],
+    writer: &mut W,
+) -> Result<(), ToolFault>
+    requires { IfSome list (IsListUnder (rule_of counting.now.options.now)) }
+    ensures { ReportsSources (seen_of R.seen sources.old) (seen_of R.seen sources.new) (words_of list)
+        counting.now.options.now (W.seen writer.old) (W.seen writer.new) result }
+{
+    let is_empty = sources.is_empty();
+    let mut nothing = FromBytes::new(b"");
+    let reported = report_given(counting, list, sources, &mut nothing, writer);
+    if !is_empty {
+        return reported;
+    }
+    // for the proof: no read of it failed
+    let _rest = nothing.as_slice();
+    let fault = match reported {
+        Ok(()) => return Ok(()),
+        Err(fault) => fault,
+    };
+    // no bytes have no fault, so their reader can only have lacked memory
+    if reader_lacks_memory(&fault) {
+        return Err(ToolFault::Memory);
+    }
+    Err(fault)
+}
+
+/// Counts words as `count_given` does, and writes the report that the options ask for. Of the tally no more is gathered
+/// than the report is about. The end of the count is told before anything is written, or the fault is answered.
 ///
 /// # Errors
-/// Those of `write_report`.
-pub(crate) fn write_counted<H: Threads + Sync, W: Sink>(
-    crew: &Crew<'_, H>,
-    alloc: Global,
+/// Those of `count_given`; nothing was written. Those of `write_report`.
+pub(crate) fn report_given<
+    H: Threads + Wait + Sync,
+    R: Source,
+    F: Source,
+    W: Sink,
+    P: Progress + Sync,
+>(
+    counting: &Counting<'_, H, P>,
+    list: Option<Only>,
+    files: &mut [NamedSource<'_, F>],
+    input: &mut R,
     writer: &mut W,
-    counted: &CountedTally,
-    origin: Option<Origin>,
-    report: Report,
 ) -> Result<(), ToolFault>
-    requires writable { IsWritable report }
-    requires origin { MaySay origin }
-    requires known { (tally : TallySeen) × Knows counted.now tally }
-    requires enough { IsEnoughFor counted.now report }
-    ensures { (tally : TallySeen) → Knows counted.now tally
-        → WritesText (report_text report (tally, origin)) (W.seen writer.old) (W.seen writer.new) result }
+    requires { IfSome list (IsListUnder (rule_of counting.now.options.now)) }
+    ensures done { let Reports = ReportsSources (sources_from (R.seen input.old) (seen_of F.seen files.old)) in
+        Reports (sources_from (R.seen input.new) (seen_of F.seen files.new)) (words_of list)
+        counting.now.options.now (W.seen writer.old) (W.seen writer.new) result }
+    ensures input { KeepsInput (seen_of F.seen files.old) (R.seen input.old) (R.seen input.new) }
+    ensures names { names_of files.new ≡ names_of files.old }
 {
-    match counted {
-        CountedTally::Rows(tally) => write_report(crew, alloc, writer, tally, origin, report),
-        CountedTally::Bins(bins) => Ok(write_histo_of_bins(writer, bins, report.high)?),
-        CountedTally::Numbers(numbers) => Ok(write_stats_of(writer, numbers)?),
+    let options = counting.options;
+    match options.print() {
+        Print::Histo if options.high() <= GREATEST_BIN => {
+            report_as::<Histogram, H, R, F, W, P>(counting, list, files, input, writer)
+        }
+        Print::Stats => {
+            report_as::<Statistics, H, R, F, W, P>(counting, list, files, input, writer)
+        }
+        _ => report_as::<Tally, H, R, F, W, P>(counting, list, files, input, writer),
     }
+}
+
+// What `report_given` does, by a summary of this kind. Condition besides: it is enough for the report.
+fn report_as<
+    S: Reported + Drop,
+    H: Threads + Wait + Sync,
+    R: Source,
+    F: Source,
+    W: Sink,
+    P: Progress + Sync,
+>(
+    counting: &Counting<'_, H, P>,
+    list: Option<Only>,
+    files: &mut [NamedSource<'_, F>],
+    input: &mut R,
+    writer: &mut W,
+) -> Result<(), ToolFault>
+    requires list { IfSome list (IsListUnder (rule_of counting.now.options.now)) }
+    requires enough { S.suits (report_of counting.now.options.now) }
+    ensures done { let Reports = ReportsSources (sources_from (R.seen input.old) (seen_of F.seen files.old)) in
+        Reports (sources_from (R.seen input.new) (seen_of F.seen files.new)) (words_of list)
+        counting.now.options.now (W.seen writer.old) (W.seen writer.new) result }
+    ensures input { KeepsInput (seen_of F.seen files.old) (R.seen input.old) (R.seen input.new) }
+    ensures names { names_of files.new ≡ names_of files.old }
+{
+    let counted = count_given::<S, H, R, F, P>(counting, list, files, input);
+    // what shows the count is cleared before the report, or the line of a fault, is written
+    counting.progress.ends();
+    let (summary, origin) = counted?;
+    let options = counting.options;
+    let threads = options.workers();
+    let crew = Crew {
+        rt: counting.rt,
+        threads,
+    };
+    let report = report_of(options);
+    summary.write(&crew, counting.alloc, writer, origin, report)
 }
 
 /// Writes a report on a tally; a table says what it was counted from, where that is told. Conditions: a histogram is

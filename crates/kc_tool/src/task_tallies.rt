@@ -1,12 +1,10 @@
-//! Tallies that are taken from the files of a task: of the reads behind a list, of a table, or of two tables together.
+//! What is taken from the files of a task: the reads behind a list, a table, or two tables together.
 ghost use Rattle.std.specs.Prelude.{◌≡◌, ◌≤◌, IfErr, IfOk, Ok, drop, length};
 ghost use Rattle.kc_report.specs.Table.{MaySay};
 ghost use Rattle.kc_report.specs.Merging.{Merges};
 ghost use Rattle.kc_report.specs.TableReading.{GivesTable};
-ghost use Rattle.kc_tool.specs.CountedTallies.{IsEnoughFor, KnowsOne};
 ghost use Rattle.kc_tool.specs.NamedSources.{names_of, seen_of};
-ghost use Rattle.kc_tool.specs.Reports.{report_of};
-ghost use Rattle.kc_tool.specs.Tallies.{Counts, RefusesCount};
+ghost use Rattle.kc_tool.specs.Reports.{ReportsCount};
 ghost use Rattle.kc_tool.specs.Commands.{
   KeepsInput,
   MergesNot,
@@ -21,12 +19,11 @@ ghost use Rattle.kc_tool.specs.Commands.{
 };
 
 use crate::count_progress::Progress;
-use crate::counted_sources::{count_given, read_list};
-use crate::counted_tally::CountedTally;
+use crate::counted_sources::{Counting, read_list};
 use crate::named_sources::NamedSource;
+use crate::reports::report_given;
 use crate::tool_faults::ToolFault;
-use kc_command::Options;
-use kc_io::Source;
+use kc_io::{Sink, Source};
 use kc_report::{Origin, merge, read_table};
 use kc_tally::Tally;
 use std::alloc::Global;
@@ -36,43 +33,46 @@ use std::thread::Threads;
 /// The most bytes that a table may have.
 const MOST_TABLE_BYTES: u64 = 1 << 42;
 
-/// A tally of which the whole is known, and what it was counted from.
-pub(crate) fn known(table: (Tally, Option<Origin>)) -> (CountedTally, Option<Origin>)
-    ensures tally { result.0 ≡ CountedTally.Rows table.0 }
-    ensures origin { result.1 ≡ table.1 }
-{
-    let (tally, origin) = table;
-    (CountedTally::Rows(tally), origin)
-}
-
 /// Counts those words that occur in the reads of the first file, in the reads of the files behind it or, where there
-/// are none, of the given input, and answers as much of their tally as the report needs. How far it has come is told.
-/// Condition: there is a first file.
+/// are none, of the given input, and writes the report that the options ask for, as `report_given` does. How far it has
+/// come is told. Condition: there is a first file.
 ///
 /// # Errors
-/// The fault of the list, of the sources, or of the run.
-pub(crate) fn count_listed<H: Threads + Wait + Sync, R: Source, F: Source, P: Progress + Sync>(
-    rt: &H,
-    alloc: Global,
-    options: &Options,
+/// The fault of the list; the others are as they were, and nothing was written. Those of `report_given`.
+pub(crate) fn report_listed<
+    H: Threads + Wait + Sync,
+    R: Source,
+    F: Source,
+    W: Sink,
+    P: Progress + Sync,
+>(
+    counting: &Counting<'_, H, P>,
     files: &mut [NamedSource<'_, F>],
     input: &mut R,
-    progress: &P,
-) -> Result<(CountedTally, Option<Origin>), ToolFault>
+    writer: &mut W,
+) -> Result<(), ToolFault>
     requires { 1 ≤ length files.old }
-    ensures tally { let Counted = Counts (given_listed (R.seen input.old) (seen_of F.seen files.old)) in
-        let Tallies = Counted (given_listed (R.seen input.new) (seen_of F.seen files.new)) in
-        IfOk result (λ table. KnowsOne table.0 (λ tally. Tallies options.now (tally, table.1))) }
-    ensures enough { IfOk result (λ table. IsEnoughFor table.0 (report_of options.now)) }
-    ensures origin { IfOk result (λ table. MaySay table.1) }
-    ensures fault { let Refuses = RefusesCount (given_listed (R.seen input.old) (seen_of F.seen files.old)) in
-        IfErr result (Refuses (given_listed (R.seen input.new) (seen_of F.seen files.new)) options.now) }
+    ensures done { let Reports = ReportsCount (given_listed (R.seen input.old) (seen_of F.seen files.old)) in
+        Reports (given_listed (R.seen input.new) (seen_of F.seen files.new)) counting.now.options.now
+        (W.seen writer.old) (W.seen writer.new) result }
     ensures input { KeepsInput (drop 1 (seen_of F.seen files.old)) (R.seen input.old) (R.seen input.new) }
     ensures names { names_of files.new ≡ names_of files.old }
 {
-    let list = read_list(alloc, &mut files[0].source, &options.rule(), progress)?;
+    let rule = counting.options.rule();
+    let list = match read_list(
+        counting.alloc,
+        &mut files[0].source,
+        &rule,
+        counting.progress,
+    ) {
+        Ok(list) => list,
+        Err(fault) => {
+            counting.progress.ends();
+            return Err(fault);
+        }
+    };
     let sources = &mut files[1..];
-    count_given(rt, alloc, Some(list), options, sources, input, progress)
+    report_given(counting, Some(list), sources, input, writer)
 }
 
 /// The tables of two files, put together. The first is read whole before a byte of the second is. Condition: there are

@@ -1,0 +1,53 @@
+use Rattle.std.proofs.Common.{rules, Err, Global, List, None, Ok, String, Vec, map, refl, subst}
+use Rattle.std.specs.Prelude.{string_bytes}
+use Rattle.std.proofs.lemmas.Result.{err_from_is_err_and}
+use Rattle.kc_io.specs.Sinks.{Written}
+use Rattle.kc_report.specs.Querying.{query_text, Answers as Queried}
+use Rattle.kc_report.specs.declared.report_faults.ReportFault.{ReportFault}
+use Rattle.kc_report.specs.declared.report_faults.ReportFault.TheVariants as report
+use Rattle.kc_tool.specs.Faults.{report_fault}
+use Rattle.kc_tool.specs.Commands.{Answers, sources_from}
+use Rattle.kc_tool.specs.NamedSources.{seen_of}
+use Rattle.kc_tool.specs.Tallies.{TableSeen, given}
+use Rattle.kc_tool.specs.declared.commands.Task.TheVariants.{Query}
+use Rattle.kc_tool.proofs.CommandsLemmas.{answered}
+use Rattle.kc_tool.proofs.commands.query_table.Goals as goal
+
+-- Why a query was not answered.
+unanswered : (words : Vec (String Global) Global) (table : TableSeen) (old new : Written) (why : ReportFault)
+    → Queried {A = Unit {0}} old new table.0 (map string_bytes words.items) (Err why) → Answers (Query words) table old new (Err (report_fault why))
+unanswered words table old new (report.BadWord number) h = (h.1, h.0)
+unanswered words table old new report.Write h = (query_text table.0 (map string_bytes words.items), (h.0, refl), h.1)
+unanswered words table old new report.BadHeader h = absurd h
+unanswered words table old new (report.BadRow line) h = absurd h
+unanswered words table old new report.BadEnd h = absurd h
+unanswered words table old new report.TableTooLong h = absurd h
+unanswered words table old new report.TableRead h = absurd h
+unanswered words table old new report.Memory h = absurd h
+unanswered words table old new report.Unlike h = absurd h
+unanswered words table old new report.TooLarge h = absurd h
+
+pub returns-clause-done : goal.returns-clause-done
+returns-clause-done g c =
+    let before = given None (sources_from (g.R.Source.seen c.args.input.now) (seen_of g.F.Source.seen c.args.files.now)) in
+    let after = given None (sources_from (g.R.Source.seen c.table_of.new.input) (seen_of g.F.Source.seen c.table_of.new.files)) in
+    let old = g.W.Sink.seen c.args.output.now in
+    let new = g.W.Sink.seen c.query.new.writer in
+    let answers : Answers (Query c.args.words.now) (c.in_ok-tally.tally, c.in_ok-tally._origin) old new (Ok tt) = search rules in
+    answered (Query c.args.words.now) (record { given = before; output = old }) (record { given = after; output = new })
+    (c.in_ok-tally.tally, c.in_ok-tally._origin) (Ok tt) c.in_ok-tally.ensures.table answers
+
+pub returns-in_err-query-clause-done : goal.returns-in_err-query-clause-done
+returns-in_err-query-clause-done g c =
+    let before = given None (sources_from (g.R.Source.seen c.args.input.now) (seen_of g.F.Source.seen c.args.files.now)) in
+    let after = given None (sources_from (g.R.Source.seen c.table_of.new.input) (seen_of g.F.Source.seen c.table_of.new.files)) in
+    let old = g.W.Sink.seen c.args.output.now in
+    let new = g.W.Sink.seen c.query.new.writer in
+    let again = c.from_residual-in_err-query in
+    let p = err_from_is_err_and again.result again.ensures.1 in
+    let why = c.in_err-query.field-0.0 in
+    let refused = subst (λ (v : List (String Global)). Queried {A = Unit {0}} old new c.in_ok-tally.tally (map string_bytes v) (Err why))
+    c.deref.ensures.value c.in_err-query.ensures in
+    let table : TableSeen = (c.in_ok-tally.tally, c.in_ok-tally._origin) in
+    rw (p.1, p.2) (answered (Query c.args.words.now) (record { given = before; output = old }) (record { given = after; output = new })
+    table (Err (report_fault why)) c.in_ok-tally.ensures.table (unanswered c.args.words.now table old new why refused))
