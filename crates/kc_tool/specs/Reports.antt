@@ -43,8 +43,8 @@ WritesText text old new (Err Write) = HasBegun old new text
 WritesText text old new (Err Memory) = new ≡ old
 WritesText text old new (Err fault) = ⊥
 
--- the report was written, or a beginning of it, or nothing for want of memory; or the tally is answered, and nothing was
--- written
+-- the report was written, or a beginning of it, or nothing for want of memory; or the tally is answered, and nothing
+-- was written
 abbrev pub WritesOrGives : {A : Type 0} → (A → TallySeen) → TableSeen → Report → Written → Written
     → Result (Option A) ToolFault → Type 0
 WritesOrGives seen table report old new (Ok (Some tally)) = (seen tally ≡ table.0) × (new ≡ old)

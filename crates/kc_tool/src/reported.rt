@@ -29,7 +29,7 @@ pub(crate) trait Reported: Summary {
     ghost suits: { Report → Type 0 };
 
     /// Writes a report on the tally, where that needs none of its rows. Else it writes nothing, and answers the tally.
-    /// Conditions: those of `write`, which is to be called.
+    /// Conditions: those of `write`, which calls it.
     ///
     /// # Errors
     /// `Write` where the writer failed or took no byte; a beginning of the text was written.
