@@ -26,4 +26,4 @@ returns-clause-tally g c =
     let rule = c.in_ok-setup.setup.rule in
     let summary = c.in_ok-summary.summary in
     let is = rw c.deref.ensures.value at c.in_ok-summary.ensures.summary in
-    tally_known g.S.Reported.knows summary c.in_ok-batches.ensures.cut rule c.in_ok-setup.ensures.rule (g.met.S.Reported.tells rule _ summary is)
+    tally_known g.S.Reported.knows summary c.in_ok-batches.ensures.cut rule c.in_ok-setup.ensures.rule ((g.met.S.Reported g.world.𝓛 g.world.𝓜 g.world.𝓡 ((λ s x. x), (λ x. x), (λ f x. f x), λ x. x)).tells rule _ summary is)
