@@ -1,10 +1,11 @@
 -- Vectors that are kept from one round to the next: what stands at each place, and what room it has.
-use Rattle.std.proofs.Common.{vec_capacity, ◌≡◌, ◌≢◌, ℕ, zero, suc, ◌+◌, ◌/◌, ◌%◌, ◌^◌, ◌<◌, ◌≤◌, max, Bool, cond, List, [], ◌∷◌, ◌++◌, length, get_or, set, take, drop, map, filter, count_by, Vec, Global, append-nil, append_assoc, refl, ap, ap₂, sym, ◌∙◌, arith, ⊎_elim}
+use Rattle.std.proofs.Common.{vec_capacity, ◌≡◌, ◌≢◌, ℕ, zero, suc, ◌+◌, ◌/◌, ◌%◌, ◌^◌, ◌<◌, ◌≤◌, max, cond, List, [], ◌∷◌, ◌++◌, length, get_or, set, take, map, filter, count_by, Vec, Global, append-nil, append_assoc, refl, ap, ap₂, sym, ◌∙◌, arith, ⊎_elim}
 use Rattle.std.proofs.Math.Seq.{map-set_same}
-use Rattle.std.proofs.lemmas.Bool.{cases_eq, cases_lt, eq-eqb, ne_eqb}
-use Rattle.std.proofs.lemmas.List.{get_or-set_same, get_or-set_other, get_or_past, length-set, length-map, length-append, get_or-map, map-set, map-append, map_push, take-append-drop}
-use Rattle.std.proofs.lemmas.List.Sums.{length-filter}
-use Rattle.std.proofs.lemmas.List.Elements.{filter_more, filter-append}
+use Rattle.std.proofs.lemmas.Bool.{cases_eq, cases_lt}
+use Rattle.std.proofs.lemmas.List.{get_or-set_same, get_or-set_other, get_or_past, length-set, length-map, length-append, get_or-map, map-set, map-append, map_push}
+use Rattle.std.proofs.lemmas.List.Sums.{length-filter, sum_by-take-le}
+use Rattle.std.proofs.lemmas.List.Elements.{filter-append}
+use Rattle.kc_lemmas.proofs.BucketLemmas.{bucket_items-more, bucket_items-same}
 use Rattle.kc_booking.specs.Round.{items_at, room_at, rooms_of, stripe_keys, with_an_eighth}
 use Rattle.kc_booking.proofs.Parts.{falls_in}
 
@@ -48,18 +49,13 @@ rooms_of-kept vecs i old new is same = map-set_same (λ v. vec_capacity v) vecs 
 pub stripe_keys-more_yes : (s stripe : ℕ) (hash_values : List ℕ) (i : ℕ) → i < length hash_values → get_or hash_values i 0 % 2 ^ s ≡ stripe
     → stripe_keys s stripe (take (i + 1) hash_values) ≡ stripe_keys s stripe (take i hash_values) ++ (get_or hash_values i 0 / 2 ^ s) ∷ []
 stripe_keys-more_yes s stripe hash_values i within here =
-    let x = get_or hash_values i 0 in
-    ap (map (λ value. value / 2 ^ s)) (filter_more (falls_in s stripe) hash_values i 0 within)
-    ∙ ap (λ (b : Bool). map (λ value. value / 2 ^ s) (filter (falls_in s stripe) (take i hash_values) ++ cond b (x ∷ []) [])) (eq-eqb (x % 2 ^ s) stripe here)
-    ∙ map_push (λ value. value / 2 ^ s) (filter (falls_in s stripe) (take i hash_values)) x
+    ap (map (λ value. value / 2 ^ s)) (bucket_items-more (λ value. value % 2 ^ s) stripe hash_values i 0 within here)
+    ∙ map_push (λ value. value / 2 ^ s) (filter (falls_in s stripe) (take i hash_values)) (get_or hash_values i 0)
 
 pub stripe_keys-more_no : (s stripe : ℕ) (hash_values : List ℕ) (i : ℕ) → i < length hash_values → get_or hash_values i 0 % 2 ^ s ≢ stripe
     → stripe_keys s stripe (take (i + 1) hash_values) ≡ stripe_keys s stripe (take i hash_values)
 stripe_keys-more_no s stripe hash_values i within apart =
-    let x = get_or hash_values i 0 in
-    ap (map (λ value. value / 2 ^ s)) (filter_more (falls_in s stripe) hash_values i 0 within
-    ∙ ap (λ (b : Bool). filter (falls_in s stripe) (take i hash_values) ++ cond b (x ∷ []) []) (ne_eqb (x % 2 ^ s) stripe apart)
-    ∙ append-nil (filter (falls_in s stripe) (take i hash_values)))
+    ap (map (λ value. value / 2 ^ s)) (bucket_items-same (λ value. value % 2 ^ s) stripe hash_values i 0 within apart)
 
 pub stripe_keys-append : (s stripe : ℕ) (xs ys : List ℕ) → stripe_keys s stripe (xs ++ ys) ≡ stripe_keys s stripe xs ++ stripe_keys s stripe ys
 stripe_keys-append s stripe xs ys =
@@ -74,10 +70,9 @@ stripe_keys-long s stripe hash_values =
 pub stripe_keys-fewer : (s stripe : ℕ) (hash_values : List ℕ) (i : ℕ)
     → length (stripe_keys s stripe (take i hash_values)) ≤ length (stripe_keys s stripe hash_values)
 stripe_keys-fewer s stripe hash_values i =
-    let all = ap (λ (xs : List ℕ). length (stripe_keys s stripe xs)) (sym (take-append-drop i hash_values)) in
-    let split = ap length (stripe_keys-append s stripe (take i hash_values) (drop i hash_values)) in
-    let both = length-append (stripe_keys s stripe (take i hash_values)) (stripe_keys s stripe (drop i hash_values)) in
-    omega (arith, all, split, both)
+    let some = stripe_keys-long s stripe (take i hash_values) in
+    let all = stripe_keys-long s stripe hash_values in
+    omega (arith, some, all, sum_by-take-le (λ value. cond (falls_in s stripe value) 1 0) hash_values i)
 
 -- ---- the keys of the first i hash values are put behind those of their stripes
 

@@ -1,10 +1,8 @@
 -- Hash values divided among stripes, as the loops have them.
-use Rattle.std.proofs.Common.{◌≡◌, ◌≢◌, ℕ, ◌+◌, ◌/◌, ◌%◌, ◌*◌, ◌-◌, ◌^◌, ◌<◌, ◌≤◌, Bool, true, false, cond, eqb, List, [], ◌∷◌, ◌++◌, length, get_or, set, take, map, filter, All, count_by, replicate, bit_and, Vec, Global, refl, ap, sym, ◌∙◌, arith, ⊎_elim, below_more}
+use Rattle.std.proofs.Common.{◌≡◌, ◌≢◌, ℕ, ◌+◌, ◌/◌, ◌%◌, ◌*◌, ◌-◌, ◌^◌, ◌<◌, ◌≤◌, Bool, true, false, cond, eqb, List, [], ◌∷◌, ◌++◌, length, get_or, set, map, filter, All, bit_and, Vec, Global, refl, ap, sym, ◌∙◌, arith, below_more}
 use Rattle.std.specs.List.{range_with_len}
-use Rattle.std.proofs.lemmas.Nat.{mod_below, pow_pos, one_shl}
-use Rattle.std.proofs.lemmas.Bool.{cases_eq, cases_lt, eq-eqb, ne_eqb}
-use Rattle.std.proofs.lemmas.List.{get_or-replicate, get_or_past, get_or-set_same, get_or-set_other, length-set, length-map, length-replicate, get_or-map, ext_get_or, map_push}
-use Rattle.std.proofs.lemmas.List.Sums.{count_by_more_yes, count_by_more_no}
+use Rattle.std.proofs.lemmas.Nat.{mod_below, pow_pos}
+use Rattle.std.proofs.lemmas.List.{get_or-set_same, get_or-set_other, length-set, length-map, get_or-map, ext_get_or, map_push}
 use Rattle.std.proofs.lemmas.List.FromFn.{length-map-range_with_len}
 use Rattle.kc_lemmas.proofs.Lists.{range_more}
 use Rattle.kc_kmer.specs.Rule.{CountingRule}
@@ -37,63 +35,11 @@ IsMappedTo-all f old new i end so_far =
     ext_get_or 0 new (map f old) (so_far.long ∙ sym (length-map old f))
     (λ k h. so_far.done k (omega arith) ∙ sym (get_or-map f old k 0 0 (let e = so_far.long in omega arith)))
 
--- ---- how many hash values fall in each stripe
+-- ---- where a hash value falls
 
 -- the hash value's low bits
 abbrev pub falls_in : ℕ → ℕ → ℕ → Bool
 falls_in s stripe hash_value = eqb (hash_value % 2 ^ s) stripe
-
--- the first i hash values are counted, each in its stripe
-pub record IsCountedTo (s : ℕ) (hash_values sizes : List ℕ) (i : ℕ) : Type 0 where
-  pub full : length sizes ≡ 64
-  pub counts : (stripe : ℕ) → get_or sizes stripe 0 ≡ count_by (falls_in s stripe) (take i hash_values)
-
-pub IsCountedTo-none : (s : ℕ) (hash_values zeros : List ℕ) → zeros ≡ replicate 64 0 → IsCountedTo s hash_values zeros 0
-IsCountedTo-none s hash_values zeros is = record {
-  full = ap length is ∙ length-replicate {A = ℕ} 64 0;
-  counts = λ stripe. ap (λ xs. get_or xs stripe 0) is ∙ each_zero 64 stripe;
-}
-  where
-    each_zero : (n i : ℕ) → get_or {A = ℕ} (replicate n 0) i 0 ≡ 0
-    each_zero n i =
-        ⊎_elim (λ (h : i < n). get_or-replicate n i 0 0 h)
-        (λ (h : n ≤ i). get_or_past (replicate n 0) i 0 (omega (arith, length-replicate {A = ℕ} n 0)))
-        (cases_lt i n)
-
--- one hash value more, counted in its stripe
-pub record CountStep (s : ℕ) (hash_values sizes : List ℕ) (i : ℕ) : Type 0 where
-  pub stripe : ℕ
-  pub size : ℕ
-  pub within : i < length hash_values
-  pub stripe_is : stripe ≡ get_or hash_values i 0 % 2 ^ s
-  pub fits : stripe < 64
-  pub size_is : size ≡ get_or sizes stripe 0 + 1
-
-pub IsCountedTo-more : (s : ℕ) (hash_values sizes : List ℕ) (i : ℕ) (step : CountStep s hash_values sizes i) → IsCountedTo s hash_values sizes i
-    → IsCountedTo s hash_values (set sizes step.stripe step.size) (i + 1)
-IsCountedTo-more s hash_values sizes i step so_far = record {
-  full = length-set sizes step.stripe step.size ∙ so_far.full;
-  counts = λ stripe.
-      ⊎_elim
-      (λ (here : stripe ≡ step.stripe).
-      ap (λ k. get_or (set sizes step.stripe step.size) k 0) here ∙ get_or-set_same sizes step.stripe step.size 0 (rw so_far.full step.fits) ∙ step.size_is
-      ∙ ap (λ n. n + 1) (ap (λ k. get_or sizes k 0) (sym here) ∙ so_far.counts stripe)
-      ∙ sym (count_by_more_yes (falls_in s stripe) hash_values i 0 step.within (eq-eqb (get_or hash_values i 0 % 2 ^ s) stripe (sym step.stripe_is ∙ sym here))))
-      (λ (apart : stripe ≢ step.stripe).
-      get_or-set_other sizes step.stripe stripe step.size 0 apart ∙ so_far.counts stripe
-      ∙ sym (count_by_more_no (falls_in s stripe) hash_values i 0 step.within (ne_eqb (get_or hash_values i 0 % 2 ^ s) stripe (λ e. apart (sym e ∙ sym step.stripe_is)))))
-      (cases_eq stripe step.stripe);
-}
-
--- so many stripes, as the program has them
-pub stripes-shifted_64 : (s : ℕ) → s ≤ 6 → 1 * 2 ^ s % 2 ^ 64 ≡ 2 ^ s
-stripes-shifted_64 s few = one_shl s 64 (omega arith)
-
-pub stripes-within_64 : (s : ℕ) → s ≤ 6 → 1 * 2 ^ s % 2 ^ 64 ≤ 64
-stripes-within_64 s few = let whole = stripes-shifted_64 s few in let most = stripes-few s few in omega arith
-
-pub stripe-below_64 : (s stripe : ℕ) → s ≤ 6 → stripe < 1 * 2 ^ s % 2 ^ 64 → stripe < 64
-stripe-below_64 s stripe few below = let whole = stripes-shifted_64 s few in let most = stripes-few s few in omega arith
 
 -- the hash value's stripe, as the program takes it
 pub low-below : (x s : ℕ) → s ≤ 6 → bit_and x (1 * 2 ^ s % 2 ^ 64 - 1) < 2 ^ s

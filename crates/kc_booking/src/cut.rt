@@ -6,7 +6,7 @@ ghost use Rattle.kc_booking.specs.Cuts.{round_at};
 use crate::cuts::Cuts;
 use crate::round::Round;
 use crate::setup::Setup;
-use kc_lemmas::room_for_each;
+use kc_lemmas::{bucket_sizes, room_for_each};
 use kc_word::{Batch, put_words};
 use std::alloc::{AllocError, Global};
 use std::marker::Model;
@@ -132,8 +132,6 @@ pub(crate) fn part_sizes(hash_values: &[u64], stripe_bits: u32) -> [usize; 64]
 {
     let low = (1 << stripe_bits) - 1;
     let mut sizes = [0usize; 64];
-    for hash_value in hash_values {
-        sizes[(*hash_value & low) as usize] += 1;
-    }
+    bucket_sizes(hash_values, &mut sizes, |value| (value & low) as usize);
     sizes
 }

@@ -1,3 +1,4 @@
+pub mod BucketLemmas
 pub mod Distinct
 pub mod Greatest
 pub mod Lists

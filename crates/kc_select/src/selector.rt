@@ -15,7 +15,7 @@ use std::alloc::{AllocError, Global};
 use std::marker::Model;
 
 /// A table and what is told of a selection by it, ready to judge reads: the table's solid words are listed, so that a
-/// word is looked up in one or two places of memory. A solid word has 14 bytes.
+/// word is looked up in one or two places of memory. A solid word has at most 12 bytes.
 #[derive(Drop)]
 pub struct Selector<'a> {
     tally: &'a Tally,

@@ -56,6 +56,8 @@ impl Counts for MeetingCounts<'_> {
 
     ghost slots = { λ _. 0 };
 
+    ghost part = { λ _ _. 0 };
+
     fn key_bits(&self) -> u32 {
         self.plain.key_bits()
     }

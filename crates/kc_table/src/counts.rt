@@ -20,6 +20,9 @@ pub trait Counts {
     // How many slots the table has.
     ghost slots: { Self → ℕ };
 
+    // In which part of the table a key stands.
+    ghost part: { Self → ℕ → ℕ };
+
     /// The number of bits of the keys.
     fn key_bits(&self) -> u32
         ensures bits { result ≡ bits self.now }
@@ -81,7 +84,8 @@ pub trait Counts {
     /// that whoever goes through keys part by part waits for memory less often. There are at most 1,024 parts.
     fn part_of(&self, key: u64) -> u32
         requires { key < 2 ^ bits self.now }
-        ensures { result < most_parts };
+        ensures few { result < most_parts }
+        ensures part { result ≡ part self.now key };
 
     /// Each key whose count is at least 1, once, with its count, in any order.
     fn rows(&self, alloc: Global) -> Result<Vec<(u64, u64)>, AllocError>

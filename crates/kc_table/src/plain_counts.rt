@@ -82,6 +82,8 @@ impl Counts for PlainCounts {
 
     ghost slots = { λ _. 0 };
 
+    ghost part = { λ _ _. 0 };
+
     fn key_bits(&self) -> u32 {
         self.bits
     }
@@ -122,11 +124,7 @@ impl Counts for PlainCounts {
     }
 
     /// The map is one part, whatever the key.
-    fn part_of(&self, _key: u64) -> u32
-        requires { _key < 2 ^ self.now.bits }
-        ensures few { result < most_parts }
-        ensures one { result ≡ 0 }
-    {
+    fn part_of(&self, _key: u64) -> u32 {
         0
     }
 

@@ -171,6 +171,8 @@ impl Counts for QuotientTable {
 
     ghost slots = { λ t. 2 ^ t.log };
 
+    ghost part = { λ t. home_part t.log };
+
     fn key_bits(&self) -> u32 {
         self.slots.bits
     }
@@ -287,11 +289,7 @@ impl Counts for QuotientTable {
 
     /// The part of the table in which the key's home is.
     #[inline]
-    fn part_of(&self, key: u64) -> u32
-        requires { key < 2 ^ self.now.bits }
-        ensures few { result < most_parts }
-        ensures home { result ≡ home_part self.now.log key }
-    {
+    fn part_of(&self, key: u64) -> u32 {
         let home = key as usize & ((1 << self.slots.log) - 1);
         (home >> self.slots.log.saturating_sub(PART_BITS)) as u32
     }

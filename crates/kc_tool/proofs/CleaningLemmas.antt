@@ -1,8 +1,8 @@
 -- Cleaning the reads of source after source.
 use Rattle.std.proofs.Common.{◌≡◌, ◌≤◌, ◌<◌, ◌+◌, ◌-◌, ◌++◌, ℕ, List, [], ◌∷◌, length, get_or, set, refl, sym, ◌∙◌, ap, subst}
-use Rattle.std.proofs.Common.{arith, append_assoc, append-nil, length-append, map}
+use Rattle.std.proofs.Common.{arith, append_assoc, append-nil, length-append}
 use Rattle.std.specs.Prelude.{sum_by}
-use Rattle.std.proofs.lemmas.List.{get_or-map, length-map, map-append, map-set}
+use Rattle.std.proofs.lemmas.List.{map-append}
 use Rattle.std.proofs.lemmas.List.Sums.{sum_by-cons}
 use Rattle.kc_io.specs.Sources.{Seen}
 use Rattle.kc_fastx.specs.Parsing.{most_bytes}
@@ -13,6 +13,7 @@ use Rattle.kc_word.specs.Cutting.{cleaned}
 use Rattle.kc_word.specs.OpenCutting.{OpenCutting, HasTaken}
 use Rattle.kc_kmer.specs.Rule.{CountingRule}
 use Rattle.kc_word.proofs.Cleaning.{length-cleaned}
+use Rattle.kc_tool.specs.GivenSources.{ReadsAt}
 use Rattle.kc_tool.specs.Tallies.{CutsNext, CutsSources, FailsAt, RefusesSource, RefusesSources, pieces_of}
 use Rattle.kc_tool.specs.declared.counted_sources.ReadsInCutting.{ReadsInCutting}
 use Rattle.kc_tool.specs.declared.tool_faults.ToolFault.{ToolFault}
@@ -119,30 +120,28 @@ refused_cleaning d later (OpenFailed name) r within h = absurd h
 refused_cleaning d later Unlike r within h = absurd h
 refused_cleaning d later TooLarge r within h = absurd h
 
--- The same, where the sources are seen by `see`, and this one is replaced in their list.
-module _ {X : Type 0} (see : X → Seen) (xs : List X) {i : ℕ} (x y : X) (is : x ≡ get_or xs i x) (within : i < length xs)
-    {old : List Seen} {rule : CountingRule} {batch : ℕ} {cut : ReadsInCutting} (counted : cut.sources ≡ i)
-    (r : CutSoFar old (map see xs) rule batch cut) where
-  here : see x ≡ get_or (map see xs) cut.sources (see x)
-  here = ap see is ∙ sym (get_or-map see xs i x (see x) within) ∙ ap (λ n. get_or (map see xs) n (see x)) (sym counted)
+-- The same, where it is read at its index.
+module _ {old now : List Seen} {rule : CountingRule} {batch i : ℕ} {cut : ReadsInCutting} (counted : cut.sources ≡ i)
+    (within : i < length now) (r : CutSoFar old now rule batch cut) where
+  below : cut.sources < length now
+  below = rw counted within
 
-  below : cut.sources < length (map see xs)
-  below = rw (length-map xs see, counted) within
+  pub one_read : {next : List Seen} {after : ReadsInCutting} → ReadsAt i now next (λ before later. CutsNext before later rule cut after)
+      → CutSoFar old next rule batch after
+  one_read {after = after} at =
+      let here = ap (λ n. get_or now n at.here) counted ∙ at.was in
+      let all = ap (λ n. set now n at.later) counted ∙ sym at.are in
+      subst (λ v. CutSoFar old v rule batch after) all
+      (one_more_cut at.here at.later r below (subst (λ v. CutsNext v at.later rule cut after) (sym here) at.reads))
 
-  replaced : set (map see xs) cut.sources (see y) ≡ map see (set xs i y)
-  replaced = ap (λ n. set (map see xs) n (see y)) counted ∙ sym (map-set see xs i y)
-
-  pub one_more_kept : {after : ReadsInCutting} → CutsNext (see x) (see y) rule cut after
-      → CutSoFar old (map see (set xs i y)) rule batch after
-  one_more_kept {after} next =
-      subst (λ v. CutSoFar old v rule batch after) replaced
-      (one_more_cut (see x) (see y) r below (subst (λ v. CutsNext v (see y) rule cut after) here next))
-
-  pub refused_kept : (fault : ToolFault) → RefusesSource (see x) (see y) (cut.sources + 1) cut.left fault
-      → RefusesSources old (map see (set xs i y)) fault
-  refused_kept fault h =
-      subst (λ v. RefusesSources old v fault) replaced
-      (refused_cleaning (see x) (see y) fault r below (subst (λ v. RefusesSource v (see y) (cut.sources + 1) cut.left fault) here h))
+  pub read_refused : {next : List Seen} (fault : ToolFault)
+      → ReadsAt i now next (λ before later. RefusesSource before later (cut.sources + 1) cut.left fault)
+      → RefusesSources old next fault
+  read_refused fault at =
+      let here = ap (λ n. get_or now n at.here) counted ∙ at.was in
+      let all = ap (λ n. set now n at.later) counted ∙ sym at.are in
+      subst (λ v. RefusesSources old v fault) all
+      (refused_cleaning at.here at.later fault r below (subst (λ v. RefusesSource v at.later (cut.sources + 1) cut.left fault) (sym here) at.reads))
 
 -- All sources were read.
 pub all_cut : {old new : List Seen} {rule : CountingRule} {batch : ℕ} {cut : ReadsInCutting}
@@ -159,19 +158,6 @@ all_cut {old} {new} {rule = rule} {cut = cut} r all = record {
   counted = r.counted;
   few = omega (arith, r.few);
 }
-
--- One source alone was read, and its pieces were cut; or it was refused.
-module _ (old new : Seen) {rule : CountingRule} {batch : ℕ} {cut : ReadsInCutting} (is : CutsNone rule batch cut) where
-  pub one_cut : {after : ReadsInCutting} → CutsNext old new rule cut after
-      → CutsSources (old ∷ []) (new ∷ []) rule batch after.cutting after.reads
-  one_cut {after} next =
-      all_cut (one_more_kept (λ seen. seen) (old ∷ []) {i = 0} old new refl (omega arith) is.sources
-      (cutting_begun (old ∷ []) is) next) (omega (arith, is.sources, next.sources))
-
-  pub one_refused : (fault : ToolFault) → RefusesSource old new (cut.sources + 1) cut.left fault
-      → RefusesSources (old ∷ []) (new ∷ []) fault
-  one_refused fault refuses =
-      refused_kept (λ seen. seen) (old ∷ []) {i = 0} old new refl (omega arith) is.sources (cutting_begun (old ∷ []) is) fault refuses
 
 -- A cutting took one piece more.
 pub record TakesPiece (old new : OpenCutting) (piece : List ℕ) : Type 0 where

@@ -15,7 +15,7 @@ use Rattle.kc_tool.specs.Files.{AreOf, AreOpened, FailsToOpen, FileRead, LacksFi
 use Rattle.kc_tool.specs.Files.{files_named, given_back, openings, output_of, returned, unread}
 use Rattle.kc_tool.specs.Commands.{DoesByTally, HasFaultFor, HasNoAnswer, HasNoTallyFor, IsAboutTally, IsAnswer, Stage, untold}
 use Rattle.kc_tool.specs.Selections.{Told}
-use Rattle.kc_tool.specs.Commands.{Answers, Does, HasFilesFor, IsTallyFor, behind_list, given_of, sources_from, sources_in}
+use Rattle.kc_tool.specs.Commands.{Answers, Does, HasFilesFor, IsTallyFor, behind_list, given_of, sources_in}
 use Rattle.kc_tool.specs.Commands.{AsksForTask, DoesTaskInto, EndsSo, IsRefused, IsRefusedOption, KeepsInput, LacksOutput}
 use Rattle.kc_tool.specs.Commands.{Surroundings, files_of, first_refused, stage_after, stage_before}
 use Rattle.kc_tool.specs.declared.named_sources.NamedSource.{NamedSource}
@@ -421,30 +421,6 @@ something_named names n not counted none =
     let zero : n ≡ 0 = counted ∙ ap length none in
     let same : (n == 0) ≡ true = rw zero refl in
     cc
-
-module _ {S : Type 0} (seen : S → Seen) (input input_after : Seen) where
-  -- Where there are no files, what holds of the given input holds of the sources.
-  pub from_input : (files later : List (NamedSource S)) (Holds : List Seen → List Seen → Type 0) → files ≡ [] → later ≡ files
-      → Holds (input ∷ []) (input_after ∷ []) → Holds (sources_from input (seen_of seen files)) (sources_from input_after (seen_of seen later))
-  from_input [] [] Holds none same h = h
-  from_input [] (source ∷ later) Holds none same h = let no : ⊥ = cc in absurd no
-  from_input (source ∷ files) later Holds none same h = let no : ⊥ = cc in absurd no
-
-  -- Where there are files, what holds of them holds of the sources.
-  pub from_files : (files later : List (NamedSource S)) (Holds : List Seen → List Seen → Type 0) → (files ≡ [] → ⊥) → names_of later ≡ names_of files
-      → Holds (seen_of seen files) (seen_of seen later) → Holds (sources_from input (seen_of seen files)) (sources_from input_after (seen_of seen later))
-  from_files [] later Holds some same h = absurd (some refl)
-  from_files (source ∷ files) [] Holds some same h = let no : ⊥ = cc in absurd no
-  from_files (source ∷ files) (other ∷ later) Holds some same h = h
-
-  -- The given input may be read where there are no files, and else it is as it was.
-  pub input_used : (files : List (NamedSource S)) → files ≡ [] → KeepsInput (seen_of seen files) input input_after
-  input_used [] none = tt
-  input_used (source ∷ files) none = let no : ⊥ = cc in absurd no
-
-  pub input_kept : (files : List (NamedSource S)) → input_after ≡ input → KeepsInput (seen_of seen files) input input_after
-  input_kept [] same = tt
-  input_kept (source ∷ files) same = same
 
 -- A task was done with a file that was created for it.
 pub done_into : {sources : List (NamedSource Seen)} {task : Task} {input input_after : Seen} {asked mid back asked_after : List FileEvent} {name told : Text}

@@ -3,6 +3,7 @@ pub mod CommandLineLemmas
 pub mod CommandsLemmas
 pub mod FaultLinesLemmas
 pub mod FilesLemmas
+pub mod GivenLemmas
 pub mod InputsLemmas
 pub mod MergedReportsLemmas
 pub mod PlaceLemmas

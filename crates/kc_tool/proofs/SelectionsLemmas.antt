@@ -1,8 +1,8 @@
 -- Selecting the reads of source after source.
-use Rattle.std.proofs.Common.{◌≡◌, ◌≤◌, ◌<◌, ◌+◌, ◌-◌, ◌++◌, ◌∙◌, ℕ, List, [], ◌∷◌, length, get_or, set, map, refl, sym}
+use Rattle.std.proofs.Common.{◌≡◌, ◌≤◌, ◌<◌, ◌+◌, ◌-◌, ◌++◌, ◌∙◌, ℕ, List, [], ◌∷◌, length, get_or, set, refl, sym}
 use Rattle.std.proofs.Common.{ap, ap₂, subst, arith, append_assoc, append-nil, ◌⊎◌, inl, inr}
 use Rattle.std.proofs.Common.{Result, Ok, Err}
-use Rattle.std.proofs.lemmas.List.{length-map, get_or-map, map-set, map-append}
+use Rattle.std.proofs.lemmas.List.{map-append}
 use Rattle.std.proofs.lemmas.List.Sums.{count_by-le-length}
 use Rattle.kc_io.specs.Sources.{Seen}
 use Rattle.kc_io.specs.Sinks.{Written, HasTaken, HasWritten, HasBegun}
@@ -21,6 +21,7 @@ use Rattle.kc_select.specs.declared.selection_counts.Selected.{Selected}
 use Rattle.kc_select.specs.declared.selection_counts.SelectionCounts.{SelectionCounts}
 use Rattle.kc_select.proofs.CountsLemmas.{AreFew, counts_append, words_few, solid_fewer}
 use Rattle.kc_select.specs.Texts.{text_of_selected, selected_text}
+use Rattle.kc_tool.specs.GivenSources.{ReadsAt}
 use Rattle.kc_tool.specs.Selections.{all_records, GaveRecords, SelectsFrom, SelectsNext, StopsAt, task_within}
 use Rattle.kc_tool.specs.declared.tool_faults.ToolFault.{ToolFault}
 use Rattle.kc_tool.specs.declared.tool_faults.ToolFault.TheVariants.{Fastx, BadHeader, BadRow, BadEnd, TableTooLong, TableRead, Memory, BadOption, BadWord, Write, Run, OpenFailed, Unlike, TooLarge}
@@ -273,49 +274,22 @@ selected_all {rule} {tally} {old} {new} {before} {after} {counts} {left} {number
       s.totals,
     )
 
--- Those of one source alone were.
-pub selected_one : (rule : SelectionRule) (tally : TallySeen) (old new : Seen) (before after : Written)
-    (selected : Selected)
-    → SelectsNext (task_within rule tally most_bytes) 1 (record { source = old; sink = before })
-    (record { source = new; sink = after }) (Ok selected)
-    → SelectsFrom rule tally (old ∷ []) (new ∷ []) before after (Ok selected.counts)
-selected_one rule tally old new before after selected h = (
-  h.0 ∷ [],
-  most_bytes - length h.1.0,
-  (h.1, refl),
-  subst (λ (v : List Record). HasWritten before after (selected_text tally rule v)) (sym (append-nil h.0)) h.2,
-  ap (λ (v : Selected). v.counts) h.3
-      ∙ ap (λ (v : List Record). counts_of tally rule (reads_in v)) (sym (append-nil h.0)),
-)
+-- The next source is read at its index.
+module _ {old now : List Seen} {rule : SelectionRule} {tally : TallySeen} {before mid : Written} (after : Written)
+    {counts : SelectionCounts} {left number : ℕ} (s : SelectedSoFar rule tally old now before mid counts left number)
+    (within : number < length now) where
+  abbrev Next : Seen → Seen → Result Selected ToolFault → Type 0
+  Next source later outcome = SelectsNext (task_within rule tally left) (number + 1) (record { source = source; sink = mid })
+      (record { source = later; sink = after }) outcome
 
--- The same, where the sources are seen by `see`, and this one is replaced in their list.
-module _ {X : Type 0} (see : X → Seen) (xs : List X) {i : ℕ} (x y : X) (is : x ≡ get_or xs i x) (within : i < length xs)
-    {rule : SelectionRule} {tally : TallySeen} {old : List Seen} {before now : Written} (after : Written)
-    {counts : SelectionCounts} {left number : ℕ} (counted : number ≡ i)
-    (s : SelectedSoFar rule tally old (map see xs) before now counts left number) where
-  found : see x ≡ get_or (map see xs) number (see x)
-  found = ap see is ∙ sym (get_or-map see xs i x (see x) within) ∙ ap (λ n. get_or (map see xs) n (see x)) (sym counted)
+  pub selected_read : {next : List Seen} (selected : Selected) → 1 ≤ tally.k → ReadsAt number now next (λ source later. Next source later (Ok selected))
+      → SelectedSoFar rule tally old next before after (both_counts counts selected.counts) (left - selected.bytes) (number + 1)
+  selected_read selected some at =
+      subst (λ v. SelectedSoFar rule tally old v before after (both_counts counts selected.counts) (left - selected.bytes) (number + 1))
+      (sym at.are) (selected_more at.here at.later after s within selected some (subst (λ v. Next v at.later (Ok selected)) (sym at.was) at.reads))
 
-  below : number < length (map see xs)
-  below = rw (length-map xs see, counted) within
-
-  replaced : set (map see xs) number (see y) ≡ map see (set xs i y)
-  replaced = ap (λ n. set (map see xs) n (see y)) counted ∙ sym (map-set see xs i y)
-
-  abbrev Next : Seen → Result Selected ToolFault → Type 0
-  Next source outcome = SelectsNext (task_within rule tally left) (number + 1) (record { source = source; sink = now })
-      (record { source = see y; sink = after }) outcome
-
-  pub selected_kept : (selected : Selected) → 1 ≤ tally.k → Next (see x) (Ok selected)
-      → SelectedSoFar rule tally old (map see (set xs i y)) before after (both_counts counts selected.counts)
-      (left - selected.bytes) (number + 1)
-  selected_kept selected some h =
-      subst (λ v. SelectedSoFar rule tally old v before after (both_counts counts selected.counts)
-      (left - selected.bytes) (number + 1)) replaced
-      (selected_more (see x) (see y) after s below selected some (subst (λ v. Next v (Ok selected)) found h))
-
-  pub refused_selection : (fault : ToolFault) → Next (see x) (Err fault)
-      → SelectsFrom rule tally old (map see (set xs i y)) before after (Err fault)
-  refused_selection fault h =
-      subst (λ v. SelectsFrom rule tally old v before after (Err fault)) replaced
-      (selected_no_more (see x) (see y) after s below fault (subst (λ v. Next v (Err fault)) found h))
+  pub refused_read : {next : List Seen} (fault : ToolFault) → ReadsAt number now next (λ source later. Next source later (Err fault))
+      → SelectsFrom rule tally old next before after (Err fault)
+  refused_read fault at =
+      subst (λ v. SelectsFrom rule tally old v before after (Err fault)) (sym at.are)
+      (selected_no_more at.here at.later after s within fault (subst (λ v. Next v at.later (Err fault)) (sym at.was) at.reads))

@@ -9,7 +9,7 @@ use Rattle.kc_io.specs.Sinks.{Written, HasWritten, HasBegun}
 use Rattle.kc_io.specs.Sources.{Seen}
 use Rattle.kc_report.specs.declared.report_faults.ReportFault.{ReportFault}
 use Rattle.kc_report.specs.Querying.{IsAskable, IsFirstBadWord, query_text}
-use Rattle.kc_report.specs.Table.{table_text}
+use Rattle.kc_report.specs.Table.{MaySay, table_text}
 use Rattle.kc_report.specs.TableReading.{GivesTable, RefusesTable}
 use Rattle.kc_report.specs.Merging.{Merges}
 use Rattle.kc_command.specs.Arguments.{AsksFor, AsksForDump, first_bad, first_bad_of_dump, first_bad_of_histo, high_of}
@@ -52,6 +52,11 @@ TellOneTable old new table = ⊥
 abbrev pub TellsNoTable : Seen → Seen → ToolFault → Type 0
 TellsNoTable old new fault =
     (why : ReportFault) × RefusesTable old new most_table_bytes why × (fault ≡ report_fault why)
+
+-- it gave this one, whose origin a header can say, or none
+abbrev pub TellsOrNot : Seen → Seen → Result TableSeen ToolFault → Type 0
+TellsOrNot old new (Ok table) = GivesTable old new most_table_bytes table × MaySay table.1
+TellsOrNot old new (Err fault) = TellsNoTable old new fault
 
 abbrev pub TellNoTable : List Seen → List Seen → ToolFault → Type 0
 TellNoTable (old ∷ []) (new ∷ []) fault = TellsNoTable old new fault
@@ -98,6 +103,12 @@ TellNoSum old new fault = ⊥
 abbrev pub sources_from : Seen → List Seen → List Seen
 sources_from input [] = input ∷ []
 sources_from input (file ∷ files) = file ∷ files
+
+-- how many of the files of a task come before its sources: its list, or the table of a selection
+abbrev pub own_of : Task → ℕ
+own_of (CountListed settings) = 1
+own_of (Select rule tells) = 1
+own_of task = 0
 
 -- of the files of a task the first is its list, or its table, where it has one beside its sources, and the others are
 -- sources

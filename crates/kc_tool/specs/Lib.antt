@@ -5,6 +5,7 @@ pub mod FaultLines
 pub mod Faults
 pub mod FileEvents
 pub mod Files
+pub mod GivenSources
 pub mod MergedReports
 pub mod NamedSources
 pub mod Process

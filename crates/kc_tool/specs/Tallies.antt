@@ -1,6 +1,6 @@
 -- The reads of all sources of one count, the words of its list, and their tally: source, our formats page.
-use Rattle.std.specs.Prelude.{◌≡◌, ◌≤◌, ◌⊎◌, ◌+◌, ◌-◌, ℕ, List, [], ◌∷◌, ◌++◌, length, map, max, sum_by, ⊤}
-use Rattle.std.specs.Prelude.{Bool, true, false, Option, Some, None, IfSome, is_some, option_map}
+use Rattle.std.specs.Prelude.{◌≡◌, ◌≤◌, ◌<◌, ◌⊎◌, ◌+◌, ◌-◌, ◌^◌, Result, Ok, Err, ℕ, List, [], ◌∷◌, ◌++◌, length, map}
+use Rattle.std.specs.Prelude.{max, sum_by, ⊤, Bool, true, false, Option, Some, None, IfSome, is_some, option_map}
 use Rattle.std.specs.List.{concat}
 use Rattle.kc_io.specs.Sources.{Seen}
 use Rattle.kc_io.specs.Intakes.{TakesAll}
@@ -83,6 +83,18 @@ abbrev pub RefusesSource : Seen → Seen → ℕ → ℕ → ToolFault → Type 
 RefusesSource old new number limit (Fastx source fault) = (source ≡ number) × RefusesFor old new limit fault
 RefusesSource old new number limit Memory = ⊤
 RefusesSource old new number limit _ = ⊥
+
+-- one source more may be read: there are not too many bytes or sources so far
+pub record MayCutNext (cut : ReadsInCutting) : Type 0 where
+  pub few : cut.reads + cut.left ≤ most_bytes
+  pub numbered : cut.sources < 2 ^ 64 - 1
+
+-- it was, or it was refused
+abbrev pub CutsNextOrRefuses : Seen → Seen → CountingRule → ReadsInCutting → ReadsInCutting
+    → Result (Unit {0}) ToolFault → Type 0
+CutsNextOrRefuses old new rule before after (Ok done) = CutsNext old new rule before after
+CutsNextOrRefuses old new rule before after (Err fault) =
+    RefusesSource old new (before.sources + 1) before.left fault
 
 -- a place among the sources: the number-th, from 1, between those before it and those behind it, which are as they were
 pub record SourcePlace (old new : List Seen) (number : ℕ) : Type 0 where

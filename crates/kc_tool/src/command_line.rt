@@ -9,6 +9,7 @@ ghost use Rattle.kc_tool.specs.declared.command_line.Ending.TheVariants.{Fault};
 
 use crate::commands::{run_command, verb_named};
 use crate::count_progress::Progress;
+use crate::counted_sources::Means;
 use crate::counts_line::write_counts;
 use crate::fault_lines::write_fault;
 use crate::files::NamedFiles;
@@ -85,7 +86,12 @@ pub fn run<H: Threads + Wait + Sync, S: Files, R: Source, W: Sink, E: Sink, P: P
     let Some(verb) = verb_named(name) else {
         unreachable!()
     };
-    let ended = run_command(rt, alloc, verb, matches, files, input, output, progress);
+    let means = Means {
+        rt,
+        alloc,
+        progress,
+    };
+    let ended = run_command(&means, verb, matches, files, input, output);
     tell_end(ended.map_err(Ending::Fault), errors)
 }
 

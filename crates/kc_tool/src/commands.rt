@@ -3,6 +3,7 @@ ghost use Rattle.std.specs.Prelude.{◌≡◌, ◌≤◌, ◌⊎◌, [], ◌∷�
 ghost use Rattle.std.specs.Prelude.{unwrap_or};
 ghost use Rattle.std.specs.Prelude.{IfErr, IfOk, None};
 ghost use Rattle.clap.specs.Words.{all_of, found_of, rows_of};
+ghost use Rattle.kc_tool.specs.GivenSources.{Keeps, KeepsFiles, listed_in, seen_in};
 ghost use Rattle.kc_tool.specs.NamedSources.{names_of, seen_of};
 ghost use Rattle.kc_tool.specs.Commands.{
   AsksForTask,
@@ -18,9 +19,8 @@ ghost use Rattle.kc_tool.specs.Commands.{
   SelectsBy,
   files_of,
   first_refused,
-  given_listed,
   given_of,
-  sources_from,
+  own_of,
   sources_in,
   told_of,
   untold,
@@ -30,12 +30,13 @@ ghost use Rattle.kc_tool.specs.Reports.{IsWritable};
 ghost use Rattle.kc_tool.specs.Tallies.{given};
 
 use crate::count_progress::Progress;
-use crate::counted_sources::Counting;
+use crate::counted_sources::Means;
 use crate::files::{FileSource, NamedFiles, open_failed, open_files, take_sources};
 use crate::given_options::{dump_options, high_of, options, select_options};
+use crate::given_sources::GivenSources;
 use crate::named_sources::NamedSource;
 use crate::reports::{Crew, Report, report_given, write_report};
-use crate::selected_sources::select_files;
+use crate::selected_sources::select_given;
 use crate::task_tallies::{report_listed, sum_of, table_from, table_of};
 use crate::tool_faults::ToolFault;
 use clap::ArgMatches;
@@ -121,29 +122,28 @@ pub(crate) fn run_command<
     W: Sink,
     P: Progress + Sync,
 >(
-    rt: &H,
-    alloc: Global,
+    means: &Means<'_, H, P>,
     verb: Verb,
     matches: &ArgMatches<'_>,
     files: &mut NamedFiles<'_, S>,
     input: &mut R,
     output: &mut W,
-    progress: &P,
 ) -> Result<Option<SelectionCounts>, ToolFault>
     ensures { EndsSo verb (rows_of (found_of matches.now))
         (record { input = R.seen input.old; output = W.seen output.old; asked = files.old })
         (record { input = R.seen input.new; output = W.seen output.new; asked = files.new }) result }
 {
+    let alloc = means.alloc;
     let task = task_of(alloc, verb, matches)?;
     let names = file_names(alloc, verb, matches)?;
     let mut sources = open_files(alloc, files, &names)?;
     match text_of(matches, "output") {
         None => {
-            let outcome = answer(rt, alloc, &task, &mut sources, input, output, progress);
+            let outcome = answer(means, &task, &mut sources, input, output);
             take_sources(files, sources);
             outcome
         }
-        Some(name) => answer_into(rt, alloc, &task, files, sources, input, name, progress),
+        Some(name) => answer_into(means, &task, files, sources, input, name),
     }
 }
 
@@ -151,14 +151,12 @@ pub(crate) fn run_command<
 // It writes to the file of this name, which is created before anything is read, and given back at the end. Conditions:
 // the task has such files as it is to have, and a histogram is for counts up to 1 to 10,000,000.
 fn answer_into<H: Threads + Wait + Sync, S: Files, R: Source, P: Progress + Sync>(
-    rt: &H,
-    alloc: Global,
+    means: &Means<'_, H, P>,
     task: &Task,
     files: &mut NamedFiles<'_, S>,
     sources: Vec<NamedSource<'_, FileSource<S::File>>>,
     input: &mut R,
     name: &str,
-    progress: &P,
 ) -> Result<Option<SelectionCounts>, ToolFault>
     requires files { HasFilesFor task.now (seen_of (λ s. s) sources.items) }
     requires writable { HasWritableReport task.now }
@@ -169,10 +167,10 @@ fn answer_into<H: Threads + Wait + Sync, S: Files, R: Source, P: Progress + Sync
     let mut sources = sources;
     let Some(mut file) = files.create(name) else {
         take_sources(files, sources);
-        return Err(open_failed(alloc, name));
+        return Err(open_failed(means.alloc, name));
     };
     let sink = &mut file.sink;
-    let outcome = answer(rt, alloc, task, &mut sources, input, sink, progress);
+    let outcome = answer(means, task, &mut sources, input, sink);
     take_sources(files, sources);
     files.take_sink(file);
     outcome
@@ -181,13 +179,11 @@ fn answer_into<H: Threads + Wait + Sync, S: Files, R: Source, P: Progress + Sync
 // Does a task with its files, which keep their names: it takes what the task is about, and writes its answer. How far a
 // count has come is told.
 fn answer<H: Threads + Wait + Sync, R: Source, F: Source, W: Sink, P: Progress + Sync>(
-    rt: &H,
-    alloc: Global,
+    means: &Means<'_, H, P>,
     task: &Task,
     files: &mut [NamedSource<'_, F>],
     input: &mut R,
     output: &mut W,
-    progress: &P,
 ) -> Result<Option<SelectionCounts>, ToolFault>
     requires files { HasFilesFor task.now (seen_of F.seen files.old) }
     requires writable { HasWritableReport task.now }
@@ -198,40 +194,27 @@ fn answer<H: Threads + Wait + Sync, R: Source, F: Source, W: Sink, P: Progress +
     ensures input { KeepsInput (sources_in task.now (seen_of F.seen files.old)) (R.seen input.old) (R.seen input.new) }
     ensures names { names_of files.new ≡ names_of files.old }
 {
+    let own = own_of(task);
+    let mut sources = GivenSources { files, input, own };
     match task {
-        Task::Count(options) => {
-            let counting = Counting {
-                rt,
-                alloc,
-                options,
-                progress,
-            };
-            untold(report_given(&counting, None, files, input, output))
-        }
-        Task::CountListed(options) => {
-            let counting = Counting {
-                rt,
-                alloc,
-                options,
-                progress,
-            };
-            untold(report_listed(&counting, files, input, output))
-        }
-        Task::Report(report) => {
-            progress.ends();
-            untold(report_table(rt, alloc, *report, files, input, output))
-        }
-        Task::Query(words) => {
-            progress.ends();
-            untold(query_table(alloc, words, files, input, output))
-        }
-        Task::Merge => {
-            progress.ends();
-            untold(write_sum(alloc, files, output))
-        }
+        Task::Count(options) => untold(report_given(means, options, None, &mut sources, output)),
+        Task::CountListed(options) => untold(report_listed(means, options, &mut sources, output)),
+        Task::Report(report) => untold(report_table(means, *report, &mut sources, output)),
+        Task::Query(words) => untold(query_table(means, words, &mut sources, output)),
+        Task::Merge => untold(write_sum(means, &mut sources, output)),
         Task::Select(selection, tells) => {
-            select_by_table(alloc, *selection, *tells, files, input, output)
+            select_by_table(means.alloc, *selection, *tells, &mut sources, output)
         }
+    }
+}
+
+// How many of the files of a task come before its sources: its list, or the table of a selection.
+fn own_of(task: &Task) -> usize
+    ensures { result ≡ own_of task.now }
+{
+    match task {
+        Task::CountListed(_) | Task::Select(_, _) => 1,
+        _ => 0,
     }
 }
 
@@ -245,103 +228,90 @@ fn untold(done: Result<(), ToolFault>) -> Result<Option<SelectionCounts>, ToolFa
     }
 }
 
-// Reads the table of the one file or, where there is none, of the given input, and writes a report on it. The file
-// keeps its name.
-fn report_table<H: Threads + Sync, R: Source, F: Source, W: Sink>(
-    rt: &H,
-    alloc: Global,
+// Reads the table of the one source, and writes a report on it.
+fn report_table<H: Threads + Sync, R: Source, F: Source, W: Sink, P: Progress>(
+    means: &Means<'_, H, P>,
     report: Report,
-    files: &mut [NamedSource<'_, F>],
-    input: &mut R,
+    sources: &mut GivenSources<'_, '_, '_, R, F>,
     output: &mut W,
 ) -> Result<(), ToolFault>
-    requires few { length files.old ≤ 1 }
+    requires one { length (seen_in R.seen F.seen sources.old) ≡ 1 }
     requires writable { IsWritable report }
     ensures done { DoesByTally (Task.Report report)
-        (record {
-          given = given None (sources_from (R.seen input.old) (seen_of F.seen files.old));
-          output = W.seen output.old;
-        })
-        (record {
-          given = given None (sources_from (R.seen input.new) (seen_of F.seen files.new));
-          output = W.seen output.new;
-        })
+        (record { given = given None (seen_in R.seen F.seen sources.old); output = W.seen output.old })
+        (record { given = given None (seen_in R.seen F.seen sources.new); output = W.seen output.new })
         result }
-    ensures input { KeepsInput (seen_of F.seen files.old) (R.seen input.old) (R.seen input.new) }
-    ensures names { names_of files.new ≡ names_of files.old }
+    ensures kept { Keeps R.seen F.seen sources.old sources.new }
 {
-    let (tally, origin) = table_of(alloc, files, input)?;
-    let crew = Crew { rt, threads: 1 };
-    write_report(&crew, alloc, output, &tally, origin, report)
+    means.progress.ends();
+    let (tally, origin) = table_of(means.alloc, sources)?;
+    let crew = Crew {
+        rt: means.rt,
+        threads: 1,
+    };
+    write_report(&crew, means.alloc, output, &tally, origin, report)
 }
 
-// Reads the table of the one file or, where there is none, of the given input, and writes the counts of these words.
-// The file keeps its name.
-fn query_table<R: Source, F: Source, W: Sink>(
-    alloc: Global,
+// Reads the table of the one source, and writes the counts of these words.
+fn query_table<H: Threads, R: Source, F: Source, W: Sink, P: Progress>(
+    means: &Means<'_, H, P>,
     words: &Vec<String>,
-    files: &mut [NamedSource<'_, F>],
-    input: &mut R,
+    sources: &mut GivenSources<'_, '_, '_, R, F>,
     output: &mut W,
 ) -> Result<(), ToolFault>
-    requires { length files.old ≤ 1 }
+    requires { length (seen_in R.seen F.seen sources.old) ≡ 1 }
     ensures done { DoesByTally (Task.Query words.now)
-        (record {
-          given = given None (sources_from (R.seen input.old) (seen_of F.seen files.old));
-          output = W.seen output.old;
-        })
-        (record {
-          given = given None (sources_from (R.seen input.new) (seen_of F.seen files.new));
-          output = W.seen output.new;
-        })
+        (record { given = given None (seen_in R.seen F.seen sources.old); output = W.seen output.old })
+        (record { given = given None (seen_in R.seen F.seen sources.new); output = W.seen output.new })
         result }
-    ensures input { KeepsInput (seen_of F.seen files.old) (R.seen input.old) (R.seen input.new) }
-    ensures names { names_of files.new ≡ names_of files.old }
+    ensures kept { Keeps R.seen F.seen sources.old sources.new }
 {
-    let (tally, _origin) = table_of(alloc, files, input)?;
+    means.progress.ends();
+    let (tally, _origin) = table_of(means.alloc, sources)?;
     Ok(query(output, &tally, words)?)
 }
 
-// Reads the tables of the two files, and writes their sum. The files keep their names.
-fn write_sum<F: Source, W: Sink>(
-    alloc: Global,
-    files: &mut [NamedSource<'_, F>],
+// Reads the tables of the two sources, and writes their sum.
+fn write_sum<H: Threads, R: Source, F: Source, W: Sink, P: Progress>(
+    means: &Means<'_, H, P>,
+    sources: &mut GivenSources<'_, '_, '_, R, F>,
     output: &mut W,
 ) -> Result<(), ToolFault>
-    requires { length files.old ≡ 2 }
+    requires { length (seen_in R.seen F.seen sources.old) ≡ 2 }
     ensures done { DoesByTally Task.Merge
-        (record { given = given None (seen_of F.seen files.old); output = W.seen output.old })
-        (record { given = given None (seen_of F.seen files.new); output = W.seen output.new })
+        (record { given = given None (seen_in R.seen F.seen sources.old); output = W.seen output.old })
+        (record { given = given None (seen_in R.seen F.seen sources.new); output = W.seen output.new })
         result }
-    ensures names { names_of files.new ≡ names_of files.old }
+    ensures kept { Keeps R.seen F.seen sources.old sources.new }
 {
-    let (sum, origin) = sum_of(alloc, files)?;
+    means.progress.ends();
+    let (sum, origin) = sum_of(means.alloc, sources)?;
     Ok(write_table(output, &sum, origin.as_ref())?)
 }
 
-// Reads the table of the first file, and writes the reads of the others that it selects or, where there are none, those
-// of the given input. It answers what was counted of the reads, where that is to be told. Condition: there is a first
-// file. The files keep their names.
+// Reads the table of the first file, and writes the reads of the sources that it selects. It answers what was counted
+// of the reads, where that is to be told. Condition: the first file, and no other, comes before the sources.
 fn select_by_table<R: Source, F: Source, W: Sink>(
     alloc: Global,
     selection: Selection,
     tells: bool,
-    files: &mut [NamedSource<'_, F>],
-    input: &mut R,
+    sources: &mut GivenSources<'_, '_, '_, R, F>,
     output: &mut W,
 ) -> Result<Option<SelectionCounts>, ToolFault>
-    requires { 1 ≤ length files.old }
+    requires own { sources.old.own ≡ 1 }
+    requires some { 1 ≤ length sources.old.files.now }
     ensures done { SelectsBy selection tells
-        (record { given = given_listed (R.seen input.old) (seen_of F.seen files.old); output = W.seen output.old })
-        (record { given = given_listed (R.seen input.new) (seen_of F.seen files.new); output = W.seen output.new })
+        (record { given = listed_in R.seen F.seen sources.old; output = W.seen output.old })
+        (record { given = listed_in R.seen F.seen sources.new; output = W.seen output.new })
         result }
-    ensures input { KeepsInput (drop 1 (seen_of F.seen files.old)) (R.seen input.old) (R.seen input.new) }
-    ensures names { names_of files.new ≡ names_of files.old }
+    ensures kept { KeepsFiles R.seen F.seen sources.old sources.new }
 {
+    let files = &mut *sources.files;
     let (tally, _origin) = table_from(alloc, &mut files[0].source)?;
-    let sources = &mut files[1..];
-    let selected = select_files(alloc, sources, input, &tally, selection, output);
-    told_of(selected, tells)
+    told_of(
+        select_given(alloc, sources, &tally, selection, output),
+        tells,
+    )
 }
 
 // What is told of a selection: what was counted of the reads, where that is to be told.

@@ -7,8 +7,7 @@ ghost use Rattle.kc_word.specs.Shared.{values};
 ghost use Rattle.kc_booking.specs.Setup.{stripe_count};
 ghost use Rattle.kc_gather.specs.Gathering.{position_sum};
 ghost use Rattle.kc_tool.specs.CountedTallies.{KnowsOne};
-ghost use Rattle.kc_tool.specs.Commands.{KeepsInput, sources_from};
-ghost use Rattle.kc_tool.specs.NamedSources.{names_of, seen_of};
+ghost use Rattle.kc_tool.specs.GivenSources.{Keeps, seen_in};
 ghost use Rattle.kc_report.specs.Table.{IsOrigin, MaySay};
 ghost use Rattle.kc_tool.specs.Tallies.{
   CutsBatches,
@@ -26,7 +25,7 @@ ghost use Rattle.kc_tool.specs.Tallies.{
 ghost use Rattle.kc_command.specs.Settings.{rule_of};
 
 use crate::count_progress::Progress;
-use crate::named_sources::NamedSource;
+use crate::given_sources::{GivenSources, ReadsSource};
 use crate::reported::Reported;
 use crate::tool_faults::ToolFault;
 use kc_command::Options;
@@ -75,25 +74,21 @@ pub(crate) fn read_list<R: Source, P: Progress>(
     }
 }
 
-/// How words are counted: by threads of the runtime, with this memory, as the options say; and who is told how far it
-/// has come.
+/// With what a command works: threads of the runtime, this memory, and who is told how far a count has come.
 #[derive(Drop)]
-pub(crate) struct Counting<'a, H: Threads, P: Progress> {
+pub(crate) struct Means<'a, H: Threads, P: Progress> {
     /// The runtime.
     pub rt: &'a H,
     /// The memory.
     pub alloc: Global,
-    /// The options.
-    pub options: &'a Options,
     /// Who is told.
     pub progress: &'a P,
 }
 
-/// Counts the words of the reads of these files, in order, or, where there are none, of the given input, as the options
-/// say, or those of the list alone, by as many threads as are asked for. It answers what the caller wants of their
-/// tally, and its origin. How many bytes each read gave is told, how many batches there are, and each that was booked.
-/// The files keep their names, and the input is as it was where there is a file. Condition: the list is one under the
-/// rule of the options.
+/// Counts the words of the reads of the sources, in order, as the options say, or those of the list alone, by as many
+/// threads as are asked for. It answers what the caller wants of their tally, and its origin. How many bytes each read
+/// gave is told, how many batches there are, and each that was booked. Condition: the list is one under the rule of the
+/// options.
 ///
 /// # Errors
 /// `Fastx` with the fault of the first source that has one, and its number from 1; the sources behind it are as they
@@ -106,28 +101,27 @@ pub(crate) fn count_given<
     F: Source,
     P: Progress + Sync,
 >(
-    counting: &Counting<'_, H, P>,
+    means: &Means<'_, H, P>,
+    options: &Options,
     list: Option<Only>,
-    files: &mut [NamedSource<'_, F>],
-    input: &mut R,
+    sources: &mut GivenSources<'_, '_, '_, R, F>,
 ) -> Result<(S, Option<Origin>), ToolFault>
-    requires { IfSome list (IsListUnder (rule_of counting.now.options.now)) }
-    ensures tally { let Tallies = TalliesSources (sources_from (R.seen input.old) (seen_of F.seen files.old))
-        (sources_from (R.seen input.new) (seen_of F.seen files.new)) counting.now.options.now (words_of list) in
-        IfOk result (λ table. KnowsOne S.knows table.0 (λ tally. Tallies (tally, table.1))) }
+    requires { IfSome list (IsListUnder (rule_of options.now)) }
+    ensures tally { let Tallies = TalliesSources (seen_in R.seen F.seen sources.old)
+        (seen_in R.seen F.seen sources.new) in
+        IfOk result (λ table. KnowsOne S.knows table.0
+        (λ tally. Tallies options.now (words_of list) (tally, table.1))) }
     ensures origin { IfOk result (λ table. MaySay table.1) }
-    ensures fault { let Refuses = RefusesSources (sources_from (R.seen input.old) (seen_of F.seen files.old)) in
-        IfErr result (Refuses (sources_from (R.seen input.new) (seen_of F.seen files.new))) }
-    ensures input { KeepsInput (seen_of F.seen files.old) (R.seen input.old) (R.seen input.new) }
-    ensures names { names_of files.new ≡ names_of files.old }
+    ensures fault { IfErr result
+        (RefusesSources (seen_in R.seen F.seen sources.old) (seen_in R.seen F.seen sources.new)) }
+    ensures kept { Keeps R.seen F.seen sources.old sources.new }
 {
-    let Counting {
+    let Means {
         rt,
         alloc,
-        options,
         progress,
-    } = *counting;
-    let (batches, origin) = batches_given(alloc, &list, options, files, input, progress)?;
+    } = *means;
+    let (batches, origin) = batches_given(alloc, &list, options, sources, progress)?;
     progress.counting_begins(batches.len() as u64);
     let setup = setup_of(alloc, list, options)?;
     let tables = quotient_tables(alloc, &setup, options.size())?;
@@ -146,27 +140,24 @@ pub(crate) fn reader_lacks_memory(fault: &ToolFault) -> bool
     }
 }
 
-// The batches of the reads of these files, in order, or, where there are none, of the given input, and what is told of
-// a count of them. They have as many positions as the options say, and more where a list is long: each booking of a
-// batch compares the lists, and so this takes little time beside counting. A fault is one of `cut_given`.
+// The batches of the reads of the sources, in order, and what is told of a count of them. They have as many positions
+// as the options say, and more where a list is long: each booking of a batch compares the lists, and so this takes
+// little time beside counting. A fault is one of `cut_given`.
 fn batches_given<R: Source, F: Source, P: Progress>(
     alloc: Global,
     list: &Option<Only>,
     options: &Options,
-    files: &mut [NamedSource<'_, F>],
-    input: &mut R,
+    sources: &mut GivenSources<'_, '_, '_, R, F>,
     progress: &P,
 ) -> Result<(Vec<Arc<Batch>>, Origin), ToolFault>
-    ensures cut { let Cuts = CutsBatches (sources_from (R.seen input.old) (seen_of F.seen files.old))
-        (sources_from (R.seen input.new) (seen_of F.seen files.new)) in
+    ensures cut { let Cuts = CutsBatches (seen_in R.seen F.seen sources.old) (seen_in R.seen F.seen sources.new) in
         IfOk result (λ cut. Cuts options.now (words_of list.now) (values cut.0.items) cut.1) }
     ensures few { IfOk result (λ cut. length cut.0.items ≤ 2 ^ 40) }
     ensures small { IfOk result (λ cut. position_sum options.now.k (values cut.0.items) ≤ 2 ^ 62) }
     ensures origin { IfOk result (λ cut. IsOrigin cut.1) }
-    ensures fault { let Refuses = RefusesSources (sources_from (R.seen input.old) (seen_of F.seen files.old)) in
-        IfErr result (Refuses (sources_from (R.seen input.new) (seen_of F.seen files.new))) }
-    ensures input { KeepsInput (seen_of F.seen files.old) (R.seen input.old) (R.seen input.new) }
-    ensures names { names_of files.new ≡ names_of files.old }
+    ensures fault { IfErr result
+        (RefusesSources (seen_in R.seen F.seen sources.old) (seen_in R.seen F.seen sources.new)) }
+    ensures kept { Keeps R.seen F.seen sources.old sources.new }
 {
     let words = match list {
         None => 0,
@@ -175,7 +166,12 @@ fn batches_given<R: Source, F: Source, P: Progress>(
     let wanted = words.saturating_mul(POSITIONS_A_WORD).min(LISTED_POSITIONS);
     let size = wanted.max(options.batch());
     let rule = options.rule();
-    let (cutting, reads) = cut_given(alloc, files, input, &rule, size, progress)?;
+    let cutter = Cutter {
+        alloc,
+        rule: &rule,
+        progress,
+    };
+    let (cutting, reads) = cut_given(&cutter, sources, size)?;
     let batches = cutting.finish(alloc)?;
     // for the proof: what is known of a length
     let _bases = rule.k().get();
@@ -187,43 +183,58 @@ fn batches_given<R: Source, F: Source, P: Progress>(
     Ok((batches, origin))
 }
 
-// The cutting of the reads of these files, in order, or, where there are none, of the given input, into batches of
-// `size` positions, and how many reads there are. Each source is read whole before the next one, and each read is
-// cleaned and cut before the next one is read, so that the text of one read is in memory at a time. A fault is that of
-// the first source that has one, with its number from 1, or `Memory` where a growth was refused outside the reading.
-// Condition: the size is at least 1.
+// The cutting of the reads of the sources, in order, into batches of `size` positions, and how many reads there are.
+// Each source is read whole before the next one, and each read is cleaned and cut before the next one is read, so that
+// the text of one read is in memory at a time. A fault is that of the first source that has one, with its number from
+// 1, or `Memory` where a growth was refused outside the reading. Condition: the size is at least 1.
 fn cut_given<R: Source, F: Source, P: Progress>(
-    alloc: Global,
-    files: &mut [NamedSource<'_, F>],
-    input: &mut R,
-    rule: &Rule,
+    cutter: &Cutter<'_, P>,
+    sources: &mut GivenSources<'_, '_, '_, R, F>,
     size: u64,
-    progress: &P,
 ) -> Result<(Cutting, u64), ToolFault>
     requires { 1 ≤ size }
-    ensures cut { let Cuts = CutsSources (sources_from (R.seen input.old) (seen_of F.seen files.old))
-        (sources_from (R.seen input.new) (seen_of F.seen files.new)) in
-        IfOk result (λ cut. Cuts rule.now size cut.0 cut.1) }
-    ensures fault { let Refuses = RefusesSources (sources_from (R.seen input.old) (seen_of F.seen files.old)) in
-        IfErr result (Refuses (sources_from (R.seen input.new) (seen_of F.seen files.new))) }
-    ensures input { KeepsInput (seen_of F.seen files.old) (R.seen input.old) (R.seen input.new) }
-    ensures names { names_of files.new ≡ names_of files.old }
+    ensures cut { let Cuts = CutsSources (seen_in R.seen F.seen sources.old) (seen_in R.seen F.seen sources.new) in
+        IfOk result (λ cut. Cuts cutter.now.rule.now size cut.0 cut.1) }
+    ensures fault { IfErr result
+        (RefusesSources (seen_in R.seen F.seen sources.old) (seen_in R.seen F.seen sources.new)) }
+    ensures kept { Keeps R.seen F.seen sources.old sources.new }
 {
     let mut cut = ReadsInCutting {
-        cutting: Cutting::new(alloc, rule.k(), size),
+        cutting: Cutting::new(cutter.alloc, cutter.rule.k(), size),
         left: MOST_BYTES,
         sources: 0,
         reads: 0,
     };
-    if files.is_empty() {
-        cut.take(alloc, input, rule, progress)?;
-        return Ok((cut.cutting, cut.reads));
-    }
-    let _fits = files.len();
-    for file in files.iter_mut() {
-        cut.take(alloc, &mut file.source, rule, progress)?;
+    for i in 0..sources.count() {
+        sources.read(i, cutter, &mut cut)?;
     }
     Ok((cut.cutting, cut.reads))
+}
+
+// How sources are read for a cutting: with this memory, under this rule; and who is told of the bytes that come.
+#[derive(Drop)]
+struct Cutter<'a, P: Progress> {
+    alloc: Global,
+    rule: &'a Rule,
+    progress: &'a P,
+}
+
+impl<P: Progress> ReadsSource<ReadsInCutting> for Cutter<'_, P> {
+    type Gives = ();
+
+    ghost use Rattle.kc_tool.specs.Tallies.{MayCutNext, CutsNextOrRefuses};
+
+    ghost can_read = { λ cutter cut. MayCutNext cut };
+
+    ghost reads = { λ cutter old new cut after result. CutsNextOrRefuses old new cutter.rule.now cut after result };
+
+    fn read_source<R: Source>(
+        &self,
+        source: &mut R,
+        state: &mut ReadsInCutting,
+    ) -> Result<(), ToolFault> {
+        state.take(self.alloc, source, self.rule, self.progress)
+    }
 }
 
 // A cutting of the reads of the sources that were read so far, and how many they were.

@@ -27,6 +27,7 @@ mod fault_lines;
 mod file_acts;
 mod files;
 mod given_options;
+mod given_sources;
 mod named_sources;
 mod process;
 pub mod report_laws;

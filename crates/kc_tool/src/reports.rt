@@ -1,6 +1,7 @@
 //! Reports on a tally: which one is written, and from sources of reads to the report on their tally.
 ghost use Rattle.std.specs.Prelude.{◌≡◌, ◌≢◌, OnOk, IfErr, IfOk, IfSome, IsErrOf, map, option_map};
-ghost use Rattle.kc_tool.specs.Commands.{KeepsInput, sources_from};
+ghost use Rattle.kc_tool.specs.GivenSources.{Keeps, seen_in};
+ghost use Rattle.kc_tool.specs.Commands.{sources_from};
 ghost use Rattle.kc_tool.specs.NamedSources.{names_of, seen_of};
 ghost use Rattle.kc_tool.specs.Reports.{BeginsReport, IsWritable, LeavesUnwritten, WritesReport, WritesText};
 ghost use Rattle.kc_tool.specs.Reports.{ReportsSources, report_of, report_text};
@@ -9,7 +10,8 @@ ghost use Rattle.kc_report.specs.Table.{MaySay};
 ghost use Rattle.kc_command.specs.Settings.{rule_of};
 
 use crate::count_progress::{NoProgress, Progress};
-use crate::counted_sources::{Counting, count_given, read_list, reader_lacks_memory};
+use crate::counted_sources::{Means, count_given, read_list, reader_lacks_memory};
+use crate::given_sources::GivenSources;
 use crate::named_sources::NamedSource;
 use crate::reported::Reported;
 use crate::tool_faults::ToolFault;
@@ -77,13 +79,12 @@ pub fn count_reads<H: Threads + Wait + Sync, Q: Source + Drop, R: Source + Drop,
 {
     let mut sources = unnamed(alloc, sources)?;
     let list = list_of(alloc, only, options)?;
-    let counting = Counting {
+    let means = Means {
         rt,
         alloc,
-        options,
         progress: &NoProgress,
     };
-    report_sources(&counting, list, &mut sources, writer)
+    report_sources(&means, options, list, &mut sources, writer)
 }
 
 // The list of the words that occur in the reads of this source, where there is one.
@@ -130,18 +131,19 @@ pub(crate) fn report_of(options: &Options) -> Report
 
 // What `report_given` does, of the reads of these sources alone, which may be none.
 fn report_sources<H: Threads + Wait + Sync, R: Source, W: Sink, P: Progress + Sync>(
-    counting: &Counting<'_, H, P>,
+    means: &Means<'_, H, P>,
+    options: &Options,
     list: Option<Only>,
     sources: &mut [NamedSource<'_, R>],
     writer: &mut W,
 ) -> Result<(), ToolFault>
-    requires { IfSome list (IsListUnder (rule_of counting.now.options.now)) }
+    requires { IfSome list (IsListUnder (rule_of options.now)) }
     ensures { ReportsSources (seen_of R.seen sources.old) (seen_of R.seen sources.new) (words_of list)
-        counting.now.options.now (W.seen writer.old) (W.seen writer.new) result }
+        options.now (W.seen writer.old) (W.seen writer.new) result }
 {
     let is_empty = sources.is_empty();
     let mut nothing = FromBytes::new(b"");
-    let reported = report_given(counting, list, sources, &mut nothing, writer);
+    let reported = report_files(means, options, list, sources, &mut nothing, writer);
     if !is_empty {
         return reported;
     }
@@ -158,6 +160,29 @@ fn report_sources<H: Threads + Wait + Sync, R: Source, W: Sink, P: Progress + Sy
     Err(fault)
 }
 
+// What `report_given` does, of these files or, where there are none, of this input.
+fn report_files<H: Threads + Wait + Sync, R: Source, F: Source, W: Sink, P: Progress + Sync>(
+    means: &Means<'_, H, P>,
+    options: &Options,
+    list: Option<Only>,
+    files: &mut [NamedSource<'_, F>],
+    input: &mut R,
+    writer: &mut W,
+) -> Result<(), ToolFault>
+    requires { IfSome list (IsListUnder (rule_of options.now)) }
+    ensures done { let Reports = ReportsSources (sources_from (R.seen input.old) (seen_of F.seen files.old)) in
+        Reports (sources_from (R.seen input.new) (seen_of F.seen files.new)) (words_of list)
+        options.now (W.seen writer.old) (W.seen writer.new) result }
+    ensures names { names_of files.new ≡ names_of files.old }
+{
+    let mut sources = GivenSources {
+        files,
+        input,
+        own: 0,
+    };
+    report_given(means, options, list, &mut sources, writer)
+}
+
 /// Counts words as `count_given` does, and writes the report that the options ask for. Of the tally no more is gathered
 /// than the report is about. The end of the count is told before anything is written, or the fault is answered.
 ///
@@ -170,28 +195,26 @@ pub(crate) fn report_given<
     W: Sink,
     P: Progress + Sync,
 >(
-    counting: &Counting<'_, H, P>,
+    means: &Means<'_, H, P>,
+    options: &Options,
     list: Option<Only>,
-    files: &mut [NamedSource<'_, F>],
-    input: &mut R,
+    sources: &mut GivenSources<'_, '_, '_, R, F>,
     writer: &mut W,
 ) -> Result<(), ToolFault>
-    requires { IfSome list (IsListUnder (rule_of counting.now.options.now)) }
-    ensures done { let Reports = ReportsSources (sources_from (R.seen input.old) (seen_of F.seen files.old)) in
-        Reports (sources_from (R.seen input.new) (seen_of F.seen files.new)) (words_of list)
-        counting.now.options.now (W.seen writer.old) (W.seen writer.new) result }
-    ensures input { KeepsInput (seen_of F.seen files.old) (R.seen input.old) (R.seen input.new) }
-    ensures names { names_of files.new ≡ names_of files.old }
+    requires { IfSome list (IsListUnder (rule_of options.now)) }
+    ensures done { let Reports = ReportsSources (seen_in R.seen F.seen sources.old) in
+        Reports (seen_in R.seen F.seen sources.new) (words_of list)
+        options.now (W.seen writer.old) (W.seen writer.new) result }
+    ensures kept { Keeps R.seen F.seen sources.old sources.new }
 {
-    let options = counting.options;
     match options.print() {
         Print::Histo if options.high() <= GREATEST_BIN => {
-            report_as::<Histogram, H, R, F, W, P>(counting, list, files, input, writer)
+            report_as::<Histogram, H, R, F, W, P>(means, options, list, sources, writer)
         }
         Print::Stats => {
-            report_as::<Statistics, H, R, F, W, P>(counting, list, files, input, writer)
+            report_as::<Statistics, H, R, F, W, P>(means, options, list, sources, writer)
         }
-        _ => report_as::<Tally, H, R, F, W, P>(counting, list, files, input, writer),
+        _ => report_as::<Tally, H, R, F, W, P>(means, options, list, sources, writer),
     }
 }
 
@@ -204,32 +227,30 @@ fn report_as<
     W: Sink,
     P: Progress + Sync,
 >(
-    counting: &Counting<'_, H, P>,
+    means: &Means<'_, H, P>,
+    options: &Options,
     list: Option<Only>,
-    files: &mut [NamedSource<'_, F>],
-    input: &mut R,
+    sources: &mut GivenSources<'_, '_, '_, R, F>,
     writer: &mut W,
 ) -> Result<(), ToolFault>
-    requires list { IfSome list (IsListUnder (rule_of counting.now.options.now)) }
-    requires enough { S.suits (report_of counting.now.options.now) }
-    ensures done { let Reports = ReportsSources (sources_from (R.seen input.old) (seen_of F.seen files.old)) in
-        Reports (sources_from (R.seen input.new) (seen_of F.seen files.new)) (words_of list)
-        counting.now.options.now (W.seen writer.old) (W.seen writer.new) result }
-    ensures input { KeepsInput (seen_of F.seen files.old) (R.seen input.old) (R.seen input.new) }
-    ensures names { names_of files.new ≡ names_of files.old }
+    requires list { IfSome list (IsListUnder (rule_of options.now)) }
+    requires enough { S.suits (report_of options.now) }
+    ensures done { let Reports = ReportsSources (seen_in R.seen F.seen sources.old) in
+        Reports (seen_in R.seen F.seen sources.new) (words_of list)
+        options.now (W.seen writer.old) (W.seen writer.new) result }
+    ensures kept { Keeps R.seen F.seen sources.old sources.new }
 {
-    let counted = count_given::<S, H, R, F, P>(counting, list, files, input);
+    let counted = count_given::<S, H, R, F, P>(means, options, list, sources);
     // what shows the count is cleared before the report, or the line of a fault, is written
-    counting.progress.ends();
+    means.progress.ends();
     let (summary, origin) = counted?;
-    let options = counting.options;
     let threads = options.workers();
     let crew = Crew {
-        rt: counting.rt,
+        rt: means.rt,
         threads,
     };
     let report = report_of(options);
-    summary.write(&crew, counting.alloc, writer, origin, report)
+    summary.write(&crew, means.alloc, writer, origin, report)
 }
 
 /// Writes a report on a tally; a table says what it was counted from, where that is told. Conditions: a histogram is

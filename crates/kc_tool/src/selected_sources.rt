@@ -2,12 +2,11 @@
 ghost use Rattle.std.specs.Prelude.{◌≡◌, ◌≤◌, ◌∷◌, [], length};
 ghost use Rattle.kc_fastx.specs.Parsing.{most_bytes};
 ghost use Rattle.kc_select.specs.Selecting.{task_of};
-ghost use Rattle.kc_tool.specs.Commands.{KeepsInput, sources_from};
-ghost use Rattle.kc_tool.specs.NamedSources.{names_of, seen_of};
+ghost use Rattle.kc_tool.specs.GivenSources.{Keeps, seen_in};
 ghost use Rattle.kc_tool.specs.Selections.{SelectsFrom, SelectsNext};
 
 use crate::counted_sources::MOST_BYTES;
-use crate::named_sources::NamedSource;
+use crate::given_sources::{GivenSources, ReadsSource};
 use crate::tool_faults::ToolFault;
 use kc_fastx::Source;
 use kc_io::Sink;
@@ -15,75 +14,90 @@ use kc_select::{SelectFault, Selected, Selection, SelectionCounts, Selector, sel
 use kc_tally::Tally;
 use std::alloc::Global;
 
-/// Writes the reads of all files that the selection keeps, in order, or where there are no files those of the given
-/// input, and counts all. The files keep their names.
+/// Writes the reads of all sources that the selection keeps, in order, and counts all.
 ///
 /// # Errors
 /// `Memory` where the selection got no memory: nothing was read or written. `Fastx` with the fault of the first source
 /// that has one, and its number from 1. The selected ones of the reads before it were written. `Write` where the writer
 /// failed or took no byte.
-pub(crate) fn select_files<R: Source, F: Source, W: Sink>(
+pub(crate) fn select_given<R: Source, F: Source, W: Sink>(
     alloc: Global,
-    files: &mut [NamedSource<'_, F>],
-    input: &mut R,
+    sources: &mut GivenSources<'_, '_, '_, R, F>,
     tally: &Tally,
     selection: Selection,
     writer: &mut W,
 ) -> Result<SelectionCounts, ToolFault>
-    ensures selects { let Selects = SelectsFrom selection tally.now
-        (sources_from (R.seen input.old) (seen_of F.seen files.old)) in
-        Selects (sources_from (R.seen input.new) (seen_of F.seen files.new))
-        (W.seen writer.old) (W.seen writer.new) result }
-    ensures input { KeepsInput (seen_of F.seen files.old) (R.seen input.old) (R.seen input.new) }
-    ensures names { names_of files.new ≡ names_of files.old }
+    ensures selects { let Selects = SelectsFrom selection tally.now (seen_in R.seen F.seen sources.old) in
+        Selects (seen_in R.seen F.seen sources.new) (W.seen writer.old) (W.seen writer.new) result }
+    ensures kept { Keeps R.seen F.seen sources.old sources.new }
 {
     let selector = Selector::new(alloc, tally, selection)?;
-    if files.is_empty() {
-        return select_input(alloc, input, &selector, writer);
-    }
-    select_sources(alloc, files, &selector, writer)
+    select_all(alloc, sources, &selector, writer)
 }
 
-// Writes the reads of the sources that the selection keeps, in order, and counts all. Condition: there is a source.
-fn select_sources<R: Source, W: Sink>(
+// Writes the reads of all sources that the selector keeps, in order, and counts all.
+fn select_all<R: Source, F: Source, W: Sink>(
     alloc: Global,
-    sources: &mut [NamedSource<'_, R>],
+    sources: &mut GivenSources<'_, '_, '_, R, F>,
     selector: &Selector<'_>,
     writer: &mut W,
 ) -> Result<SelectionCounts, ToolFault>
-    requires { 1 ≤ length sources.old }
-    ensures selects { let Selects = SelectsFrom selector.now.rule selector.now.tally in
-        Selects (seen_of R.seen sources.old) (seen_of R.seen sources.new)
-        (W.seen writer.old) (W.seen writer.new) result }
-    ensures names { names_of sources.new ≡ names_of sources.old }
+    ensures selects { let Selects = SelectsFrom selector.now.rule selector.now.tally
+        (seen_in R.seen F.seen sources.old) in
+        Selects (seen_in R.seen F.seen sources.new) (W.seen writer.old) (W.seen writer.new) result }
+    ensures kept { Keeps R.seen F.seen sources.old sources.new }
 {
-    // for the proof: what is known of lengths
+    // for the proof: what is known of a length
     let _bases = selector.k().get();
-    let _fits = sources.len();
-    let mut left = MOST_BYTES;
-    let mut number = 0u64;
     let mut counts = SelectionCounts::none();
-    for source in sources.iter_mut() {
-        number += 1;
-        let selected = select_next(alloc, &mut source.source, number, left, selector, writer)?;
+    let mut left = MOST_BYTES;
+    for i in 0..sources.count() {
+        let choice = Choice {
+            alloc,
+            selector,
+            number: i as u64 + 1,
+            limit: left,
+        };
+        let selected = sources.read(i, &choice, writer)?;
         left -= selected.bytes;
         counts = counts.and(selected.counts);
     }
     Ok(counts)
 }
 
-// Writes the reads of the one source, the input, that the selection keeps, and counts all.
-fn select_input<R: Source, W: Sink>(
+// What is selected of the source of this number, which may give so many bytes.
+#[derive(Drop)]
+struct Choice<'a, 't> {
     alloc: Global,
-    input: &mut R,
-    selector: &Selector<'_>,
-    writer: &mut W,
-) -> Result<SelectionCounts, ToolFault>
-    ensures { let Selects = SelectsFrom selector.now.rule selector.now.tally in
-        Selects (R.seen input.old ∷ []) (R.seen input.new ∷ []) (W.seen writer.old) (W.seen writer.new) result }
-{
-    let selected = select_next(alloc, input, 1, MOST_BYTES, selector, writer)?;
-    Ok(selected.counts)
+    selector: &'a Selector<'t>,
+    number: u64,
+    limit: u64,
+}
+
+impl<W: Sink> ReadsSource<W> for Choice<'_, '_> {
+    type Gives = Selected;
+
+    ghost use Rattle.std.specs.Prelude.{◌≤◌};
+    ghost use Rattle.kc_fastx.specs.Parsing.{most_bytes};
+    ghost use Rattle.kc_select.specs.Selecting.{task_of};
+    ghost use Rattle.kc_tool.specs.Selections.{SelectsNext};
+
+    ghost can_read = { λ choice sink. choice.limit ≤ most_bytes };
+
+    ghost reads = { λ choice old new sink after result.
+        SelectsNext (task_of choice.selector.now choice.limit) choice.number
+        (record { source = old; sink = W.seen sink }) (record { source = new; sink = W.seen after }) result };
+
+    fn read_source<R: Source>(&self, source: &mut R, state: &mut W) -> Result<Selected, ToolFault> {
+        select_next(
+            self.alloc,
+            source,
+            self.number,
+            self.limit,
+            self.selector,
+            state,
+        )
+    }
 }
 
 // Writes the reads of the source of this number that the selection keeps. It counts all, and tells how many bytes the

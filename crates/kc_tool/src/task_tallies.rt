@@ -3,26 +3,24 @@ ghost use Rattle.std.specs.Prelude.{◌≡◌, ◌≤◌, IfErr, IfOk, Ok, drop,
 ghost use Rattle.kc_report.specs.Table.{MaySay};
 ghost use Rattle.kc_report.specs.Merging.{Merges};
 ghost use Rattle.kc_report.specs.TableReading.{GivesTable};
-ghost use Rattle.kc_tool.specs.NamedSources.{names_of, seen_of};
+ghost use Rattle.kc_tool.specs.GivenSources.{Keeps, KeepsFiles, listed_in, seen_in};
 ghost use Rattle.kc_tool.specs.Reports.{ReportsCount};
 ghost use Rattle.kc_tool.specs.Commands.{
-  KeepsInput,
   MergesNot,
   TellNoSum,
   TellNoTable,
   TellOneTable,
   TellSum,
   TellsNoTable,
-  given_listed,
   most_table_bytes,
-  sources_from,
 };
 
 use crate::count_progress::Progress;
-use crate::counted_sources::{Counting, read_list};
-use crate::named_sources::NamedSource;
+use crate::counted_sources::{Means, read_list};
+use crate::given_sources::{GivenSources, ReadsSource};
 use crate::reports::report_given;
 use crate::tool_faults::ToolFault;
+use kc_command::Options;
 use kc_io::{Sink, Source};
 use kc_report::{Origin, merge, read_table};
 use kc_tally::Tally;
@@ -33,12 +31,12 @@ use std::thread::Threads;
 /// The most bytes that a table may have.
 const MOST_TABLE_BYTES: u64 = 1 << 42;
 
-/// Counts those words that occur in the reads of the first file, in the reads of the files behind it or, where there
-/// are none, of the given input, and writes the report that the options ask for, as `report_given` does. How far it has
-/// come is told. Condition: there is a first file.
+/// Counts those words that occur in the reads of the first file, in the reads of the sources, and writes the report
+/// that the options ask for, as `report_given` does. How far it has come is told. Condition: the first file, and no
+/// other, comes before the sources.
 ///
 /// # Errors
-/// The fault of the list; the others are as they were, and nothing was written. Those of `report_given`.
+/// The fault of the list; the sources are as they were, and nothing was written. Those of `report_given`.
 pub(crate) fn report_listed<
     H: Threads + Wait + Sync,
     R: Source,
@@ -46,53 +44,48 @@ pub(crate) fn report_listed<
     W: Sink,
     P: Progress + Sync,
 >(
-    counting: &Counting<'_, H, P>,
-    files: &mut [NamedSource<'_, F>],
-    input: &mut R,
+    means: &Means<'_, H, P>,
+    options: &Options,
+    sources: &mut GivenSources<'_, '_, '_, R, F>,
     writer: &mut W,
 ) -> Result<(), ToolFault>
-    requires { 1 ≤ length files.old }
-    ensures done { let Reports = ReportsCount (given_listed (R.seen input.old) (seen_of F.seen files.old)) in
-        Reports (given_listed (R.seen input.new) (seen_of F.seen files.new)) counting.now.options.now
-        (W.seen writer.old) (W.seen writer.new) result }
-    ensures input { KeepsInput (drop 1 (seen_of F.seen files.old)) (R.seen input.old) (R.seen input.new) }
-    ensures names { names_of files.new ≡ names_of files.old }
+    requires own { sources.old.own ≡ 1 }
+    requires some { 1 ≤ length sources.old.files.now }
+    ensures done { let Reports = ReportsCount (listed_in R.seen F.seen sources.old) in
+        Reports (listed_in R.seen F.seen sources.new) options.now (W.seen writer.old) (W.seen writer.new) result }
+    ensures kept { KeepsFiles R.seen F.seen sources.old sources.new }
 {
-    let rule = counting.options.rule();
-    let list = match read_list(
-        counting.alloc,
-        &mut files[0].source,
-        &rule,
-        counting.progress,
-    ) {
+    let rule = options.rule();
+    let files = &mut *sources.files;
+    let list = match read_list(means.alloc, &mut files[0].source, &rule, means.progress) {
         Ok(list) => list,
         Err(fault) => {
-            counting.progress.ends();
+            means.progress.ends();
             return Err(fault);
         }
     };
-    let sources = &mut files[1..];
-    report_given(counting, Some(list), sources, input, writer)
+    report_given(means, options, Some(list), sources, writer)
 }
 
-/// The tables of two files, put together. The first is read whole before a byte of the second is. Condition: there are
-/// two files.
+/// The tables of the two sources, put together. The first is read whole before a byte of the second is. Condition:
+/// there are two sources.
 ///
 /// # Errors
 /// The fault of a table, or of two tables that can't be put together.
-pub(crate) fn sum_of<F: Source>(
+pub(crate) fn sum_of<R: Source, F: Source>(
     alloc: Global,
-    files: &mut [NamedSource<'_, F>],
+    sources: &mut GivenSources<'_, '_, '_, R, F>,
 ) -> Result<(Tally, Option<Origin>), ToolFault>
-    requires { length files.old ≡ 2 }
-    ensures sum { let Tells = TellSum (seen_of F.seen files.old) (seen_of F.seen files.new) in
+    requires { length (seen_in R.seen F.seen sources.old) ≡ 2 }
+    ensures sum { let Tells = TellSum (seen_in R.seen F.seen sources.old) (seen_in R.seen F.seen sources.new) in
         IfOk result (λ sum. Tells (sum.0, sum.1)) }
     ensures origin { IfOk result (λ sum. MaySay sum.1) }
-    ensures fault { IfErr result (TellNoSum (seen_of F.seen files.old) (seen_of F.seen files.new)) }
-    ensures names { names_of files.new ≡ names_of files.old }
+    ensures fault { IfErr result (TellNoSum (seen_in R.seen F.seen sources.old) (seen_in R.seen F.seen sources.new)) }
+    ensures kept { Keeps R.seen F.seen sources.old sources.new }
 {
-    let (first, first_origin) = table_from(alloc, &mut files[0].source)?;
-    let (second, second_origin) = table_from(alloc, &mut files[1].source)?;
+    let reader = TableReader { alloc };
+    let (first, first_origin) = sources.read(0, &reader, &mut ())?;
+    let (second, second_origin) = sources.read(1, &reader, &mut ())?;
     merged(alloc, &first, first_origin, &second, second_origin)
 }
 
@@ -119,31 +112,47 @@ fn merged(
     )?)
 }
 
-/// What the table text of the file says or, where there is none, that of the given input. Condition: there is one file
-/// or none.
+/// What the table text of the one source says. Condition: there is one source.
 ///
 /// # Errors
 /// The fault of the table.
 pub(crate) fn table_of<R: Source, F: Source>(
     alloc: Global,
-    files: &mut [NamedSource<'_, F>],
-    input: &mut R,
+    sources: &mut GivenSources<'_, '_, '_, R, F>,
 ) -> Result<(Tally, Option<Origin>), ToolFault>
-    requires { length files.old ≤ 1 }
-    ensures table { let Tells = TellOneTable (sources_from (R.seen input.old) (seen_of F.seen files.old)) in
-        let Told = Tells (sources_from (R.seen input.new) (seen_of F.seen files.new)) in
-        IfOk result (λ table. Told (table.0, table.1)) }
+    requires { length (seen_in R.seen F.seen sources.old) ≡ 1 }
+    ensures table { let Tells = TellOneTable (seen_in R.seen F.seen sources.old) in
+        IfOk result (λ table. Tells (seen_in R.seen F.seen sources.new) (table.0, table.1)) }
     ensures origin { IfOk result (λ table. MaySay table.1) }
-    ensures fault { let TellsNone = TellNoTable (sources_from (R.seen input.old) (seen_of F.seen files.old)) in
-        IfErr result (TellsNone (sources_from (R.seen input.new) (seen_of F.seen files.new))) }
-    ensures input { KeepsInput (seen_of F.seen files.old) (R.seen input.old) (R.seen input.new) }
-    ensures names { names_of files.new ≡ names_of files.old }
+    ensures fault { IfErr result (TellNoTable (seen_in R.seen F.seen sources.old) (seen_in R.seen F.seen sources.new)) }
+    ensures kept { Keeps R.seen F.seen sources.old sources.new }
 {
-    if files.is_empty() {
-        return table_from(alloc, input);
+    sources.read(0, &TableReader { alloc }, &mut ())
+}
+
+// Reads the table of one source, with this memory.
+#[derive(Drop)]
+struct TableReader {
+    alloc: Global,
+}
+
+impl ReadsSource<()> for TableReader {
+    type Gives = (Tally, Option<Origin>);
+
+    ghost use Rattle.kc_tool.specs.Commands.{TellsOrNot};
+    ghost use Rattle.std.specs.Prelude.{⊤};
+
+    ghost can_read = { λ reader state. ⊤ };
+
+    ghost reads = { λ reader old new state after result. TellsOrNot old new result };
+
+    fn read_source<R: Source>(
+        &self,
+        source: &mut R,
+        _state: &mut (),
+    ) -> Result<(Tally, Option<Origin>), ToolFault> {
+        table_from(self.alloc, source)
     }
-    let file = &mut files[0];
-    table_from(alloc, &mut file.source)
 }
 
 // What the table text of this source says.

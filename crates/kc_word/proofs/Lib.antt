@@ -19,4 +19,3 @@ pub mod Joining
 pub mod Readings
 pub mod Splitting
 pub mod OnlyLemmas
-pub mod SlotsLemmas

@@ -1,16 +1,14 @@
 -- The words of a list: those of the reads, that rising words are told by their elements, and the search by halving.
-use Rattle.std.proofs.Common.{◌≡◌, ℕ, zero, suc, ◌+◌, ◌^◌, ◌<◌, ◌≤◌, ◌↔◌, ⊎_elim, eqb, List, [], ◌∷◌, ◌++◌, length, get_or, take, drop, true, replicate, All, Some, Result, Ok, Err, Contains, cond, refl, ap, sym, ◌∙◌, subst, arith, eq-eqb, eqb-true, ne_eqb}
-use Rattle.std.proofs.Math.Nat.{pow-le-pow_right}
+use Rattle.std.proofs.Common.{◌≡◌, ℕ, zero, suc, ◌+◌, ◌-◌, ◌^◌, ◌<◌, ◌≤◌, ◌↔◌, ⊎_elim, eqb, List, [], ◌∷◌, ◌++◌, length, get_or, take, drop, true, false, All, Some, Result, Ok, Err, Contains, cond, refl, ap, sym, ◌∙◌, subst, arith, eq-eqb, eqb-true, ne_eqb}
 use Rattle.std.proofs.lemmas.Bool.{cases_lt}
-use Rattle.std.proofs.lemmas.List.{get_or-drop, take_all, take_more, get_or_default, get_or_past, append-nil}
+use Rattle.std.proofs.lemmas.List.{get_or-drop, take_all, take_more, get_or_default, append-nil}
 use Rattle.std.proofs.lemmas.List.Concat.{flat_map-append}
-use Rattle.std.proofs.lemmas.List.Elements.{Contains-append_left, Contains-append_right, Contains-append_cases, All-contains, All-replicate, Contains-get_or}
+use Rattle.std.proofs.lemmas.List.Elements.{Contains-append_left, Contains-append_right, Contains-append_cases, All-contains, Contains-get_or}
 use Rattle.std.proofs.lemmas.List.Folds.{list_any_none, list_any_at}
 use Rattle.std.proofs.lemmas.List.Kept.{AllPairs-from_increasing}
 use Rattle.std.proofs.lemmas.List.Sorted.{searched}
 use Rattle.std.specs.Prelude.{MatchResult}
 use Rattle.std.specs.Result.{is_ok}
-use Rattle.std.specs.List.{list_any}
 use Rattle.std.specs.List.Sorted.{IsStrictlyIncreasing, IsBinarySearchResult}
 use Rattle.std.specs.Ordering.{nat_cmp}
 use Rattle.kc_lemmas.proofs.Lists.{Contains-cons}
@@ -20,8 +18,8 @@ use Rattle.kc_kmer.specs.Word.{text}
 use Rattle.kc_kmer.specs.Rule.{CountingRule, is_listed}
 use Rattle.kc_kmer.specs.Occurrences.{occurrences, words_in, words_of}
 use Rattle.kc_kmer.proofs.WordCounts.{times-words_of, All-words_of}
-use Rattle.kc_word.proofs.SlotsLemmas.{Contains-listed}
 use Rattle.kc_word.specs.Only.{WordList, AreListed, IsListOf}
+use Rattle.kc_word.specs.Starts.{AreLesser, AreGreater}
 
 -- ---- the words of the reads
 
@@ -173,44 +171,44 @@ one-list rule reads list other is also =
 
 -- ---- the search
 
+pub Contains-listed : (words : List ℕ) (word : ℕ) → Contains words word → is_listed (Some words) word ≡ true
+unfolding is_listed
+Contains-listed words word (i, within, is) = list_any_at (eqb word) words i word within (eq-eqb word _ (sym is))
+
+-- a word before whose place the words are less, and from it on greater, is not listed
+pub unlisted : (words : List ℕ) (place word : ℕ) → AreLesser words place word → AreGreater words place word
+    → is_listed (Some words) word ≡ false
+unfolding is_listed
+unlisted words place word lesser greater =
+    list_any_none (eqb word) words (λ k d within. ne_eqb word (get_or words k d) (λ is.
+    let here : get_or words k 0 ≡ word = get_or_default words k 0 d within ∙ sym is in
+    ⊎_elim (λ l. let less = lesser k l in omega (arith, less, here)) (λ m. let more = greater k m within in omega (arith, more, here))
+    (cases_lt k place)))
+
+pub lesser-before : (words : List ℕ) (place word : ℕ) → IsStrictlyIncreasing words → place ≤ length words
+    → get_or words (place - 1) 0 < word → AreLesser words place word
+lesser-before words place word rising within less k before =
+    let up = rises words rising k (place - 1) (omega (arith, before)) (omega (arith, before, within)) in
+    omega (arith, up, less)
+
+pub greater-behind : (words : List ℕ) (place word : ℕ) → IsStrictlyIncreasing words → word < get_or words place 0
+    → AreGreater words place word
+greater-behind words place word rising more k from within =
+    let up = rises words rising place k from within in
+    omega (arith, up, more)
+
 -- what a search by halving finds in rising words
 pub found-by-halving : (words : List ℕ) (word : ℕ) (r : Result ℕ ℕ) → IsStrictlyIncreasing words
     → IsBinarySearchResult (λ n. nat_cmp n word) words r → is_ok r ≡ is_listed (Some words) word
-unfolding is_listed
 found-by-halving words word r rising told = by r (searched words word r told (rises words rising))
   where
     by : (answer : Result ℕ ℕ) → MatchResult answer (λ i. (i < length words) × (get_or words i 0 ≡ word))
         (λ i. (i ≤ length words) × ((k : ℕ) → k < i → get_or words k 0 < word) × ((k : ℕ) → i ≤ k → k < length words → word < get_or words k 0))
-        → is_ok answer ≡ list_any (eqb word) words
-    by (Ok i) (less, is) = sym (list_any_at (eqb word) words i 0 less (eq-eqb word _ (sym is)))
-    by (Err i) (most, lesser, greater) =
-        sym (list_any_none (eqb word) words (λ k d within. ne_eqb word (get_or words k d) (λ is.
-        let here : get_or words k 0 ≡ word = get_or_default words k 0 d within ∙ sym is in
-        ⊎_elim (λ l. let less = lesser k l in omega (arith, less, here)) (λ m. let more = greater k m within in omega (arith, more, here))
-        (cases_lt k i))))
+        → is_ok answer ≡ is_listed (Some words) word
+    by (Ok i) (less, is) = sym (Contains-listed words word (i, less, sym (get_or_default words i 0 word less) ∙ is))
+    by (Err i) (most, lesser, greater) = sym (unlisted words i word lesser greater)
 
 -- ---- the words that are left
-
--- each of these numbers is that of a listed word, or of no word at all
-abbrev pub AreNear : ℕ → List ℕ → List ℕ → Type 0
-AreNear k words near = All (λ n. n < 4 ^ k → is_listed (Some words) n ≡ true) near
-
--- what stands at an index of the list; no word behind its end
-pub near-at : (k : ℕ) (words : List ℕ) (i n : ℕ) → k ≤ 31 → n ≡ get_or words i 18446744073709551615
-    → n < 4 ^ k → is_listed (Some words) n ≡ true
-near-at k words i n few is below = ⊎_elim
-    (λ (within : i < length words). Contains-listed words n (i, within, get_or_default words i n 18446744073709551615 within ∙ sym is))
-    (λ (past : length words ≤ i).
-    let none : n ≡ 18446744073709551615 = is ∙ get_or_past words i 18446744073709551615 past in
-    let most : 4 ^ k ≤ 4 ^ 31 = pow-le-pow_right {n = 4} (omega arith) {i = k} {j = 31} few in
-    absurd (omega (arith, none, most, below)))
-    (cases_lt i (length words))
-
-pub near-none : (k : ℕ) (words near : List ℕ) → k ≤ 31 → near ≡ replicate 32 18446744073709551615 → AreNear k words near
-near-none k words near few is =
-    subst (AreNear k words) (sym is) (All-replicate (λ n. n < 4 ^ k → is_listed (Some words) n ≡ true) 32 18446744073709551615 (λ below.
-    let most : 4 ^ k ≤ 4 ^ 31 = pow-le-pow_right {n = 4} (omega arith) {i = k} {j = 31} few in
-    absurd (omega (arith, most, below))))
 
 -- what is not looked at yet is as it was, and below the bound
 pub still-below : (bound : ℕ) (xs ys : List ℕ) (i word : ℕ) → All (λ x. x < bound) xs → drop i ys ≡ drop i xs → i < length xs

@@ -10,4 +10,4 @@ pub mod UsableCodes
 pub mod PackedBatch
 pub mod OpenCutting
 pub mod Only
-pub mod Slots
+pub mod Starts

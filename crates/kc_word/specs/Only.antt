@@ -9,7 +9,6 @@ use Rattle.kc_fastx.specs.Reads.{Read}
 use Rattle.kc_kmer.specs.Word.{text}
 use Rattle.kc_kmer.specs.Rule.{CountingRule}
 use Rattle.kc_kmer.specs.Occurrences.{occurrences}
-use Rattle.kc_word.specs.Slots.{Slotting, ArePlaced}
 
 -- a list of words as a value: their length, whether both strands count, and the numbers of the words
 pub record WordList : Type 0 where
@@ -33,12 +32,6 @@ pub record IsListOf (rule : CountingRule) (reads : List Read) (list : WordList) 
 -- whether two lists have the same words, of the same length and counted on as many strands
 abbrev pub is_same_list : WordList → WordList → Bool
 is_same_list list other = (list.k == other.k) && (beq list.both other.both && bytes_eq list.words other.words)
-
--- what a list keeps: words below 4^31, each of which is placed in the slots
-pub record IsIndexed (k : ℕ) (words : List ℕ) (slots : Slotting) : Type 0 where
-  pub listed : AreListed k words
-  pub few_bases : k ≤ 31
-  pub placed : ArePlaced words slots
 
 -- the words that occur in reads have one list
 abbrev pub OneList : Type 0

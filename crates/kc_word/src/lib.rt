@@ -22,7 +22,7 @@
 mod batch;
 mod cutting;
 pub mod cutting_laws;
-mod list_slots;
+mod list_starts;
 mod only;
 pub mod only_laws;
 mod packed_codes;

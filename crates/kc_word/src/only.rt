@@ -5,7 +5,7 @@ ghost use Rattle.kc_kmer.specs.Rule.{is_listed};
 ghost use Rattle.kc_kmer.specs.Occurrences.{words_of};
 ghost use Rattle.kc_word.specs.Only.{AreListed, IsListOf};
 
-use crate::list_slots::{BLOCK, Slots};
+use crate::list_starts::{BLOCK, Starts};
 use crate::roll::read_words;
 use kc_fastx::SeqRead;
 use kc_kmer::{K, Rule, Word};
@@ -19,25 +19,25 @@ const LEAST_LIMIT: usize = 65_536;
 /// solid words of a table.
 ///
 /// It is seen as the length of the words, whether both strands count, and the numbers of the words in rising order. It
-/// takes 14 bytes a word and 1 KB, and 8 bytes a word where it has 2^31 words or more.
+/// takes at most 12 bytes a word, and 8 where it has 2^32 words or more.
 #[derive(Debug, Drop)]
 pub struct Only {
     k: K,
     both: bool,
     // in rising order
     words: Vec<u64>,
-    // in these the number of a word is found
-    slots: Slots,
+    // where the words of each prefix begin
+    starts: Starts,
 }
 
 impl Model for Only {
-    ghost use Rattle.kc_word.specs.Only.{WordList, IsIndexed};
+    ghost use Rattle.kc_word.specs.Only.{WordList, AreListed};
 
     ghost Value = { WordList };
 
     ghost view = { λ o. record { k = o.k; both = o.both; words = o.words.items } };
 
-    ghost invariant = { λ o. IsIndexed o.k o.words.items o.slots };
+    ghost invariant = { λ o. AreListed o.k o.words.items };
 }
 
 impl Only {
@@ -54,12 +54,12 @@ impl Only {
         requires { AreListed k words.items }
         ensures { IfOk result (λ only. only ≡ record { k = k; both = both; words = words.items }) }
     {
-        let slots = Slots::of(alloc, &words)?;
+        let starts = Starts::of(alloc, &words)?;
         Ok(Only {
             k,
             both,
             words,
-            slots,
+            starts,
         })
     }
 
@@ -91,7 +91,7 @@ impl Only {
         requires { word.0 < 4 ^ self.now.k }
         ensures { result ≡ is_listed (Some self.now.words) word.0 }
     {
-        self.slots.hold(&self.words, word.0)
+        self.starts.hold(&self.words, word.0)
     }
 
     /// Leaves out the words that are not in the list. Condition: each is below 4^k.
@@ -99,35 +99,19 @@ impl Only {
         requires { All (λ word. word < 4 ^ self.now.k) words.old.items }
         ensures { words.new.items ≡ filter (λ word. is_listed (Some self.now.words) word) words.old.items }
     {
-        let mut near = self.near(words);
+        let mut places = self.starts.places(&self.words, words);
         let mut kept = 0;
         for i in 0..words.len() {
             let word = words[i];
-            if near[i % BLOCK] == word || self.holds(Word(word)) {
+            if self.starts.hold_near(&self.words, word, places[i % BLOCK]) {
                 words[kept] = word;
                 kept += 1;
             }
             if i % BLOCK == BLOCK - 1 {
-                near = self.near(&words[i + 1..]);
+                places = self.starts.places(&self.words, &words[i + 1..]);
             }
         }
         words.truncate(kept);
-    }
-
-    // For each of the first `BLOCK` words the one of the list of which its home slot tells, or no word at all. No
-    // reading of a slot or of the list waits for another one of its kind, so that the memory answers several at once.
-    #[inline(always)]
-    fn near(&self, words: &[u64]) -> [u64; BLOCK]
-        ensures { All (λ near. near < 4 ^ self.now.k → is_listed (Some self.now.words) near ≡ true) result }
-    {
-        let numbers = self.slots.numbers_at_home(words);
-        let mut near = [u64::MAX; BLOCK];
-        for i in 0..BLOCK {
-            // a number is 0 where the home slot does not tell of the word
-            let index = numbers[i].saturating_sub(1);
-            near[i] = self.words.get(index).copied().unwrap_or(u64::MAX);
-        }
-        near
     }
 }
 

@@ -6,8 +6,8 @@ use Rattle.kc_report.specs.Querying.{query_text, Answers as Queried}
 use Rattle.kc_report.specs.declared.report_faults.ReportFault.{ReportFault}
 use Rattle.kc_report.specs.declared.report_faults.ReportFault.TheVariants as report
 use Rattle.kc_tool.specs.Faults.{report_fault}
-use Rattle.kc_tool.specs.Commands.{Answers, sources_from}
-use Rattle.kc_tool.specs.NamedSources.{seen_of}
+use Rattle.kc_tool.specs.Commands.{Answers}
+use Rattle.kc_tool.specs.GivenSources.{seen_in}
 use Rattle.kc_tool.specs.Tallies.{TableSeen, given}
 use Rattle.kc_tool.specs.declared.commands.Task.TheVariants.{Query}
 use Rattle.kc_tool.proofs.CommandsLemmas.{answered}
@@ -29,8 +29,8 @@ unanswered words table old new report.TooLarge h = absurd h
 
 pub returns-clause-done : goal.returns-clause-done
 returns-clause-done g c =
-    let before = given None (sources_from (g.R.Source.seen c.args.input.now) (seen_of g.F.Source.seen c.args.files.now)) in
-    let after = given None (sources_from (g.R.Source.seen c.table_of.new.input) (seen_of g.F.Source.seen c.table_of.new.files)) in
+    let before = given None (seen_in g.R.Source.seen g.F.Source.seen c.args.sources.now) in
+    let after = given None (seen_in g.R.Source.seen g.F.Source.seen c.table_of.new.sources) in
     let old = g.W.Sink.seen c.args.output.now in
     let new = g.W.Sink.seen c.query.new.writer in
     let answers : Answers (Query c.args.words.now) (c.in_ok-tally.tally, c.in_ok-tally._origin) old new (Ok tt) = search rules in
@@ -39,8 +39,8 @@ returns-clause-done g c =
 
 pub returns-in_err-query-clause-done : goal.returns-in_err-query-clause-done
 returns-in_err-query-clause-done g c =
-    let before = given None (sources_from (g.R.Source.seen c.args.input.now) (seen_of g.F.Source.seen c.args.files.now)) in
-    let after = given None (sources_from (g.R.Source.seen c.table_of.new.input) (seen_of g.F.Source.seen c.table_of.new.files)) in
+    let before = given None (seen_in g.R.Source.seen g.F.Source.seen c.args.sources.now) in
+    let after = given None (seen_in g.R.Source.seen g.F.Source.seen c.table_of.new.sources) in
     let old = g.W.Sink.seen c.args.output.now in
     let new = g.W.Sink.seen c.query.new.writer in
     let again = c.from_residual-in_err-query in

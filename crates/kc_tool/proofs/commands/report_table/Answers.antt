@@ -1,6 +1,6 @@
 use Rattle.std.proofs.Common.{rules, None}
-use Rattle.kc_tool.specs.Commands.{Answers, sources_from}
-use Rattle.kc_tool.specs.NamedSources.{seen_of}
+use Rattle.kc_tool.specs.Commands.{Answers}
+use Rattle.kc_tool.specs.GivenSources.{seen_in}
 use Rattle.kc_tool.specs.Tallies.{given}
 use Rattle.kc_tool.specs.declared.commands.Task.TheVariants.{Report}
 use Rattle.kc_tool.proofs.CommandsLemmas.{answered}
@@ -8,8 +8,8 @@ use Rattle.kc_tool.proofs.commands.report_table.Goals as goal
 
 pub returns-clause-done : goal.returns-clause-done
 returns-clause-done g c =
-    let before = given None (sources_from (g.R.Source.seen c.args.input.now) (seen_of g.F.Source.seen c.args.files.now)) in
-    let after = given None (sources_from (g.R.Source.seen c.table_of.new.input) (seen_of g.F.Source.seen c.table_of.new.files)) in
+    let before = given None (seen_in g.R.Source.seen g.F.Source.seen c.args.sources.now) in
+    let after = given None (seen_in g.R.Source.seen g.F.Source.seen c.table_of.new.sources) in
     let old = g.W.Sink.seen c.args.output.now in
     let new = g.W.Sink.seen c.write_report.new.writer in
     let answers : Answers (Report c.args.report) (c.in_ok-tally.tally, c.in_ok-tally.origin) old new c.write_report.result = search rules in

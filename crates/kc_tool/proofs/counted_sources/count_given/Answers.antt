@@ -14,7 +14,7 @@ run-requires-clause-few g c κs within = rw c.deref.ensures.value c.in_ok-batche
 
 pub run-requires-clause-small : goal.run-requires-clause-small
 run-requires-clause-small g c κs within =
-    rw c.deref.ensures.value (small_kept (words_of c.args.list) c.args.counting.now.options.now c.in_ok-setup.setup.rule c.in_ok-setup.ensures.rule (values c.in_ok-batches.batches.items) c.in_ok-batches.ensures.small)
+    rw c.deref.ensures.value (small_kept (words_of c.args.list) c.args.options.now c.in_ok-setup.setup.rule c.in_ok-setup.ensures.rule (values c.in_ok-batches.batches.items) c.in_ok-batches.ensures.small)
 
 pub run-requires-clause-tables : goal.run-requires-clause-tables
 run-requires-clause-tables g c κs within =

@@ -1,13 +1,14 @@
-use Rattle.std.proofs.Common.{◌≡◌}
-use Rattle.kc_tool.specs.NamedSources.{names_of, seen_of}
+use Rattle.std.proofs.Common.{◌≡◌, length}
+use Rattle.kc_tool.specs.GivenSources.{Keeps, seen_in}
 use Rattle.kc_tool.proofs.CleaningLemmas.{CutSoFar}
 use Rattle.kc_tool.proofs.counted_sources.cut_given.Given as goal
 
-abbrev pub invariant-loop-file : goal.invariant-loop-file
-invariant-loop-file g l =
-    let seen = seen_of g.F.Source.seen in
+abbrev pub invariant-loop-i : goal.invariant-loop-i
+invariant-loop-i g l =
+    let seen = seen_in g.R.Source.seen g.F.Source.seen in
     record {
-      so_far : CutSoFar (seen l.fn.files) (seen l.files) l.rule l.size l.cut;
-      counted : l.cut.sources ≡ l.file-index;
-      names : names_of l.files ≡ names_of l.fn.files;
+      so_far : CutSoFar (seen l.fn.sources) (seen l.sources) l.cutter.rule.now l.size l.cut;
+      counted : l.cut.sources ≡ l.i;
+      as_many : length (seen l.sources) ≡ length (seen l.fn.sources);
+      kept : Keeps g.R.Source.seen g.F.Source.seen l.fn.sources l.sources;
     }

@@ -1,45 +1,53 @@
-use Rattle.std.proofs.Common.{Some, inr, refl}
+use Rattle.std.proofs.Common.{Some, get_or, inr, refl, set}
 use Rattle.kc_tool.specs.Reports.{ReportsCount}
+use Rattle.kc_tool.specs.Tallies.{RefusesCount}
+use Rattle.kc_tool.proofs.GivenLemmas.{files_both, first_read, keeps_files, listed_done, listed_left}
 use Rattle.kc_tool.proofs.ReportsLemmas.{put_otherwise}
-use Rattle.kc_tool.proofs.TablesLemmas.{first_named, listed_done, listed_kept, listed_named, listed_refused, same_input}
-use Rattle.kc_tool.proofs.SourcesLemmas.{sources_counted, sources_refused}
+use Rattle.kc_tool.proofs.SourcesLemmas.{list_refused, sources_counted, sources_refused}
 use Rattle.kc_tool.proofs.task_tallies.report_listed.Goals as goal
 
 pub returns : goal.returns
 returns g c =
-    let seen = g.F.Source.seen in
-    let input = g.R.Source.seen c.args.input.now in
-    let settings = c.args.counting.now.options.now in
-    let files = c.args.files.now in
-    let given = c.report_given.new in
+    let seen = g.R.Source.seen in
+    let seen_file = g.F.Source.seen in
+    let settings = c.args.options.now in
+    let new = c.report_given.new in
     let later = c.read_list.new.source in
+    let given = c.args.sources.now in
+    let file = get_or given.files.now 0 c.index-files-0.result in
+    let mid = record given { files = record given.files { now = set given.files.now 0 (record { name = file.name; source = later }) } } in
     let gives = rw c.rule-rule.ensures at c.in-Ok.ensures.list in
     let list = c.in-Ok.list in
+    let kept = c.report_given.ensures.kept in
     record {
-      done = listed_done seen input (g.R.Source.seen given.input) files c.requires c.index-files-0.result later given.files
-          (λ old new. ReportsCount old new settings (g.W.Sink.seen c.args.writer.now) (g.W.Sink.seen given.writer) c.report_given.result)
+      done = listed_done seen seen_file given mid c.index-files-0.result later c.requires.own c.requires.some refl refl refl new.sources kept
+          (λ before after. ReportsCount before after settings (g.W.Sink.seen c.args.writer.now) (g.W.Sink.seen new.writer) c.report_given.result)
           (put_otherwise settings c.report_given.result
-          (sources_counted (Some list.words) (Some _) (Some (seen later)) _ _ settings (list, gives, refl))
-          (λ fault is. sources_refused (Some list.words) (Some _) (Some (seen later)) _ _ settings (list, gives, refl) fault) c.report_given.ensures.done);
-      input = listed_kept seen input _ files c.requires c.index-files-0.result later c.report_given.ensures.input;
-      names = listed_named seen files c.requires c.index-files-0.result later given.files c.report_given.ensures.names;
+          (sources_counted (Some list.words) (Some _) (Some (seen_file later)) _ _ settings (list, gives, refl))
+          (λ fault is. sources_refused (Some list.words) (Some _) (Some (seen_file later)) _ _ settings (list, gives, refl) fault) c.report_given.ensures.done);
+      kept = files_both seen seen_file
+          (first_read seen seen_file given mid c.index-files-0.result later c.requires.own c.requires.some refl refl refl refl)
+          (keeps_files seen seen_file kept);
     }
 
 pub returns-in-Err : goal.returns-in-Err
 returns-in-Err g c =
-    let seen = g.F.Source.seen in
-    let input = g.R.Source.seen c.args.input.now in
-    let files = c.args.files.now in
+    let seen = g.R.Source.seen in
+    let seen_file = g.F.Source.seen in
     let later = c.read_list.new.source in
+    let given = c.args.sources.now in
+    let file = get_or given.files.now 0 c.index-files-0.result in
+    let mid = record given { files = record given.files { now = set given.files.now 0 (record { name = file.name; source = later }) } } in
     let fault = c.in-Err.fault in
+    let settings = c.args.options.now in
     record {
       done = inr (
         fault,
         refl,
-        listed_refused seen input files c.requires c.index-files-0.result later
-            c.args.counting.now.options.now fault c.in-Err.ensures.fault,
+        listed_left seen seen_file given mid c.index-files-0.result later c.requires.own c.requires.some refl refl refl
+            (λ before after. RefusesCount before after settings fault)
+            (λ sources. list_refused _ (seen_file later) sources settings fault c.in-Err.ensures.fault),
         refl,
       );
-      input = same_input input _;
-      names = first_named seen files c.index-files-0.result later;
+      kept = first_read seen seen_file given mid c.index-files-0.result later c.requires.own c.requires.some refl refl refl refl;
     }

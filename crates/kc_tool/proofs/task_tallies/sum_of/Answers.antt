@@ -1,46 +1,33 @@
+use Rattle.std.proofs.Common.{Err, Ok}
 use Rattle.std.proofs.lemmas.Result.{IfErr-weaker, IfOk-weaker, err_from_is_err_and}
-use Rattle.kc_tool.proofs.TablesLemmas.{added, first_named, first_untold, not_added, second_untold, two_named}
+use Rattle.kc_tool.specs.Tallies.{TableSeen}
+use Rattle.kc_tool.proofs.GivenLemmas.{added, both_read, first_untold, keeps_both, not_added, second_untold}
 use Rattle.kc_tool.proofs.task_tallies.sum_of.Goals as goal
 
 pub returns-in_err-first-clause-fault : goal.returns-in_err-first-clause-fault
 returns-in_err-first-clause-fault g c =
     let p = err_from_is_err_and c.from_residual.result c.from_residual.ensures.1 in
-    rw (p.1, p.2) (first_untold g.F.Source.seen c.args.files.now c.requires c.index-files-0.result c.table_from.new.source
-    c.in_err-first.field-0.0 c.in_err-first.ensures.fault)
-
-pub returns-in_err-first-clause-names : goal.returns-in_err-first-clause-names
-returns-in_err-first-clause-names g c = first_named g.F.Source.seen c.args.files.now c.index-files-0.result c.table_from.new.source
+    rw (p.1, p.2) (first_untold _ _ c.in_err-first.field-0.0 c.requires c.in_err-first.ensures.one)
 
 pub returns-in_err-second-clause-fault : goal.returns-in_err-second-clause-fault
 returns-in_err-second-clause-fault g c =
     let p = err_from_is_err_and c.from_residual-in_err-second.result c.from_residual-in_err-second.ensures.1 in
-    rw (p.1, p.2) (second_untold g.F.Source.seen c.args.files.now c.requires c.index-files-0.result c.table_from.new.source
-    c.index-files-1.result c.table_from-2.new.source (c.in_ok-first.first, c.in_ok-first.first_origin) c.in_ok-first.ensures.table
-    c.in_err-second.field-0.0 c.in_err-second.ensures.fault)
+    let first : TableSeen = (c.in_ok-first.first, c.in_ok-first.first_origin) in
+    rw (p.1, p.2) (second_untold _ _ first c.in_err-second.field-0.0
+    (both_read first (Err c.in_err-second.field-0.0) _ _ _ c.requires c.in_ok-first.ensures.one c.in_err-second.ensures.one))
 
-pub returns-in_err-second-clause-names : goal.returns-in_err-second-clause-names
-returns-in_err-second-clause-names g c =
-    two_named g.F.Source.seen c.args.files.now c.requires c.index-files-0.result c.table_from.new.source c.index-files-1.result
-    c.table_from-2.new.source
+pub returns-in_err-second-clause-kept : goal.returns-in_err-second-clause-kept
+returns-in_err-second-clause-kept g c =
+    keeps_both g.R.Source.seen g.F.Source.seen c.in_ok-first.ensures.kept c.in_err-second.ensures.kept
 
-pub returns-clause-sum : goal.returns-clause-sum
-returns-clause-sum g c =
-    IfOk-weaker c.merged.result _ _ (λ sum h. added g.F.Source.seen c.args.files.now c.requires c.index-files-0.result c.table_from.new.source
-    c.index-files-1.result c.table_from-2.new.source (c.in_ok-first.first, c.in_ok-first.first_origin)
-    (c.in_ok-second.second, c.in_ok-second.second_origin) (sum.0, sum.1) c.in_ok-first.ensures.table c.in_ok-second.ensures.table h)
-    c.merged.ensures.sum
-
-pub returns-clause-origin : goal.returns-clause-origin
-returns-clause-origin g c = c.merged.ensures.origin
-
-pub returns-clause-fault : goal.returns-clause-fault
-returns-clause-fault g c =
-    IfErr-weaker c.merged.result _ _ (not_added g.F.Source.seen c.args.files.now c.requires c.index-files-0.result c.table_from.new.source
-    c.index-files-1.result c.table_from-2.new.source (c.in_ok-first.first, c.in_ok-first.first_origin)
-    (c.in_ok-second.second, c.in_ok-second.second_origin) c.in_ok-first.ensures.table c.in_ok-second.ensures.table)
-    c.merged.ensures.fault
-
-pub returns-clause-names : goal.returns-clause-names
-returns-clause-names g c =
-    two_named g.F.Source.seen c.args.files.now c.requires c.index-files-0.result c.table_from.new.source c.index-files-1.result
-    c.table_from-2.new.source
+pub returns : goal.returns
+returns g c =
+    let first : TableSeen = (c.in_ok-first.first, c.in_ok-first.first_origin) in
+    let second : TableSeen = (c.in_ok-second.second, c.in_ok-second.second_origin) in
+    let both = both_read first (Ok second) _ _ _ c.requires c.in_ok-first.ensures.one c.in_ok-second.ensures.one in
+    record {
+      sum = IfOk-weaker c.merged.result _ _ (λ sum h. added _ _ first second (sum.0, sum.1) both h) c.merged.ensures.sum;
+      origin = c.merged.ensures.origin;
+      fault = IfErr-weaker c.merged.result _ _ (λ fault h. not_added _ _ first second fault both h) c.merged.ensures.fault;
+      kept = keeps_both g.R.Source.seen g.F.Source.seen c.in_ok-first.ensures.kept c.in_ok-second.ensures.kept;
+    }

@@ -19,11 +19,11 @@ order-requires g c =
 pub enter_counted-requires-clause-room : goal.enter_counted-requires-clause-room
 enter_counted-requires-clause-room g c =
     let keys = c.cuts.invariant.keys_are ∙ ap all_keys_of c.cuts.view_is in
-    let order = ordered-keys keys c.in_ok-order.ensures (c.deref.ensures.value ∙ c.ordered.view_is) in
+    let order = ordered-keys keys c.in_ok-order.ensures.same (c.deref.ensures.value ∙ c.ordered.view_is) in
     omega (arith, c.in_ok-check_all.ensures.room, length_permutation _ _ order)
 
 pub returns-clause-total : goal.returns-clause-total
 returns-clause-total g c =
     let keys = c.cuts.invariant.keys_are ∙ ap all_keys_of c.cuts.view_is in
-    let order = ordered-keys keys c.in_ok-order.ensures (c.deref.ensures.value ∙ c.ordered.view_is) in
+    let order = ordered-keys keys c.in_ok-order.ensures.same (c.deref.ensures.value ∙ c.ordered.view_is) in
     rw (← length_permutation _ _ order) c.enter_counted.ensures.total

@@ -13,7 +13,7 @@ pub returns-clause-few : goal.returns-clause-few
 returns-clause-few c =
     home_part-below c.self.inside.slots.log c.args.key _ c.saturating_sub.result (slots_shifted c.self.inside.slots) (search rules)
 
-pub returns-clause-home : goal.returns-clause-home
-returns-clause-home c =
+pub returns-clause-part : goal.returns-clause-part
+returns-clause-part c =
     home_part-told c.self.inside.slots.log c.args.key _ c.saturating_sub.result (slots_shifted c.self.inside.slots) (search rules)
     ∙ ap (λ t. home_part t.log c.args.key) c.self.view_is

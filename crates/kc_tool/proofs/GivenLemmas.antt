@@ -1,0 +1,294 @@
+-- Reading the sources of a task one by one.
+use Rattle.std.proofs.Common.{◌≡◌, ◌∙◌, ◌≤◌, ◌<◌, ◌+◌, ◌-◌, ℕ, List, [], ◌∷◌, length, drop, get_or, set, max, take, refl, sym, ap, subst, arith}
+use Rattle.std.proofs.Common.{inl, inr}
+use Rattle.std.specs.Prelude.{Result, Ok, Err, IfOk, IfErr, Some}
+use Rattle.std.proofs.Math.Seq.{map-set_same}
+use Rattle.std.proofs.lemmas.List.{drop-set-add, drop_all, get_or-drop, get_or-map, length-drop, length-map, length-set, map-set, take-set-le}
+use Rattle.kc_io.specs.Sources.{Seen}
+use Rattle.kc_report.specs.Merging.{Merges}
+use Rattle.kc_report.specs.Table.{MaySay}
+use Rattle.kc_report.specs.TableReading.{GivesTable}
+use Rattle.kc_tool.specs.Commands.{KeepsInput, given_listed, MergesNot, TellNoSum, TellNoTable, TellOneTable, TellSum, TellsOrNot, most_table_bytes, sources_from}
+use Rattle.kc_tool.specs.GivenSources.{Keeps, KeepsFiles, ReadsAt, files_in, listed_in, seen_in}
+use Rattle.kc_tool.specs.NamedSources.{names_of, seen_of}
+use Rattle.kc_tool.specs.Tallies.{Given, TableSeen, given}
+use Rattle.kc_tool.specs.declared.given_sources.GivenSources.{GivenSources}
+use Rattle.kc_tool.specs.declared.named_sources.NamedSource.{NamedSource}
+use Rattle.kc_tool.specs.declared.tool_faults.ToolFault.{ToolFault}
+
+-- How many sources there are.
+counted_from : (input : Seen) (files : List Seen) (n : ℕ) → n ≡ max (length files) 1 → n ≡ length (sources_from input files)
+counted_from input [] n is = omega (arith, is)
+counted_from input (file ∷ files) n is = omega (arith, is)
+
+module _ {S : Type 0} (seen : S → Seen) (input : Seen) (files : List (NamedSource S)) (own : ℕ) where
+  abbrev pub behind : List Seen
+  behind = drop own (seen_of seen files)
+
+  many : length behind ≡ length files - own
+  many = length-drop own (seen_of seen files) ∙ ap (λ n. n - own) (length-map files (λ file. seen file.source))
+
+  pub counted : (n : ℕ) → n ≡ max (length files - own) 1 → n ≡ length (sources_from input behind)
+  counted n is = counted_from input behind n (is ∙ ap (λ m. max m 1) (sym many))
+
+-- The given input is as it was.
+pub same_input : (input : Seen) (sources : List Seen) → KeepsInput sources input input
+same_input input [] = tt
+same_input input (source ∷ sources) = refl
+
+-- Where there are files, they are the sources.
+some_from : (input : Seen) (files : List Seen) → 1 ≤ length files → sources_from input files ≡ files
+some_from input [] some = absurd (omega (arith, some))
+some_from input (file ∷ files) some = refl
+
+-- There is a source.
+pub some_there : (input : Seen) (files : List Seen) → 1 ≤ length (sources_from input files)
+some_there input [] = omega arith
+some_there input (file ∷ files) = omega arith
+
+-- One of them was read.
+pub file_read : {S : Type 0} (seen : S → Seen) (input : Seen) (files : List (NamedSource S)) (own i : ℕ) (d later : NamedSource S)
+    → own < length files → i < length (sources_from input (drop own (seen_of seen files)))
+    → (Reads : Seen → Seen → Type 0) → Reads (seen (get_or files (own + i) d).source) (seen later.source)
+    → ReadsAt i (sources_from input (drop own (seen_of seen files)))
+    (sources_from input (drop own (seen_of seen (set files (own + i) later)))) Reads
+file_read seen input files own i d later more within Reads h =
+    let see = λ (file : NamedSource _). seen file.source in
+    let xs = seen_of seen files in
+    let here = seen (get_or files (own + i) d).source in
+    let many : length (drop own xs) ≡ length files - own = length-drop own xs ∙ ap (λ n. n - own) (length-map files see) in
+    let some : 1 ≤ length (drop own xs) = omega (arith, many, more) in
+    let from = some_from input (drop own xs) some in
+    let inside : own + i < length files = omega (arith, many, more, within, ap length from) in
+    let moved : drop own (seen_of seen (set files (own + i) later)) ≡ set (drop own xs) i (seen later.source) =
+    ap (drop own) (map-set see files (own + i) later) ∙ drop-set-add own xs i (seen later.source) in
+    let still : 1 ≤ length (drop own (seen_of seen (set files (own + i) later))) =
+    omega (arith, ap length moved, length-set (drop own xs) i (seen later.source), some) in
+    record {
+      here = here;
+      later = seen later.source;
+      was = ap (λ v. get_or v i here) from ∙ get_or-drop own xs i here ∙ get_or-map see files (own + i) d here inside;
+      are = some_from input _ still ∙ moved ∙ ap (λ v. set v i (seen later.source)) (sym from);
+      reads = h;
+    }
+
+-- The files before the sources are as they were.
+pub still_before : {S : Type 0} (seen : S → Seen) (files : List (NamedSource S)) (own i : ℕ) (later : NamedSource S)
+    → take own (seen_of seen (set files (own + i) later)) ≡ take own (seen_of seen files)
+still_before seen files own i later =
+    ap (take own) (map-set (λ (file : NamedSource _). seen file.source) files (own + i) later)
+    ∙ take-set-le own (seen_of seen files) (own + i) (seen later.source) (omega arith)
+
+-- The input is read where no file is a source.
+pub input_read : (input later : Seen) (files : List Seen) (own i : ℕ) → length files ≤ own → i < length (sources_from input (drop own files))
+    → (Reads : Seen → Seen → Type 0) → Reads input later
+    → ReadsAt i (sources_from input (drop own files)) (sources_from later (drop own files)) Reads
+input_read input later files own i none within Reads h =
+    let empty = drop_all own files none in
+    let before = ap (sources_from input) empty in
+    let after = ap (sources_from later) empty in
+    let first : i ≡ 0 = omega (arith, within, ap length before) in
+    record {
+      here = input;
+      later = later;
+      was = ap (λ v. get_or v i input) before ∙ ap (λ n. get_or (input ∷ []) n input) first;
+      are = after ∙ sym (ap (λ v. set v i later) before ∙ ap (λ n. set (input ∷ []) n later) first);
+      reads = h;
+    }
+
+-- What is kept by several calls.
+kept_unread : (before after : List Seen) (first second third : Seen) → length before ≡ length after
+    → KeepsInput before first second → KeepsInput after second third → KeepsInput before first third
+kept_unread [] after first second third same h k = tt
+kept_unread (file ∷ before) [] first second third same h k = absurd (omega (arith, same))
+kept_unread (file ∷ before) (other ∷ after) first second third same h k = k ∙ h
+
+module _ {R F : Type 0} (seen : R → Seen) (seen_file : F → Seen) where
+  pub keeps_all : (given : GivenSources R F) → Keeps seen seen_file given given
+  keeps_all given = record {
+    files = refl;
+    input = refl;
+    own = refl;
+    names = refl;
+    unread = same_input (seen given.input.now) _;
+    before = refl;
+  }
+
+  pub keeps_files : {old new : GivenSources R F} → Keeps seen seen_file old new → KeepsFiles seen seen_file old new
+  keeps_files h = record { files = h.files; input = h.input; own = h.own; names = h.names; unread = h.unread }
+
+  as_many : (first second : List (NamedSource F)) (own : ℕ) → names_of second ≡ names_of first
+      → length (drop own (seen_of seen_file first)) ≡ length (drop own (seen_of seen_file second))
+  as_many first second own same =
+      let name = λ (file : NamedSource F). file.name.now in
+      let see = λ (file : NamedSource F). seen_file file.source in
+      omega (
+        arith,
+        length-drop own (seen_of seen_file first),
+        length-drop own (seen_of seen_file second),
+        length-map first see,
+        length-map second see,
+        length-map first name,
+        length-map second name,
+        ap length same,
+      )
+
+  pub files_both : {first second third : GivenSources R F} → KeepsFiles seen seen_file first second
+      → KeepsFiles seen seen_file second third → KeepsFiles seen seen_file first third
+  files_both {first} {second} {third} h k = record {
+    files = k.files ∙ h.files;
+    input = k.input ∙ h.input;
+    own = k.own ∙ h.own;
+    names = k.names ∙ h.names;
+    unread = kept_unread _ _ (seen first.input.now) (seen second.input.now) (seen third.input.now)
+        (as_many first.files.now second.files.now first.own h.names) h.unread
+        (subst (λ n. KeepsInput (drop n (files_in seen_file second)) (seen second.input.now) (seen third.input.now)) h.own k.unread);
+  }
+
+  pub keeps_both : {first second third : GivenSources R F} → Keeps seen seen_file first second → Keeps seen seen_file second third
+      → Keeps seen seen_file first third
+  keeps_both {first} {second} {third} h k =
+      let both = files_both (keeps_files h) (keeps_files k) in
+      record {
+        files = both.files;
+        input = both.input;
+        own = both.own;
+        names = both.names;
+        unread = both.unread;
+        before = subst (λ n. take n (files_in seen_file third) ≡ take n (files_in seen_file second)) h.own k.before ∙ h.before;
+      }
+
+  -- The first file, which is a list or a table, was read.
+  module _ (old mid : GivenSources R F) (d : NamedSource F) (later : F) (one : old.own ≡ 1) (some : 1 ≤ length old.files.now)
+      (own : mid.own ≡ old.own)
+      (read : mid.files.now ≡ set old.files.now 0 (record { name = (get_or old.files.now 0 d).name; source = later })) where
+    abbrev name : NamedSource F → List ℕ
+    name file = file.name.now
+
+    abbrev see : NamedSource F → Seen
+    see file = seen_file file.source
+
+    named : names_of mid.files.now ≡ names_of old.files.now
+    named = ap names_of read ∙ map-set_same name old.files.now 0 (record { name = (get_or old.files.now 0 d).name; source = later }) d refl
+
+    pub first_read : mid.files.ghost_name ≡ old.files.ghost_name → mid.input ≡ old.input → KeepsFiles seen seen_file old mid
+    first_read files input = record {
+      files = files;
+      input = ap (λ v. v.ghost_name) input;
+      own = own;
+      names = named;
+      unread = subst (λ v. KeepsInput (drop old.own (files_in seen_file old)) (seen old.input.now) v) (ap (λ v. seen v.now) (sym input))
+          (same_input (seen old.input.now) _);
+    }
+
+    as_given : (input : Seen) (files : List (NamedSource F)) → 1 ≤ length files
+        → given_listed input (seen_of seen_file files) ≡ given (Some (seen_file (get_or files 0 d).source))
+        (sources_from input (drop 1 (seen_of seen_file (set files 0 (record { name = (get_or files 0 d).name; source = later })))))
+    as_given input [] some = absurd (omega (arith, some))
+    as_given input (file ∷ files) some = refl
+
+    as_left : (input first : Seen) (files : List (NamedSource F)) → 1 ≤ length files → take 1 (seen_of seen_file files) ≡ first ∷ []
+        → given_listed input (seen_of seen_file files) ≡ given (Some first) (sources_from input (drop 1 (seen_of seen_file files)))
+    as_left input first [] some is = absurd (omega (arith, some))
+    as_left input first (file ∷ files) some is =
+        ap (λ v. given (Some v) (sources_from input (seen_of seen_file files))) (ap (λ v. get_or v 0 first) is)
+
+    first_later : (files : List (NamedSource F)) → 1 ≤ length files
+        → take 1 (seen_of seen_file (set files 0 (record { name = (get_or files 0 d).name; source = later }))) ≡ seen_file later ∷ []
+    first_later [] some = absurd (omega (arith, some))
+    first_later (file ∷ files) some = refl
+
+    -- What holds of it and of the sources holds of all that was given.
+    pub listed_done : mid.input ≡ old.input → (new : GivenSources R F) → Keeps seen seen_file mid new → (Holds : Given → Given → Type 0)
+        → Holds (given (Some (seen_file (get_or old.files.now 0 d).source)) (seen_in seen seen_file mid))
+        (given (Some (seen_file later)) (seen_in seen seen_file new))
+        → Holds (listed_in seen seen_file old) (listed_in seen seen_file new)
+    listed_done input new kept Holds h =
+        let mid_one : mid.own ≡ 1 = own ∙ one in
+        let new_one : new.own ≡ 1 = kept.own ∙ mid_one in
+        let from = λ (v : GivenSources R F). seen v.input.now in
+        let more : 1 ≤ length new.files.now =
+        omega (arith, some, ap length (kept.names ∙ named), length-map new.files.now name, length-map old.files.now name) in
+        let first : take 1 (files_in seen_file new) ≡ seen_file later ∷ [] =
+        subst (λ n. take n (files_in seen_file new) ≡ take n (files_in seen_file mid)) mid_one kept.before
+        ∙ ap (λ v. take 1 (seen_of seen_file v)) read ∙ first_later old.files.now some in
+        let before : listed_in seen seen_file old ≡ given (Some (seen_file (get_or old.files.now 0 d).source)) (seen_in seen seen_file mid) =
+        as_given (from old) old.files.now some
+        ∙ ap (λ v. given (Some (seen_file (get_or old.files.now 0 d).source)) (sources_from (from old) (drop 1 (seen_of seen_file v)))) (sym read)
+        ∙ ap (λ v. given (Some (seen_file (get_or old.files.now 0 d).source)) (sources_from (seen v.now) (drop 1 (files_in seen_file mid)))) (sym input)
+        ∙ ap (λ n. given (Some (seen_file (get_or old.files.now 0 d).source)) (sources_from (from mid) (drop n (files_in seen_file mid)))) (sym mid_one) in
+        let after : listed_in seen seen_file new ≡ given (Some (seen_file later)) (seen_in seen seen_file new) =
+        as_left (from new) (seen_file later) new.files.now more first
+        ∙ ap (λ n. given (Some (seen_file later)) (sources_from (from new) (drop n (files_in seen_file new)))) (sym new_one) in
+        subst (λ v. Holds v (listed_in seen seen_file new)) (sym before)
+        (subst (λ v. Holds (given (Some (seen_file (get_or old.files.now 0 d).source)) (seen_in seen seen_file mid)) v) (sym after) h)
+
+    -- It is refused, and the sources are as they were.
+    pub listed_left : mid.input ≡ old.input → (Holds : Given → Given → Type 0)
+        → ((sources : List Seen) → Holds (given (Some (seen_file (get_or old.files.now 0 d).source)) sources) (given (Some (seen_file later)) sources))
+        → Holds (listed_in seen seen_file old) (listed_in seen seen_file mid)
+    listed_left input Holds h = listed_done input mid (keeps_all mid) Holds (h (seen_in seen seen_file mid))
+
+-- The table of the one source.
+pub one_table : (old new : List Seen) (outcome : Result TableSeen ToolFault) → length old ≡ 1
+    → ReadsAt 0 old new (λ before after. TellsOrNot before after outcome)
+    → IfOk outcome (λ table. TellOneTable old new (table.0, table.1)) × IfOk outcome (λ table. MaySay table.1)
+    × IfErr outcome (TellNoTable old new)
+one_table [] new outcome one at = absurd (omega (arith, one))
+one_table (a ∷ b ∷ old) new outcome one at = absurd (omega (arith, one))
+one_table (a ∷ []) new (Ok table) one at =
+    let gives = subst (λ v. GivesTable v at.later most_table_bytes table) (sym at.was) at.reads.0 in
+    (subst (λ v. TellOneTable (a ∷ []) v table) (sym at.are) gives, at.reads.1, tt)
+one_table (a ∷ []) new (Err fault) one at =
+    (tt, tt, subst (λ v. TellNoTable (a ∷ []) v fault) (sym at.are) (subst (λ v. TellsOrNot v at.later (Err fault)) (sym at.was) at.reads))
+
+-- The tables of two sources.
+pub first_untold : (old new : List Seen) (fault : ToolFault) → length old ≡ 2
+    → ReadsAt 0 old new (λ before after. TellsOrNot before after (Err fault)) → TellNoSum old new fault
+first_untold [] new fault two at = absurd (omega (arith, two))
+first_untold (a ∷ []) new fault two at = absurd (omega (arith, two))
+first_untold (a ∷ b ∷ c ∷ old) new fault two at = absurd (omega (arith, two))
+first_untold (a ∷ b ∷ []) new fault two at =
+    subst (λ v. TellNoSum (a ∷ b ∷ []) v fault) (sym at.are)
+    (inl (subst (λ v. TellsOrNot v at.later (Err fault)) (sym at.was) at.reads, refl))
+
+-- What both come to.
+module _ (table : TableSeen) (outcome : Result TableSeen ToolFault) where
+  abbrev Comes : List Seen → List Seen → Type 0
+  Comes old new = (later : Seen) × (first_after : Seen) × (second : Seen) × (first : Seen)
+      × (old ≡ first ∷ second ∷ []) × (new ≡ first_after ∷ later ∷ []) × GivesTable first first_after most_table_bytes table
+      × TellsOrNot second later outcome
+
+  pub both_read : (old mid new : List Seen) → length old ≡ 2 → ReadsAt 0 old mid (λ before after. TellsOrNot before after (Ok table))
+      → ReadsAt 1 mid new (λ before after. TellsOrNot before after outcome) → Comes old new
+  both_read [] mid new two first second = absurd (omega (arith, two))
+  both_read (a ∷ []) mid new two first second = absurd (omega (arith, two))
+  both_read (a ∷ b ∷ c ∷ old) mid new two first second = absurd (omega (arith, two))
+  both_read (a ∷ b ∷ []) mid new two first second =
+      let was : b ≡ second.here = sym (ap (λ v. get_or v 1 second.here) first.are) ∙ second.was in
+      let are : new ≡ first.later ∷ second.later ∷ [] = second.are ∙ ap (λ v. set v 1 second.later) first.are in (
+        second.later,
+        first.later,
+        b,
+        a,
+        refl,
+        are,
+        subst (λ v. GivesTable v first.later most_table_bytes table) (sym first.was) first.reads.0,
+        subst (λ v. TellsOrNot v second.later outcome) (sym was) second.reads,
+      )
+
+pub second_untold : (old new : List Seen) (table : TableSeen) (fault : ToolFault) → Comes table (Err fault) old new → TellNoSum old new fault
+second_untold old new table fault h =
+    subst (λ v. TellNoSum v new fault) (sym h.4) (subst (λ v. TellNoSum (h.3 ∷ h.2 ∷ []) v fault) (sym h.5) (inr (inl (table, h.6, h.7))))
+
+pub added : (old new : List Seen) (table other sum : TableSeen) → Comes table (Ok other) old new
+    → Merges table.0 other.0 table.1 other.1 (Ok sum) → TellSum old new sum
+added old new table other sum h m =
+    subst (λ v. TellSum v new sum) (sym h.4) (subst (λ v. TellSum (h.3 ∷ h.2 ∷ []) v sum) (sym h.5)
+    (table, other, record { told = h.6; other_told = h.7.0 }, m))
+
+pub not_added : (old new : List Seen) (table other : TableSeen) (fault : ToolFault) → Comes table (Ok other) old new
+    → MergesNot table.0 other.0 table.1 other.1 fault → TellNoSum old new fault
+not_added old new table other fault h m =
+    subst (λ v. TellNoSum v new fault) (sym h.4) (subst (λ v. TellNoSum (h.3 ∷ h.2 ∷ []) v fault) (sym h.5)
+    (inr (inr (table, other, record { told = h.6; other_told = h.7.0 }, m))))
