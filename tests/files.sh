@@ -1,8 +1,9 @@
 #!/bin/bash
-# Runs the program over files that are missing, that are directories, or that the output empties, into a closed pipe,
-# and on a terminal, and compares what it says, how it ends and what it leaves in the file of its output:
+# Runs the program over files that are missing, that are directories, or that it reads and writes, into a closed pipe, and
+# on a terminal, kills it while it writes, and compares what it prints, how it ends, and what is then in the file of its
+# output and beside it:
 #   tests/files.sh
-# No contract tells what a file holds, so this is seen here alone. It needs bin/kcount.
+# No contract says what a file contains, so this is seen here alone. It needs bin/kcount.
 set -euo pipefail
 here=$(cd "$(dirname "$0")" && pwd)
 kcount=$here/../bin/kcount
@@ -13,7 +14,8 @@ mkdir "$work/here" "$work/here/a-directory"
 cd "$work/here"
 
 # The files that each command line finds: two good sources and a bad one, a table of each good one, three that can't be
-# added to the first of these, and an output with an old text.
+# added to the first of these, and an output with an old text, or this one.
+before='old\n'
 set_up() {
     printf '>r1\nACGTA\n' > one.fa
     printf '@r2\nCCC\n+\nIII\n' > two.fq
@@ -23,21 +25,23 @@ set_up() {
     printf 'KCT 2 3 s a 33 1\nACG\nEND 1 1\n' > row.kct
     printf 'KCT 2 3 s a 35 1\nACG 1\nEND 1 1\n' > floor.kct
     printf 'KCT 2 3 s a 33 1\nACG 4611686018427387904\nEND 1 4611686018427387904\n' > most.kct
-    printf 'old\n' > out
+    printf "$before" > out
 }
 
 ran=0
 # Runs `kcount` with these arguments, and compares its status, its output, its errors and the file `out`, each of which
-# is written without the line feed at its end.
+# is written without the line feed at its end. No file may come or go.
 wants() {
-    local status=$1 output=$2 errors=$3 left=$4 got=0
+    local status=$1 output=$2 errors=$3 left=$4 got=0 files
     shift 4
     set_up
+    files=$(ls -A)
     "$kcount" "$@" > "$work/output" 2> "$work/errors" < one.fa || got=$?
     same "its status" "$status" "$got" "$@"
     same "its output" "$output" "$(cat "$work/output")" "$@"
     same "its errors" "$errors" "$(cat "$work/errors")" "$@"
     same "the file out" "$left" "$(cat out)" "$@"
+    same "the files" "$files" "$(ls -A)" "$@"
     ran=$((ran + 1))
 }
 same() {
@@ -90,26 +94,30 @@ wants 0 '' '' 'ACG 1' query -o out one.kct ACG
 wants 0 '' '' "$both" merge -o out two.kct one.kct
 wants 0 '' '' $'KCT 2 3 s o 33 2\nCCC 1\nEND 1 1' count -m 3 --only two.fq -o out one.fa two.fq
 wants 0 '' '' $'>r1\nACGTA' "${select[@]}" -o out one.kct one.fa two.fq
-# a fault of the work comes behind its creation
-wants 1 '' 'kcount: 2: bad base, source 1, line 2' '' "${count[@]}" -o out bad.fa
-wants 1 '' 'kcount: 2: bad base, source 0, line 2' '' "${count[@]}" --only bad.fa -o out one.fa
-wants 1 '' 'kcount: 41: bad header' '' dump -o out one.fa
-wants 1 '' 'kcount: 41: bad header' '' merge -o out one.kct one.fa
-wants 1 '' 'kcount: 42: bad row, line 2' '' merge -o out row.kct one.kct
-wants 1 '' 'kcount: 61: tables do not match' '' merge -o out one.kct floor.kct
-wants 1 '' 'kcount: 62: sums too large' '' merge -o out one.kct most.kct
-wants 1 '' 'kcount: 42: bad row, line 2' '' "${select[@]}" -o out row.kct one.fa
-wants 1 '' 'kcount: 2: bad base, source 2, line 2' $'>r1\nACGTA' "${select[@]}" -o out one.kct one.fa bad.fa
-# a file that is read and written is emptied before it is read
-wants 0 '' '' $'KCT 2 3 s a 33 0\nEND 0 0' count -m 3 -o out out
-wants 0 '' '' $'KCT 2 3 s o 33 1\nEND 0 0' count -m 3 --only out -o out one.fa
-wants 1 '' 'kcount: 41: bad header' '' dump -o out out
-wants 1 '' 'kcount: 41: bad header' '' merge -o out out one.kct
-wants 1 '' 'kcount: 41: bad header' '' merge -o out one.kct out
-wants 1 '' 'kcount: 41: bad header' '' "${select[@]}" -o out out one.fa
-wants 0 '' '' '' "${select[@]}" -o out one.kct out
+# after a fault of the work it is as it was
+wants 1 '' 'kcount: 2: bad base, source 1, line 2' old "${count[@]}" -o out bad.fa
+wants 1 '' 'kcount: 2: bad base, source 0, line 2' old "${count[@]}" --only bad.fa -o out one.fa
+wants 1 '' 'kcount: 41: bad header' old dump -o out one.fa
+wants 1 '' 'kcount: 41: bad header' old merge -o out one.kct one.fa
+wants 1 '' 'kcount: 42: bad row, line 2' old merge -o out row.kct one.kct
+wants 1 '' 'kcount: 61: tables do not match' old merge -o out one.kct floor.kct
+wants 1 '' 'kcount: 62: sums too large' old merge -o out one.kct most.kct
+wants 1 '' 'kcount: 42: bad row, line 2' old "${select[@]}" -o out row.kct one.fa
+wants 1 '' 'kcount: 2: bad base, source 2, line 2' old "${select[@]}" -o out one.kct one.fa bad.fa
+# a file that is read and written is read whole, and then has the text
+before='>r1\nACGTA\n'
+wants 0 '' '' "$table" count -m 3 -o out out
+wants 0 '' '' $'KCT 2 3 s o 33 1\nACG 1\nCGT 1\nGTA 1\nEND 3 3' count -m 3 --only out -o out one.fa
+wants 0 '' '' $'>r1\nACGTA' "${select[@]}" -o out one.kct out
+wants 1 '' 'kcount: 2: bad base, source 2, line 2' $'>r1\nACGTA' "${count[@]}" -o out out bad.fa
+before='KCT 2 3 s a 33 1\nACG 1\nCGT 1\nGTA 1\nEND 3 3\n'
+wants 0 '' '' "$one" dump -c -o out out
+wants 0 '' '' "$both" merge -o out out two.kct
+wants 0 '' '' "$both" merge -o out two.kct out
+wants 0 '' '' $'>r1\nACGTA' "${select[@]}" -o out out one.fa
+before='old\n'
 
-# a file that can't be opened is told, the first of several, before the file of the output is emptied
+# a file that can't be opened is told, the first of several, before the file of the output is opened
 wants 1 '' 'kcount: 54: cannot open missing' old "${count[@]}" missing
 wants 1 '' 'kcount: 54: cannot open missing' old "${count[@]}" -o out one.fa missing lost bad.fa
 wants 1 '' 'kcount: 54: cannot open missing' old stats -o out missing
@@ -136,9 +144,9 @@ wants 1 '' 'kcount: 54: cannot open no-such/out' old "${select[@]}" -o no-such/o
 wants 1 '' 'kcount: 54: cannot open missing' old merge -o no-such/out one.kct missing
 # a directory opens, and then can't be read
 wants 1 '' 'kcount: 7: read failed, source 1' old "${count[@]}" a-directory
-wants 1 '' 'kcount: 7: read failed, source 2' '' "${count[@]}" -o out one.fa a-directory
+wants 1 '' 'kcount: 7: read failed, source 2' old "${count[@]}" -o out one.fa a-directory
 wants 1 '' 'kcount: 7: read failed, source 0' old "${count[@]}" --only a-directory bad.fa
-wants 1 '' 'kcount: 7: read failed, source 0' '' "${count[@]}" --only a-directory -o out one.fa
+wants 1 '' 'kcount: 7: read failed, source 0' old "${count[@]}" --only a-directory -o out one.fa
 wants 1 '' 'kcount: 45: table read failed' old stats a-directory
 wants 1 '' 'kcount: 45: table read failed' old merge one.kct a-directory
 wants 1 '' 'kcount: 45: table read failed' old "${select[@]}" a-directory bad.fa
@@ -157,8 +165,137 @@ if [ -c /dev/full ]; then
     wants 1 '' 'kcount: 53: write failed' old merge -o /dev/full one.kct two.kct
     wants 1 '' 'kcount: 53: write failed' old "${select[@]}" -o /dev/full one.kct one.fa bad.fa
 fi
-# a pipe whose reader goes after one line, while far more is to be written than a pipe holds
+# An output that takes a beginning of the text: a limit of the size of files, and a full device beside FILE.
+wants_whole() {
+    local what=$1 got=0
+    shift
+    "$@" 2> "$work/errors" || got=$?
+    same "its status" 1 "$got" "$what"
+    same "its errors" 'kcount: 53: write failed' "$(cat "$work/errors")" "$what"
+    same "the file out" old "$(cat out)" "$what"
+    same "the files" "$files" "$(ls -A)" "$what"
+    ran=$((ran + 1))
+}
 awk 'BEGIN { srand(1); print ">r"; for (i = 0; i < 60000; i++) print substr("ACGT", int(rand() * 4) + 1, 1) }' > many.fa
+set_up
+files=$(ls -A)
+limited() { (trap '' XFSZ; ulimit -f 64; "$kcount" count -m 15 "$@"); }
+wants_whole "beyond the size of a file" limited -o out many.fa
+mkdir full
+if mount -t tmpfs -o size=64k tmpfs full 2> "$work/mount"; then
+    printf 'old\n' > full/out
+    (cd full; files=$(ls -A); wants_whole "on a full device" "$kcount" count -m 15 -o out ../many.fa)
+    umount full
+    ran=$((ran + 1))
+else
+    echo "files: a full device was not tried, since no tmpfs can be mounted here"
+fi
+rmdir full
+# A file that is not there before: empty after a refusal.
+got=0
+"$kcount" "${count[@]}" -o new bad.fa 2> "$work/errors" || got=$?
+same "its status" 1 "$got" "of a new file"
+same "the file new" '' "$(cat new)" "of a new file"
+"$kcount" "${count[@]}" -o new one.fa
+same "the file new" "$one" "$(cat new)" "of a new file"
+rm new
+same "the files" "$files" "$(ls -A)" "of a new file"
+ran=$((ran + 2))
+# Its permissions and a link to it are kept, and so is the text that another name has.
+set_up
+chmod 640 out
+ln -s ../here/out link
+ln out other
+"$kcount" "${count[@]}" -o link one.fa
+same "the link" ../here/out "$(readlink link)" "through a link"
+same "the file out" "$one" "$(cat out)" "through a link"
+same "its permissions" 640 "$(stat -c %a out)" "through a link"
+same "the other name" old "$(cat other)" "through a link"
+rm link other
+same "the files" "$files" "$(ls -A)" "through a link"
+chmod 644 out
+ran=$((ran + 1))
+# Names that are taken are passed over.
+set_up
+printf 'mine\n' > out.kcount-1
+"$kcount" "${count[@]}" -o out one.fa
+same "the file out" "$one" "$(cat out)" "beside a taken name"
+same "the taken name" mine "$(cat out.kcount-1)" "beside a taken name"
+rm out.kcount-1
+same "the files" "$files" "$(ls -A)" "beside a taken name"
+ran=$((ran + 1))
+# A folder that can't be written: the text can't be put in its place, even where FILE itself can be written.
+unprivileged=()
+[ "$(id -u)" != 0 ] || unprivileged=(setpriv --reuid=65534 --regid=65534 --clear-groups)
+chmod 755 "$work"
+mkdir "$work/locked"
+cp "$kcount" one.fa "$work/locked"
+printf 'old\n' > "$work/locked/out"
+chmod 666 "$work/locked/out"
+chmod 755 "$work/locked/kcount"
+chmod 644 "$work/locked/one.fa"
+chmod 555 "$work/locked"
+got=0
+(cd "$work/locked" && "${unprivileged[@]}" ./kcount "${count[@]}" -o out one.fa) 2> "$work/errors" || got=$?
+same "its status" 1 "$got" "in a folder that can't be written"
+same "its errors" 'kcount: 54: cannot open out' "$(cat "$work/errors")" "in a folder that can't be written"
+same "the file out" old "$(cat "$work/locked/out")" "in a folder that can't be written"
+chmod 755 "$work/locked"
+ran=$((ran + 1))
+# A device, a pipe and the output of the process itself are written straight, behind what is there.
+set_up
+wants 0 "$one" '' old "${count[@]}" -o /dev/stdout one.fa
+wants 0 '' '' old "${count[@]}" -o /dev/null one.fa
+printf 'old\n' > "$work/log"
+"$kcount" "${count[@]}" -o /dev/stdout one.fa >> "$work/log"
+same "the log" $'old\n'"$one" "$(cat "$work/log")" "behind a log"
+mkfifo pipe
+cat pipe > "$work/piped" &
+"$kcount" "${count[@]}" -o pipe one.fa
+wait $!
+same "what came through the pipe" "$one" "$(cat "$work/piped")" "into a pipe"
+rm pipe
+"$kcount" "${count[@]}" -o >(cat > "$work/piped-2") one.fa
+for _ in $(seq 50); do [ "$(cat "$work/piped-2")" != "$one" ] || break; sleep 0.1; done
+same "what came through the process" "$one" "$(cat "$work/piped-2")" "into a process"
+ran=$((ran + 3))
+# In shared memory files are files.
+if [ -d /dev/shm ] && shared=$(mktemp -d -p /dev/shm); then
+    printf 'a longer old text\n%.0s' 1 2 3 > "$shared/out"
+    "$kcount" "${count[@]}" -o "$shared/out" one.fa
+    same "the file out" "$one" "$(cat "$shared/out")" "in shared memory"
+    rm -r "$shared"
+    ran=$((ran + 1))
+fi
+
+# Killed at a moment of its writing: FILE has the old text, or the whole new one.
+awk 'BEGIN { srand(2); print ">r"; for (i = 0; i < 800000; i++) printf "%s", substr("ACGT", int(rand() * 4) + 1, 1); print "" }' > long.fa
+for _ in 1 2 3 4 5 6 7 8; do cat long.fa; done > reads.fa
+"$kcount" count -m 21 -o long.kct long.fa
+killed() {
+    local took at
+    "$kcount" "$@" > "$work/whole"
+    took=$({ TIMEFORMAT=%R; time "$kcount" "$@" -o out; } 2>&1)
+    cmp -s out "$work/whole" || { echo "files: the text of kcount $* is not the same in a file"; exit 1; }
+    for _ in $(seq 20); do
+        printf 'old\n' > out
+        at=$(awk -v took="$took" -v seed="$RANDOM" 'BEGIN { srand(seed); print took * rand() }')
+        "$kcount" "$@" -o out &
+        sleep "$at"
+        kill -9 $! 2> /dev/null || true
+        wait $! 2> /dev/null || true
+        cmp -s out "$work/whole" || same "the file out" old "$(head -c 100 out)" "$@, killed after $at s"
+        rm -f out.kcount-*
+    done
+    ran=$((ran + 21))
+}
+RANDOM=1
+killed dump -c long.kct
+killed merge long.kct long.kct
+killed "${select[@]}" long.kct reads.fa
+rm long.fa reads.fa long.kct
+
+# a pipe whose reader goes after one line, while far more is to be written than a pipe holds
 set +o pipefail
 { "$kcount" count -m 15 --print dump --column many.fa 2> "$work/errors" || echo $? > "$work/status"; } | head -n 1 > "$work/output"
 set -o pipefail
@@ -192,4 +329,4 @@ if script -qec true /dev/null < /dev/null > "$work/script" 2>&1; then
 else
     echo "files: what a terminal is shown was not tried, since script (of util-linux) is missing or gets no terminal"
 fi
-echo "files: $ran command lines said what they should, and left what they should in the file of the output"
+echo "files: $ran command lines printed what they should, and left what they should in the file of the output"

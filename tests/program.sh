@@ -438,7 +438,7 @@ printf '>r\nACG\n>s\nA@C\n' > bad.fa
 written_before '2: bad base, source 2, line 4' $'@p\nCGT\n+\nIII\n>r\nACG\n' '' reads.fq bad.fa a-directory
 written_before '7: read failed, source 2' $'@p\nCGT\n+\nIII\n' '' reads.fq a-directory bad.fa
 wants 1 '' $'kcount: 2: bad base, source 1, line 4\n' '' kcount select -o out two.kct bad.fa
-same "the file out" $'>r\nACG\n' out "a selection with a fault"
+same "the file out" '' out "a selection with a fault"
 # no option stands for several of its values
 fault 2 '51: bad option --min-count' "$reads" kcount select --min-share 101 --min-count x missing
 fault 2 '51: bad option --min-share' "$reads" kcount select --min-qual-char 10 --min-share 1k missing

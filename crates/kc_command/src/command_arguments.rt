@@ -81,7 +81,7 @@ pub(crate) fn output<'a>(alloc: Global) -> Arg<'a>
     ensures rule { rule_of result ≡ output_option }
     ensures own { result.global ≡ false }
 {
-    let help = "Write to this file, which is emptied first, and not to standard output";
+    let help = "Write to this file and not to standard output";
     with_short(value_option(alloc, "output", "FILE", help), 'o')
 }
 

@@ -9,10 +9,11 @@ use Rattle.kc_io.specs.History.{no_history}
 use Rattle.kc_io.specs.Sinks.{Written}
 use Rattle.kc_io.specs.Sources.{Seen}
 use Rattle.kc_tool.specs.Tallies.{TableSeen}
-use Rattle.kc_tool.specs.FileEvents.{FileEvent, created, not_created, opened, wrote}
+use Rattle.kc_tool.specs.FileEvents.{FileEvent, opened}
 use Rattle.kc_tool.specs.NamedSources.{names_of, seen_of}
-use Rattle.kc_tool.specs.Files.{AreOf, AreOpened, FailsToOpen, FileRead, LacksFile, OpensAll, TellsName}
-use Rattle.kc_tool.specs.Files.{files_named, given_back, openings, output_of, returned, unread}
+use Rattle.kc_tool.specs.Files.{AreOf, AreOpened, FailsToOpen, FileRead, HasNoOutput, LacksFile, OpensAll, TellsName}
+use Rattle.kc_tool.specs.Files.{files_named, given_back, openings, output_of, returned, tried_alone, unread}
+use Rattle.kc_tool.specs.Outputs.{ClosesOutput, OpensOutput}
 use Rattle.kc_tool.specs.Commands.{DoesByTally, HasFaultFor, HasNoAnswer, HasNoTallyFor, IsAboutTally, IsAnswer, Stage, untold}
 use Rattle.kc_tool.specs.Selections.{Told}
 use Rattle.kc_tool.specs.Commands.{Answers, Does, HasFilesFor, IsTallyFor, behind_list, given_of, sources_in}
@@ -275,7 +276,7 @@ module _ (command : Verb) (rows : List Row) where
       → TellsName name fault → IsRefused command rows asked fault
   told_so name asked (OpenFailed told) lawful lacks tells =
       (lawful, subst (λ v. LacksFile (files_of command rows) (output_of rows) v asked) (sym tells) lacks)
-  told_so name asked Memory lawful lacks tells = inr (name, lacks)
+  told_so name asked Memory lawful lacks tells = inr (inl (name, lacks))
   told_so name asked (Fastx number fault) lawful lacks tells = absurd tells
   told_so name asked BadHeader lawful lacks tells = absurd tells
   told_so name asked (BadRow line) lawful lacks tells = absurd tells
@@ -288,6 +289,14 @@ module _ (command : Verb) (rows : List Row) where
   told_so name asked (Run fault) lawful lacks tells = absurd tells
   told_so name asked Unlike lawful lacks tells = absurd tells
   told_so name asked TooLarge lawful lacks tells = absurd tells
+
+  -- There is no file for a text that is to go to the one of this name.
+  no_output : {name : Text} (tried : List FileEvent) (fault : ToolFault) → output_of rows ≡ Some name → first_refused command rows ≡ None
+      → HasNoOutput name tried fault → IsRefused command rows (tried_alone (files_of command rows) tried) fault
+  no_output {name} tried fault named lawful (inl tells) =
+      told_so name (tried_alone (files_of command rows) tried) fault lawful (inr (named, (tried, tells.1, refl))) tells.0
+  no_output {name} tried fault named lawful (inr lacks) =
+      subst (λ fault. IsRefused command rows (tried_alone (files_of command rows) tried) fault) (sym lacks.0) (inr (inr (name, named, (tried, lacks.1, refl))))
 
   -- A file that is to be read can't be opened.
   pub file_left : {old : Surroundings} {log : List FileEvent} {outcome : Result Told ToolFault} (fault : ToolFault) → outcome ≡ Err fault
@@ -335,7 +344,7 @@ module _ (command : Verb) (rows : List Row) where
       opened = opened_files opens does.files does.are;
       input = does.input;
       done = rw named (
-        does.log ∙ ap (λ v. v ++ returned does.files) (opening_log opens does.files does.are) ∙ append_assoc old.asked (openings does.files) (returned does.files),
+        does.log ∙ ap (λ v. v ++ returned does.files) (opening_log opens does.files does.are),
         does.done,
       );
     })
@@ -345,44 +354,39 @@ module _ (command : Verb) (rows : List Row) where
         → DoesTaskInto name sources task old.input input mid log outcome
         → EndsSo command rows old (record { input = input; output = old.output; asked = log }) outcome
     to_file {name} {input} {log} named does =
-        let files = does.files in
-        let file = does.file in
-        let given = returned files in
-        let end = wrote name file.after.history ∷ [] in
         inl (record {
           task = task;
           asks = asks;
-          files = files;
-          opened = opened_files opens files does.are;
+          files = does.files;
+          opened = opened_files opens does.files does.are;
           input = does.input_kept;
           done = rw named (
             refl,
-            file,
-            does.is_created,
-            does.log ∙ ap (λ v. (v ++ created name ∷ given) ++ end) (opening_log opens files does.are)
-                ∙ ap (λ v. v ++ end) (append_assoc old.asked (openings files) (created name ∷ given))
-                ∙ append_assoc old.asked (openings files ++ created name ∷ given) end
-                ∙ ap (λ (v : Text). old.asked ++ ((openings files ++ created v ∷ given) ++ wrote v file.after.history ∷ [])) (sym does.is_created.named),
-            does.done,
+            (
+              does.there,
+              does.log ∙ ap (λ v. v ++ does.there) (opening_log opens does.files does.are),
+              does.writes,
+            ),
           );
         })
 
-    -- That file can't be created.
+    -- There is no file for its text.
     pub output_left : {name : Text} {input : Seen} {log : List FileEvent} → output_of rows ≡ Some name → first_refused command rows ≡ None
         → LacksOutput name sources old.input input mid log outcome
         → EndsSo command rows old (record { input = input; output = old.output; asked = log }) outcome
     output_left {name} {input} {log} named lawful lacks =
         let names = files_of command rows in
-        let asked = map opened names ++ not_created name ∷ unread names in
         let back : given_back sources ≡ unread names = unread_back sources opens.fresh ∙ ap unread opens.named in
         inr (record {
           fault = lacks.fault;
           is = lacks.is;
           unread = lacks.unread;
           unwritten = refl;
-          asked = asked;
-          log = lacks.log ∙ ap₂ (λ v w. v ++ not_created name ∷ w) opens.log back ∙ append_assoc old.asked (map opened names) (not_created name ∷ unread names);
-          refused = told_so name asked lacks.fault lawful (inr (named, refl)) lacks.told;
+          asked = tried_alone names lacks.tried;
+          log = lacks.log ∙ ap₂ (λ v w. v ++ lacks.tried ++ w) opens.log back
+              ∙ ap (λ v. v ++ unread names) (append_assoc old.asked (map opened names) lacks.tried)
+              ∙ append_assoc old.asked (map opened names ++ lacks.tried) (unread names);
+          refused = no_output lacks.tried lacks.fault named lawful lacks.why;
         })
 
     -- The file that is named for the output has it, or can't be created.
@@ -422,33 +426,44 @@ something_named names n not counted none =
     let same : (n == 0) ≡ true = rw zero refl in
     cc
 
--- A task was done with a file that was created for it.
-pub done_into : {sources : List (NamedSource Seen)} {task : Task} {input input_after : Seen} {asked mid back asked_after : List FileEvent} {name told : Text}
-    {before after : Written} {outcome : Result Told ToolFault} → mid ≡ asked ++ created name ∷ [] → before.history ≡ no_history → told ≡ name
-    → DoesTask sources task (record { input = input; output = before; asked = mid }) (record { input = input_after; output = after; asked = back }) outcome
-    → asked_after ≡ back ++ wrote told after.history ∷ [] → DoesTaskInto name sources task input input_after asked asked_after outcome
-done_into {sources} {task} {input} {input_after} {asked} {mid} {back} {asked_after} {name} {told} {before} {after} {outcome} creates fresh same does gone =
+-- A task was done, and its text went to the file of this name.
+pub done_into : {sources : List (NamedSource Seen)} {task : Task} {input input_after : Seen} {asked mid back asked_after : List FileEvent} (opening closing : List FileEvent) {file : Text} (name : Text)
+    (path : Option Text) {before after : Written} {work outcome : Result Told ToolFault} → mid ≡ asked ++ opening → OpensOutput file name path opening → before.history ≡ no_history
+    → DoesTask sources task (record { input = input; output = before; asked = mid }) (record { input = input_after; output = after; asked = back }) work
+    → asked_after ≡ back ++ closing → ClosesOutput name path after.history work outcome closing → DoesTaskInto file sources task input input_after asked asked_after outcome
+done_into {sources} {task} {input} {input_after} {asked} {mid} {back} {asked_after} opening closing {file} name path {before} {after} {work} {outcome}
+    opens goes fresh does closes closed =
     let given = returned does.files in
-    let end = wrote name after.history ∷ [] in
     record {
       files = does.files;
       are = does.are;
       input_kept = does.input;
-      file = record { name = name; before = before; after = after };
-      is_created = record { named = refl; fresh = fresh };
-      log = gone ∙ ap (λ (v : Text). back ++ wrote v after.history ∷ []) same
-          ∙ ap (λ v. v ++ end) (does.log ∙ ap (λ v. v ++ given) creates ∙ append_assoc asked (created name ∷ []) given);
-      done = does.done;
+      there = opening ++ given ++ closing;
+      writes = record {
+        file = record { name = name; before = before; after = after };
+        fresh = fresh;
+        path = path;
+        opening = opening;
+        opened = goes;
+        work = work;
+        done = does.done;
+        closing = closing;
+        closed = closed;
+        log = refl;
+      };
+      log = closes ∙ ap (λ v. v ++ closing) (does.log ∙ ap (λ v. v ++ given) opens ∙ append_assoc asked opening given)
+          ∙ append_assoc asked (opening ++ given) closing;
     }
 
--- The file for the output could not be created.
-pub not_into : {sources : List (NamedSource Seen)} {input : Seen} {asked mid asked_after : List FileEvent} {name : Text} (fault : ToolFault)
-    → mid ≡ asked ++ not_created name ∷ [] → asked_after ≡ mid ++ given_back sources → TellsName name fault
+-- There is no file for its text.
+pub not_into : {sources : List (NamedSource Seen)} {input : Seen} {asked mid asked_after tried : List FileEvent} {name : Text} (fault : ToolFault)
+    → mid ≡ asked ++ tried → HasNoOutput name tried fault → asked_after ≡ mid ++ given_back sources
     → LacksOutput name sources input input asked asked_after (Err fault)
-not_into {sources} {input} {asked} {mid} {asked_after} {name} fault lacks back told = record {
+not_into {sources} {input} {asked} {mid} {asked_after} {tried} fault opens why back = record {
   fault = fault;
   is = refl;
-  told = told;
   unread = refl;
-  log = back ∙ ap (λ v. v ++ given_back sources) lacks ∙ append_assoc asked (not_created name ∷ []) (given_back sources);
+  tried = tried;
+  why = why;
+  log = back ∙ ap (λ v. v ++ given_back sources) opens;
 }

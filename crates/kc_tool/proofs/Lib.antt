@@ -2,10 +2,12 @@ pub mod CleaningLemmas
 pub mod CommandLineLemmas
 pub mod CommandsLemmas
 pub mod FaultLinesLemmas
+pub mod FileSystemLemmas
 pub mod FilesLemmas
 pub mod GivenLemmas
 pub mod InputsLemmas
 pub mod MergedReportsLemmas
+pub mod OutputLemmas
 pub mod PlaceLemmas
 pub mod ReadCountLemmas
 pub mod ReportsLemmas

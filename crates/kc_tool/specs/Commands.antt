@@ -5,6 +5,7 @@ use Rattle.std.specs.Prelude.{map, length, take, drop}
 use Rattle.std.specs.Prelude.{Result, Ok, Err, if◌then◌else◌, codes, string_bytes, unwrap_or, ⊤}
 use Rattle.std.specs.Str.{bytes_eq}
 use Rattle.clap.specs.Words.{Row, Text, first_of}
+use Rattle.kc_io.specs.History.{no_history}
 use Rattle.kc_io.specs.Sinks.{Written, HasWritten, HasBegun}
 use Rattle.kc_io.specs.Sources.{Seen}
 use Rattle.kc_report.specs.declared.report_faults.ReportFault.{ReportFault}
@@ -21,11 +22,10 @@ use Rattle.kc_tool.specs.Selections.{SelectsFrom, Told}
 use Rattle.kc_command.specs.declared.option_name.OptionName.{OptionName}
 use Rattle.kc_command.specs.declared.settings.Print.TheVariants as print
 use Rattle.kc_tool.specs.Faults.{report_fault}
-use Rattle.kc_tool.specs.FileEvents.{FileEvent, created, not_created, wrote}
-use Rattle.kc_tool.specs.Files.{AreOf, AreOpened, FileRead, FileWritten, IsCreated, LacksFile}
-use Rattle.kc_tool.specs.Files.{TellsName}
-use Rattle.kc_tool.specs.Files.{files_named, given_back, log_with_output, log_without_output, output_of, returned}
-use Rattle.kc_tool.specs.Files.{words_asked}
+use Rattle.kc_tool.specs.FileEvents.{FileEvent}
+use Rattle.kc_tool.specs.Files.{AreOf, AreOpened, FileRead, FileWritten, HasNoOutput, LacksFile, LacksRoom}
+use Rattle.kc_tool.specs.Files.{files_named, given_back, openings, output_of, returned, words_asked}
+use Rattle.kc_tool.specs.Outputs.{ClosesOutput, OpensOutput}
 use Rattle.kc_tool.specs.declared.named_sources.NamedSource.{NamedSource}
 use Rattle.kc_tool.specs.Reports.{IsWritable, report_of, report_text}
 use Rattle.kc_tally.specs.Tally.{TallySeen}
@@ -314,38 +314,52 @@ pub record Surroundings : Type 0 where
   pub output : Written
   pub asked : List FileEvent
 
--- a task is done with sources that were opened, and it writes to a file of this name, which is created before; all are
--- given back
+-- a task is done with these files, and its text goes to the file of this name. The file that it is written to is opened
+-- before anything is read, and it is closed when the sources are
+pub record WritesTo (name : Text) (task : Task) (input input_after : Seen) (files : List FileRead)
+    (asked : List FileEvent) (outcome : Result Told ToolFault) : Type 0 where
+  pub file : FileWritten
+  pub fresh : file.before.history ≡ no_history
+  pub path : Option Text
+  pub opening : List FileEvent
+  pub opened : OpensOutput name file.name path opening
+  pub work : Result Told ToolFault
+  pub done : Does task (stage_before task input files file.before) (stage_after task input_after files file.after) work
+  pub closing : List FileEvent
+  pub closed : ClosesOutput file.name path file.after.history work outcome closing
+  pub log : asked ≡ opening ++ returned files ++ closing
+
+-- a task is done with sources that were opened, and its text goes to the file of this name
 pub record DoesTaskInto (name : Text) (sources : List (NamedSource Seen)) (task : Task) (input input_after : Seen)
     (asked asked_after : List FileEvent) (outcome : Result Told ToolFault) : Type 0 where
   pub files : List FileRead
   pub are : AreOf sources files
   pub input_kept : KeepsInput (sources_in task (map (λ file. file.before) files)) input input_after
-  pub file : FileWritten
-  pub is_created : IsCreated name file
-  pub log : asked_after ≡ asked ++ created name ∷ returned files ++ wrote name file.after.history ∷ []
-  pub done : Does task (stage_before task input files file.before) (stage_after task input_after files file.after)
-      outcome
+  pub there : List FileEvent
+  pub writes : WritesTo name task input input_after files there outcome
+  pub log : asked_after ≡ asked ++ there
 
--- the file of this name can't be created, which is told, and the sources are given back as they were
+-- there is no file for a text that is to go to the one of this name, which is told, and the sources are given back as
+-- they were
 pub record LacksOutput (name : Text) (sources : List (NamedSource Seen)) (input input_after : Seen)
     (asked asked_after : List FileEvent) (outcome : Result Told ToolFault) : Type 0 where
   pub fault : ToolFault
   pub is : outcome ≡ Err fault
-  pub told : TellsName name fault
   pub unread : input_after ≡ input
-  pub log : asked_after ≡ asked ++ not_created name ∷ given_back sources
+  pub tried : List FileEvent
+  pub why : HasNoOutput name tried fault
+  pub log : asked_after ≡ asked ++ tried ++ given_back sources
 
 -- a task is done with these files, which were opened for it, or with the given input where there are none. It writes to
--- the given output; or, where a file is named for the output, to that file, which was created behind the opening, and
--- the given output is as it was. That is all that is asked of files
+-- the given output; or, where a file is named for the output, its text goes to that, and the given output is as it was.
+-- That is all that is asked of files
 abbrev pub DoesWith : Option Text → Task → Surroundings → Surroundings → List FileRead → Result Told ToolFault
     → Type 0
-DoesWith None task old new files outcome = (new.asked ≡ old.asked ++ log_without_output files)
+DoesWith None task old new files outcome = (new.asked ≡ old.asked ++ openings files ++ returned files)
     × Does task (stage_before task old.input files old.output) (stage_after task new.input files new.output) outcome
 DoesWith (Some name) task old new files outcome = (new.output ≡ old.output)
-    × (file : FileWritten) × IsCreated name file × (new.asked ≡ old.asked ++ log_with_output files file)
-    × Does task (stage_before task old.input files file.before) (stage_after task new.input files file.after) outcome
+    × ((there : List FileEvent) × (new.asked ≡ old.asked ++ openings files ++ there)
+    × WritesTo name task old.input new.input files there outcome)
 
 -- a command comes to its task, with its files, and this is the outcome
 pub record ComesToTask (command : Verb) (rows : List Row) (old new : Surroundings)
@@ -369,8 +383,9 @@ abbrev pub IsRefused : Verb → List Row → List FileEvent → ToolFault → Ty
 IsRefused command rows asked (BadOption name) = (first_refused command rows ≡ Some name) × (asked ≡ [])
 IsRefused command rows asked (OpenFailed name) = (first_refused command rows ≡ None)
     × LacksFile (files_of command rows) (output_of rows) (string_bytes name) asked
-IsRefused command rows asked Memory =
-    (asked ≡ []) ⊎ ((name : Text) × LacksFile (files_of command rows) (output_of rows) name asked)
+IsRefused command rows asked Memory = (asked ≡ [])
+    ⊎ ((name : Text) × LacksFile (files_of command rows) (output_of rows) name asked)
+    ⊎ LacksRoom (files_of command rows) (output_of rows) asked
 IsRefused command rows asked fault = ⊥
 
 -- a command does not come to its task: nothing was read, and nothing written

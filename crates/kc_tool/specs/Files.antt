@@ -5,8 +5,9 @@ use Rattle.clap.specs.Words.{Row, Text, all_of, first_of}
 use Rattle.kc_io.specs.History.{no_history}
 use Rattle.kc_io.specs.Sinks.{Written}
 use Rattle.kc_io.specs.Sources.{Seen}
-use Rattle.kc_tool.specs.FileEvents.{FileEvent, created, not_created, not_opened, opened, read, wrote}
+use Rattle.kc_tool.specs.FileEvents.{FileEvent, not_opened, opened, read}
 use Rattle.kc_tool.specs.NamedSources.{names_of, seen_of}
+use Rattle.kc_tool.specs.Outputs.{LacksRoomForOutput, MakesNoneBeside, OpensNoOutput, StopsBeside}
 use Rattle.kc_tool.specs.declared.named_sources.NamedSource.{NamedSource}
 use Rattle.kc_tool.specs.declared.tool_faults.ToolFault.{ToolFault}
 use Rattle.kc_tool.specs.declared.tool_faults.ToolFault.TheVariants.{Memory, OpenFailed}
@@ -29,7 +30,7 @@ pub record FileRead : Type 0 where
   pub before : Seen
   pub after : Seen
 
--- a file that a command writes: what is seen of it when it is created, and when it is given back
+-- a file that a command writes: what is seen of it when it is opened, and when it is closed
 pub record FileWritten : Type 0 where
   pub name : Text
   pub before : Written
@@ -40,25 +41,13 @@ pub record AreOpened (names : List Text) (files : List FileRead) : Type 0 where
   pub named : map (λ file. file.name) files ≡ names
   pub fresh : All (λ seen. seen.history ≡ no_history) (map (λ file. file.before) files)
 
--- the file was created under this name, and nothing was asked of it before
-pub record IsCreated (name : Text) (file : FileWritten) : Type 0 where
-  pub named : file.name ≡ name
-  pub fresh : file.before.history ≡ no_history
-
--- what is asked of the files of a command: all that it reads are opened, in order, then the one that it writes is
--- created, and at the end each is given back, as it is then
+-- what is asked of the files that a command reads: all are opened, in order, and at the end each is closed, as it is
+-- then
 abbrev pub openings : List FileRead → List FileEvent
 openings files = map opened (map (λ file. file.name) files)
 
 abbrev pub returned : List FileRead → List FileEvent
 returned files = map (λ file. read file.name file.after.history) files
-
-abbrev pub log_without_output : List FileRead → List FileEvent
-log_without_output files = openings files ++ returned files
-
-abbrev pub log_with_output : List FileRead → FileWritten → List FileEvent
-log_with_output files file =
-    openings files ++ created file.name ∷ returned files ++ wrote file.name file.after.history ∷ []
 
 -- these are the files of sources that were opened
 pub record AreOf (sources : List (NamedSource Seen)) (files : List FileRead) : Type 0 where
@@ -81,21 +70,35 @@ pub record OpensNotAll (names : List Text) (name : Text) (asked : List FileEvent
   pub split : names ≡ before ++ name ∷ behind
   pub log : asked ≡ map opened before ++ not_opened name ∷ unread before
 
--- all files were opened, in order, that of this name, for the output, couldn't be created, and those that were opened
--- are given back unread
-abbrev pub CreatesNot : List Text → Text → List FileEvent → Type 0
-CreatesNot names name asked = asked ≡ map opened names ++ not_created name ∷ unread names
+-- all files were opened, in order, this was tried for the output, and those that were opened are given back unread
+abbrev pub tried_alone : List Text → List FileEvent → List FileEvent
+tried_alone names tried = map opened names ++ tried ++ unread names
 
--- a file that is to be read or written could not be opened or created
+-- a file that is to be read could not be opened, or there is no file for the text that is to go to this one
 abbrev pub LacksFile : List Text → Option Text → Text → List FileEvent → Type 0
-LacksFile names output name asked =
-    OpensNotAll names name asked ⊎ ((output ≡ Some name) × CreatesNot names name asked)
+LacksFile names output name asked = OpensNotAll names name asked ⊎ ((output ≡ Some name)
+    × ((tried : List FileEvent) × OpensNoOutput name tried × (asked ≡ tried_alone names tried)))
+
+-- memory was refused while the file for a text was sought
+abbrev pub LacksRoom : List Text → Option Text → List FileEvent → Type 0
+LacksRoom names output asked = (name : Text) × (output ≡ Some name)
+    × ((tried : List FileEvent) × LacksRoomForOutput name tried × (asked ≡ tried_alone names tried))
 
 -- how it is told that a file of this name is not opened or created; or memory was refused for the telling
 abbrev pub TellsName : Text → ToolFault → Type 0
 TellsName name (OpenFailed told) = string_bytes told ≡ name
 TellsName name Memory = ⊤
 TellsName name _ = ⊥
+
+-- why there is no new file beside this path, for a text that is to go to the file of this name
+abbrev pub FailsBeside : Text → Text → List FileEvent → ToolFault → Type 0
+FailsBeside name path asked fault = (TellsName name fault × MakesNoneBeside path asked)
+    ⊎ ((fault ≡ Memory) × StopsBeside path asked)
+
+-- why there is no file for a text that is to go to this one, and what was tried before that was told
+abbrev pub HasNoOutput : Text → List FileEvent → ToolFault → Type 0
+HasNoOutput name tried fault = (TellsName name fault × OpensNoOutput name tried)
+    ⊎ ((fault ≡ Memory) × LacksRoomForOutput name tried)
 
 -- all files were opened, in order: these are their sources, of which nothing was asked yet
 pub record OpensAll (names : List Text) (old new : List FileEvent) (sources : List (NamedSource Seen)) : Type 0 where

@@ -4,10 +4,12 @@ pub mod CountedTallies
 pub mod FaultLines
 pub mod Faults
 pub mod FileEvents
+pub mod FileSystem
 pub mod Files
 pub mod GivenSources
 pub mod MergedReports
 pub mod NamedSources
+pub mod Outputs
 pub mod Process
 pub mod Progress
 pub mod Reports

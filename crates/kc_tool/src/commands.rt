@@ -31,10 +31,11 @@ ghost use Rattle.kc_tool.specs.Tallies.{given};
 
 use crate::count_progress::Progress;
 use crate::counted_sources::Means;
-use crate::files::{FileSource, NamedFiles, open_failed, open_files, take_sources};
+use crate::files::{FileSource, NamedFiles, open_files, take_sources};
 use crate::given_options::{dump_options, high_of, options, select_options};
 use crate::given_sources::GivenSources;
 use crate::named_sources::NamedSource;
+use crate::outputs::{close_output, open_output};
 use crate::reports::{Crew, Report, report_given, write_report};
 use crate::selected_sources::select_given;
 use crate::task_tallies::{report_listed, sum_of, table_from, table_of};
@@ -107,14 +108,16 @@ pub(crate) enum Task {
 }
 
 /// Runs a command with its options: opens its files, takes the tally that it is about, and writes its answer. Files are
-/// opened in order before anything is read, the file for the output is created, or emptied, behind them, and at the end
-/// all are given back. How far a count has come is told. It answers what is to be told of a selection.
+/// opened in order before anything is read, the file for the output behind them, and at the end all are closed. A text
+/// takes the place of the file that is named for it once it is whole. How far a count has come is told. It answers what
+/// is to be told of a selection.
 ///
 /// # Errors
 /// `BadOption` with the first option whose value is outside its limits, before any file is asked for. `OpenFailed` with
-/// the first file that can't be opened, or with that of the output where it can't be created; nothing was read then.
-/// The fault of the sources or of the words. After all these nothing was written. `Write` where the writer failed or
-/// took no byte; a beginning of the text was written.
+/// the first file that can't be opened, or with that of the output where no text can be put in its place; nothing was
+/// read then. The fault of the sources or of the words. After all these nothing was written. `Write` where the writer
+/// failed or took no byte, or where the text can't be put in the place of the file. The given output has a beginning of
+/// the text then, and a file for the output is as it was.
 pub(crate) fn run_command<
     H: Threads + Wait + Sync,
     S: Files,
@@ -148,8 +151,8 @@ pub(crate) fn run_command<
 }
 
 // Does a task with files that were opened, or with the given input where no source is a file, and gives the files back.
-// It writes to the file of this name, which is created before anything is read, and given back at the end. Conditions:
-// the task has such files as it is to have, and a histogram is for counts up to 1 to 10,000,000.
+// Its text goes to the file of this name. Conditions: the task has such files as it is to have, and a histogram is for
+// counts up to 1 to 10,000,000.
 fn answer_into<H: Threads + Wait + Sync, S: Files, R: Source, P: Progress + Sync>(
     means: &Means<'_, H, P>,
     task: &Task,
@@ -165,15 +168,17 @@ fn answer_into<H: Threads + Wait + Sync, S: Files, R: Source, P: Progress + Sync
         ⊎ LacksOutput name.now sources.entry.items (R.seen input.old) (R.seen input.new) files.old files.new result }
 {
     let mut sources = sources;
-    let Some(mut file) = files.create(name) else {
-        take_sources(files, sources);
-        return Err(open_failed(means.alloc, name));
+    let mut output = match open_output(means.alloc, files, name) {
+        Ok(output) => output,
+        Err(fault) => {
+            take_sources(files, sources);
+            return Err(fault);
+        }
     };
-    let sink = &mut file.sink;
-    let outcome = answer(means, task, &mut sources, input, sink);
+    let sink = &mut output.file.sink;
+    let work = answer(means, task, &mut sources, input, sink);
     take_sources(files, sources);
-    files.take_sink(file);
-    outcome
+    close_output(files, output, work)
 }
 
 // Does a task with its files, which keep their names: it takes what the task is about, and writes its answer. How far a

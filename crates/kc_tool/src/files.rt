@@ -1,21 +1,28 @@
 //! The files that a command line names.
 //!
-//! What stands in a file no contract tells. So `NamedFiles::open` and `NamedFiles::create` are to be read by eye: one
-//! call of std each, with the name that the log and the answer keep. Nothing else can open a file.
-ghost use Rattle.std.specs.Prelude.{◌≡◌, List, [], ◌∷◌, ◌++◌, IfErr, IfOk, IfSome, MatchOption, map};
+//! No contract says what a file contains, or what the system does. So what is here of a runtime is to be read by eye:
+//! each method of `NamedFiles` makes one call, with the name that the log keeps, and nothing else asks anything of
+//! files.
+ghost use Rattle.std.specs.Prelude.{◌≡◌, List, [], ◌∷◌, ◌++◌, IfErr, IfOk, IfSome, MatchOption, map, string_bytes};
+ghost use Rattle.std.specs.Prelude.{if◌then◌else◌};
 ghost use Rattle.kc_io.specs.History.{no_history};
-ghost use Rattle.kc_tool.specs.FileEvents.{FileEvent, created, event, not_created, not_opened, opened, read, wrote};
+ghost use Rattle.kc_tool.specs.FileEvents.{FileEvent, event, followed, made, not_created, not_followed};
+ghost use Rattle.kc_tool.specs.FileEvents.{not_made, not_opened, not_removed, not_renamed, opened, opened_to_write};
+ghost use Rattle.kc_tool.specs.FileEvents.{read, removed, renamed, wrote};
 ghost use Rattle.kc_tool.specs.Files.{FailsToOpen, OpensAll, TellsName, given_back};
+ghost use Rattle.kc_tool.specs.Outputs.{KeepsText, MakesAnew};
 
 use crate::file_acts::FileAct;
 use crate::named_sources::NamedSource;
 use crate::tool_faults::ToolFault;
 use kc_io::{Failed, FromRead, Heard, Sink, Source, ToWrite};
 use std::alloc::Global;
-use std::fs;
-use std::io::{Read, Write};
+use std::fs::{OpenFile, OpenOptions, Permissions};
+use std::io::{ErrorKind, Read, Write};
 use std::marker::Model;
+use std::os::unix::fs::{OpenOptionsExt, PermissionsExt};
 use std::rt::Files;
+use std::{fs, io};
 
 /// A file that is read.
 #[derive(Drop)]
@@ -44,11 +51,28 @@ impl<F: Read> Source for FileSource<F> {
 
 /// A file that is written, with its name.
 #[derive(Drop)]
-pub(crate) struct NamedSink<'a, F: Write> {
-    /// The name.
-    pub name: &'a str,
+pub(crate) struct NamedSink<F: Write> {
+    name: String,
     /// The file.
     pub sink: FileSink<F>,
+}
+
+/// A file that was opened to be written, as it was.
+#[derive(Drop)]
+pub(crate) struct OpenedSink<F: Write> {
+    /// The file, with its name.
+    pub file: NamedSink<F>,
+    /// Its permissions, where it is a regular file.
+    pub permissions: Option<Permissions>,
+}
+
+/// Why a new file was not made.
+#[derive(Clone, Copy, Debug, PartialEq, Eq)]
+pub(crate) enum NotMade {
+    /// There is a file of its name.
+    Taken,
+    /// It could not be made.
+    Refused,
 }
 
 /// A file that is written.
@@ -107,11 +131,19 @@ impl FileLog {
         FileLog {}
     }
 
-    /// The log, and behind it that `act` was done with the file `name`, whose history is `heard` when it is given back.
-    pub fn and(&self, act: &FileAct, name: &[u8], heard: &Heard) -> FileLog
-        ensures { result.events ≡ self.now.events ++ event act.now name.now heard.now.history ∷ [] }
+    /// The log, and behind it that `act` was done with the file `name`, and with `other` where it is about two paths.
+    /// `heard` is what the file has given or taken when it is closed.
+    pub fn and(&self, act: &FileAct, name: &[u8], other: &[u8], heard: &Heard) -> FileLog
+        ensures { result.events ≡ self.now.events ++ event act.now name.now other.now heard.now.history ∷ [] }
     {
         FileLog {}
+    }
+
+    /// The log, and behind it that `act` was done with the file `name` alone.
+    fn and_act(&self, act: FileAct, name: &str) -> FileLog
+        ensures { result.events ≡ self.now.events ++ event act name.now [] no_history ∷ [] }
+    {
+        self.and(&act, name.as_bytes(), b"", &Heard::nothing())
     }
 }
 
@@ -149,58 +181,199 @@ impl<'a, H: Files> NamedFiles<'a, H> {
         ensures named { IfSome result (λ file. file.name.now ≡ name.entry.now) }
         ensures fresh { IfSome result (λ file. file.source.history ≡ no_history) }
     {
-        let heard = Heard::nothing();
         match fs::open(self.rt, name) {
             Ok(file) => {
-                self.log = self.log.and(&FileAct::Opened, name.as_bytes(), &heard);
+                self.log = self.log.and_act(FileAct::Opened, name);
                 let stream = FromRead::new(file);
+                let heard = Heard::nothing();
                 let source = FileSource { stream, heard };
                 Some(NamedSource { name, source })
             }
             Err(_) => {
-                self.log = self.log.and(&FileAct::NotOpened, name.as_bytes(), &heard);
+                self.log = self.log.and_act(FileAct::NotOpened, name);
                 None
             }
         }
     }
 
-    /// Creates the file of this name, or empties it where there is one; None where that can't be done.
-    pub(crate) fn create<'n>(&mut self, name: &'n str) -> Option<NamedSink<'n, H::File>>
-        ensures asked { MatchOption result (self.new ≡ self.old ++ not_created name.entry.now ∷ [])
-            (λ file. self.new ≡ self.old ++ created name.entry.now ∷ []) }
-        ensures named { IfSome result (λ file. file.name.now ≡ name.entry.now) }
-        ensures fresh { IfSome result (λ file. file.sink.history ≡ no_history) }
+    /// Opens the file of this name to be written, as it is, and makes it, empty, where there is none. It gives the name
+    /// back where that can't be done.
+    pub(crate) fn create(&mut self, name: String) -> Result<OpenedSink<H::File>, String>
+        ensures created { IfOk result (λ opened. self.new ≡ self.old
+            ++ opened_to_write opened.permissions (string_bytes name) ∷ []) }
+        ensures named { IfOk result (λ opened. string_bytes opened.file.name ≡ string_bytes name) }
+        ensures fresh { IfOk result (λ opened. opened.file.sink.history ≡ no_history) }
+        ensures refused { IfErr result (λ same. self.new ≡ self.old ++ not_created (string_bytes name) ∷ []) }
+        ensures back { IfErr result (λ same. string_bytes same ≡ string_bytes name) }
     {
-        let heard = Heard::nothing();
-        match fs::create(self.rt, name) {
-            Ok(file) => {
-                self.log = self.log.and(&FileAct::Created, name.as_bytes(), &heard);
-                let stream = ToWrite::new(file);
-                let sink = FileSink { stream, heard };
-                Some(NamedSink { name, sink })
+        match open_to_write(self.rt, name.as_str()) {
+            Ok((file, permissions)) => {
+                let act = match permissions {
+                    Some(_) => FileAct::Created,
+                    None => FileAct::Reached,
+                };
+                self.log = self.log.and_act(act, name.as_str());
+                let file = NamedSink::new(name, file);
+                Ok(OpenedSink { file, permissions })
             }
             Err(_) => {
-                self.log = self.log.and(&FileAct::NotCreated, name.as_bytes(), &heard);
+                self.log = self.log.and_act(FileAct::NotCreated, name.as_str());
+                Err(name)
+            }
+        }
+    }
+
+    /// Follows the links of this path to that of the file itself; None where that can't be done.
+    pub(crate) fn follow(&mut self, alloc: Global, name: &str) -> Option<String>
+        ensures { MatchOption result (self.new ≡ self.old ++ not_followed name.now ∷ [])
+            (λ path. self.new ≡ self.old ++ followed name.now (string_bytes path) ∷ []) }
+    {
+        match self.rt.canonicalize(alloc, name) {
+            Ok(path) => {
+                let path = path.into_string();
+                let heard = Heard::nothing();
+                let (from, to) = (name.as_bytes(), path.as_bytes());
+                self.log = self.log.and(&FileAct::Followed, from, to, &heard);
+                Some(path)
+            }
+            Err(_) => {
+                self.log = self.log.and_act(FileAct::NotFollowed, name);
                 None
             }
         }
     }
 
-    /// Takes back a file that was opened, and closes it.
+    /// Makes a new file of this name, empty, with these permissions.
+    pub(crate) fn make(
+        &mut self,
+        name: String,
+        permissions: &Permissions,
+    ) -> Result<NamedSink<H::File>, NotMade>
+        ensures made { IfOk result (λ file. self.new ≡ self.old ++ made (string_bytes name) ∷ []) }
+        ensures named { IfOk result (λ file. string_bytes file.name ≡ string_bytes name) }
+        ensures fresh { IfOk result (λ file. file.sink.history ≡ no_history) }
+        ensures refused { IfErr result (λ why. self.new ≡ self.old ++ not_made why (string_bytes name) ∷ []) }
+    {
+        match make_new(self.rt, name.as_str(), permissions) {
+            Ok(file) => {
+                self.log = self.log.and_act(FileAct::Made, name.as_str());
+                Ok(NamedSink::new(name, file))
+            }
+            Err(error) if error.kind() == ErrorKind::AlreadyExists => {
+                self.log = self.log.and_act(FileAct::Taken, name.as_str());
+                Err(NotMade::Taken)
+            }
+            Err(_) => {
+                self.log = self.log.and_act(FileAct::NotMade, name.as_str());
+                Err(NotMade::Refused)
+            }
+        }
+    }
+
+    /// Renames the file of this name to the path, in place of the file there, and answers whether that was done.
+    pub(crate) fn rename(&mut self, name: &str, path: &str) -> bool
+        ensures { self.new ≡ self.old
+            ++ (if result then renamed name.now path.now else not_renamed name.now path.now) ∷ [] }
+    {
+        let done = fs::rename(self.rt, name, path).is_ok();
+        let act = if done {
+            FileAct::Renamed
+        } else {
+            FileAct::NotRenamed
+        };
+        let heard = Heard::nothing();
+        self.log = self.log.and(&act, name.as_bytes(), path.as_bytes(), &heard);
+        done
+    }
+
+    /// Removes the file of this name, and answers whether that was done.
+    pub(crate) fn remove(&mut self, name: &str) -> bool
+        ensures { self.new ≡ self.old ++ (if result then removed name.now else not_removed name.now) ∷ [] }
+    {
+        let done = fs::remove_file(self.rt, name).is_ok();
+        let act = if done {
+            FileAct::Removed
+        } else {
+            FileAct::NotRemoved
+        };
+        self.log = self.log.and_act(act, name);
+        done
+    }
+
+    /// Closes a file that was opened to be read.
     pub(crate) fn take_source(&mut self, file: NamedSource<'_, FileSource<H::File>>)
         ensures { self.new ≡ self.old ++ read file.entry.name.now file.entry.source.history ∷ [] }
     {
         let name = file.name.as_bytes();
-        self.log = self.log.and(&FileAct::Read, name, &file.source.heard);
+        self.log = self.log.and(&FileAct::Read, name, b"", &file.source.heard);
     }
 
-    /// Takes back a file that was created, and closes it.
-    pub(crate) fn take_sink(&mut self, file: NamedSink<'_, H::File>)
-        ensures { self.new ≡ self.old ++ wrote file.entry.name.now file.entry.sink.history ∷ [] }
+    /// Closes a file that was opened to be written, or made, and answers its name.
+    pub(crate) fn take_sink(&mut self, file: NamedSink<H::File>) -> String
+        ensures asked { self.new ≡ self.old ++ wrote (string_bytes file.name) file.sink.history ∷ [] }
+        ensures named { string_bytes result ≡ string_bytes file.name }
     {
         let name = file.name.as_bytes();
-        self.log = self.log.and(&FileAct::Wrote, name, &file.sink.heard);
+        self.log = self.log.and(&FileAct::Wrote, name, b"", &file.sink.heard);
+        file.name
     }
+}
+
+impl<F: Write> NamedSink<F> {
+    // The file of this name, of which nothing was asked.
+    fn new(name: String, file: F) -> NamedSink<F>
+        ensures named { string_bytes result.name ≡ string_bytes name }
+        ensures fresh { result.sink.history ≡ no_history }
+    {
+        let stream = ToWrite::new(file);
+        let heard = Heard::nothing();
+        NamedSink {
+            name,
+            sink: FileSink { stream, heard },
+        }
+    }
+}
+
+// Opens a file to be written as it is, and makes it where there is none; with its permissions, if it is a regular file.
+fn open_to_write<H: Files>(rt: &H, name: &str) -> io::Result<(H::File, Option<Permissions>)> {
+    let file = as_it_is().open(rt, name)?;
+    let metadata = file.metadata()?;
+    if metadata.is_file() {
+        Ok((file, Some(metadata.permissions())))
+    } else {
+        Ok((file, None))
+    }
+}
+
+// How a file is opened so that its text is kept, and what is written comes behind it.
+fn as_it_is() -> OpenOptions
+    ensures { KeepsText result }
+{
+    let mut options = OpenOptions::new();
+    options.append(true).create(true);
+    options
+}
+
+// Makes a new file with these permissions. Where it can't have them, it is removed.
+fn make_new<H: Files>(rt: &H, name: &str, permissions: &Permissions) -> io::Result<H::File> {
+    let file = anew(permissions).open(rt, name)?;
+    match file.set_permissions(Permissions::from_mode(permissions.mode())) {
+        Ok(()) => Ok(file),
+        Err(error) => {
+            fs::remove_file(rt, name)?;
+            Err(error)
+        }
+    }
+}
+
+// How a file is made that must be new. It has no permissions beyond these.
+fn anew(permissions: &Permissions) -> OpenOptions
+    ensures { MakesAnew result }
+{
+    let mut options = OpenOptions::new();
+    options.mode(permissions.mode());
+    options.write(true).create_new(true);
+    options
 }
 
 /// Opens the files of these names, in order. Where one can't be opened, those before it are closed.

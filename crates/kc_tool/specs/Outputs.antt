@@ -1,0 +1,101 @@
+-- Where the text of a command goes: source, our formats page ("The output").
+use Rattle.std.specs.Prelude.{◌≡◌, ◌⊎◌, ℕ, zero, suc, ◌<◌, Bool, true, false, ◌&&◌, ◌||◌, not, List, [], ◌∷◌, ◌++◌}
+use Rattle.std.specs.Prelude.{Option, Some, None, Result, Ok, Err, codes, decimal, nat_eq}
+use Rattle.std.specs.List.{starts_with}
+use Rattle.std.specs.Fs.{asks_append, asks_create, asks_create_new, asks_truncate, asks_write}
+use Rattle.std.specs.declared.fs.options.OpenOptions.{OpenOptions}
+use Rattle.clap.specs.Words.{Text}
+use Rattle.kc_io.specs.History.{History, no_history}
+use Rattle.kc_tool.specs.FileEvents.{FileEvent, created, followed, made, not_created, not_followed, not_made}
+use Rattle.kc_tool.specs.FileEvents.{not_removed, not_renamed, reached, removed, renamed, wrote}
+use Rattle.kc_tool.specs.declared.files.NotMade.TheVariants as why
+use Rattle.kc_tool.specs.declared.tool_faults.ToolFault.{ToolFault}
+use Rattle.kc_tool.specs.declared.tool_faults.ToolFault.TheVariants.{Write}
+
+-- a name of the system: a device, or what a process has open. The folder /dev/shm has files as any other has
+abbrev pub begins : Text → Text → Bool
+begins name front = starts_with nat_eq name front
+
+abbrev pub is_of_system : Text → Bool
+is_of_system name = begins name (codes "/dev/") && not (begins name (codes "/dev/shm/")) || begins name (codes "/proc/")
+
+-- the name of the new file of this number beside a file: that of the file, and this behind it
+abbrev pub suffix : ℕ → Text
+suffix number = codes ".kcount-" ++ decimal number
+
+abbrev pub beside : Text → ℕ → Text
+beside path number = path ++ suffix number
+
+-- how FILE is opened: with its text kept, behind which any bytes come, and made where there is none
+pub record KeepsText (options : OpenOptions) : Type 0 where
+  pub appends : asks_append options ≡ true
+  pub creates : asks_create options ≡ true
+  pub keeps : asks_truncate options ≡ false
+
+-- how a new file is made: never in place of another
+pub record MakesAnew (options : OpenOptions) : Type 0 where
+  pub writes : asks_write options ≡ true
+  pub anew : asks_create_new options ≡ true
+
+-- how many new files are tried at the most
+abbrev pub most_tries : ℕ
+most_tries = 1000
+
+-- the names of the first new files are taken
+abbrev pub taken_beside : Text → ℕ → List FileEvent
+taken_beside path zero = []
+taken_beside path (suc n) = taken_beside path n ++ not_made why.Taken (beside path (suc n)) ∷ []
+
+-- FILE was opened to be written, and its links led to the path; it was closed with nothing written
+abbrev pub looks_at : Text → Text → List FileEvent
+looks_at name path = created name ∷ wrote name no_history ∷ followed name path ∷ []
+
+-- a new file was made beside the path, under this name, the first that was not taken
+abbrev pub MakesBeside : Text → Text → List FileEvent → Type 0
+MakesBeside path name asked = (n : ℕ) × (n < most_tries) × (name ≡ beside path (suc n))
+    × (asked ≡ taken_beside path n ++ made name ∷ [])
+
+-- none could be made, or all names are taken
+abbrev pub MakesNoneBeside : Text → List FileEvent → Type 0
+MakesNoneBeside path asked = ((n : ℕ) × (n < most_tries)
+    × (asked ≡ taken_beside path n ++ not_made why.Refused (beside path (suc n)) ∷ []))
+    ⊎ (asked ≡ taken_beside path most_tries)
+
+-- memory was refused for the name of one
+abbrev pub StopsBeside : Text → List FileEvent → Type 0
+StopsBeside path asked = (n : ℕ) × (n < most_tries) × (asked ≡ taken_beside path n)
+
+-- A text is to go to FILE: it is written under this name, and that file is renamed to the path, where there is one.
+-- What is no regular file, or has a name of the system, is written itself. Else a new file beside it is
+abbrev pub OpensOutput : Text → Text → Option Text → List FileEvent → Type 0
+OpensOutput file name None asked = (name ≡ file)
+    × ((asked ≡ reached file ∷ []) ⊎ ((asked ≡ created file ∷ []) × (is_of_system file ≡ true)))
+OpensOutput file name (Some path) asked = (is_of_system file ≡ false)
+    × ((new : List FileEvent) × MakesBeside path name new × (asked ≡ looks_at file path ++ new))
+
+-- FILE can't be opened to be written; or its links can't be followed; or no new file can be made beside it
+abbrev pub OpensNoOutput : Text → List FileEvent → Type 0
+OpensNoOutput file asked = (asked ≡ not_created file ∷ [])
+    ⊎ (asked ≡ created file ∷ wrote file no_history ∷ not_followed file ∷ [])
+    ⊎ ((path : Text) × (none : List FileEvent) × MakesNoneBeside path none × (asked ≡ looks_at file path ++ none))
+
+-- memory was refused before anything was asked of FILE, or for the name of a new file
+abbrev pub LacksRoomForOutput : Text → List FileEvent → Type 0
+LacksRoomForOutput file asked = (asked ≡ [])
+    ⊎ ((path : Text) × (some : List FileEvent) × StopsBeside path some × (asked ≡ looks_at file path ++ some))
+
+-- the new file of this name was removed, or could not be
+abbrev pub Removes : Text → FileEvent → Type 0
+Removes name asked = (asked ≡ removed name) ⊎ (asked ≡ not_removed name)
+
+-- What is asked when the work has ended, so, and the file of this name has taken what its history has. One that is to
+-- go to a path is renamed to it after work that ended well, and that can fail; else it is removed
+abbrev pub ClosesOutput : {T : Type 0} → Text → Option Text → History → Result T ToolFault → Result T ToolFault
+    → List FileEvent → Type 0
+ClosesOutput name None history work outcome asked = (outcome ≡ work) × (asked ≡ wrote name history ∷ [])
+ClosesOutput name (Some path) history (Ok done) outcome asked =
+    ((outcome ≡ Ok done) × (asked ≡ wrote name history ∷ renamed name path ∷ []))
+    ⊎ ((outcome ≡ Err Write) × ((last : FileEvent) × Removes name last
+    × (asked ≡ wrote name history ∷ not_renamed name path ∷ last ∷ [])))
+ClosesOutput name (Some path) history (Err fault) outcome asked = (outcome ≡ Err fault)
+    × ((last : FileEvent) × Removes name last × (asked ≡ wrote name history ∷ last ∷ []))
