@@ -6,7 +6,7 @@ ARCHIVE ?=
 # The crates of tests that tests/memory.sh runs with each growth refused.
 TESTS_OF_MEMORY = kc_count_tests kc_stripe_tests kc_run_tests
 
-.PHONY: demo build dist verify check edits bodies memory files options program examples documents workflow workflow-slurm
+.PHONY: demo build dist verify check edits bodies memory files mistakes options program examples documents workflow workflow-slurm
 .PHONY: test bench figures install clean help
 
 demo: ## shows the program at work within two minutes: its source with checks, not yet proved
@@ -37,6 +37,9 @@ memory: build ## refuses each growth of memory in turn
 files: build ## runs the program over files that are missing, are directories or are emptied, and on a terminal
 	tests/files.sh
 
+mistakes: build ## runs command lines that users get wrong, and compares what explains each fault
+	tests/mistakes.sh
+
 options: build ## compares the options of the man page and the completions with the help
 	tests/options.sh
 
@@ -55,7 +58,7 @@ workflow-slurm: build ## the same on a SLURM of one node, as root; no part of th
 documents: ## compares what the documents name with what is there
 	tests/documents.py
 
-test: ## everything: all proofs from nothing, the tests, the stored run, the edits that must fail; then memory, files, options, program, examples, workflow, documents
+test: ## everything: all proofs from nothing, the tests, the stored run, the edits that must fail; then memory, files, mistakes, options, program, examples, workflow, documents
 	tests/full.sh
 
 bench: build ## runs the benchmarks and prints the tables of docs/BENCHMARKS.md

@@ -10,12 +10,12 @@ _kcount() {
     case $command in
         count)
             options='-m --mer-len -s --size -t --threads -C --canonical -o --output --min-qual-char --stripes --batch
-                --print --column --tab --lower-count --upper-count --high --only -h --help'
+                --print --column --tab --lower-count --upper-count --high --only --explain -h --help'
             ;;
-        dump) options='-c --column -t --tab -L --lower-count -U --upper-count -o --output -h --help' ;;
-        histo) options='--high -o --output -h --help' ;;
-        stats | query | merge) options='-o --output -h --help' ;;
-        select) options='--min-count --min-share --min-qual-char --invert --stats -o --output -h --help' ;;
+        dump) options='-c --column -t --tab -L --lower-count -U --upper-count -o --output --explain -h --help' ;;
+        histo) options='--high -o --output --explain -h --help' ;;
+        stats | query | merge) options='-o --output --explain -h --help' ;;
+        select) options='--min-count --min-share --min-qual-char --invert --stats -o --output --explain -h --help' ;;
     esac
     case $before in
         --print) mapfile -t COMPREPLY < <(compgen -W 'table dump histo stats' -- "$word") ;;

@@ -26,21 +26,27 @@ complete -c kcount -n '__fish_seen_subcommand_from count' -l lower-count -x -d '
 complete -c kcount -n '__fish_seen_subcommand_from count' -l upper-count -x -d 'Dump no greater counts'
 complete -c kcount -n '__fish_seen_subcommand_from count' -l high -x -d 'Greatest count with a line of its own'
 complete -c kcount -n '__fish_seen_subcommand_from count' -l only -r -d 'Count only the k-mers of this file'
+complete -c kcount -n '__fish_seen_subcommand_from count' -l explain -d 'Explain a fault in a second line'
 
 complete -c kcount -n '__fish_seen_subcommand_from dump' -s c -l column -d 'A k-mer and its count in one line'
 complete -c kcount -n '__fish_seen_subcommand_from dump' -s t -l tab -d 'With --column, put a tab between them'
 complete -c kcount -n '__fish_seen_subcommand_from dump' -s L -l lower-count -x -d 'Leave out lesser counts'
 complete -c kcount -n '__fish_seen_subcommand_from dump' -s U -l upper-count -x -d 'Leave out greater counts'
 complete -c kcount -n '__fish_seen_subcommand_from dump' -s o -l output -r -d 'Write to this file'
+complete -c kcount -n '__fish_seen_subcommand_from dump' -l explain -d 'Explain a fault in a second line'
 
 complete -c kcount -n '__fish_seen_subcommand_from histo' -l high -x -d 'Greatest count with a line of its own'
 complete -c kcount -n '__fish_seen_subcommand_from histo' -s o -l output -r -d 'Write to this file'
+complete -c kcount -n '__fish_seen_subcommand_from histo' -l explain -d 'Explain a fault in a second line'
 
 complete -c kcount -n '__fish_seen_subcommand_from stats' -s o -l output -r -d 'Write to this file'
+complete -c kcount -n '__fish_seen_subcommand_from stats' -l explain -d 'Explain a fault in a second line'
 
 complete -c kcount -n '__fish_seen_subcommand_from query' -s o -l output -r -d 'Write to this file'
+complete -c kcount -n '__fish_seen_subcommand_from query' -l explain -d 'Explain a fault in a second line'
 
 complete -c kcount -n '__fish_seen_subcommand_from merge' -s o -l output -r -d 'Write to this file'
+complete -c kcount -n '__fish_seen_subcommand_from merge' -l explain -d 'Explain a fault in a second line'
 
 complete -c kcount -n '__fish_seen_subcommand_from select' -l min-count -x -d 'Least count of a solid k-mer'
 complete -c kcount -n '__fish_seen_subcommand_from select' -l min-share -x -d 'Least percentage of solid k-mers'
@@ -48,3 +54,4 @@ complete -c kcount -n '__fish_seen_subcommand_from select' -l min-qual-char -x -
 complete -c kcount -n '__fish_seen_subcommand_from select' -l invert -d 'Write the other reads instead'
 complete -c kcount -n '__fish_seen_subcommand_from select' -l stats -d 'Tell how many reads and k-mers there were'
 complete -c kcount -n '__fish_seen_subcommand_from select' -s o -l output -r -d 'Write to this file'
+complete -c kcount -n '__fish_seen_subcommand_from select' -l explain -d 'Explain a fault in a second line'

@@ -325,7 +325,7 @@ if script -qec true /dev/null < /dev/null > "$work/script" 2>&1; then
     shows '' "$(declare -f slowly); slowly" "> '$work/output'"
     same "its output" "$one" "$(cat "$work/output")" "beside a terminal"
     # (bytes are told with the reads that they say)
-    shows 'kcount: 2: bad base, source 1, line 4' "printf '>r1\nACG\n'; sleep 1; printf '>r2\nA@C\n'" ''
+    shows $'kcount: 2: bad base, source 1, line 4\n  standard input, line 4: a sequence has a byte that is no letter; are two formats in one input?' "printf '>r1\nACG\n'; sleep 1; printf '>r2\nA@C\n'" ''
 else
     echo "files: what a terminal is shown was not tried, since script (of util-linux) is missing or gets no terminal"
 fi

@@ -60,7 +60,7 @@ TMPDIR=$work/tmp rt ci | tee "$work/ci"
 kill "$linking"
 minutes "proofs, tests and the wrong bodies in must-fail"
 install -D crates/kcount/out/kcount bin/kcount
-side_by_side edits memory files options program examples workflow
+side_by_side edits memory files mistakes options program examples workflow
 wait "$edits" || { cat "$work/edits"; exit 1; }
 cat "$work/edits"
 kill "$costs"

@@ -106,6 +106,10 @@ invert_option = flag_option (codes "invert")
 abbrev pub stats_option : Rule
 stats_option = flag_option (codes "stats")
 
+-- `--explain`
+abbrev pub explain_option : Rule
+explain_option = flag_option (codes "explain")
+
 -- FILE, any number of them
 abbrev pub files_argument : Rule
 files_argument = several_arguments (codes "file")
@@ -152,6 +156,7 @@ count_shape = record (new_shape (codes "count")) {
       ∷ upper_count_option
       ∷ high_option
       ∷ only_option
+      ∷ explain_option
       ∷ files_argument
       ∷ [];
 }
@@ -164,25 +169,32 @@ dump_shape = record (new_shape (codes "dump")) {
       ∷ with_short 76 lower_count_option
       ∷ with_short 85 upper_count_option
       ∷ output_option
+      ∷ explain_option
       ∷ file_argument
       ∷ [];
 }
 
 -- `kcount histo`
 abbrev pub histo_shape : Shape
-histo_shape = record (new_shape (codes "histo")) { rules = high_option ∷ output_option ∷ file_argument ∷ [] }
+histo_shape = record (new_shape (codes "histo")) {
+  rules = high_option ∷ output_option ∷ explain_option ∷ file_argument ∷ [];
+}
 
 -- `kcount stats`
 abbrev pub stats_shape : Shape
-stats_shape = record (new_shape (codes "stats")) { rules = output_option ∷ file_argument ∷ [] }
+stats_shape = record (new_shape (codes "stats")) { rules = output_option ∷ explain_option ∷ file_argument ∷ [] }
 
 -- `kcount query`
 abbrev pub query_shape : Shape
-query_shape = record (new_shape (codes "query")) { rules = output_option ∷ table_argument ∷ words_argument ∷ [] }
+query_shape = record (new_shape (codes "query")) {
+  rules = output_option ∷ explain_option ∷ table_argument ∷ words_argument ∷ [];
+}
 
 -- `kcount merge`, which takes exactly two files
 abbrev pub merge_shape : Shape
-merge_shape = record (new_shape (codes "merge")) { rules = output_option ∷ first_argument ∷ second_argument ∷ [] }
+merge_shape = record (new_shape (codes "merge")) {
+  rules = output_option ∷ explain_option ∷ first_argument ∷ second_argument ∷ [];
+}
 
 -- `kcount select`, which takes a table and any number of files
 abbrev pub select_shape : Shape
@@ -193,6 +205,7 @@ select_shape = record (new_shape (codes "select")) {
       ∷ invert_option
       ∷ stats_option
       ∷ output_option
+      ∷ explain_option
       ∷ counted_argument
       ∷ files_argument
       ∷ [];

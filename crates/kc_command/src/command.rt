@@ -14,9 +14,9 @@ ghost use Rattle.kc_command.specs.Command.{
 };
 
 use crate::command_arguments::{
-    batch, canonical, column, counted, file, files, first, high, invert, lower_count, mer_len,
-    min_count, min_qual_char, min_share, only, output, print, second, size, stats, stripes, tab,
-    table, threads, upper_count, with_short, words,
+    batch, canonical, column, counted, explain, file, files, first, high, invert, lower_count,
+    mer_len, min_count, min_qual_char, min_share, only, output, print, second, size, stats,
+    stripes, tab, table, threads, upper_count, with_short, words,
 };
 use crate::help;
 use clap::Command;
@@ -96,6 +96,7 @@ fn count_command<'a>(alloc: Global) -> Result<Command<'a>, AllocError>
         upper_count(alloc),
         high(alloc),
         only(alloc),
+        explain(alloc),
         files(alloc),
     ]?;
     described(alloc, COUNT, help::COUNT, help::AFTER_COUNT).args(arguments)
@@ -111,6 +112,7 @@ fn dump_command<'a>(alloc: Global) -> Result<Command<'a>, AllocError>
         with_short(lower_count(alloc), 'L'),
         with_short(upper_count(alloc), 'U'),
         output(alloc),
+        explain(alloc),
         file(alloc),
     ]?;
     described(alloc, DUMP, help::DUMP, help::AFTER_DUMP).args(arguments)
@@ -120,7 +122,7 @@ fn dump_command<'a>(alloc: Global) -> Result<Command<'a>, AllocError>
 fn histo_command<'a>(alloc: Global) -> Result<Command<'a>, AllocError>
     ensures { IfOk result (λ command. shape_of command ≡ histo_shape) }
 {
-    let arguments = vec![in alloc; high(alloc), output(alloc), file(alloc)]?;
+    let arguments = vec![in alloc; high(alloc), output(alloc), explain(alloc), file(alloc)]?;
     described(alloc, HISTO, help::HISTO, help::AFTER_HISTO).args(arguments)
 }
 
@@ -128,7 +130,7 @@ fn histo_command<'a>(alloc: Global) -> Result<Command<'a>, AllocError>
 fn stats_command<'a>(alloc: Global) -> Result<Command<'a>, AllocError>
     ensures { IfOk result (λ command. shape_of command ≡ stats_shape) }
 {
-    let arguments = vec![in alloc; output(alloc), file(alloc)]?;
+    let arguments = vec![in alloc; output(alloc), explain(alloc), file(alloc)]?;
     described(alloc, STATS, help::STATS, help::AFTER_STATS).args(arguments)
 }
 
@@ -136,7 +138,7 @@ fn stats_command<'a>(alloc: Global) -> Result<Command<'a>, AllocError>
 fn query_command<'a>(alloc: Global) -> Result<Command<'a>, AllocError>
     ensures { IfOk result (λ command. shape_of command ≡ query_shape) }
 {
-    let arguments = vec![in alloc; output(alloc), table(alloc), words(alloc)]?;
+    let arguments = vec![in alloc; output(alloc), explain(alloc), table(alloc), words(alloc)]?;
     described(alloc, QUERY, help::QUERY, help::AFTER_QUERY).args(arguments)
 }
 
@@ -144,7 +146,7 @@ fn query_command<'a>(alloc: Global) -> Result<Command<'a>, AllocError>
 fn merge_command<'a>(alloc: Global) -> Result<Command<'a>, AllocError>
     ensures { IfOk result (λ command. shape_of command ≡ merge_shape) }
 {
-    let arguments = vec![in alloc; output(alloc), first(alloc), second(alloc)]?;
+    let arguments = vec![in alloc; output(alloc), explain(alloc), first(alloc), second(alloc)]?;
     described(alloc, MERGE, help::MERGE, help::AFTER_MERGE).args(arguments)
 }
 
@@ -159,6 +161,7 @@ fn select_command<'a>(alloc: Global) -> Result<Command<'a>, AllocError>
         invert(alloc),
         stats(alloc),
         output(alloc),
+        explain(alloc),
         counted(alloc),
         files(alloc),
     ]?;

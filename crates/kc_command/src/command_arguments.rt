@@ -6,6 +6,7 @@ ghost use Rattle.kc_command.specs.Command.{
   canonical_option,
   column_option,
   counted_argument,
+  explain_option,
   file_argument,
   files_argument,
   first_argument,
@@ -53,8 +54,9 @@ pub(crate) fn size<'a>(alloc: Global) -> Arg<'a>
     ensures rule { rule_of result ≡ size_option }
     ensures own { result.global ≡ false }
 {
-    let help = "Slots that the hash tables begin with, one for each different k-mer, 1 to 2^40,{n}\
-        as 500, 20k or 2G [default: 1M]";
+    let help = "Slots that the hash tables begin with, one for each{n}\
+        different k-mer, 1 to 2^40, as 500, 20k or 2G{n}\
+        [default: 1M]";
     with_short(value_option(alloc, "size", "N", help), 's')
 }
 
@@ -72,7 +74,8 @@ pub(crate) fn canonical<'a>(alloc: Global) -> Arg<'a>
     ensures rule { rule_of result ≡ canonical_option }
     ensures own { result.global ≡ false }
 {
-    let help = "Count both strands: a k-mer under the lesser of it and its reverse complement";
+    let help = "Count both strands: a k-mer under the lesser of it{n}\
+        and its reverse complement";
     with_short(flag_option(alloc, "canonical", help), 'C')
 }
 
@@ -90,8 +93,8 @@ pub(crate) fn min_qual_char<'a>(alloc: Global) -> Arg<'a>
     ensures rule { rule_of result ≡ min_qual_char_option }
     ensures own { result.global ≡ false }
 {
-    let help = "Least quality character of a base that counts, one of ASCII 33 to 126{n}\
-        [default: !, so that all count]";
+    let help = "Least quality character of a base that counts, one of{n}\
+        ASCII 33 to 126 [default: !, so that all count]";
     value_option(alloc, "min-qual-char", "C", help)
 }
 
@@ -100,8 +103,9 @@ pub(crate) fn stripes<'a>(alloc: Global) -> Arg<'a>
     ensures rule { rule_of result ≡ stripes_option }
     ensures own { result.global ≡ false }
 {
-    let help = "Hash tables, each with a lock of its own: 1, 2, 4, 8, 16, 32 or 64,{n}\
-        lowered to 4^K where that is less [default: 16]";
+    let help = "Hash tables, each with a lock of its own: 1, 2, 4, 8,{n}\
+        16, 32 or 64, lowered to 4^K where that is less{n}\
+        [default: 16]";
     value_option(alloc, "stripes", "N", help)
 }
 
@@ -110,7 +114,8 @@ pub(crate) fn batch<'a>(alloc: Global) -> Arg<'a>
     ensures rule { rule_of result ≡ batch_option }
     ensures own { result.global ≡ false }
 {
-    let help = "Positions that a thread counts at a time, 1 to 2^36 [default: 65536]";
+    let help = "Positions that a thread counts at a time, 1 to 2^36{n}\
+        [default: 65536]";
     value_option(alloc, "batch", "N", help)
 }
 
@@ -119,7 +124,8 @@ pub(crate) fn print<'a>(alloc: Global) -> Arg<'a>
     ensures rule { rule_of result ≡ print_option }
     ensures own { result.global ≡ false }
 {
-    let help = "What to write: table, dump, histo or stats [default: table]";
+    let help = "What to write: table, dump, histo or stats{n}\
+        [default: table]";
     value_option(alloc, "print", "WHAT", help)
 }
 
@@ -137,7 +143,8 @@ pub(crate) fn tab<'a>(alloc: Global) -> Arg<'a>
     ensures rule { rule_of result ≡ tab_option }
     ensures own { result.global ≡ false }
 {
-    let help = "With --column, put a tab between a k-mer and its count";
+    let help = "With --column, put a tab between a k-mer and its{n}\
+        count";
     flag_option(alloc, "tab", help)
 }
 
@@ -146,7 +153,8 @@ pub(crate) fn lower_count<'a>(alloc: Global) -> Arg<'a>
     ensures rule { rule_of result ≡ lower_count_option }
     ensures own { result.global ≡ false }
 {
-    let help = "Dump no k-mer with a count below this one, 0 to 2^62 [default: 0]";
+    let help = "Dump no k-mer with a count below this one, 0 to 2^62{n}\
+        [default: 0]";
     value_option(alloc, "lower-count", "N", help)
 }
 
@@ -155,7 +163,8 @@ pub(crate) fn upper_count<'a>(alloc: Global) -> Arg<'a>
     ensures rule { rule_of result ≡ upper_count_option }
     ensures own { result.global ≡ false }
 {
-    let help = "Dump no k-mer with a count above this one, 0 to 2^62 [default: 2^62]";
+    let help = "Dump no k-mer with a count above this one, 0 to 2^62{n}\
+        [default: 2^62]";
     value_option(alloc, "upper-count", "N", help)
 }
 
@@ -164,8 +173,8 @@ pub(crate) fn high<'a>(alloc: Global) -> Arg<'a>
     ensures rule { rule_of result ≡ high_option }
     ensures own { result.global ≡ false }
 {
-    let help =
-        "Greatest count with a line of its own in a histogram, 1 to 10000000 [default: 10000]";
+    let help = "Greatest count with a line of its own in a histogram,{n}\
+        1 to 10000000 [default: 10000]";
     value_option(alloc, "high", "N", help)
 }
 
@@ -174,7 +183,8 @@ pub(crate) fn only<'a>(alloc: Global) -> Arg<'a>
     ensures rule { rule_of result ≡ only_option }
     ensures own { result.global ≡ false }
 {
-    let help = "Count only k-mers that are in this FASTA or FASTQ file [default: all k-mers]";
+    let help = "Count only k-mers that are in this FASTA or FASTQ{n}\
+        file [default: all k-mers]";
     value_option(alloc, "only", "FILE", help)
 }
 
@@ -183,7 +193,8 @@ pub(crate) fn min_count<'a>(alloc: Global) -> Arg<'a>
     ensures rule { rule_of result ≡ min_count_option }
     ensures own { result.global ≡ false }
 {
-    let help = "Least count of a k-mer that is solid, 0 to 2^62 [default: 2]";
+    let help = "Least count of a k-mer that is solid, 0 to 2^62{n}\
+        [default: 2]";
     value_option(alloc, "min-count", "N", help)
 }
 
@@ -192,8 +203,8 @@ pub(crate) fn min_share<'a>(alloc: Global) -> Arg<'a>
     ensures rule { rule_of result ≡ min_share_option }
     ensures own { result.global ≡ false }
 {
-    let help = "Least percentage of the k-mers of a read that have to be solid, 0 to 100{n}\
-        [default: 100]";
+    let help = "Least percentage of the k-mers of a read that have to{n}\
+        be solid, 0 to 100 [default: 100]";
     value_option(alloc, "min-share", "P", help)
 }
 
@@ -211,8 +222,18 @@ pub(crate) fn stats<'a>(alloc: Global) -> Arg<'a>
     ensures rule { rule_of result ≡ stats_option }
     ensures own { result.global ≡ false }
 {
-    let help = "Tell on standard error how many reads and k-mers there were";
+    let help = "Tell on standard error how many reads and k-mers{n}\
+        there were";
     flag_option(alloc, "stats", help)
+}
+
+/// `--explain`: whether a fault is explained.
+pub(crate) fn explain<'a>(alloc: Global) -> Arg<'a>
+    ensures rule { rule_of result ≡ explain_option }
+    ensures own { result.global ≡ false }
+{
+    let help = "Explain a fault in a second line, as on a terminal";
+    flag_option(alloc, "explain", help)
 }
 
 /// FILE, any number of them: the files of reads.

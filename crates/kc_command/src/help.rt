@@ -6,8 +6,8 @@ Counts the k-mers (words of length k) in sequence reads. Each count is proved.";
 
 /// At the end of the help of `kcount`.
 pub(crate) const AFTER_KCOUNT: &str = "\
-`kcount COMMAND --help` says more of a command. Exit status: 0; 1 for a fault, whose line goes to
-standard error; 2 for a command line that is refused.
+`kcount COMMAND --help` says more of a command. Exit status: 0; 1 for a fault,
+whose line goes to standard error; 2 for a command line that is refused.
 
 Examples:
   kcount count -m 21 -C -o reads.kct reads_1.fq reads_2.fq
@@ -18,18 +18,20 @@ Examples:
 
 /// At the top of the help of `count`.
 pub(crate) const COUNT: &str = "\
-Counts the k-mers of FASTA or FASTQ files and writes a table of them, or a report.";
+Counts the k-mers of FASTA or FASTQ files, into a table or a report.";
 
 /// At the end of the help of `count`.
 pub(crate) const AFTER_COUNT: &str = "\
-Each file is FASTA or Sanger FASTQ, as its first line says; lines may be wrapped. Letters other than
-ACGT and acgt, and bases below --min-qual-char, break k-mers. K-mers are written in rising order, and
-none before all files have been read and counted. Compressed files are read through zcat.
+Each file is FASTA or Sanger FASTQ, as its first line says; lines may be
+wrapped. Letters other than ACGT and acgt, and bases below --min-qual-char,
+break k-mers. K-mers are written in rising order, and none before all files have
+been read and counted. Compressed files are read through zcat.
 
-The k-mers of the --only file are those of its sequences, by the same --mer-len, --canonical and
---min-qual-char as those of the other files.
+The k-mers of the --only file are those of its sequences, by the same --mer-len,
+--canonical and --min-qual-char as those of the other files.
 
-Exit status: 0; 1 for a fault, whose line goes to standard error; 2 for a command line that is refused.
+Exit status: 0; 1 for a fault, whose line goes to standard error; 2 for a
+command line that is refused.
 
 Examples:
   kcount count -m 21 -C -t 4 -s 100M -o reads.kct reads_1.fq reads_2.fq
@@ -43,9 +45,11 @@ Writes the k-mers of a table with their counts, in rising order.";
 
 /// At the end of the help of `dump`.
 pub(crate) const AFTER_DUMP: &str = "\
-A k-mer is written as `>COUNT` and `KMER`, each on a line, or with --column on one.
+A k-mer is written as `>COUNT` and `KMER`, each on a line, or with --column on
+one.
 
-Exit status: 0; 1 for a fault, whose line goes to standard error; 2 for a command line that is refused.
+Exit status: 0; 1 for a fault, whose line goes to standard error; 2 for a
+command line that is refused.
 
 Examples:
   kcount dump -c -L 2 reads.kct
@@ -57,10 +61,11 @@ Writes how many k-mers of a table have which count.";
 
 /// At the end of the help of `histo`.
 pub(crate) const AFTER_HISTO: &str = "\
-The lines are `COUNT NUMBER`, in rising order. Counts that no k-mer has are left out. All k-mers with a
-count above --high share one line, that of --high + 1.
+The lines are `COUNT NUMBER`, in rising order. Counts that no k-mer has are left
+out. All k-mers with a count above --high share one line, that of --high + 1.
 
-Exit status: 0; 1 for a fault, whose line goes to standard error; 2 for a command line that is refused.
+Exit status: 0; 1 for a fault, whose line goes to standard error; 2 for a
+command line that is refused.
 
 Examples:
   kcount histo -o reads.histo reads.kct
@@ -72,10 +77,11 @@ Writes four numbers about the k-mers of a table.";
 
 /// At the end of the help of `stats`.
 pub(crate) const AFTER_STATS: &str = "\
-Unique says how many have a count of 1, Distinct how many different ones there are, Total the sum of
-their counts, and Max_count the greatest one.
+Unique says how many have a count of 1, Distinct how many different ones there
+are, Total the sum of their counts, and Max_count the greatest one.
 
-Exit status: 0; 1 for a fault, whose line goes to standard error; 2 for a command line that is refused.
+Exit status: 0; 1 for a fault, whose line goes to standard error; 2 for a
+command line that is refused.
 
 Examples:
   kcount stats reads.kct
@@ -87,11 +93,13 @@ Writes the counts of k-mers that are looked up in a table.";
 
 /// At the end of the help of `query`.
 pub(crate) const AFTER_QUERY: &str = "\
-For each WORD, in the order asked, a line `KMER COUNT`; 0 for one that the table lacks. In a table of
-both strands a k-mer counts under the lesser of it and its reverse complement, which is what is written.
-Nothing is written where a WORD is no k-mer of the table's length.
+For each WORD, in the order asked, a line `KMER COUNT`; 0 for one that the table
+lacks. In a table of both strands a k-mer counts under the lesser of it and its
+reverse complement, which is what is written. Nothing is written where a WORD is
+no k-mer of the table's length.
 
-Exit status: 0; 1 for a fault, whose line goes to standard error; 2 for a command line that is refused.
+Exit status: 0; 1 for a fault, whose line goes to standard error; 2 for a
+command line that is refused.
 
 Examples:
   zcat reads.fq.gz | kcount count -m 5 -C -o reads.kct
@@ -103,11 +111,13 @@ Writes the sum of two tables.";
 
 /// At the end of the help of `merge`.
 pub(crate) const AFTER_MERGE: &str = "\
-The sum is a table with each k-mer of FIRST or SECOND, and its counts in both added. Both have to be
-counted with the same --mer-len, --canonical and --min-qual-char, and without --only. A table that begins
-with `KCT 1` does not tell the last two, so they are not compared, and the sum does not tell them.
+The sum is a table with each k-mer of FIRST or SECOND, and its counts in both
+added. Both have to be counted with the same --mer-len, --canonical and
+--min-qual-char, and without --only. A table that begins with `KCT 1` does not
+tell the last two, so they are not compared, and the sum does not tell them.
 
-Exit status: 0; 1 for a fault, whose line goes to standard error; 2 for a command line that is refused.
+Exit status: 0; 1 for a fault, whose line goes to standard error; 2 for a
+command line that is refused.
 
 Examples:
   kcount count -m 21 -C -o first.kct reads_1.fq
@@ -120,13 +130,16 @@ Writes the reads whose k-mers a table counts often enough.";
 
 /// At the end of the help of `select`.
 pub(crate) const AFTER_SELECT: &str = "\
-A k-mer is solid where the table counts it at least --min-count times. A read is written where at least
---min-share percent of its k-mers are solid, and where it has no k-mer. Reads are written whole and in
-order, FASTA as FASTA and FASTQ as FASTQ, with sequence and quality in one line each. Those before a
-fault are written. --stats tells how many reads there were and how many were written, and how many k-mers
-there were and how many of these are solid.
+A k-mer is solid where the table counts it at least --min-count times. A read is
+written where at least --min-share percent of its k-mers are solid, and where it
+has no k-mer. Reads are written whole and in order, FASTA as FASTA and FASTQ as
+FASTQ, with sequence and quality in one line each. Those before a fault are
+written too, but not to a file of -o. --stats tells how many reads there were
+and how many were written, and how many k-mers there were and how many of these
+are solid.
 
-Exit status: 0; 1 for a fault, whose line goes to standard error; 2 for a command line that is refused.
+Exit status: 0; 1 for a fault, whose line goes to standard error; 2 for a
+command line that is refused.
 
 Examples:
   kcount count -m 21 -C -o reads.kct reads.fq

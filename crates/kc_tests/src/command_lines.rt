@@ -494,3 +494,49 @@ fn command_lines_that_clap_refuses(rt: HostRuntime) -> Result<(), Fail> {
     }
     Ok(())
 }
+
+// Command lines, inputs, statuses, and what they say with --explain: the line of the fault, and a second one.
+const EXPLAINED: &[(&str, &str, u8, &str, &str)] = &[
+    (
+        "count -m 32",
+        "",
+        2,
+        "51: bad option --mer-len",
+        "--mer-len is 32, and has to be the length of the k-mers, a number from 1 to 31",
+    ),
+    (
+        "count",
+        "",
+        2,
+        "51: bad option --mer-len",
+        "--mer-len has to be given: the length of the k-mers, a number from 1 to 31",
+    ),
+    (
+        "count -m 3",
+        ">r\nA@C\n",
+        1,
+        "2: bad base, source 1, line 2",
+        "standard input, line 2: a sequence has a byte that is no letter; are two formats in one \
+         input?",
+    ),
+    (
+        "histo",
+        "KCT 2 3 s a 33 1\nACG 1\n",
+        1,
+        "43: bad end",
+        "standard input lacks its last line, END: it was cut off, or lines were taken out of it",
+    ),
+];
+
+// With --explain a fault is told in a second line too, which begins with two blanks.
+#[test]
+fn faults_explained(rt: HostRuntime) -> Result<(), Fail> {
+    for (line, input, status, why, more) in EXPLAINED {
+        let asked = joined(rt.alloc(), *line, " --explain", "")?;
+        let ran = run(&rt, asked.as_str(), *input)?;
+        let first = joined(rt.alloc(), "kcount: ", *why, "\n  ")?;
+        let errors = joined(rt.alloc(), first.as_str(), *more, "\n")?;
+        assert_ran(&rt, *line, &ran, *status, "", errors.as_str());
+    }
+    Ok(())
+}

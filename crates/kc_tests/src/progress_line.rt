@@ -271,6 +271,14 @@ impl Gate for Heard {
 }
 
 impl Progress for Heard {
+    ghost use Rattle.std.specs.Prelude.{false};
+
+    ghost watched = { λ _. false };
+
+    fn is_watched(&self) -> bool {
+        false
+    }
+
     fn bytes_read(&self, count: u64) {
         self.hear(&self.bytes, count);
     }

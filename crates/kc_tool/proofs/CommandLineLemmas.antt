@@ -1,6 +1,6 @@
 -- How a command line ends.
-use Rattle.std.proofs.Common.{◌≡◌, ◌≤◌, ◌∙◌, arith, ℕ, refl, sym, ap, subst, List, [], inl, inr, Option, Some, None, Result, Ok, Err, IfOk, IfErr, true}
-use Rattle.std.specs.Prelude.{option_map, Box, IsErrAnd, MatchResult}
+use Rattle.std.proofs.Common.{◌≡◌, ◌≤◌, ◌∙◌, arith, ℕ, refl, sym, ap, subst, List, [], inl, inr, Option, Some, None, Result, Ok, Err, IfOk, IfErr, Bool, true, codes, ◌++◌, append_assoc, append-nil}
+use Rattle.std.specs.Prelude.{◌⊎◌, option_map, Box, IsErrAnd, MatchResult}
 use Rattle.std.specs.Box.{box_value}
 use Rattle.clap.specs.declared.parser.matches.ArgMatches.TheViews.{out-ArgMatches, out-SubCommand}
 use Rattle.clap.specs.declared.parser.matches.SubCommand.{SubCommand}
@@ -14,7 +14,7 @@ use Rattle.clap.specs.declared.error.kind.ErrorKind.TheVariants.{DisplayHelp, Di
 use Rattle.kc_io.specs.Sources.{Seen}
 use Rattle.kc_command.specs.Command.{IsCommand, kcount_app}
 use Rattle.kc_tool.specs.CommandLine.{AskForHelp, AreTaken, CarriesOut, DoesCommand, EndsWell, FailsSo}
-use Rattle.kc_tool.specs.CommandLine.{IsHelp, IsTold, ShowsSo, status_of}
+use Rattle.kc_tool.specs.CommandLine.{IsHelp, IsTold, MayExplain, ShowsSo, status_of}
 use Rattle.kc_tool.specs.FaultLines.{fault_line}
 use Rattle.kc_tool.specs.Process.{Ends}
 use Rattle.kc_tool.specs.Selections.{Told}
@@ -22,7 +22,9 @@ use Rattle.kc_tool.specs.Commands.{EndsSo, Surroundings, name_of, verb_named}
 use Rattle.kc_tool.specs.FileEvents.{FileEvent}
 use Rattle.kc_tool.specs.declared.commands.Verb.{Verb}
 use Rattle.kc_tool.specs.declared.commands.Verb.TheVariants as verb
-use Rattle.kc_io.specs.Sinks.{Written, Writes}
+use Rattle.kc_io.specs.Sinks.{HasBegun, HasWritten, Written, Writes}
+use Rattle.kc_io.proofs.SinksLemmas.{Pending, began_front}
+use Rattle.kc_command.specs.Arguments.{IsFlag}
 use Rattle.kc_tool.specs.declared.tool_faults.ToolFault.{ToolFault}
 use Rattle.kc_tool.specs.declared.tool_faults.ToolFault.TheVariants.{
   Fastx,
@@ -209,15 +211,42 @@ small_status Unlike = omega arith
 small_status TooLarge = omega arith
 
 -- How the program ends, by its status.
-module _ {arguments : List Text} {old new : Surroundings} {errors errors_after : Written} where
-  pub ends_well : EndsWell arguments old new errors errors_after → Ends arguments old new errors errors_after 0
+module _ {arguments : List Text} {old new : Surroundings} {errors errors_after : Written} (explained : Text) where
+  pub ends_well : EndsWell arguments old new errors errors_after → Ends arguments old new errors errors_after explained 0
   ends_well well = record { done = λ status. well; fault = λ status. cc; refused = λ status. cc; within = omega arith }
 
   pub ends_in_fault : (fault : ToolFault) (status : ℕ) → status ≡ status_of fault → FailsSo arguments old new fault
-      → IsTold errors errors_after (fault_line fault) → Ends arguments old new errors errors_after status
+      → IsTold errors errors_after (fault_line fault ++ explained) → Ends arguments old new errors errors_after explained status
   ends_in_fault fault status exit failed told = record {
     done = λ is. absurd (omega (arith, is, exit, some_status fault));
     fault = λ is. record { fault = fault; exit = sym is ∙ exit; failed = failed; told = told };
     refused = λ is. inl (record { fault = fault; exit = sym is ∙ exit; failed = failed; told = told });
     within = rw exit (small_status fault);
   }
+
+-- What a fault may be explained by, where the command and its options are those that were asked for.
+pub may_explain : {watched : Bool} {arguments : List Text} (matches : ArgMatches) (options : List Row) (text : Text) → AreTaken arguments matches
+    → Some options ≡ option_map (λ p. p.1) (subcommand_rows_of matches)
+    → (text ≡ []) ⊎ (watched ≡ true) ⊎ IsFlag options (codes "explain") true → MayExplain watched arguments text
+may_explain matches options text taken found (inl none) = inl none
+may_explain matches options text taken found (inr (inl watched)) = inr (inl watched)
+may_explain {arguments = arguments} matches options text taken found (inr (inr asked)) =
+    let same = same_rows (name_of taken.command, taken.options) (found ∙ ap (option_map (λ p. p.1)) taken.entered) in
+    inr (inr (taken.command, taken.options, taken.asked, subst (λ v. IsFlag v (codes "explain") true) same asked))
+
+-- The sink failed in the first of two texts.
+pub begun_first : {a b : Written} {x : List ℕ} (y : List ℕ) → HasBegun a b x → HasBegun a b (x ++ y)
+begun_first {x = x} y begun = record {
+  front = begun.front;
+  rest = begun.rest ++ y;
+  whole = ap (λ v. v ++ y) begun.whole ∙ append_assoc begun.front begun.rest y;
+  bytes = begun.bytes;
+  taken = begun.taken;
+  failures = begun.failures;
+}
+
+-- It failed in the second.
+pub begun_second : {a b c : Written} {x y : List ℕ} → HasWritten a b x → HasBegun b c y → HasBegun a c (x ++ y)
+begun_second {a} {b} {c} {x} {y} first begun =
+    let pending : Pending a b (x ++ y) (y ++ []) = record { front = x; whole = ap (λ v. x ++ v) (sym (append-nil y)); taken = first.taken } in
+    began_front a b c (x ++ y) y [] pending begun

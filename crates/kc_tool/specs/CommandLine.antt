@@ -1,5 +1,5 @@
 -- How the program ends, for each command line: source, the README ("The exit status") and our formats page.
-use Rattle.std.specs.Prelude.{◌≡◌, ◌≢◌, ◌⊎◌, ℕ, List, [], None, Some, Result, Ok, Err}
+use Rattle.std.specs.Prelude.{◌≡◌, ◌≢◌, ◌⊎◌, ℕ, Bool, true, List, [], ◌++◌, None, Some, Result, Ok, Err, codes}
 use Rattle.clap.specs.Faults.{fault_of}
 use Rattle.clap.specs.Kinds.{IsAmong}
 use Rattle.clap.specs.Words.{Row, Text, kind_of, subcommand_of, subcommand_rows_of}
@@ -8,6 +8,7 @@ use Rattle.clap.specs.declared.error.Error.{Error}
 use Rattle.clap.specs.declared.error.kind.ErrorKind.{ErrorKind}
 use Rattle.clap.specs.declared.error.kind.ErrorKind.TheVariants.{DisplayHelp, DisplayVersion, OutOfMemory}
 use Rattle.kc_io.specs.Sinks.{Written, HasWritten, HasBegun}
+use Rattle.kc_command.specs.Arguments.{IsFlag}
 use Rattle.kc_command.specs.Command.{kcount_app}
 use Rattle.kc_tool.specs.FaultLines.{fault_line}
 use Rattle.kc_tool.specs.Commands.{EndsSo, Surroundings, name_of}
@@ -114,13 +115,19 @@ pub record EndsWell (arguments : List Text) (old new : Surroundings) (errors err
   pub done : DoesCommand arguments old new (Ok tells) ⊎ (ShowsHelp arguments old new × (tells ≡ None))
   pub told : IsToldOf tells errors errors_after
 
--- a fault with this status, whose line went to the errors
-pub record EndsInFault (arguments : List Text) (old new : Surroundings) (errors errors_after : Written) (status : ℕ)
-    : Type 0 where
+-- a fault is explained, by this text, where a person reads the errors, or where the command line asks for that
+abbrev pub MayExplain : Bool → List Text → Text → Type 0
+MayExplain watched arguments text = (text ≡ []) ⊎ (watched ≡ true)
+    ⊎ ((command : Verb) × (options : List Row) × AskFor arguments command options
+    × IsFlag options (codes "explain") true)
+
+-- a fault with this status, whose line went to the errors, and behind it the text that explains it
+pub record EndsInFault (arguments : List Text) (old new : Surroundings) (errors errors_after : Written)
+    (explained : Text) (status : ℕ) : Type 0 where
   pub fault : ToolFault
   pub exit : status ≡ status_of fault
   pub failed : FailsSo arguments old new fault
-  pub told : IsTold errors errors_after (fault_line fault)
+  pub told : IsTold errors errors_after (fault_line fault ++ explained)
 
 -- arguments that are no command line: nothing was read, written or asked of files, and a text went to the errors
 pub record EndsRefused (arguments : List Text) (old new : Surroundings) (errors errors_after : Written) : Type 0 where

@@ -1,5 +1,5 @@
 -- How the program ends as a process runs it: source, the README ("The exit status").
-use Rattle.std.specs.Prelude.{◌≡◌, ◌≢◌, ◌≤◌, ◌⊎◌, ℕ, List, [], codes, Option}
+use Rattle.std.specs.Prelude.{◌≡◌, ◌≢◌, ◌≤◌, ◌⊎◌, ℕ, Bool, List, [], codes, Option}
 use Rattle.std.specs.IoError.{error_kind}
 use Rattle.std.specs.declared.io.Error.{Error}
 use Rattle.std.specs.declared.io.ErrorKind.TheVariants.{InvalidData}
@@ -7,19 +7,26 @@ use Rattle.clap.specs.Words.{Text}
 use Rattle.kc_io.specs.History.{no_history}
 use Rattle.kc_io.specs.Sinks.{Written}
 use Rattle.kc_io.specs.Sources.{Seen}
-use Rattle.kc_tool.specs.CommandLine.{EndsInFault, EndsRefused, EndsWell, IsTold}
+use Rattle.kc_tool.specs.CommandLine.{EndsInFault, EndsRefused, EndsWell, IsTold, MayExplain}
 use Rattle.kc_tool.specs.Commands.{Surroundings}
 use Rattle.kc_tool.specs.FaultLines.{fault_line}
 use Rattle.kc_tool.specs.declared.tool_faults.ToolFault.TheVariants.{Memory}
 
--- how the program ends, by its status
-pub record Ends (arguments : List Text) (old new : Surroundings) (errors errors_after : Written) (status : ℕ)
-    : Type 0 where
+-- how the program ends, by its status, where this text explains a fault
+pub record Ends (arguments : List Text) (old new : Surroundings) (errors errors_after : Written) (explained : Text)
+    (status : ℕ) : Type 0 where
   pub done : status ≡ 0 → EndsWell arguments old new errors errors_after
-  pub fault : status ≡ 1 → EndsInFault arguments old new errors errors_after 1
-  pub refused : status ≡ 2 → EndsInFault arguments old new errors errors_after 2
+  pub fault : status ≡ 1 → EndsInFault arguments old new errors errors_after explained 1
+  pub refused : status ≡ 2 → EndsInFault arguments old new errors errors_after explained 2
       ⊎ EndsRefused arguments old new errors errors_after
   pub within : status ≤ 2
+
+-- so it ends, and where a fault is explained, that may be so
+pub record EndsSaying (watched : Bool) (arguments : List Text) (old new : Surroundings)
+    (errors errors_after : Written) (status : ℕ) : Type 0 where
+  pub explained : Text
+  pub may : MayExplain watched arguments explained
+  pub ends : Ends arguments old new errors errors_after explained status
 
 -- what is told of arguments that std can't give, and the status: one of them is no text, or there was no memory
 abbrev pub TellsUnread : Error → Written → Written → ℕ → Type 0
@@ -46,10 +53,11 @@ abbrev pub at_first : Option (List ℕ) → Option (List ℕ) → Surroundings
 at_first left bytes = record { input = untouched left; output = unwritten bytes; asked = [] }
 
 -- there are later states of the streams, and a log of what was asked of files, in which the program ends so
-pub record EndsOver (arguments : List Text) (old : Surroundings) (errors : Written) (status : ℕ) : Type 0 where
+pub record EndsOver (watched : Bool) (arguments : List Text) (old : Surroundings) (errors : Written) (status : ℕ)
+    : Type 0 where
   pub new : Surroundings
   pub errors_after : Written
-  pub ends : Ends arguments old new errors errors_after status
+  pub ends : EndsSaying watched arguments old new errors errors_after status
 
 pub record EndsUnreadOver (error : Error) (old : Surroundings) (errors : Written) (status : ℕ) : Type 0 where
   pub new : Surroundings

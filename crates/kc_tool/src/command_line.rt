@@ -1,21 +1,28 @@
 //! The command line: what its arguments ask for is carried out, over streams that the caller keeps.
-ghost use Rattle.std.specs.Prelude.{◌≡◌, ◌≤◌, IfErr, IfOk, List, map, string_bytes};
-ghost use Rattle.clap.specs.Words.{Text};
+ghost use Rattle.std.specs.Prelude.{◌≡◌, ◌≤◌, ◌⊎◌, ◌++◌, [], true, IfErr, IfOk, List, codes, map, string_bytes};
+ghost use Rattle.clap.specs.Words.{Text, found_of, rows_of};
+ghost use Rattle.kc_command.specs.Arguments.{IsFlag};
+ghost use Rattle.kc_io.specs.Sinks.{Writes};
+ghost use Rattle.kc_tool.specs.FaultLines.{fault_line};
 ghost use Rattle.kc_tool.specs.CommandLine.{CarriesOut, ShowsSo, status_of};
 ghost use Rattle.kc_tool.specs.Commands.{Surroundings};
-ghost use Rattle.kc_tool.specs.Process.{Ends, EndsUnread, TellsUnread};
+ghost use Rattle.kc_tool.specs.Process.{Ends, EndsSaying, EndsUnread, TellsUnread};
 ghost use Rattle.kc_tool.specs.declared.tool_faults.ToolFault.TheVariants.{Memory, Write};
 ghost use Rattle.kc_tool.specs.declared.command_line.Ending.TheVariants.{Fault};
 
-use crate::commands::{run_command, verb_named};
+use crate::commands::{Verb, run_command, verb_named};
 use crate::count_progress::Progress;
 use crate::counted_sources::Means;
 use crate::counts_line::write_counts;
+use crate::explanations::{Known, explanation};
 use crate::fault_lines::write_fault;
 use crate::files::NamedFiles;
+use crate::option_tips::with_tip;
 use crate::tool_faults::ToolFault;
+use clap::ArgMatches;
 use clap::error::ErrorKind;
 use kc_command::command::command;
+use kc_command::has_flag;
 use kc_io::{Failed, Sink, Source, write_out};
 use kc_select::SelectionCounts;
 use std::alloc::{AllocError, AllocFailed, Global};
@@ -59,7 +66,7 @@ pub fn run<H: Threads + Wait + Sync, S: Files, R: Source, W: Sink, E: Sink, P: P
     progress: &P,
 ) -> u8
     ensures within { result ≤ 2 }
-    ensures texts { IfOk arguments.now (λ texts. Ends (map string_bytes texts.items)
+    ensures texts { IfOk arguments.now (λ texts. EndsSaying (P.watched progress.now) (map string_bytes texts.items)
         (record { input = R.seen input.old; output = W.seen output.old; asked = files.old })
         (record { input = R.seen input.new; output = W.seen output.new; asked = files.new })
         (E.seen errors.old) (E.seen errors.new) result) }
@@ -73,11 +80,11 @@ pub fn run<H: Threads + Wait + Sync, S: Files, R: Source, W: Sink, E: Sink, P: P
         Err(error) => return tell_unread(error, errors),
     };
     let Ok(app) = command(alloc) else {
-        return tell_end(Err(Ending::Fault(ToolFault::Memory)), errors);
+        return tell_end(Err(Ending::Fault(ToolFault::Memory)), "", errors);
     };
     let matches = match app.try_get_matches_from(arguments) {
         Ok(matches) => matches,
-        Err(error) => return tell_end(show(alloc, &error, output), errors),
+        Err(error) => return tell_end(show(alloc, &error, arguments, output), "", errors),
     };
     // `clap` passes no command line without one of the commands
     let Some((name, matches)) = matches.subcommand() else {
@@ -92,7 +99,39 @@ pub fn run<H: Threads + Wait + Sync, S: Files, R: Source, W: Sink, E: Sink, P: P
         progress,
     };
     let ended = run_command(&means, verb, matches, files, input, output);
-    tell_end(ended.map_err(Ending::Fault), errors)
+    let explained = explained(&means, &ended, verb, matches, files);
+    tell_end(ended.map_err(Ending::Fault), explained.as_str(), errors)
+}
+
+// The text that explains a fault where a person reads the errors, or where that is asked for. Elsewhere, and where
+// there is no memory for it, it is empty.
+fn explained<H: Threads, S: Files, P: Progress>(
+    means: &Means<'_, H, P>,
+    ended: &Result<Option<SelectionCounts>, ToolFault>,
+    verb: Verb,
+    matches: &ArgMatches<'_>,
+    files: &NamedFiles<'_, S>,
+) -> String
+    ensures { (string_bytes result ≡ []) ⊎ (P.watched means.now.progress.now ≡ true)
+        ⊎ IsFlag (rows_of (found_of matches.now)) (codes "explain") true }
+{
+    let is_asked = has_flag(matches, "explain");
+    match ended {
+        Err(fault) if means.progress.is_watched() || is_asked => {
+            let looks = files.looks();
+            let known = Known {
+                verb,
+                matches,
+                looks: &looks,
+                refusal: files.refusal(),
+            };
+            match explanation(means.alloc, fault, &known) {
+                Ok(text) => text,
+                Err(_) => String::new(means.alloc),
+            }
+        }
+        _ => String::new(means.alloc),
+    }
 }
 
 // Tells why there are no arguments: the exit status.
@@ -108,11 +147,16 @@ fn tell_unread<E: Sink>(error: &io::Error, errors: &mut E) -> u8
     FAULT
 }
 
-// Tells how a command line ended: the exit status. Failing to say so changes no status.
-fn tell_end<E: Sink>(ended: Result<Option<SelectionCounts>, Ending>, errors: &mut E) -> u8
+// Tells how a command line ended, and puts this text behind the line of a fault: the exit status. Failing to say so
+// changes no status.
+fn tell_end<E: Sink>(
+    ended: Result<Option<SelectionCounts>, Ending>,
+    explained: &str,
+    errors: &mut E,
+) -> u8
     ensures within { result ≤ 2 }
     ensures ends { (arguments : List Text) (old new : Surroundings) → CarriesOut arguments old new ended
-        → Ends arguments old new (E.seen errors.old) (E.seen errors.new) result }
+        → Ends arguments old new (E.seen errors.old) (E.seen errors.new) explained.now result }
 {
     match ended {
         Ok(None) => DONE,
@@ -121,13 +165,31 @@ fn tell_end<E: Sink>(ended: Result<Option<SelectionCounts>, Ending>, errors: &mu
             DONE
         }
         Err(Ending::Fault(fault)) => {
-            let _ = write_fault(errors, &fault);
+            let _ = write_explained(errors, &fault, explained);
             status_of(&fault)
         }
         Err(Ending::Refused(text)) => {
             let _ = write_out(errors, text.as_bytes());
             REFUSED
         }
+    }
+}
+
+// Writes the line of a fault, and behind it this text.
+fn write_explained<E: Sink>(
+    errors: &mut E,
+    fault: &ToolFault,
+    explained: &str,
+) -> Result<(), ToolFault>
+    ensures { Writes (E.seen errors.old) (E.seen errors.new) result (fault_line fault.now ++ explained.now) }
+{
+    match write_fault(errors, fault) {
+        Err(failed) => Err(failed),
+        Ok(()) if explained.is_empty() => Ok(()),
+        Ok(()) => match write_out(errors, explained.as_bytes()) {
+            Ok(()) => Ok(()),
+            Err(Failed) => Err(ToolFault::Write),
+        },
     }
 }
 
@@ -170,6 +232,7 @@ fn status_of(fault: &ToolFault) -> u8
 fn show<W: Sink>(
     alloc: Global,
     error: &clap::Error,
+    arguments: &[String],
     output: &mut W,
 ) -> Result<Option<SelectionCounts>, Ending>
     ensures { ShowsSo error.now (W.seen output.old) (W.seen output.new) result }
@@ -179,7 +242,7 @@ fn show<W: Sink>(
     }
     let text = error.to_string(alloc)?;
     if error.use_stderr() {
-        return Err(Ending::Refused(text));
+        return Err(Ending::Refused(with_tip(alloc, text, arguments)?));
     }
     write_out(output, text.as_bytes())?;
     Ok(None)

@@ -12,6 +12,15 @@ use std::time::{Clock, Duration, Instant};
 /// Whoever is told how far a count has come. It is the gate of the workers too, who tell of each batch before they
 /// book it and after, and may do so at the same time.
 pub trait Progress: Gate {
+    ghost use Rattle.std.specs.Prelude.{Bool};
+
+    // whether a person reads what is shown
+    ghost watched: { Self → Bool };
+
+    /// Whether a person reads what is shown, so that a fault is explained.
+    fn is_watched(&self) -> bool
+        ensures { result ≡ watched self.now };
+
     /// So many more bytes of the sources were read.
     fn bytes_read(&self, count: u64);
 
@@ -34,6 +43,14 @@ impl Gate for NoProgress {
 }
 
 impl Progress for NoProgress {
+    ghost use Rattle.std.specs.Prelude.{false};
+
+    ghost watched = { λ _. false };
+
+    fn is_watched(&self) -> bool {
+        false
+    }
+
     fn bytes_read(&self, _count: u64) {}
 
     fn counting_begins(&self, _batches: u64) {}
@@ -58,6 +75,7 @@ const CLEARED: &[u8] = b"\r\x1b[K";
 pub struct ProgressLine<'a, C: Clock, T: Print + IsTerminal> {
     clock: &'a C,
     terminal: &'a T,
+    is_terminal: bool,
     // since when it counts; None where nothing is to be shown
     began: Option<Instant>,
     bytes: AtomicU64,
@@ -72,7 +90,8 @@ pub struct ProgressLine<'a, C: Clock, T: Print + IsTerminal> {
 impl<'a, C: Clock, T: Print + IsTerminal> ProgressLine<'a, C, T> {
     /// A line on this terminal, where it is one. Its first text is written an eighth of a second later at the earliest.
     pub fn new(clock: &'a C, terminal: &'a T) -> ProgressLine<'a, C, T> {
-        let began = if terminal.is_terminal() {
+        let is_terminal = terminal.is_terminal();
+        let began = if is_terminal {
             Instant::now(clock).ok()
         } else {
             None
@@ -80,6 +99,7 @@ impl<'a, C: Clock, T: Print + IsTerminal> ProgressLine<'a, C, T> {
         ProgressLine {
             clock,
             terminal,
+            is_terminal,
             began,
             bytes: AtomicU64::new(0),
             counted: AtomicU64::new(0),
@@ -137,6 +157,12 @@ impl<C: Clock, T: Print + IsTerminal> Gate for ProgressLine<'_, C, T> {
 }
 
 impl<C: Clock, T: Print + IsTerminal> Progress for ProgressLine<'_, C, T> {
+    ghost watched = { λ p. p.is_terminal };
+
+    fn is_watched(&self) -> bool {
+        self.is_terminal
+    }
+
     fn bytes_read(&self, count: u64) {
         self.bytes.fetch_add(count, Ordering::SeqCst);
         self.show(false);

@@ -13,6 +13,8 @@ ghost use Rattle.kc_tool.specs.Files.{FailsToOpen, OpensAll, TellsName, given_ba
 ghost use Rattle.kc_tool.specs.Outputs.{KeepsText, MakesAnew};
 
 use crate::file_acts::FileAct;
+use crate::file_refusals::{Refusal, refusal_of};
+use crate::looks::{Look, Looks};
 use crate::named_sources::NamedSource;
 use crate::tool_faults::ToolFault;
 use kc_io::{Failed, FromRead, Heard, Sink, Source, ToWrite};
@@ -29,6 +31,7 @@ use std::{fs, io};
 pub(crate) struct FileSource<F: Read> {
     stream: FromRead<F>,
     heard: Heard,
+    look: Look,
 }
 
 impl<F: Read> Model for FileSource<F> {
@@ -45,6 +48,7 @@ impl<F: Read> Source for FileSource<F> {
     fn read(&mut self, buffer: &mut [u8]) -> Result<usize, Failed> {
         let answer = self.stream.read(buffer);
         self.heard = self.heard.and(&answer, buffer);
+        self.look.note(&answer, buffer);
         answer
     }
 }
@@ -152,6 +156,9 @@ impl FileLog {
 pub struct NamedFiles<'a, H: Files> {
     rt: &'a H,
     log: FileLog,
+    looks: Looks,
+    // why the last of those was not opened, made or renamed that couldn't be
+    refusal: Option<Refusal>,
 }
 
 impl<'a, H: Files> Model for NamedFiles<'a, H> {
@@ -171,7 +178,19 @@ impl<'a, H: Files> NamedFiles<'a, H> {
         NamedFiles {
             rt,
             log: FileLog::nothing(),
+            looks: Looks::nothing(),
+            refusal: None,
         }
+    }
+
+    /// What is known of the files that were read.
+    pub(crate) fn looks(&self) -> Looks {
+        self.looks
+    }
+
+    /// Why the last of those could not be opened, made or renamed that couldn't be.
+    pub(crate) fn refusal(&self) -> Option<Refusal> {
+        self.refusal
     }
 
     /// Opens the file of this name; None where it can't be opened.
@@ -186,10 +205,16 @@ impl<'a, H: Files> NamedFiles<'a, H> {
                 self.log = self.log.and_act(FileAct::Opened, name);
                 let stream = FromRead::new(file);
                 let heard = Heard::nothing();
-                let source = FileSource { stream, heard };
+                let look = Look::nothing();
+                let source = FileSource {
+                    stream,
+                    heard,
+                    look,
+                };
                 Some(NamedSource { name, source })
             }
-            Err(_) => {
+            Err(error) => {
+                self.refusal = Some(refusal_of(&error));
                 self.log = self.log.and_act(FileAct::NotOpened, name);
                 None
             }
@@ -216,7 +241,8 @@ impl<'a, H: Files> NamedFiles<'a, H> {
                 let file = NamedSink::new(name, file);
                 Ok(OpenedSink { file, permissions })
             }
-            Err(_) => {
+            Err(error) => {
+                self.refusal = Some(refusal_of(&error));
                 self.log = self.log.and_act(FileAct::NotCreated, name.as_str());
                 Err(name)
             }
@@ -236,7 +262,8 @@ impl<'a, H: Files> NamedFiles<'a, H> {
                 self.log = self.log.and(&FileAct::Followed, from, to, &heard);
                 Some(path)
             }
-            Err(_) => {
+            Err(error) => {
+                self.refusal = Some(refusal_of(&error));
                 self.log = self.log.and_act(FileAct::NotFollowed, name);
                 None
             }
@@ -263,7 +290,8 @@ impl<'a, H: Files> NamedFiles<'a, H> {
                 self.log = self.log.and_act(FileAct::Taken, name.as_str());
                 Err(NotMade::Taken)
             }
-            Err(_) => {
+            Err(error) => {
+                self.refusal = Some(refusal_of(&error));
                 self.log = self.log.and_act(FileAct::NotMade, name.as_str());
                 Err(NotMade::Refused)
             }
@@ -304,6 +332,7 @@ impl<'a, H: Files> NamedFiles<'a, H> {
     pub(crate) fn take_source(&mut self, file: NamedSource<'_, FileSource<H::File>>)
         ensures { self.new ≡ self.old ++ read file.entry.name.now file.entry.source.history ∷ [] }
     {
+        self.looks.add(&file.source.look);
         let name = file.name.as_bytes();
         self.log = self.log.and(&FileAct::Read, name, b"", &file.source.heard);
     }

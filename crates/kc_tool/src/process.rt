@@ -1,5 +1,5 @@
 //! The program as a process runs it: with the arguments as std gives them, and over standard streams by value.
-ghost use Rattle.std.specs.Prelude.{◌≡◌, ◌≤◌, IfErr, IfOk, map, string_bytes};
+ghost use Rattle.std.specs.Prelude.{◌≡◌, ◌≤◌, false, IfErr, IfOk, map, string_bytes};
 ghost use Rattle.kc_tool.specs.Process.{EndsOver, EndsUnreadOver, at_first, unwritten};
 
 use crate::command_line::run;
@@ -23,7 +23,7 @@ pub fn program<
     E: io::Write + Drop,
 >(rt: &H, alloc: Global, arguments: Vec<String>, input: I, output: O, errors: E) -> u8
     ensures within { result ≤ 2 }
-    ensures ends { EndsOver (map string_bytes arguments.items)
+    ensures ends { EndsOver false (map string_bytes arguments.items)
         (at_first (I.remaining input) (O.contents output)) (unwritten (E.contents errors)) result }
 {
     program_showing(rt, alloc, Ok(arguments), input, output, errors, &NoProgress)
@@ -47,7 +47,7 @@ pub fn program_showing<
     progress: &P,
 ) -> u8
     ensures within { result ≤ 2 }
-    ensures texts { IfOk arguments (λ texts. EndsOver (map string_bytes texts.items)
+    ensures texts { IfOk arguments (λ texts. EndsOver (P.watched progress.now) (map string_bytes texts.items)
         (at_first (I.remaining input) (O.contents output)) (unwritten (E.contents errors)) result) }
     ensures unread { IfErr arguments (λ error. EndsUnreadOver error
         (at_first (I.remaining input) (O.contents output)) (unwritten (E.contents errors)) result) }

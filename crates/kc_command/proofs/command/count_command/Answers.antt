@@ -55,9 +55,13 @@ returns c =
                                   c.only.ensures.own,
                                   c.only.ensures.rule,
                                   (
-                                    c.files.ensures.own,
-                                    c.files.ensures.rule,
-                                    tt,
+                                    c.explain.ensures.own,
+                                    c.explain.ensures.rule,
+                                    (
+                                      c.files.ensures.own,
+                                      c.files.ensures.rule,
+                                      tt,
+                                    ),
                                   ),
                                 ),
                               ),

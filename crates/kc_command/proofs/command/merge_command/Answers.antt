@@ -13,12 +13,16 @@ returns c =
       c.output.ensures.own,
       c.output.ensures.rule,
       (
-        c.first.ensures.own,
-        c.first.ensures.rule,
+        c.explain.ensures.own,
+        c.explain.ensures.rule,
         (
-          c.second.ensures.own,
-          c.second.ensures.rule,
-          tt,
+          c.first.ensures.own,
+          c.first.ensures.rule,
+          (
+            c.second.ensures.own,
+            c.second.ensures.rule,
+            tt,
+          ),
         ),
       ),
     )

@@ -13,12 +13,16 @@ returns c =
       c.output.ensures.own,
       c.output.ensures.rule,
       (
-        c.table.ensures.own,
-        c.table.ensures.rule,
+        c.explain.ensures.own,
+        c.explain.ensures.rule,
         (
-          c.words.ensures.own,
-          c.words.ensures.rule,
-          tt,
+          c.table.ensures.own,
+          c.table.ensures.rule,
+          (
+            c.words.ensures.own,
+            c.words.ensures.rule,
+            tt,
+          ),
         ),
       ),
     )

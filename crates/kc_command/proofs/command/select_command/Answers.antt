@@ -28,12 +28,16 @@ returns c =
                 c.output.ensures.own,
                 c.output.ensures.rule,
                 (
-                  c.counted.ensures.own,
-                  c.counted.ensures.rule,
+                  c.explain.ensures.own,
+                  c.explain.ensures.rule,
                   (
-                    c.files.ensures.own,
-                    c.files.ensures.rule,
-                    tt,
+                    c.counted.ensures.own,
+                    c.counted.ensures.rule,
+                    (
+                      c.files.ensures.own,
+                      c.files.ensures.rule,
+                      tt,
+                    ),
                   ),
                 ),
               ),

@@ -13,9 +13,13 @@ returns c =
       c.output.ensures.own,
       c.output.ensures.rule,
       (
-        c.file.ensures.own,
-        c.file.ensures.rule,
-        tt,
+        c.explain.ensures.own,
+        c.explain.ensures.rule,
+        (
+          c.file.ensures.own,
+          c.file.ensures.rule,
+          tt,
+        ),
       ),
     )
     ) in

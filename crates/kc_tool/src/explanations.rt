@@ -1,0 +1,342 @@
+//! What a person is told of a fault, behind its line: what was found, where, and what to do.
+use crate::commands::Verb;
+use crate::file_kinds::{FileKind, kind_of};
+use crate::file_refusals::Refusal;
+use crate::looks::{Look, Looks};
+use crate::option_ranges::range_of;
+use crate::tool_faults::ToolFault;
+use clap::ArgMatches;
+use itoa::Buffer;
+use kc_command::{OptionName, text_of};
+use kc_fastx::FastxFault;
+use kc_run::RunFault;
+use std::alloc::{AllocError, Global};
+
+// What standard input is called.
+const STANDARD_INPUT: &str = "standard input";
+
+/// What is known of a command that met a fault.
+#[derive(Drop)]
+pub(crate) struct Known<'a, 'm> {
+    /// The command.
+    pub verb: Verb,
+    /// Its options and files.
+    pub matches: &'a ArgMatches<'m>,
+    /// What is known of the files that it read.
+    pub looks: &'a Looks,
+    /// Why the system refused a file, where it did.
+    pub refusal: Option<Refusal>,
+}
+
+/// The line that explains a fault.
+pub(crate) fn explanation(
+    alloc: Global,
+    fault: &ToolFault,
+    known: &Known<'_, '_>,
+) -> Result<String, AllocError> {
+    match fault {
+        ToolFault::Fastx { source, fault } => of_reads(alloc, *source, *fault, known),
+        ToolFault::BadHeader
+        | ToolFault::BadRow(_)
+        | ToolFault::BadEnd
+        | ToolFault::TableTooLong
+        | ToolFault::TableRead => of_table(alloc, fault, known),
+        ToolFault::BadOption(name) => of_option(alloc, *name, known),
+        ToolFault::BadWord(number) => of_word(alloc, *number, known),
+        ToolFault::OpenFailed(name) => of_file(alloc, name.as_str(), known),
+        ToolFault::Unlike => of_unlike(alloc, known),
+        _ => line(alloc, text_of_rest(fault, known), "", ""),
+    }
+}
+
+// What may be wrong with a file that opened and can't be read.
+const READ_FAILED: &str =
+    " can't be read: it may be a folder, or a disk or the network may have failed";
+
+// The faults that need no more than a text.
+fn text_of_rest(fault: &ToolFault, known: &Known<'_, '_>) -> &'static str {
+    match fault {
+        ToolFault::Write if text_of(known.matches, "output").is_some() => {
+            "the text can't be written, and the file of -o is as it was; is the disk full?"
+        }
+        ToolFault::Write => {
+            "the output can't be written: the disk is full, or the program that reads it has gone"
+        }
+        ToolFault::Run(RunFault::NoThread(_)) => {
+            "a thread can't be started: give fewer by -t, or raise the limit (ulimit -u)"
+        }
+        ToolFault::Run(RunFault::Full(_)) => {
+            "a hash table can't grow further: count parts of the input, and merge their tables"
+        }
+        ToolFault::TooLarge => "the counts of both tables together are above 2^62",
+        _ => "memory ran out: count parts of the input, and merge their tables",
+    }
+}
+
+// The line that these three texts make.
+fn line(alloc: Global, first: &str, second: &str, third: &str) -> Result<String, AllocError> {
+    let mut text = String::from_str(alloc, "  ")?;
+    text.push_str(first)?;
+    text.push_str(second)?;
+    text.push_str(third)?;
+    text.push_str("\n")?;
+    Ok(text)
+}
+
+// A line about a line of a file.
+fn at_line(alloc: Global, name: &str, at: u64, what: &str) -> Result<String, AllocError> {
+    let mut text = String::from_str(alloc, name)?;
+    text.push_str(", line ")?;
+    let mut digits = Buffer::new();
+    text.push_str(digits.format(at))?;
+    line(alloc, text.as_str(), ": ", what)
+}
+
+// The file of this number, from 1, or standard input.
+fn file_name<'m>(number: u64, matches: &ArgMatches<'m>) -> &'m str {
+    let Some(files) = matches.get_strs("file") else {
+        return STANDARD_INPUT;
+    };
+    let at = usize::try_from(number.saturating_sub(1)).unwrap_or(usize::MAX);
+    match files.get(at) {
+        Some(name) => *name,
+        None => STANDARD_INPUT,
+    }
+}
+
+// The file that is given for this option or argument.
+fn named<'m>(id: &str, matches: &ArgMatches<'m>) -> &'m str {
+    match text_of(matches, id) {
+        Some(name) => name,
+        None => STANDARD_INPUT,
+    }
+}
+
+// The name of the source of this number: the list is number 0.
+fn source_name<'m>(source: u64, matches: &ArgMatches<'m>) -> &'m str {
+    if source == 0 {
+        named("only", matches)
+    } else {
+        file_name(source, matches)
+    }
+}
+
+// The name of the table that a fault is about: of two, the one that was read last.
+fn table_name<'m>(known: &Known<'_, 'm>) -> &'m str {
+    match known.verb {
+        Verb::Merge if known.looks.count > 1 => named("second", known.matches),
+        Verb::Merge => named("first", known.matches),
+        Verb::Select => named("table", known.matches),
+        _ => file_name(1, known.matches),
+    }
+}
+
+// The kind of the file that was read last, where it is no standard input.
+fn kind_of_last(name: &str, known: &Known<'_, '_>) -> FileKind {
+    if name == STANDARD_INPUT || !known.looks.last.was_read() {
+        return FileKind::Unknown;
+    }
+    kind_of(known.looks.last.bytes())
+}
+
+// The fault of a source of reads.
+fn of_reads(
+    alloc: Global,
+    source: u64,
+    fault: FastxFault,
+    known: &Known<'_, '_>,
+) -> Result<String, AllocError> {
+    let name = source_name(source, known.matches);
+    match fault {
+        FastxFault::BadStart(at) => of_text(alloc, name, at, BAD_START, known),
+        FastxFault::BadBase(at) => of_text(alloc, name, at, BAD_BASE, known),
+        FastxFault::BadQuality(at) => at_line(alloc, name, at, BAD_QUALITY),
+        FastxFault::LongQuality(at) => at_line(alloc, name, at, LONG_QUALITY),
+        FastxFault::Truncated(at) => at_line(alloc, name, at, TRUNCATED),
+        FastxFault::TooLong => line(alloc, name, TOO_LONG, ""),
+        FastxFault::Read => line(alloc, name, READ_FAILED, ""),
+        FastxFault::Memory => line(alloc, "memory ran out while this was read: ", name, ""),
+    }
+}
+
+// A source that is no text of reads: of what kind it is, or what is wrong with this line.
+fn of_text(
+    alloc: Global,
+    name: &str,
+    at: u64,
+    what: &str,
+    known: &Known<'_, '_>,
+) -> Result<String, AllocError> {
+    match reads_of_kind(kind_of_last(name, known)) {
+        Some((is, command)) => {
+            let mut text = String::from_str(alloc, is)?;
+            text.push_str(command)?;
+            line(alloc, name, text.as_str(), name)
+        }
+        None => at_line(alloc, name, at, what),
+    }
+}
+
+const BAD_START: &str = "a record should begin here, with > or @; is the input compressed, or BAM? \
+     Put zcat or samtools fastq in front";
+
+const BAD_BASE: &str = "a sequence has a byte that is no letter; are two formats in one input?";
+
+const BAD_QUALITY: &str = "a quality has a byte outside ! to ~, which are ASCII 33 to 126";
+
+const LONG_QUALITY: &str = "the quality is longer than its sequence";
+
+const TRUNCATED: &str = "the input ends inside a record: it was cut off, or its copy is not whole";
+
+const TOO_LONG: &str = " takes the input above 64 GiB: count parts of it, and merge their tables";
+
+// What is said behind the name of a file of this kind that should be one of reads, in front of the name once more.
+fn reads_of_kind(kind: FileKind) -> Option<(&'static str, &'static str)> {
+    match kind {
+        FileKind::Gzip => Some((" is compressed with gzip: count the output of ", "zcat ")),
+        FileKind::Bgzip => Some((
+            " is BAM, or compressed with bgzip: count the output of ",
+            "samtools fastq, or zcat, of ",
+        )),
+        FileKind::Bzip2 => Some((" is compressed with bzip2: count the output of ", "bzcat ")),
+        FileKind::Xz => Some((" is compressed with xz: count the output of ", "xzcat ")),
+        FileKind::Zstd => Some((" is compressed with zstd: count the output of ", "zstdcat ")),
+        FileKind::Cram => Some((" is CRAM: count the output of ", "samtools fastq ")),
+        FileKind::Sam => Some((
+            " is SAM, or another text of columns: of SAM, count the output of ",
+            "samtools fastq ",
+        )),
+        FileKind::Marked => Some((
+            " begins with a byte order mark: count the output of ",
+            "tail -c +4 ",
+        )),
+        FileKind::Table => Some((
+            " is a table, and its reads are counted: look at it by ",
+            "kcount dump, histo, stats or query ",
+        )),
+        FileKind::Jellyfish => Some((
+            " is a file of Jellyfish, which kcount does not read: look at it by ",
+            "jellyfish dump ",
+        )),
+        _ => None,
+    }
+}
+
+// The fault of a table.
+fn of_table(alloc: Global, fault: &ToolFault, known: &Known<'_, '_>) -> Result<String, AllocError> {
+    let name = table_name(known);
+    match fault {
+        ToolFault::BadRow(at) => at_line(alloc, name, *at, BAD_ROW),
+        ToolFault::BadEnd => line(alloc, name, BAD_END, ""),
+        ToolFault::TableTooLong => line(alloc, name, " is longer than any table", ""),
+        ToolFault::TableRead => line(alloc, name, READ_FAILED, ""),
+        _ => line(alloc, name, header_of_kind(kind_of_last(name, known)), ""),
+    }
+}
+
+const BAD_ROW: &str = "this is no row in its place: a table is read as it was written, and not \
+     sorted or edited";
+
+const BAD_END: &str = " lacks its last line, END: it was cut off, or lines were taken out of it";
+
+// What is said behind the name of a file of this kind that should be a table.
+fn header_of_kind(kind: FileKind) -> &'static str {
+    match kind {
+        FileKind::Empty => " is empty: the count that should have written it has failed",
+        FileKind::Gzip | FileKind::Bgzip => " is compressed: uncompress it by gunzip, or read zcat",
+        FileKind::Jellyfish => {
+            " is a file of Jellyfish, which kcount does not read: count the reads by kcount count"
+        }
+        FileKind::Reads | FileKind::Sam => {
+            " is a file of reads, or a dump: count the reads first, by kcount count -m K -o TABLE"
+        }
+        _ => " is no table: kcount count writes one without --print, and it begins with KCT",
+    }
+}
+
+// An option has a value outside its limits, or none.
+fn of_option(alloc: Global, name: OptionName, known: &Known<'_, '_>) -> Result<String, AllocError> {
+    let option = name.text();
+    let id = option.strip_prefix("--").unwrap_or("");
+    let mut text = String::from_str(alloc, option)?;
+    match text_of(known.matches, id) {
+        Some(value) => {
+            text.push_str(" is ")?;
+            text.push_str(value)?;
+            line(alloc, text.as_str(), ", and has to be ", range_of(name))
+        }
+        None => line(alloc, text.as_str(), " has to be given: ", range_of(name)),
+    }
+}
+
+// An asked word is none of the table's.
+fn of_word(alloc: Global, number: u64, known: &Known<'_, '_>) -> Result<String, AllocError> {
+    let at = usize::try_from(number.saturating_sub(1)).unwrap_or(usize::MAX);
+    let mut text = String::new(alloc);
+    if let Some(words) = known.matches.get_strs("word") {
+        if let Some(word) = words.get(at) {
+            text.push_str(*word)?;
+        }
+    }
+    text.push_str(" is no k-mer of this table, whose k-mers have a length of ")?;
+    let length = header_field(&known.looks.last, 2);
+    line(
+        alloc,
+        text.as_str(),
+        length,
+        " and are of A, C, G and T alone",
+    )
+}
+
+// A field of the header of a table that begins so.
+fn header_field(look: &Look, at: usize) -> &str {
+    let Ok(text) = std::str::from_utf8(look.bytes()) else {
+        return "";
+    };
+    match text.split(' ').nth(at) {
+        Some(field) => field,
+        None => "",
+    }
+}
+
+// A file can't be opened.
+fn of_file(alloc: Global, name: &str, known: &Known<'_, '_>) -> Result<String, AllocError> {
+    let mut text = String::from_str(alloc, name)?;
+    text.push_str(" can't be opened: ")?;
+    let why = known.refusal.unwrap_or(Refusal::Other);
+    line(alloc, text.as_str(), why.text(), tip_of_name(name, known))
+}
+
+// What is said of a name that can't be opened.
+fn tip_of_name(name: &str, known: &Known<'_, '_>) -> &'static str {
+    if name == "-" {
+        return "; standard input is read where no file is named";
+    }
+    if name.as_bytes().contains(&b',') {
+        return "; names of files are divided by blanks, and not by commas";
+    }
+    if name.as_bytes().contains(&b'*') {
+        return "; the shell replaces * only where it is not quoted";
+    }
+    if text_of(known.matches, "output") == Some(name) {
+        return "; the text goes to a new file in the folder of -o first";
+    }
+    ""
+}
+
+// Two tables don't match.
+fn of_unlike(alloc: Global, known: &Known<'_, '_>) -> Result<String, AllocError> {
+    let (first, second) = (&known.looks.before, &known.looks.last);
+    let mut text = String::from_str(alloc, named("first", known.matches))?;
+    text.push_str(" and ")?;
+    text.push_str(named("second", known.matches))?;
+    if header_field(first, 2) == header_field(second, 2) {
+        return line(alloc, text.as_str(), UNLIKE, "");
+    }
+    text.push_str(" have k-mers of length ")?;
+    text.push_str(header_field(first, 2))?;
+    line(alloc, text.as_str(), " and ", header_field(second, 2))
+}
+
+const UNLIKE: &str = " were counted in different ways: with and without -C or --only, or with \
+     another --min-qual-char";

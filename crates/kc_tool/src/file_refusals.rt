@@ -1,0 +1,53 @@
+//! Why the system refuses a file.
+use std::io::{Error, ErrorKind};
+
+/// Why a file can't be opened, made or renamed, as far as that shows what to do.
+#[derive(Clone, Copy, Debug, PartialEq, Eq)]
+pub(crate) enum Refusal {
+    /// There is no such file, or no such folder.
+    Missing,
+    /// The permissions forbid it.
+    Denied,
+    /// It is a folder.
+    IsFolder,
+    /// A part of the path is no folder.
+    NoFolder,
+    /// The name is too long, or has bytes that no name has.
+    BadName,
+    /// The disk, or the share of it, is full.
+    Full,
+    /// The file system can't be written.
+    ReadOnly,
+    /// Any other reason.
+    Other,
+}
+
+/// The refusal that this error of std is.
+pub(crate) fn refusal_of(error: &Error) -> Refusal {
+    match error.kind() {
+        ErrorKind::NotFound => Refusal::Missing,
+        ErrorKind::PermissionDenied => Refusal::Denied,
+        ErrorKind::IsADirectory => Refusal::IsFolder,
+        ErrorKind::NotADirectory => Refusal::NoFolder,
+        ErrorKind::InvalidFilename | ErrorKind::InvalidInput => Refusal::BadName,
+        ErrorKind::StorageFull | ErrorKind::QuotaExceeded => Refusal::Full,
+        ErrorKind::ReadOnlyFilesystem => Refusal::ReadOnly,
+        _ => Refusal::Other,
+    }
+}
+
+impl Refusal {
+    /// What is wrong, as the end of a sentence.
+    pub fn text(self) -> &'static str {
+        match self {
+            Refusal::Missing => "there is no such file or folder",
+            Refusal::Denied => "permission is denied",
+            Refusal::IsFolder => "it is a folder",
+            Refusal::NoFolder => "a part of its path is no folder",
+            Refusal::BadName => "the name is too long, or is no name of a file",
+            Refusal::Full => "the disk or the quota is full",
+            Refusal::ReadOnly => "the file system is read-only",
+            Refusal::Other => "the system refuses it",
+        }
+    }
+}

@@ -1,0 +1,83 @@
+//! The first bytes of the files that a command reads, which show of what kind they are. They are kept for explanations
+//! alone.
+use kc_io::Failed;
+
+/// How many bytes are kept.
+const MOST_KEPT: usize = 64;
+
+/// The first bytes that a source gave.
+#[derive(Clone, Copy, Debug)]
+pub(crate) struct Look {
+    bytes: [u8; MOST_KEPT],
+    len: usize,
+    was_read: bool,
+}
+
+impl Look {
+    /// Nothing was read yet.
+    pub fn nothing() -> Look {
+        Look {
+            bytes: [0; MOST_KEPT],
+            len: 0,
+            was_read: false,
+        }
+    }
+
+    /// Keeps the first bytes of what a read gave, as far as there is room.
+    pub fn note(&mut self, answer: &Result<usize, Failed>, buffer: &[u8]) {
+        self.was_read = true;
+        let Ok(count) = answer else {
+            return;
+        };
+        if self.len >= MOST_KEPT {
+            return;
+        }
+        for byte in buffer.iter().take(*count) {
+            if self.len < MOST_KEPT {
+                self.bytes[self.len] = *byte;
+                self.len += 1;
+            }
+        }
+    }
+
+    /// Whether it was read at all.
+    pub fn was_read(&self) -> bool {
+        self.was_read
+    }
+
+    /// The bytes.
+    pub fn bytes(&self) -> &[u8] {
+        &self.bytes[..self.len.min(MOST_KEPT)]
+    }
+}
+
+/// What is known of the files that were read: how many there were, and the first bytes of the last two.
+#[derive(Clone, Copy, Debug)]
+pub(crate) struct Looks {
+    /// How many files were read.
+    pub count: usize,
+    /// The one before the last.
+    pub before: Look,
+    /// The last.
+    pub last: Look,
+}
+
+impl Looks {
+    /// No file was read.
+    pub fn nothing() -> Looks {
+        Looks {
+            count: 0,
+            before: Look::nothing(),
+            last: Look::nothing(),
+        }
+    }
+
+    /// One file more was closed, with these first bytes.
+    pub fn add(&mut self, look: &Look) {
+        if look.was_read {
+            self.count = self.count.saturating_add(1);
+            self.before = self.last;
+            self.last = *look;
+        }
+    }
+}

@@ -1,0 +1,134 @@
+//! What is said of an option that Jellyfish has, and that is called otherwise here, or is not needed.
+use std::alloc::{AllocError, Global};
+
+/// The text of a refusal by `clap`, with a tip of our own where we know the option: in place of that of `clap`, which
+/// takes an unknown option for a value.
+pub(crate) fn with_tip(
+    alloc: Global,
+    text: String,
+    arguments: &[String],
+) -> Result<String, AllocError> {
+    let command = match arguments.get(1) {
+        Some(name) => name.as_str(),
+        None => "",
+    };
+    let Some((first, rest)) = text.as_str().split_once('\n') else {
+        return Ok(text);
+    };
+    let Some(tip) = tip_of(command, quoted_in(first)) else {
+        return Ok(text);
+    };
+    let mut told = String::from_str(alloc, first)?;
+    told.push_str("\n\n  tip: ")?;
+    told.push_str(tip)?;
+    told.push_str("\n")?;
+    told.push_str(without_tip(rest))?;
+    Ok(told)
+}
+
+// What stands between the first two quotation marks.
+fn quoted_in(line: &str) -> &str {
+    match line.split('\'').nth(1) {
+        Some(quoted) => quoted,
+        None => "",
+    }
+}
+
+// What stands behind the tip, where there is one.
+fn without_tip(rest: &str) -> &str {
+    let Some(tip) = rest.strip_prefix("\n  tip: ") else {
+        return rest;
+    };
+    match tip.split_once('\n') {
+        Some((_, behind)) => behind,
+        None => "",
+    }
+}
+
+// What is said of an argument of a command.
+fn tip_of(command: &str, argument: &str) -> Option<&'static str> {
+    for tip in TIPS {
+        let (of, name, text) = *tip;
+        if of.as_bytes() == command.as_bytes() && name.as_bytes() == argument.as_bytes() {
+            return Some(text);
+        }
+    }
+    if command == "merge" && !argument.starts_with('-') && !argument.starts_with('<') {
+        return Some("merge adds two tables at a time");
+    }
+    None
+}
+
+const LISTED: &str = "the files are named on the command line, and programs write into a pipe";
+
+const LEAST: &str = "there is no Bloom filter: leave k-mers that occur once out by dump -L 2";
+
+const LINES: &str = "lines of counts that no k-mer has are left out, and the first count is 1";
+
+const HEADER: &str = "the first line of a table says how it was counted: head -n 1 TABLE";
+
+// The commands and options of Jellyfish that are missed, and what is said of each.
+const TIPS: &[(&str, &str, &str)] = &[
+    ("count", "-k", "the length of the k-mers is -m"),
+    ("count", "-Q", "Jellyfish's -Q is --min-qual-char"),
+    (
+        "count",
+        "-L",
+        "Jellyfish's -L is --lower-count, for --print dump",
+    ),
+    (
+        "count",
+        "-U",
+        "Jellyfish's -U is --upper-count, for --print dump",
+    ),
+    ("count", "--if", "Jellyfish's --if is --only"),
+    ("count", "--text", "a table is always text"),
+    (
+        "count",
+        "-c",
+        "counts up to 2^62 are exact, and have no length",
+    ),
+    ("count", "-p", "hash tables grow as they must"),
+    ("count", "--disk", "hash tables grow as they must"),
+    ("count", "-F", "files are read one after the other"),
+    ("count", "-g", LISTED),
+    ("count", "-G", LISTED),
+    (
+        "count",
+        "--sam",
+        "SAM, BAM and CRAM go through samtools fastq",
+    ),
+    ("count", "--bc", LEAST),
+    ("count", "--bf-size", LEAST),
+    ("histo", "-t", "a histogram takes one thread"),
+    ("histo", "-l", LINES),
+    ("histo", "-i", LINES),
+    ("histo", "-f", LINES),
+    (
+        "stats",
+        "-L",
+        "statistics are those of all k-mers of the table",
+    ),
+    (
+        "stats",
+        "-U",
+        "statistics are those of all k-mers of the table",
+    ),
+    (
+        "query",
+        "-s",
+        "the k-mers are given on the command line, for instance by xargs",
+    ),
+    (
+        "query",
+        "-i",
+        "the k-mers are given on the command line, for instance by xargs",
+    ),
+    ("query", "-l", "a table is always read whole"),
+    ("query", "-L", "a table is always read whole"),
+    ("merge", "-L", "Jellyfish's merge -L is dump -L on the sum"),
+    ("merge", "-U", "Jellyfish's merge -U is dump -U on the sum"),
+    ("info", "info", HEADER),
+    ("mem", "mem", "-s is for speed alone: the hash tables grow"),
+    ("bc", "bc", LEAST),
+];

@@ -1,0 +1,182 @@
+#!/bin/bash
+# Runs command lines that users get wrong, with --explain, and compares the line of each fault and the line that explains
+# it; without --explain, and where standard error is no terminal, the first line is alone:
+#   tests/mistakes.sh
+# It needs bin/kcount.
+set -euo pipefail
+here=$(cd "$(dirname "$0")" && pwd)
+kcount=$here/../bin/kcount
+[ -x "$kcount" ] || { echo "no bin/kcount: run make build first"; exit 1; }
+work=$(mktemp -d)
+trap 'rm -rf "$work"' EXIT
+mkdir "$work/here" "$work/here/folder"
+cd "$work/here"
+
+# Good reads, and files that are none.
+printf '>r1\nACGTA\n' > reads.fa
+printf '@r1\nACGTACGT\n+\nIIIIIIII\n' > reads.fq
+gzip -c reads.fq > reads.fq.gz
+printf '\x1f\x8b\x08\x04\0\0\0\0\0\xff\x06\0BC\x02\0' > reads.bam
+printf 'BZh91AY&SY' > reads.fq.bz2
+printf '\xfd7zXZ\0' > reads.fq.xz
+printf '\x28\xb5\x2f\xfd' > reads.fq.zst
+printf 'CRAM\3\0' > reads.cram
+printf 'r1\t0\tchr1\t1\t60\t4M\t*\t0\t0\tACGT\tIIII\n' > reads.sam
+printf '@HD\tVN:1.6\n@SQ\tSN:chr1\tLN:9\nr1\t0\tchr1\n' > header.sam
+printf '\xef\xbb\xbf>r1\nACGT\n' > mark.fa
+printf '0000000420{"alignment":8,"canonical":false}' > reads.jf
+printf '>r1\nACGT ACGT\n' > blank.fa
+printf '>r1\nACGT\n@r2\nACGT\n+\nIIII\n' > mixed.fa
+printf 'ACGT\n' > bare.txt
+printf '@r1\nACGT\n+\nI I\n' > quality.fq
+printf '@r1\nACGT\n+\nIIIIIII\n' > long.fq
+printf '@r1\nACGT\n+\nII' > cut.fq
+: > empty.fq
+"$kcount" count -m 3 -o three.kct reads.fa
+"$kcount" count -m 4 -o four.kct reads.fa
+"$kcount" count -m 3 -C -o both.kct reads.fa
+head -n 2 three.kct > cut.kct
+printf 'KCT 2 3 s a 33 1\nGTA 1\nACG 1\nEND 2 2\n' > sorted.kct
+gzip -c three.kct > three.kct.gz
+"$kcount" dump three.kct > dump.fa
+
+ran=0
+# Runs `kcount` with these arguments and --explain, and without it.
+explains() {
+    local status=$1 line=$2 more=$3 got=0
+    shift 3
+    "$kcount" "$@" --explain > "$work/output" 2> "$work/errors" < reads.fa || got=$?
+    same "its status" "$status" "$got" "$@"
+    same "its errors" "kcount: $line"$'\n'"  $more" "$(cat "$work/errors")" "$@"
+    "$kcount" "$@" > "$work/output" 2> "$work/errors" < reads.fa || true
+    same "its errors without --explain" "kcount: $line" "$(cat "$work/errors")" "$@"
+    ran=$((ran + 1))
+}
+same() {
+    local what=$1 wanted=$2 got=$3
+    shift 3
+    [ "$wanted" = "$got" ] && return
+    printf 'mistakes: %s of kcount %s\nwanted: %s\ngot: %s\n' "$what" "$*" "$wanted" "$got"
+    exit 1
+}
+count=(count -m 3)
+start='1: bad start, source 1, line 1'
+
+# files of another kind
+explains 1 "$start" 'reads.fq.gz is compressed with gzip: count the output of zcat reads.fq.gz' "${count[@]}" reads.fq.gz
+explains 1 "$start" 'reads.bam is BAM, or compressed with bgzip: count the output of samtools fastq, or zcat, of reads.bam' "${count[@]}" reads.bam
+explains 1 "$start" 'reads.fq.bz2 is compressed with bzip2: count the output of bzcat reads.fq.bz2' "${count[@]}" reads.fq.bz2
+explains 1 "$start" 'reads.fq.xz is compressed with xz: count the output of xzcat reads.fq.xz' "${count[@]}" reads.fq.xz
+explains 1 "$start" 'reads.fq.zst is compressed with zstd: count the output of zstdcat reads.fq.zst' "${count[@]}" reads.fq.zst
+explains 1 "$start" 'reads.cram is CRAM: count the output of samtools fastq reads.cram' "${count[@]}" reads.cram
+explains 1 "$start" 'reads.sam is SAM, or another text of columns: of SAM, count the output of samtools fastq reads.sam' "${count[@]}" reads.sam
+explains 1 '2: bad base, source 1, line 2' 'header.sam is SAM, or another text of columns: of SAM, count the output of samtools fastq header.sam' "${count[@]}" header.sam
+explains 1 "$start" 'mark.fa begins with a byte order mark: count the output of tail -c +4 mark.fa' "${count[@]}" mark.fa
+explains 1 "$start" 'three.kct is a table, and its reads are counted: look at it by kcount dump, histo, stats or query three.kct' "${count[@]}" three.kct
+explains 1 "$start" 'reads.jf is a file of Jellyfish, which kcount does not read: look at it by jellyfish dump reads.jf' "${count[@]}" reads.jf
+explains 1 "$start" 'bare.txt, line 1: a record should begin here, with > or @; is the input compressed, or BAM? Put zcat or samtools fastq in front' "${count[@]}" bare.txt
+explains 1 '1: bad start, source 2, line 1' 'reads.fq.gz is compressed with gzip: count the output of zcat reads.fq.gz' "${count[@]}" reads.fa reads.fq.gz
+explains 1 '1: bad start, source 0, line 1' 'reads.fq.gz is compressed with gzip: count the output of zcat reads.fq.gz' "${count[@]}" --only reads.fq.gz reads.fa
+explains 1 "$start" 'reads.fq.gz is compressed with gzip: count the output of zcat reads.fq.gz' select three.kct reads.fq.gz
+
+# lines that are wrong
+explains 1 '2: bad base, source 1, line 2' 'blank.fa, line 2: a sequence has a byte that is no letter; are two formats in one input?' "${count[@]}" blank.fa
+explains 1 '2: bad base, source 1, line 3' 'mixed.fa, line 3: a sequence has a byte that is no letter; are two formats in one input?' "${count[@]}" mixed.fa
+explains 1 '3: bad quality, source 1, line 4' 'quality.fq, line 4: a quality has a byte outside ! to ~, which are ASCII 33 to 126' "${count[@]}" quality.fq
+explains 1 '4: long quality, source 1, line 4' 'long.fq, line 4: the quality is longer than its sequence' "${count[@]}" long.fq
+explains 1 '5: truncated, source 1, line 4' 'cut.fq, line 4: the input ends inside a record: it was cut off, or its copy is not whole' "${count[@]}" cut.fq
+explains 1 '5: truncated, source 2, line 4' 'cut.fq, line 4: the input ends inside a record: it was cut off, or its copy is not whole' "${count[@]}" reads.fa cut.fq
+explains 1 '7: read failed, source 1' "folder can't be read: it may be a folder, or a disk or the network may have failed" "${count[@]}" folder
+
+# tables that are none
+header='41: bad header'
+explains 1 "$header" 'standard input is no table: kcount count writes one without --print, and it begins with KCT' histo
+explains 1 "$header" 'empty.fq is empty: the count that should have written it has failed' histo empty.fq
+explains 1 "$header" 'three.kct.gz is compressed: uncompress it by gunzip, or read zcat' histo three.kct.gz
+explains 1 "$header" 'reads.jf is a file of Jellyfish, which kcount does not read: count the reads by kcount count' query reads.jf ACG
+explains 1 "$header" 'dump.fa is a file of reads, or a dump: count the reads first, by kcount count -m K -o TABLE' histo dump.fa
+explains 1 "$header" 'reads.fq is a file of reads, or a dump: count the reads first, by kcount count -m K -o TABLE' query reads.fq ACG
+explains 1 "$header" 'reads.fq is a file of reads, or a dump: count the reads first, by kcount count -m K -o TABLE' select reads.fq three.kct
+explains 1 "$header" 'reads.fq is a file of reads, or a dump: count the reads first, by kcount count -m K -o TABLE' merge reads.fq three.kct
+explains 1 "$header" 'reads.fq is a file of reads, or a dump: count the reads first, by kcount count -m K -o TABLE' merge three.kct reads.fq
+explains 1 '42: bad row, line 3' 'sorted.kct, line 3: this is no row in its place: a table is read as it was written, and not sorted or edited' stats sorted.kct
+explains 1 '43: bad end' 'cut.kct lacks its last line, END: it was cut off, or lines were taken out of it' histo cut.kct
+explains 1 '45: table read failed' "folder can't be read: it may be a folder, or a disk or the network may have failed" dump folder
+explains 1 '61: tables do not match' 'three.kct and four.kct have k-mers of length 3 and 4' merge three.kct four.kct
+explains 1 '61: tables do not match' 'three.kct and both.kct were counted in different ways: with and without -C or --only, or with another --min-qual-char' merge three.kct both.kct
+explains 1 '52: bad word 1' 'ACGT is no k-mer of this table, whose k-mers have a length of 3 and are of A, C, G and T alone' query three.kct ACGT
+explains 1 '52: bad word 2' 'ACN is no k-mer of this table, whose k-mers have a length of 3 and are of A, C, G and T alone' query three.kct ACG ACN
+
+# values of options
+bad='51: bad option'
+explains 2 "$bad --mer-len" '--mer-len has to be given: the length of the k-mers, a number from 1 to 31' count reads.fa
+for k in 0 32 33 abc; do
+    explains 2 "$bad --mer-len" "--mer-len is $k, and has to be the length of the k-mers, a number from 1 to 31" count -m $k reads.fa
+done
+for n in 0 100; do
+    explains 2 "$bad --threads" "--threads is $n, and has to be a number from 1 to 64" "${count[@]}" -t $n reads.fa
+done
+explains 2 "$bad --size" '--size is 1.5G, and has to be a number from 1 to 2^40, as 500, 20k or 2G' "${count[@]}" -s 1.5G reads.fa
+explains 2 "$bad --min-qual-char" '--min-qual-char is 20, and has to be one character from ! to ~, ASCII 33 to 126, as 5 for a quality of 20' "${count[@]}" --min-qual-char 20 reads.fa
+explains 2 "$bad --stripes" '--stripes is 3, and has to be 1, 2, 4, 8, 16, 32 or 64' "${count[@]}" --stripes 3 reads.fa
+explains 2 "$bad --batch" '--batch is 0, and has to be a number from 1 to 2^36' "${count[@]}" --batch 0 reads.fa
+explains 2 "$bad --print" '--print is tables, and has to be table, dump, histo or stats' "${count[@]}" --print tables reads.fa
+explains 2 "$bad --lower-count" '--lower-count is x, and has to be a number from 0 to 2^62' dump -L x three.kct
+explains 2 "$bad --upper-count" '--upper-count is x, and has to be a number from 0 to 2^62' dump -U x three.kct
+explains 2 "$bad --high" '--high is 0, and has to be a number from 1 to 10000000' histo --high 0 three.kct
+explains 2 "$bad --min-count" '--min-count is x, and has to be a number from 0 to 2^62' select --min-count x three.kct reads.fq
+explains 2 "$bad --min-share" '--min-share is 0.8, and has to be a percentage, a whole number from 0 to 100' select --min-share 0.8 three.kct reads.fq
+
+# files that can't be opened or written
+open='54: cannot open'
+missing="can't be opened: there is no such file or folder"
+explains 1 "$open raeds.fq" "raeds.fq $missing" "${count[@]}" raeds.fq
+explains 1 "$open C:\\reads.fa" "C:\\reads.fa $missing" "${count[@]}" 'C:\reads.fa'
+explains 1 "$open reads.fa,reads.fq" "reads.fa,reads.fq $missing; names of files are divided by blanks, and not by commas" "${count[@]}" reads.fa,reads.fq
+explains 1 "$open *.bam.fq" "*.bam.fq $missing; the shell replaces * only where it is not quoted" "${count[@]}" '*.bam.fq'
+explains 1 "$open -" "- $missing; standard input is read where no file is named" "${count[@]}" -
+explains 1 "$open reads.fa/x" "reads.fa/x can't be opened: a part of its path is no folder" "${count[@]}" reads.fa/x
+explains 1 "$open none/x.kct" "none/x.kct $missing; the text goes to a new file in the folder of -o first" "${count[@]}" -o none/x.kct reads.fa
+explains 1 "$open folder" "folder can't be opened: it is a folder; the text goes to a new file in the folder of -o first" "${count[@]}" -o folder reads.fa
+if [ -c /dev/full ]; then
+    explains 1 '53: write failed' "the text can't be written, and the file of -o is as it was; is the disk full?" "${count[@]}" -o /dev/full reads.fa
+fi
+
+# options of Jellyfish, and commands, that are called otherwise here: the command line is refused with this tip, and with
+# no other
+tips() {
+    local tip=$1 got=0
+    shift
+    "$kcount" "$@" > "$work/output" 2> "$work/errors" < reads.fa || got=$?
+    same "its status" 2 "$got" "$@"
+    same "its tip" "  tip: $tip" "$(grep tip: "$work/errors")" "$@"
+    same "its first line" "error: un" "$(head -c 9 "$work/errors")" "$@"
+    same "its last line" "For more information, try '--help'." "$(tail -n 1 "$work/errors")" "$@"
+    ran=$((ran + 1))
+}
+tips 'the length of the k-mers is -m' count -k 21 reads.fa
+tips "Jellyfish's -Q is --min-qual-char" "${count[@]}" -Q 20 reads.fa
+tips "Jellyfish's -L is --lower-count, for --print dump" "${count[@]}" -L 2 reads.fa
+tips "Jellyfish's -U is --upper-count, for --print dump" "${count[@]}" -U 2 reads.fa
+tips "Jellyfish's --if is --only" "${count[@]}" --if reads.fa reads.fq
+tips 'a table is always text' "${count[@]}" --text reads.fa
+tips 'counts up to 2^62 are exact, and have no length' "${count[@]}" -c 7 reads.fa
+tips 'files are read one after the other' "${count[@]}" -F 2 reads.fa reads.fq
+tips 'the files are named on the command line, and programs write into a pipe' "${count[@]}" -g generators reads.fa
+tips 'there is no Bloom filter: leave k-mers that occur once out by dump -L 2' "${count[@]}" --bf-size 100M reads.fa
+tips 'a histogram takes one thread' histo -t 4 three.kct
+tips 'statistics are those of all k-mers of the table' stats -L 2 three.kct
+tips 'the k-mers are given on the command line, for instance by xargs' query three.kct -s reads.fa
+tips 'merge adds two tables at a time' merge three.kct three.kct three.kct
+tips 'the first line of a table says how it was counted: head -n 1 TABLE' info three.kct
+tips "to pass '-3' as a value, use '-- -3'" count -m -3 reads.fa
+
+# on a terminal the second line comes unasked
+if script -qec true /dev/null < /dev/null > "$work/script" 2>&1; then
+    shown=$(script -qec "'$kcount' count -m 3 raeds.fq" /dev/null < /dev/null) || true
+    same "what a terminal shows" "kcount: 54: cannot open raeds.fq"$'\n'"  raeds.fq $missing" "${shown//$'\r'/}" "on a terminal"
+    ran=$((ran + 1))
+else
+    echo "mistakes: a terminal was not tried, since script (of util-linux) is missing or gets no terminal"
+fi
+echo "mistakes: $ran command lines are explained"
