@@ -15,6 +15,10 @@ _kcount() {
         dump) options='-c --column -t --tab -L --lower-count -U --upper-count -o --output --explain -h --help' ;;
         histo) options='--high -o --output --explain -h --help' ;;
         stats | query | merge) options='-o --output --explain -h --help' ;;
+        help)
+            mapfile -t COMPREPLY < <(compgen -W 'count dump histo stats query merge select help' -- "$word")
+            return
+            ;;
         select) options='--min-count --min-share --min-qual-char --invert --stats -o --output --explain -h --help' ;;
     esac
     case $before in

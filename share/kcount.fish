@@ -8,6 +8,7 @@ complete -c kcount -n __fish_use_subcommand -a query -d 'Look k-mers up in a tab
 complete -c kcount -n __fish_use_subcommand -a merge -d 'Write the sum of two tables'
 complete -c kcount -n __fish_use_subcommand -a select -d 'Write the reads whose k-mers a table counts often'
 complete -c kcount -n __fish_use_subcommand -a help -d 'Write help'
+complete -c kcount -n '__fish_seen_subcommand_from help' -f -a 'count dump histo stats query merge select'
 complete -c kcount -n __fish_use_subcommand -s V -l version -d 'Write the version'
 complete -c kcount -s h -l help -d 'Write help'
 

@@ -65,9 +65,23 @@ same 'commands for bash' "$(
     _kcount
     printf '%s\n' "${COMPREPLY[@]}" | grep -v '^-' | LC_ALL=C sort
 )" "$names"
+same 'commands behind help for bash' "$(
+    source "$share/kcount.bash"
+    COMP_WORDS=(kcount help '') COMP_CWORD=2
+    _kcount
+    printf '%s\n' "${COMPREPLY[@]}" | LC_ALL=C sort
+)" "$names"
 same 'commands for zsh' "$(sed -n "/^    commands=(/,/^    )/s/^ *'\([a-z]*\):.*/\1/p" "$share/_kcount" | LC_ALL=C sort)" "$names"
 same 'commands for fish' "$(sed -n 's/.*__fish_use_subcommand -a \([a-z]*\) .*/\1/p' "$share/kcount.fish" | LC_ALL=C sort)" "$names"
 same 'commands for man' "$({ echo help; sed -n 's/^\.B kcount \([a-z]*\).*/\1/p' "$share/kcount.1"; } | LC_ALL=C sort -u)" "$names"
+
+# no line of help is wider than a terminal
+for command in '' $names; do
+    [ "$command" != help ] || continue
+    # shellcheck disable=SC2086
+    wide=$("$kcount" $command --help | awk 'length > 80')
+    [ -z "$wide" ] || { printf 'options: wider than 80 columns: %s\n' "$wide"; exit 1; }
+done
 
 # the version
 version=$("$kcount" --version)
