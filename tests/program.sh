@@ -114,7 +114,7 @@ refuses $'the following required arguments were not provided:\n  <TABLE>\n  <WOR
 refuses $'the following required arguments were not provided:\n  <WORD>...\n\nUsage: kcount query <TABLE> <WORD>...\n' query two.kct
 refuses $'the following required arguments were not provided:\n  <FIRST>\n  <SECOND>\n'"$usage_of_merge" merge
 refuses $'the following required arguments were not provided:\n  <SECOND>\n'"$usage_of_merge" merge two.kct
-refuses $'unexpected argument \'c\' found\n\nUsage: kcount merge [OPTIONS] <FIRST> <SECOND>\n' merge two.kct two.kct c
+refuses $'unexpected argument \'c\' found\n\n  tip: merge adds two tables at a time\n\nUsage: kcount merge [OPTIONS] <FIRST> <SECOND>\n' merge two.kct two.kct c
 refuses $'unexpected argument \'-C\' found\n\n  tip: to pass \'-C\' as a value, use \'-- -C\'\n\nUsage: kcount merge [OPTIONS] <FIRST> <SECOND>\n' merge -C two.kct two.kct
 refuses $'the following required arguments were not provided:\n  <TABLE>\n'"$usage_of_select" select
 refuses $'a value is required for \'--min-share <P>\' but none was supplied\n' select two.kct --min-share

@@ -53,7 +53,7 @@ fn tip_of(command: &str, argument: &str) -> Option<&'static str> {
             return Some(text);
         }
     }
-    if command == "merge" && !argument.starts_with('-') && !argument.starts_with('<') {
+    if command == "merge" && !argument.is_empty() && !argument.starts_with('-') {
         return Some("merge adds two tables at a time");
     }
     None
