@@ -7,6 +7,7 @@
 set -euo pipefail
 here=$(cd "$(dirname "$0")" && pwd)
 kcount=$here/../bin/kcount
+on_terminal=$here/on_terminal.py
 [ -x "$kcount" ] || { echo "no bin/kcount: run make build first"; exit 1; }
 work=$(mktemp -d)
 trap 'rm -rf "$work"' EXIT
@@ -314,19 +315,24 @@ ran=$((ran + 1))
 # shows there has to begin with how far it has come, and to be taken away before the wanted text.
 shows() {
     local wanted=$1 source=$2 to=$3 shown
-    shown=$(script -qec "{ $source; } | '$kcount' ${count[*]} $to" /dev/null < /dev/null) || true
+    shown=$("$on_terminal" "{ $source; } | '$kcount' ${count[*]} $to")
     shown=${shown//$'\r'/}
     same "what a terminal is shown first" 'read 0 MB, ' "$(grep -o -m 1 'read 0 MB, ' <<< "$shown" | head -n 1)" "$source"
-    same "what stays on a terminal" "$wanted" "${shown##*$'\e[K'}" "$source"
+    shown=$(sed -E 's/, [0-9]+\.[0-9] s$//' <<< "${shown##*$'\e[K'}")
+    same "what stays on a terminal" "$wanted" "$shown" "$source"
     ran=$((ran + 1))
 }
-if script -qec true /dev/null < /dev/null > "$work/script" 2>&1; then
-    shows "$one" "$(declare -f slowly); slowly" ''
-    shows '' "$(declare -f slowly); slowly" "> '$work/output'"
-    same "its output" "$one" "$(cat "$work/output")" "beside a terminal"
-    # (bytes are told with the reads that they say)
-    shows $'kcount: 2: bad base, source 1, line 4\n  standard input, line 4: a sequence has a byte that is no letter; are two formats in one input?' "printf '>r1\nACG\n'; sleep 1; printf '>r2\nA@C\n'" ''
-else
-    echo "files: what a terminal is shown was not tried, since script (of util-linux) is missing or gets no terminal"
-fi
+closing='1 read, 3 k-mers, 3 distinct'
+shows "$one"$'\n'"$closing" "$(declare -f slowly); slowly" ''
+shows "$closing" "$(declare -f slowly); slowly" "> '$work/output'"
+same "its output" "$one" "$(cat "$work/output")" "beside a terminal"
+# (bytes are told with the reads that they say)
+shows $'kcount: 2: bad base, source 1, line 4\n  standard input, line 4: a sequence has a byte that is no letter; are two formats in one input?' "printf '>r1\nACG\n'; sleep 1; printf '>r2\nA@C\n'" ''
+# reads may be typed, once the line that asks for them is shown
+asking='reading standard input; end it with Ctrl-D'
+shown=$("$on_terminal" "'$kcount' ${count[*]} -o '$work/typed'" "$asking" $'>r1\nACGTA\n\004')
+same "what a terminal is told first" "$asking" "$(grep -o -m 1 "$asking" <<< "$shown")" "typed"
+same "what stays on a terminal" "$closing" "$(grep -o -m 1 "$closing" <<< "$shown")" "typed"
+same "its output" "$one" "$(cat "$work/typed")" "typed"
+ran=$((ran + 1))
 echo "files: $ran command lines printed what they should, and left what they should in the file of the output"

@@ -31,6 +31,13 @@ printf 'ACGT\n' > bare.txt
 printf '@r1\nACGT\n+\nI I\n' > quality.fq
 printf '@r1\nACGT\n+\nIIIIIII\n' > long.fq
 printf '@r1\nACGT\n+\nII' > cut.fq
+printf '@r1\ta\tb\tc\nAC T\n+\nIIII\n' > tags.fq
+printf '>r1\nACGU\n' > rna.fa
+printf '>p1\nMKVLEDFW\n' > protein.fa
+printf '>r1\nacgta\n' > lower.fa
+printf '@r1\r\nACGTACGT\r\n+\r\nIIIIIIII\r\n' > crlf.fq
+printf '>w1\nACG\n' > one.fa
+{ echo '>r1'; for _ in $(seq 300); do printf ACGT; done; echo; } > thousand.fa
 : > empty.fq
 "$kcount" count -m 3 -o three.kct reads.fa
 "$kcount" count -m 4 -o four.kct reads.fa
@@ -81,6 +88,25 @@ explains 1 "$start" 'reads.fq.gz is compressed with gzip: count the output of zc
 
 # lines that are wrong
 explains 1 '2: bad base, source 1, line 2' 'blank.fa, line 2: a sequence has a byte that is no letter; are two formats in one input?' "${count[@]}" blank.fa
+# standard input is looked at too
+takes() {
+    local input=$1 status=$2 line=$3 more=$4 got=0
+    shift 4
+    "$kcount" "$@" --explain > "$work/output" 2> "$work/errors" < "$input" || got=$?
+    same "its status" "$status" "$got" "$@" "< $input"
+    same "its errors" "kcount: $line"$'\n'"  $more" "$(cat "$work/errors")" "$@" "< $input"
+    ran=$((ran + 1))
+}
+start='1: bad start, source 1, line 1'
+takes reads.fq.gz 1 "$start" 'standard input is compressed with gzip: count the output of zcat' "${count[@]}"
+takes reads.bam 1 "$start" 'standard input is BAM, or compressed with bgzip: count the output of samtools fastq, or zcat, of' "${count[@]}"
+takes reads.sam 1 "$start" 'standard input is SAM, or another text of columns: of SAM, count the output of samtools fastq' "${count[@]}"
+takes mark.fa 1 "$start" 'standard input begins with a byte order mark: count the output of tail -c +4' "${count[@]}"
+takes mixed.fa 1 '2: bad base, source 1, line 3' 'standard input, line 3: a sequence has a byte that is no letter; are two formats in one input?' "${count[@]}"
+takes reads.jf 1 "41: bad header" 'standard input is a file of Jellyfish, which kcount does not read: count the reads by kcount count' histo
+takes three.kct.gz 1 "41: bad header" 'standard input is compressed: uncompress it by gunzip, or read zcat' stats
+takes empty.fq 1 "41: bad header" 'standard input is empty: the count that should have written it has failed' dump
+explains 1 '2: bad base, source 1, line 2' 'tags.fq, line 2: a sequence has a byte that is no letter; are two formats in one input?' "${count[@]}" tags.fq
 explains 1 '2: bad base, source 1, line 3' 'mixed.fa, line 3: a sequence has a byte that is no letter; are two formats in one input?' "${count[@]}" mixed.fa
 explains 1 '3: bad quality, source 1, line 4' 'quality.fq, line 4: a quality has a byte outside ! to ~, which are ASCII 33 to 126' "${count[@]}" quality.fq
 explains 1 '4: long quality, source 1, line 4' 'long.fq, line 4: the quality is longer than its sequence' "${count[@]}" long.fq
@@ -90,7 +116,7 @@ explains 1 '7: read failed, source 1' "folder can't be read: it may be a folder,
 
 # tables that are none
 header='41: bad header'
-explains 1 "$header" 'standard input is no table: kcount count writes one without --print, and it begins with KCT' histo
+explains 1 "$header" 'standard input is a file of reads, or a dump: count the reads first, by kcount count -m K -o TABLE' histo
 explains 1 "$header" 'empty.fq is empty: the count that should have written it has failed' histo empty.fq
 explains 1 "$header" 'three.kct.gz is compressed: uncompress it by gunzip, or read zcat' histo three.kct.gz
 explains 1 "$header" 'reads.jf is a file of Jellyfish, which kcount does not read: count the reads by kcount count' query reads.jf ACG
@@ -138,9 +164,60 @@ explains 1 "$open -" "- $missing; standard input is read where no file is named"
 explains 1 "$open reads.fa/x" "reads.fa/x can't be opened: a part of its path is no folder" "${count[@]}" reads.fa/x
 explains 1 "$open none/x.kct" "none/x.kct $missing; the text goes to a new file in the folder of -o first" "${count[@]}" -o none/x.kct reads.fa
 explains 1 "$open folder" "folder can't be opened: it is a folder; the text goes to a new file in the folder of -o first" "${count[@]}" -o folder reads.fa
+# why the output can't be written
+ends() {
+    local more=$1 got
+    got=$(bash -c "exec 2>&1; $2") || true
+    same "its errors" $'kcount: 53: write failed\n'"  $more" "$got" "$2"
+    ran=$((ran + 1))
+}
+ends "the output can't be written: the program that reads it has ended" \
+    "{ sleep 0.3; '$kcount' dump --explain three.kct 2> errors; } | true; cat errors"
 if [ -c /dev/full ]; then
-    explains 1 '53: write failed' "the text can't be written, and the file of -o is as it was; is the disk full?" "${count[@]}" -o /dev/full reads.fa
+    full='the disk or the quota is full'
+    explains 1 '53: write failed' "the text can't be written: $full; a regular file of -o is as it was" "${count[@]}" -o /dev/full reads.fa
+    ends "the output can't be written: $full" "'$kcount' dump --explain three.kct > /dev/full"
 fi
+
+# what is no fault: the closing line shows how much was counted, without the time here
+none='  no k-mer was counted: one is k letters A, C, G or T in a row, and with --only of the list'
+closes() {
+    local line=$1 got=0 shown
+    shift
+    "$kcount" "$@" --explain > "$work/output" 2> "$work/errors" < reads.fa || got=$?
+    same "its status" 0 "$got" "$@"
+    shown=$(sed -E 's/, [0-9]+\.[0-9] s$//' "$work/errors")
+    same "its closing line" "$line" "$shown" "$@"
+    "$kcount" "$@" > "$work/output" 2> "$work/errors" < reads.fa || true
+    same "its errors without --explain" "" "$(cat "$work/errors")" "$@"
+    ran=$((ran + 1))
+}
+closes $'1 read, 0 k-mers, 0 distinct\n'"$none" count -m 4 rna.fa
+closes $'1 read, 0 k-mers, 0 distinct\n'"$none" count -m 3 protein.fa
+closes $'0 reads, 0 k-mers, 0 distinct\n'"$none" count -m 15 empty.fq
+closes $'1 read, 0 k-mers, 0 distinct\n'"$none" count -m 21 reads.fa
+closes '1 read, 3 k-mers, 3 distinct' count -m 3 reads.fa
+closes '1 read, 3 k-mers, 3 distinct' count -m 3 --print histo reads.fa
+closes '1 read, 3 k-mers, 3 distinct' count -m 3 --print stats reads.fa
+closes '1 read, 3 k-mers, 3 distinct' count -m 3 --print dump --lower-count 2 reads.fa
+closes '1 read, 2 k-mers, 2 distinct' count -m 4 lower.fa
+closes '1 read, 3 k-mers, 2 distinct' count -m 3 -C lower.fa
+closes '2 reads, 6 k-mers, 3 distinct' count -m 3 reads.fa reads.fa
+closes '2 reads, 9 k-mers, 4 distinct' count -m 3 reads.fa reads.fq
+closes '1 read, 6 k-mers, 4 distinct' count -m 3 crlf.fq
+closes '1 read, 1 k-mer, 1 distinct' count -m 3 --only one.fa reads.fa
+closes $'1 read, 0 k-mers, 0 distinct\n'"$none" count -m 3 --only empty.fq reads.fa
+closes '1 read, 1,197 k-mers, 4 distinct' count -m 4 thousand.fa
+closes '1 read, 3 k-mers, 3 distinct' count -m 3
+closes '6 k-mers, 3 distinct' merge three.kct three.kct
+closes '1 of 1 read kept' select --min-count 1 three.kct reads.fa
+closes '0 of 1 read kept' select three.kct reads.fa
+closes '1 of 2 reads kept' select --min-count 1 three.kct reads.fa reads.fq
+closes '1 of 1 read kept' select --min-count 1 three.kct
+closes '' dump three.kct
+closes '' histo three.kct
+closes '' stats three.kct
+closes '' query three.kct ACG
 
 # options of Jellyfish, and commands, that are called otherwise here: the command line is refused with this tip, and with
 # no other
@@ -172,11 +249,7 @@ tips 'the first line of a table says how it was counted: head -n 1 TABLE' info t
 tips "to pass '-3' as a value, use '-- -3'" count -m -3 reads.fa
 
 # on a terminal the second line comes unasked
-if script -qec true /dev/null < /dev/null > "$work/script" 2>&1; then
-    shown=$(script -qec "'$kcount' count -m 3 raeds.fq" /dev/null < /dev/null) || true
-    same "what a terminal shows" "kcount: 54: cannot open raeds.fq"$'\n'"  raeds.fq $missing" "${shown//$'\r'/}" "on a terminal"
-    ran=$((ran + 1))
-else
-    echo "mistakes: a terminal was not tried, since script (of util-linux) is missing or gets no terminal"
-fi
+shown=$("$here/on_terminal.py" "'$kcount' count -m 3 raeds.fq")
+same "what a terminal shows" "kcount: 54: cannot open raeds.fq"$'\n'"  raeds.fq $missing" "${shown//$'\r'/}" "on a terminal"
+ran=$((ran + 1))
 echo "mistakes: $ran command lines are explained"

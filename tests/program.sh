@@ -444,14 +444,19 @@ fault 2 '51: bad option --min-count' "$reads" kcount select --min-share 101 --mi
 fault 2 '51: bad option --min-share' "$reads" kcount select --min-qual-char 10 --min-share 1k missing
 fault 2 '51: bad option --min-qual-char' "$reads" kcount select --min-qual-char= missing
 
-# Each worker has a thread. Where the last one is refused, the fault names the last worker; one more would be no
-# worker's.
-for threads in 1 2 4 64; do
+# Each worker has a thread. Where one is refused, the fault names its worker; one more than there are workers would be
+# no worker's. Where several are refused, it names the first of them.
+for threads in 1 2 3 4 64; do
     many=(count -m 3 --stripes 64 -t "$threads")
     fault 1 "33: no thread for worker $((threads - 1))" "$reads" without_thread "$threads" "${many[@]}"
     wants 0 "$one" '' "$reads" without_thread $((threads + 1)) "${many[@]}"
 done
-fault 1 '33: no thread for worker 1' "$reads" without_thread 2 count -m 3 --threads=4
+for refused in 1 2 3; do
+    fault 1 "33: no thread for worker $((refused - 1))" "$reads" without_thread "$refused" count -m 3 -t 3
+done
+fault 1 '33: no thread for worker 0' "$reads" without_thread '1 3' count -m 3 --threads=3
+fault 1 '33: no thread for worker 1' "$reads" without_thread '2 3' count -m 3 --threads=3
+fault 1 '33: no thread for worker 1' "$reads" without_thread '3 2' count -m 3 --threads=4
 fault 1 '33: no thread for worker 0' "$reads" without_thread 1 count -m 3
 wants 0 "$one" '' "$reads" without_thread 2 count -m 3
 # How many threads a count starts: without -t as many as with -t 1, and with -t 4 at least three more.

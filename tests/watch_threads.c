@@ -1,5 +1,5 @@
 /* Loaded before the C library, it writes a line to the file that THREADS names for each thread that is to be started, and
-   refuses the one whose number is in REFUSE, from 1. */
+   refuses those whose numbers are in REFUSE, from 1, with a blank between two. */
 #define _GNU_SOURCE
 #include <dlfcn.h>
 #include <errno.h>
@@ -8,6 +8,16 @@
 #include <stdlib.h>
 
 typedef int starting(pthread_t *, const pthread_attr_t *, void *(*)(void *), void *);
+
+/* Whether a number stands among those of a text. */
+static int stands_in(const char *text, long number) {
+    char *rest;
+    for (long next = strtol(text, &rest, 10); rest != text; next = strtol(text, &rest, 10)) {
+        if (next == number) return 1;
+        text = rest;
+    }
+    return 0;
+}
 
 int pthread_create(pthread_t *thread, const pthread_attr_t *how, void *(*work)(void *), void *with) {
     static int number;
@@ -19,6 +29,6 @@ int pthread_create(pthread_t *thread, const pthread_attr_t *how, void *(*work)(v
         fprintf(file, "%d\n", own);
         fclose(file);
     }
-    if (refused && atoi(refused) == own) return EAGAIN;
+    if (refused && stands_in(refused, own)) return EAGAIN;
     return ((starting *)dlsym(RTLD_NEXT, "pthread_create"))(thread, how, work, with);
 }

@@ -1,6 +1,6 @@
 //! A stripe, which always holds exactly the counts of the batches that its journal names.
 ghost use Rattle.std.specs.Prelude.{◌≡◌, ◌+◌, ◌<◌, ◌≤◌, ◌^◌, ◌≢◌, ◌==◌, ◌↔◌, ◌⊎◌, [], ◌∷◌, ◌++◌, length, sum_by};
-ghost use Rattle.std.specs.Prelude.{count_by, max, ◌*◌, ℕ, IfOk, IfErr, OnOk, OnErr, MatchBool, nat_eq};
+ghost use Rattle.std.specs.Prelude.{count_by, max, ◌*◌, ℕ, IfOk, IfErr, IsOk, OnOk, OnErr, MatchBool, nat_eq};
 ghost use Rattle.std.specs.List.Sorted.{IsPermutation};
 ghost use Rattle.std.specs.HashSet.{contains, spare};
 ghost use Rattle.std.specs.Vec.{vec_capacity};
@@ -260,6 +260,7 @@ impl<C: Counts> Stripe<C> {
         ensures memory { result ≡ Err BookFault.Memory
             → self.old.total + length (all_keys_of cuts.now) ≤ 2 ^ 62 }
         ensures limits { KeepsLimits C.bits C.may_be_full self.old.table self.new.table }
+        ensures empty { cuts.now.batches ≡ [] → IsOk result }
     {
         if cuts.batches.is_empty() {
             // For the proof: what is known of the journal, in which no number stands twice.

@@ -4,6 +4,8 @@
 #[cfg(test)]
 mod count_assertions;
 #[cfg(test)]
+mod count_fault_texts;
+#[cfg(test)]
 mod counting_tables;
 #[cfg(test)]
 mod counts_beside_slots;

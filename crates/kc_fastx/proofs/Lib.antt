@@ -7,6 +7,7 @@ pub mod ParsingLemmas
 pub mod ClosedLemmas
 pub mod TailLemmas
 pub mod ReadingLemmas
+pub mod TakingLemmas
 pub mod TitlesLemmas
 pub mod LawsAnswers
 pub mod LawsPlain

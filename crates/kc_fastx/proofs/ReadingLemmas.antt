@@ -11,10 +11,10 @@ use Rattle.kc_fastx.specs.declared.read_faults.FastxFault.TheVariants.{Truncated
 use Rattle.kc_fastx.specs.Reads.{Read, base_count}
 use Rattle.kc_fastx.specs.Lines.{Line, Cursor, IsBehind, Passes, HasWhole, lines, line_count, begins_with}
 use Rattle.kc_fastx.specs.Lines.{next_begins_with, ends_or_begins_with, skip_blanks}
-use Rattle.kc_fastx.specs.Records.{Records}
+use Rattle.kc_fastx.specs.Records.{Records, FaultBehind, FirstFault}
 use Rattle.kc_fastx.specs.Fasta.{IsFastaRecord, FastaFails, greater_than}
 use Rattle.kc_fastx.specs.Fastq.{IsFastqRecord, FastqFails}
-use Rattle.kc_fastx.specs.Parsing.{text_lines, IsFastq, HasReads, HasFault, GivesReads, RefusesFor}
+use Rattle.kc_fastx.specs.Parsing.{text_lines, IsFastq, HasReads, HasFault, HasFaultBehind, GivesReads, RefusesFor}
 use Rattle.kc_fastx.specs.Faults.{UnlessMemory, is_of_lines, taking_fault}
 use Rattle.kc_io.specs.Intakes.{Unread, Filled}
 use Rattle.kc_io.specs.declared.intakes.TakeFault.{TakeFault}
@@ -22,7 +22,9 @@ use Rattle.kc_io.specs.declared.intakes.TakeFault.TheVariants as taking
 use Rattle.kc_io.proofs.IntakesLemmas.{taken_none, taken_in_vain, taken_then_taken, taken_then_all, taken_then_fails}
 use Rattle.kc_io.proofs.IntakesLemmas.{filled_none, filled_both, filled_end}
 use Rattle.kc_fastx.specs.Reading.{HasGrown, first_stand, Stand, SaysFasta, SaysFastq, Says, MayCome, AreSaid}
-use Rattle.kc_fastx.specs.Reading.{HasGiven, HasMet, MeetsFault, is_fasta_next, IsNext, NextFails, IsSure}
+use Rattle.kc_fastx.specs.Reading.{HasGiven, HasMet, MeetsFault, ComesBehind, is_fasta_next, IsNext, NextFails}
+use Rattle.kc_fastx.specs.Reading.{IsSure}
+use Rattle.kc_fastx.specs.Reading.{UsesFront}
 use Rattle.kc_fastx.proofs.RecordsLemmas.{Records-push, passes_both}
 use Rattle.kc_fastx.proofs.ParsingLemmas.{at_true, at_false, RefusesFor-taking}
 use Rattle.kc_fastx.proofs.ReadsLemmas.{base_count-fasta, base_count-fastq, base_count-fasta-front, base_count-fastq-front}
@@ -223,26 +225,24 @@ record FailsWithout (b : Bool) (bytes : List ℕ) (reads : List Read) (w tail : 
   remains : Remains fault tail
 
 fails_without : (b : Bool) (bytes : List ℕ) (reads : List Read) (w tail : List Line) (count : ℕ) (fault : FastxFault)
-    → FailsWithout b bytes reads w tail count fault → HasFault bytes fault
+    → FailsWithout b bytes reads w tail count fault → HasFaultBehind bytes reads fault
 fails_without true bytes reads w tail count fault h =
     ⊎_elim
-    (λ (p : (reads ≡ []) × (w ++ tail ≡ lines bytes)).
+    (λ (p : (reads ≡ []) × (w ++ tail ≡ lines bytes)). subst (λ v. HasFaultBehind bytes v fault) (sym p.0) (
     let title = h.fails.1 in
     let front = text_front (lines bytes) w tail title.title h.fails.0 p.1 title.whole in
     let is : next_begins_with greater_than (text_lines bytes) ≡ true =
     ap (next_begins_with greater_than) front ∙ ap (λ v. next_begins_with greater_than (v ++ tail)) title.whole
     ∙ title.is_title in
     at_true (next_begins_with greater_than (text_lines bytes)) _ _ is (
-      [],
       skip_blanks w ++ tail,
       front,
       subst (λ v. FastaFails v (skip_blanks w ++ tail) fault) (sym h.counted)
           (fasta_fails_tail count (skip_blanks w) tail fault h.fails),
-    ))
+    )))
     (λ (f : SaysFasta (lines bytes) reads (w ++ tail)).
     let here = subst (λ v. FastaFails count v fault) (at_record (lines bytes) reads w tail f) h.fails in
     at_true (next_begins_with greater_than (text_lines bytes)) _ _ f.0 (
-      reads,
       w ++ tail,
       f.1,
       subst (λ v. FastaFails v (w ++ tail) fault) (sym h.counted)
@@ -253,18 +253,17 @@ fails_without false bytes reads w tail count fault h =
     let some = sym (skip_blanks-again w) ∙ found.2 in
     let other : OtherComes w = record { line = found.0; more = found.1; whole = some; no_title = h.begins } in
     ⊎_elim
-    (λ (p : (reads ≡ []) × (w ++ tail ≡ lines bytes)).
+    (λ (p : (reads ≡ []) × (w ++ tail ≡ lines bytes)). subst (λ v. HasFaultBehind bytes v fault) (sym p.0) (
     let front = text_front (lines bytes) w tail found.0 found.1 p.1 some in
     let is : next_begins_with greater_than (text_lines bytes) ≡ false =
     ap (next_begins_with greater_than) front ∙ begins_tail greater_than (skip_blanks w) tail found.0 found.1 some
     ∙ h.begins in
     at_false (next_begins_with greater_than (text_lines bytes)) _ _ is (
-      [],
       skip_blanks w ++ tail,
       front,
       subst (λ v. FastqFails v (skip_blanks w ++ tail) fault) (sym h.counted)
           (fastq_fails_tail count (skip_blanks w) tail fault h.remains h.fails),
-    ))
+    )))
     (λ (f : SaysFasta (lines bytes) reads (w ++ tail)). absurd (no_other (lines bytes) reads w tail f other)) h.before
 
 -- the lines say these reads and then `w ++ tail`, `count` of them stand in front of the tail, and the next record of
@@ -276,12 +275,11 @@ pub record FailsNext (was : Bool) (bytes : List ℕ) (reads : List Read) (w tail
   pub fails : NextFails was count (skip_blanks w) fault
   pub remains : Remains fault tail
 
--- a record that fails
+-- a record that fails, behind those that said these reads
 pub says_fault : (was : Bool) (bytes : List ℕ) (reads : List Read) (w tail : List Line) (count : ℕ) (fault : FastxFault)
-    → FailsNext was bytes reads w tail count fault → HasFault bytes fault
+    → FailsNext was bytes reads w tail count fault → HasFaultBehind bytes reads fault
 says_fault true bytes reads w tail count fault h =
     at_false (next_begins_with greater_than (text_lines bytes)) _ _ h.before.0 (
-      reads,
       w ++ tail,
       h.before.1,
       subst (λ v. FastqFails v (w ++ tail) fault) (sym h.counted)
@@ -290,6 +288,20 @@ says_fault true bytes reads w tail count fault h =
 says_fault false bytes reads w tail count fault h =
     fails_without (next_begins_with greater_than (skip_blanks w)) bytes reads w tail count fault
     (record { begins = refl; before = h.before; counted = h.counted; fails = h.fails; remains = h.remains })
+
+-- it is the first fault of the bytes
+fault_first : (b : Bool) (ls : List Line) (count : ℕ) (reads : List Read) (fault : FastxFault)
+    → MatchBool b (FaultBehind IsFastaRecord (FastaFails count) ls reads fault)
+    (FaultBehind IsFastqRecord (FastqFails count) ls reads fault)
+    → MatchBool b (FirstFault IsFastaRecord (FastaFails count) ls fault)
+    (FirstFault IsFastqRecord (FastqFails count) ls fault)
+fault_first true ls count reads fault h = (reads, h.0, h.1, h.2)
+fault_first false ls count reads fault h = (reads, h.0, h.1, h.2)
+
+pub fault_behind : (bytes : List ℕ) (reads : List Read) (fault : FastxFault) → HasFaultBehind bytes reads fault
+    → HasFault bytes fault
+fault_behind bytes reads fault h =
+    fault_first (next_begins_with greater_than (text_lines bytes)) (text_lines bytes) (length (lines bytes)) reads fault h
 
 -- the faults of the reading are none of a record
 no_fault-either : (b : Bool) (P Q : Type 0) → (P → ⊥) → (Q → ⊥) → MatchBool b P Q → ⊥
@@ -435,6 +447,16 @@ module _ {stand : Stand} {whole : List ℕ} {after : Cursor} {next : Read × Boo
             (said_more ((used ++ bytes) ++ more) reads more none (given.said more none));
       }
 
+  pub uses_front : UsesFront stand (stand_behind stand count after.taken next.1)
+  uses_front =
+      let bytes = stand.unread.bytes in
+      let left = left_behind stand whole read.has_whole after read.reaches count read.used in
+      record {
+        front = take count bytes;
+        split = sym (take-append-drop count bytes);
+        counted = ap (λ n. stand.used + n) (sym (length-take-le count bytes left.0));
+      }
+
 all_taken : (ended : Bool) (start now : Seen) (limit : ℕ) (bytes : List ℕ) → ended ≡ true
     → MatchBool ended (TakesAll start now limit bytes) (TakenSoFar start now limit bytes)
     → TakesAll start now limit bytes
@@ -468,34 +490,75 @@ given_all start now limit reads stand whole given over =
       counted = omega (arith, counted, length-append given.used bytes);
     }
 
+-- the bytes that were taken are those that the source gave
+pub given_bytes : (ended : Bool) (old new : Seen) (limit : ℕ) (bytes : List ℕ)
+    → MatchBool ended (TakesAll old new limit bytes) (TakenSoFar old new limit bytes)
+    → new.history.bytes ≡ old.history.bytes ++ bytes
+given_bytes true old new limit bytes t = t.taken.given
+given_bytes false old new limit bytes t = t.given
+
 -- the next record of the whole lines fails, whatever may still come
 record IsFaulty (stand : Stand) (whole : List ℕ) (fault : FastxFault) : Type 0 where
   has_whole : HasWhole stand.ended stand.unread.bytes whole
   fails : NextFails stand.is_fastq (stand.lines_used + length (lines whole)) (skip_blanks (lines whole)) fault
   remains : (more : List ℕ) → MayCome stand.ended more → Remains fault (lines (has_whole.tail ++ more))
 
-met : {start now : Seen} {limit : ℕ} {reads : List Read} {stand : Stand} → HasGiven start now limit reads stand
-    → (whole : List ℕ) (fault : FastxFault) → IsFaulty stand whole fault → HasMet start now limit stand fault
-met {reads = reads} {stand = stand} given whole fault faulty =
-    let bytes = stand.unread.bytes in
-    record {
-      bytes = given.used ++ bytes;
-      taken = given.taken;
-      met = λ more none.
-          let h = faulty.has_whole in
-          let said = given.said more none in
-          let here = lines_here stand.ended bytes whole h more none in
-          let counted = said.counted in
-          let long = ap length here in
-          let parts = length-append (lines whole) (lines (h.tail ++ more)) in
-          says_fault stand.is_fastq ((given.used ++ bytes) ++ more) reads (lines whole) (lines (h.tail ++ more))
-          (stand.lines_used + length (lines whole)) fault (record {
-            before = subst (λ v. Says stand.is_fastq (lines ((given.used ++ bytes) ++ more)) reads v) here said.says;
-            counted = omega (arith, counted, long, parts);
-            fails = faulty.fails;
-            remains = faulty.remains more none;
-          });
-    }
+module _ {start now : Seen} {limit : ℕ} {reads : List Read} {stand : Stand} (given : HasGiven start now limit reads stand)
+    (whole : List ℕ) (fault : FastxFault) (faulty : IsFaulty stand whole fault) where
+  comes_behind : (more : List ℕ) → MayCome stand.ended more
+      → HasFaultBehind ((given.used ++ stand.unread.bytes) ++ more) reads fault
+  comes_behind more none =
+      let bytes = stand.unread.bytes in
+      let h = faulty.has_whole in
+      let said = given.said more none in
+      let here = lines_here stand.ended bytes whole h more none in
+      let counted = said.counted in
+      let long = ap length here in
+      let parts = length-append (lines whole) (lines (h.tail ++ more)) in
+      says_fault stand.is_fastq ((given.used ++ bytes) ++ more) reads (lines whole) (lines (h.tail ++ more))
+      (stand.lines_used + length (lines whole)) fault (record {
+        before = subst (λ v. Says stand.is_fastq (lines ((given.used ++ bytes) ++ more)) reads v) here said.says;
+        counted = omega (arith, counted, long, parts);
+        fails = faulty.fails;
+        remains = faulty.remains more none;
+      })
+
+  met : HasMet start now limit stand fault
+  met = record {
+    bytes = given.used ++ stand.unread.bytes;
+    taken = given.taken;
+    met = λ more none.
+        fault_behind ((given.used ++ stand.unread.bytes) ++ more) reads fault (comes_behind more none);
+  }
+
+  behind : (bytes : List ℕ) × (now.history.bytes ≡ start.history.bytes ++ bytes)
+      × ((more : List ℕ) → MayCome stand.ended more → HasFaultBehind (bytes ++ more) reads fault)
+  behind = (
+    given.used ++ stand.unread.bytes,
+    given_bytes stand.ended start now limit (given.used ++ stand.unread.bytes) given.taken.taken,
+    comes_behind,
+  )
+
+-- the next record of the whole lines fails by a fault that is sure
+faulty_sure : {stand : Stand} {whole : List ℕ} (left : List Line) (fault : FastxFault)
+    → HasWhole stand.ended stand.unread.bytes whole
+    → NextFails stand.is_fastq (stand.lines_used + length (lines whole)) (skip_blanks (lines whole)) fault
+    → (stand.ended ≡ true) ⊎ IsSure (Err fault) left → IsFaulty stand whole fault
+faulty_sure left (BadStart number) h fails sure = record { has_whole = h; fails = fails; remains = λ more none. tt }
+faulty_sure left (BadBase number) h fails sure = record { has_whole = h; fails = fails; remains = λ more none. tt }
+faulty_sure left (BadQuality number) h fails sure = record { has_whole = h; fails = fails; remains = λ more none. tt }
+faulty_sure left (LongQuality number) h fails sure = record { has_whole = h; fails = fails; remains = λ more none. tt }
+faulty_sure {stand = stand} {whole = whole} left (Truncated number) h fails sure = record {
+  has_whole = h;
+  fails = fails;
+  remains = λ more none. ⊎_elim (λ (e : stand.ended ≡ true). none_behind stand.ended stand.unread.bytes whole h more e none)
+      (λ (never : ⊥). absurd never) sure;
+}
+faulty_sure {stand = stand} {whole = whole} left TooLong h fails sure = absurd
+    (no_next-too_long stand.is_fastq (stand.lines_used + length (lines whole)) (skip_blanks (lines whole)) fails)
+faulty_sure {stand = stand} {whole = whole} left ReadFailed h fails sure = absurd
+    (no_next-read stand.is_fastq (stand.lines_used + length (lines whole)) (skip_blanks (lines whole)) fails)
+faulty_sure left Memory h fails sure = record { has_whole = h; fails = fails; remains = λ more none. tt }
 
 memory_refused : (ended : Bool) (start now : Seen) (limit : ℕ) (bytes : List ℕ)
     → MatchBool ended (TakesAll start now limit bytes) (TakenSoFar start now limit bytes)
@@ -511,26 +574,42 @@ pub given_fault : {start now : Seen} {limit : ℕ} {reads : List Read} {stand : 
     (lines whole))) fault
     → (stand.ended ≡ true) ⊎ IsSure (Err fault) left → MeetsFault start now limit stand fault
 given_fault given whole left (BadStart number) h fails sure =
-    met given whole (BadStart number) (record { has_whole = h; fails = fails; remains = λ more none. tt })
+    met given whole (BadStart number) (faulty_sure left (BadStart number) h fails sure)
 given_fault given whole left (BadBase number) h fails sure =
-    met given whole (BadBase number) (record { has_whole = h; fails = fails; remains = λ more none. tt })
+    met given whole (BadBase number) (faulty_sure left (BadBase number) h fails sure)
 given_fault given whole left (BadQuality number) h fails sure =
-    met given whole (BadQuality number) (record { has_whole = h; fails = fails; remains = λ more none. tt })
+    met given whole (BadQuality number) (faulty_sure left (BadQuality number) h fails sure)
 given_fault given whole left (LongQuality number) h fails sure =
-    met given whole (LongQuality number) (record { has_whole = h; fails = fails; remains = λ more none. tt })
-given_fault {stand = stand} given whole left (Truncated number) h fails sure =
-    met given whole (Truncated number) (record {
-      has_whole = h;
-      fails = fails;
-      remains = λ more none. ⊎_elim (λ (e : stand.ended ≡ true). none_behind stand.ended stand.unread.bytes whole h more
-          e none) (λ (never : ⊥). absurd never) sure;
-    })
+    met given whole (LongQuality number) (faulty_sure left (LongQuality number) h fails sure)
+given_fault given whole left (Truncated number) h fails sure =
+    met given whole (Truncated number) (faulty_sure left (Truncated number) h fails sure)
 given_fault {stand = stand} given whole left TooLong h fails sure = absurd
     (no_next-too_long stand.is_fastq (stand.lines_used + length (lines whole)) (skip_blanks (lines whole)) fails)
 given_fault {stand = stand} given whole left ReadFailed h fails sure = absurd
     (no_next-read stand.is_fastq (stand.lines_used + length (lines whole)) (skip_blanks (lines whole)) fails)
 given_fault {start = start} {now = now} {limit = limit} {stand = stand} given whole left Memory h fails sure =
     memory_refused stand.ended start now limit (given.used ++ stand.unread.bytes) given.taken.taken
+
+-- where that is a fault of the lines, it is behind the records that were given
+pub fault_comes : {start now : Seen} {limit : ℕ} {reads : List Read} {stand : Stand}
+    → HasGiven start now limit reads stand → (whole : List ℕ) (left : List Line) (fault : FastxFault)
+    → HasWhole stand.ended stand.unread.bytes whole
+    → UnlessMemory (NextFails stand.is_fastq (stand.lines_used + length (lines whole)) (skip_blanks
+    (lines whole))) fault
+    → (stand.ended ≡ true) ⊎ IsSure (Err fault) left → ComesBehind start now reads stand fault
+fault_comes given whole left (BadStart number) h fails sure =
+    behind given whole (BadStart number) (faulty_sure left (BadStart number) h fails sure)
+fault_comes given whole left (BadBase number) h fails sure =
+    behind given whole (BadBase number) (faulty_sure left (BadBase number) h fails sure)
+fault_comes given whole left (BadQuality number) h fails sure =
+    behind given whole (BadQuality number) (faulty_sure left (BadQuality number) h fails sure)
+fault_comes given whole left (LongQuality number) h fails sure =
+    behind given whole (LongQuality number) (faulty_sure left (LongQuality number) h fails sure)
+fault_comes given whole left (Truncated number) h fails sure =
+    behind given whole (Truncated number) (faulty_sure left (Truncated number) h fails sure)
+fault_comes given whole left TooLong h fails sure = tt
+fault_comes given whole left ReadFailed h fails sure = tt
+fault_comes given whole left Memory h fails sure = tt
 
 -- ---- kept faults
 
@@ -557,6 +636,25 @@ meets_kept start now limit stand (Truncated number) failed m = met_kept failed m
 meets_kept start now limit stand TooLong failed m = m
 meets_kept start now limit stand ReadFailed failed m = m
 meets_kept start now limit stand Memory failed m = m
+
+-- nor does what it says of the record that it comes with
+pub comes_kept : (start now : Seen) (reads : List Read) (stand : Stand) (fault : FastxFault) (failed : Option FastxFault)
+    → ComesBehind start now reads stand fault → ComesBehind start now reads (with_failed stand failed) fault
+comes_kept start now reads stand (BadStart number) failed m = m
+comes_kept start now reads stand (BadBase number) failed m = m
+comes_kept start now reads stand (BadQuality number) failed m = m
+comes_kept start now reads stand (LongQuality number) failed m = m
+comes_kept start now reads stand (Truncated number) failed m = m
+comes_kept start now reads stand TooLong failed m = m
+comes_kept start now reads stand ReadFailed failed m = m
+comes_kept start now reads stand Memory failed m = m
+
+-- why no bytes could be taken is of no record
+pub comes_taking : (start now : Seen) (reads : List Read) (stand : Stand) (why : TakeFault)
+    → ComesBehind start now reads stand (taking_fault why)
+comes_taking start now reads stand taking.TooLong = tt
+comes_taking start now reads stand taking.Read = tt
+comes_taking start now reads stand taking.Memory = tt
 
 -- a reader that keeps no fault gave the same reads still
 pub given_kept : {start now : Seen} {limit : ℕ} {reads : List Read} {stand : Stand} (failed : Option FastxFault)

@@ -4,7 +4,6 @@ use Rattle.std.proofs.Common.{append_assoc, append-nil, MatchBool, Option, Some,
 use Rattle.std.proofs.lemmas.List.{append_cancel_left, map_push}
 use Rattle.std.proofs.lemmas.Bool.Decides.{nat_tests}
 use Rattle.kc_io.specs.Sources.{Seen}
-use Rattle.kc_io.specs.Intakes.{TakenSoFar, TakesAll}
 use Rattle.kc_fastx.specs.declared.record_reader.Next.TheVariants.{Given}
 use Rattle.kc_fastx.specs.Reads.{Read}
 use Rattle.kc_fastx.specs.Lines.{Line, lines, begins_with, next_begins_with, skip_blanks}
@@ -18,7 +17,7 @@ use Rattle.kc_fastx.proofs.ParsingLemmas.{at_true, at_false}
 use Rattle.kc_fastx.proofs.ClosedLemmas.{lines_behind}
 use Rattle.kc_fastx.proofs.TailLemmas.{skip_blanks-again, skip_blanks-append, fasta_tail, fastq_tail}
 use Rattle.kc_fastx.proofs.ReadingLemmas.{StaysBehind, FastaComes, ends_tail, begins_tail, lines_here, left_behind, stays}
-use Rattle.kc_fastx.proofs.ReadingLemmas.{IsRead, given_none, with_failed}
+use Rattle.kc_fastx.proofs.ReadingLemmas.{IsRead, given_none, given_bytes, with_failed}
 use Rattle.kc_fastx.specs.declared.read_faults.FastxFault.{FastxFault}
 use Rattle.kc_fastx.specs.Lines.{Cursor}
 
@@ -137,12 +136,6 @@ longer_none now stand = record {
   behind = sym (append-nil stand.unread.bytes);
   ended = λ e. (e, refl);
 }
-
-given_bytes : (ended : Bool) (old new : Seen) (limit : ℕ) (bytes : List ℕ)
-    → MatchBool ended (TakesAll old new limit bytes) (TakenSoFar old new limit bytes)
-    → new.history.bytes ≡ old.history.bytes ++ bytes
-given_bytes true old new limit bytes t = t.taken.given
-given_bytes false old new limit bytes t = t.given
 
 pub longer_grown : {old mid : Seen} {before stand : Stand} → IsLonger old mid before stand → stand.ended ≡ false
     → (new : Seen) (after : Stand) → HasGrown mid new stand after → IsLonger old new before after

@@ -1,5 +1,6 @@
 -- The lines of a byte string (our formats page).
-use Rattle.std.specs.Prelude.{◌≡◌, ℕ, ◌+◌, ◌≤◌, Bool, true, false, ◌==◌, List, [], ◌∷◌, ◌++◌, length, map, MatchBool}
+use Rattle.std.specs.Prelude.{◌≡◌, ℕ, ◌+◌, ◌≤◌, ◌<◌, Bool, true, false, ◌==◌, List, [], ◌∷◌, ◌++◌, length, map}
+use Rattle.std.specs.Prelude.{slice_index, MatchBool}
 use Rattle.std.specs.List.{slice_split}
 use Rattle.std.specs.Str.Lines.{strip_carriage_return}
 
@@ -54,6 +55,15 @@ pub record HasWhole (ended : Bool) (bytes whole : List ℕ) : Type 0 where
   pub tail : List ℕ
   pub split : bytes ≡ whole ++ tail
   pub closed : MatchBool ended (tail ≡ []) (ends_lines whole ≡ true)
+
+-- the front of the bytes up to the last line feed, behind which none stands
+pub record HasLongestWhole (bytes whole : List ℕ) : Type 0 where
+  pub has_whole : HasWhole false bytes whole
+  pub last : (i : ℕ) → length whole ≤ i → i < length bytes → ¬ (slice_index bytes i ≡ line_feed)
+
+-- the byte stands at none of the first `count` places
+abbrev pub IsNotAmong : ℕ → List ℕ → ℕ → Type 0
+IsNotAmong byte bytes count = (i : ℕ) → i < count → ¬ (slice_index bytes i ≡ byte)
 
 -- what a reader of lines sees: how many lines it has taken, the lines that are left, and the bytes that these stand in
 pub record Cursor : Type 0 where

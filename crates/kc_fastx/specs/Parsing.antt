@@ -7,7 +7,7 @@ use Rattle.kc_fastx.specs.declared.read_faults.FastxFault.{FastxFault}
 use Rattle.kc_fastx.specs.declared.read_faults.FastxFault.TheVariants.{TooLong, Read as ReadFailed, Memory}
 use Rattle.kc_fastx.specs.Reads.{Read}
 use Rattle.kc_fastx.specs.Lines.{Line, lines, next_begins_with, skip_blanks}
-use Rattle.kc_fastx.specs.Records.{Records, FirstFault}
+use Rattle.kc_fastx.specs.Records.{Records, FaultBehind, FirstFault}
 use Rattle.kc_fastx.specs.Fasta.{IsFastaRecord, FastaFails, greater_than}
 use Rattle.kc_fastx.specs.Fastq.{IsFastqRecord, FastqFails}
 
@@ -37,6 +37,15 @@ HasFault bytes fault =
     let count = length (lines bytes) in
     let fasta = FirstFault IsFastaRecord (FastaFails count) ls fault in
     let fastq = FirstFault IsFastqRecord (FastqFails count) ls fault in
+    MatchFormat ls fasta fastq
+
+-- the same, and the records in front of the one with that fault say these reads
+abbrev pub HasFaultBehind : List ℕ → List Read → FastxFault → Type 0
+HasFaultBehind bytes reads fault =
+    let ls = text_lines bytes in
+    let count = length (lines bytes) in
+    let fasta = FaultBehind IsFastaRecord (FastaFails count) ls reads fault in
+    let fastq = FaultBehind IsFastqRecord (FastqFails count) ls reads fault in
     MatchFormat ls fasta fastq
 
 -- the reads of the bytes, or their first fault

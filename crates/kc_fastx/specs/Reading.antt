@@ -1,5 +1,5 @@
 -- The reading of a source read by read: what was given so far, and what is still to be read.
-use Rattle.std.specs.Prelude.{◌≡◌, ◌≢◌, ⊤, ℕ, ◌+◌, ◌<◌, ◌&&◌, Bool, true, false, not, List, [], ◌∷◌, ◌++◌, length}
+use Rattle.std.specs.Prelude.{◌≡◌, ◌≢◌, ⊤, ℕ, ◌+◌, ◌<◌, ◌≤◌, ◌&&◌, Bool, true, false, not, List, [], ◌∷◌, ◌++◌, length}
 use Rattle.std.specs.Prelude.{MatchBool, ◌⊎◌}
 use Rattle.std.specs.Prelude.{Option, Some, None, Result, Ok, Err}
 use Rattle.kc_io.specs.declared.intakes.TakeFault.{TakeFault}
@@ -9,13 +9,14 @@ use Rattle.kc_io.specs.Intakes.{Unread}
 use Rattle.kc_fastx.specs.declared.read_faults.FastxFault.{FastxFault}
 use Rattle.kc_fastx.specs.declared.read_faults.FastxFault.TheVariants.{Truncated, TooLong, Read as ReadFailed, Memory}
 use Rattle.kc_fastx.specs.Reads.{Read}
-use Rattle.kc_fastx.specs.Lines.{Line, lines, next_begins_with, ends_or_begins_with, skip_blanks}
+use Rattle.kc_fastx.specs.Lines.{Line, lines, next_begins_with, ends_or_begins_with, skip_blanks, HasWhole}
+use Rattle.kc_fastx.specs.Lines.{HasLongestWhole}
 use Rattle.kc_fastx.specs.Records.{Records}
 use Rattle.kc_fastx.specs.declared.record_reader.Next.{Next}
 use Rattle.kc_fastx.specs.declared.record_reader.Next.TheVariants.{Given, End, Short}
 use Rattle.kc_fastx.specs.Fasta.{IsFastaRecord, FastaFails, greater_than}
-use Rattle.kc_fastx.specs.Fastq.{IsFastqRecord, FastqFails}
-use Rattle.kc_fastx.specs.Parsing.{HasFault, GivesReads, RefusesFor}
+use Rattle.kc_fastx.specs.Fastq.{IsFastqRecord, FastqFails, at_sign}
+use Rattle.kc_fastx.specs.Parsing.{HasFault, HasFaultBehind, GivesReads, RefusesFor}
 use Rattle.kc_fastx.specs.Faults.{taking_fault}
 
 -- where a reader stands
@@ -116,6 +117,80 @@ IsSure (Ok None) left = ⊥
 IsSure (Err (Truncated line)) left = ⊥
 IsSure (Err fault) left = ⊤
 
+-- the record is the last of these lines, or they end inside it, or there is none
+abbrev pub EndInRecord : Bool → List Line → Type 0
+EndInRecord is_fastq ls = ((next : Option (Read × Bool)) × IsNext is_fastq ls next [])
+    ⊎ ((count line : ℕ) × NextFails is_fastq count ls (Truncated line))
+
+-- Of these bytes, with more to come, no record is known to be whole: in the lines that are whole, but for blank ones in
+-- front, no line stands behind the first record.
+pub record HoldNoRecord (is_fastq : Bool) (bytes : List ℕ) : Type 0 where
+  pub whole : List ℕ
+  pub has_whole : HasLongestWhole bytes whole
+  pub ends : EndInRecord is_fastq (skip_blanks (lines whole))
+
+-- a reader that wants more holds no whole record
+abbrev pub WantsMore : Stand → Result Next FastxFault → Type 0
+WantsMore stand (Ok Short) = HoldNoRecord stand.is_fastq stand.unread.bytes
+WantsMore stand answer = ⊤
+
+-- why an answer is not sure
+abbrev pub IsUnsure : Result (Option (Read × Bool)) FastxFault → List Line → Type 0
+IsUnsure (Ok (Some next)) left = left ≡ []
+IsUnsure (Ok None) left = ⊤
+IsUnsure (Err (Truncated line)) left = ⊤
+IsUnsure (Err fault) left = ⊥
+
+-- a record begins with the first of these lines
+abbrev pub BeginsTitle : Bool → List Line → Type 0
+BeginsTitle is_fastq ls = (is_fasta_next is_fastq ls ≡ true) ⊎ (next_begins_with at_sign ls ≡ true)
+
+-- behind blank lines a record begins in front of the unused bytes
+pub record BeginsRecord (stand : Stand) : Type 0 where
+  pub whole : List ℕ
+  pub has_whole : HasWhole stand.ended stand.unread.bytes whole
+  pub title : BeginsTitle stand.is_fastq (skip_blanks (lines whole))
+
+-- For what memory was refused: for bytes of a source that had not told its end, and that is kept; or for the text of a
+-- record, which begins in front of the unused bytes.
+abbrev pub LacksMemory : Stand → Type 0
+LacksMemory stand = ((stand.ended ≡ false) × (stand.failed ≡ Some Memory)) ⊎ BeginsRecord stand
+
+-- how many bytes a block has
+abbrev pub block_size : ℕ
+block_size = 65536
+
+-- more bytes stand behind those that were there, at most as many again and a block
+pub record AtMostDoubles (before after : Stand) : Type 0 where
+  pub more : List ℕ
+  pub behind : after.unread.bytes ≡ before.unread.bytes ++ more
+  pub few : length more ≤ length before.unread.bytes + block_size
+  pub used : after.used ≡ before.used
+
+-- what was used stood in front of the bytes that were there
+pub record UsesFront (old new : Stand) : Type 0 where
+  pub front : List ℕ
+  pub split : old.unread.bytes ≡ front ++ new.unread.bytes
+  pub counted : new.used ≡ old.used + length front
+
+-- The bytes that were taken came in steps, of which `last` was the last one: those that were there before it hold no
+-- record, and it brought no more than as many again and a block.
+pub record CameInSteps (old : Stand) (taken : List ℕ) : Type 0 where
+  pub first : List ℕ
+  pub last : List ℕ
+  pub split : taken ≡ first ++ last
+  pub no_record : HoldNoRecord old.is_fastq (old.unread.bytes ++ first)
+  pub few : length last ≤ length (old.unread.bytes ++ first) + block_size
+
+-- What a call took and kept: where bytes were taken, they came behind some that hold no record, in steps. The front of
+-- all bytes that were there then was used, and the rest is kept.
+pub record TakesFew (old new : Stand) : Type 0 where
+  pub taken : List ℕ
+  pub used : List ℕ
+  pub behind : old.unread.bytes ++ taken ≡ used ++ new.unread.bytes
+  pub counted : new.used ≡ old.used + length used
+  pub few : (taken ≡ []) ⊎ CameInSteps old taken
+
 -- these came behind the bytes that were there
 pub record HasGrown (old new : Seen) (before after : Stand) : Type 0 where
   pub more : List ℕ
@@ -135,6 +210,15 @@ MeetsFault start now limit stand TooLong = RefusesFor start now limit TooLong
 MeetsFault start now limit stand ReadFailed = RefusesFor start now limit ReadFailed
 MeetsFault start now limit stand Memory = RefusesFor start now limit Memory
 MeetsFault start now limit stand fault = HasMet start now limit stand fault
+
+-- A fault of the lines is that of the record behind those that said these reads, whatever may still come behind the
+-- bytes that the source gave. The other faults are of no record.
+abbrev pub ComesBehind : Seen → Seen → List Read → Stand → FastxFault → Type 0
+ComesBehind start now reads stand TooLong = ⊤
+ComesBehind start now reads stand ReadFailed = ⊤
+ComesBehind start now reads stand Memory = ⊤
+ComesBehind start now reads stand fault = (bytes : List ℕ) × (now.history.bytes ≡ start.history.bytes ++ bytes)
+    × ((more : List ℕ) → MayCome stand.ended more → HasFaultBehind (bytes ++ more) reads fault)
 
 -- What a reader that had given these reads answers: one read more, or the end, where all bytes were taken and those
 -- reads are what they say, or a fault.

@@ -42,6 +42,10 @@ SequenceFails count stop ls (BadBase number) =
     (more : List Line) × HasBadSequence stop ls more × IsLineNumber count more number
 SequenceFails count stop ls _ = ⊥
 
+-- whole records that say these reads, and then one that fails
+abbrev pub FaultBehind : RecordForm → (List Line → FastxFault → Type 0) → List Line → List Read → FastxFault → Type 0
+FaultBehind Record Fails ls reads fault = (here : List Line) × Records Record ls reads here × Fails here fault
+
 -- whole records, and then one that fails
 abbrev pub FirstFault : RecordForm → (List Line → FastxFault → Type 0) → List Line → FastxFault → Type 0
 FirstFault Record Fails ls fault =

@@ -1,5 +1,5 @@
 //! FASTA records: a line that begins with `>`, and the sequence lines behind it.
-ghost use Rattle.std.specs.Prelude.{◌≡◌, true, [], IfOk, IfErr, OnOk, IfSome, IfNone};
+ghost use Rattle.std.specs.Prelude.{◌≡◌, true, [], Err, IfOk, IfErr, OnOk, IfSome, IfNone};
 ghost use Rattle.kc_fastx.specs.Lines.{line_count, ends_or_begins_with, Passes};
 ghost use Rattle.kc_fastx.specs.Records.{Records, FirstFault};
 ghost use Rattle.kc_fastx.specs.Fasta.{IsFastaRecord, FastaFails, greater_than};
@@ -40,6 +40,7 @@ pub(crate) fn next_fasta(
     ensures counted { OnOk result (line_count lines.new ≡ line_count lines.old) }
     ensures passes { OnOk result (Passes lines.old lines.new) }
     ensures err { IfErr result (UnlessMemory (FastaFails (line_count lines.old) lines.old.left)) }
+    ensures memory { result ≡ Err FastxFault.Memory → ¬ (lines.old.left ≡ []) }
 {
     let Some(_title) = lines.next_line() else {
         return Ok(None);

@@ -1,10 +1,10 @@
 //! Sanger FASTQ records: a title, sequence lines, a line that begins with `+`, and quality lines.
-ghost use Rattle.std.specs.Prelude.{◌≡◌, ◌≤◌, [], length, vec_capacity, IfOk, IfErr, OnOk, IfSome, IfNone};
+ghost use Rattle.std.specs.Prelude.{◌≡◌, ◌≤◌, [], length, vec_capacity, true, Err, IfOk, IfErr, OnOk, IfSome, IfNone};
 ghost use Rattle.std.specs.List.{list_all};
 ghost use Rattle.kc_fastx.specs.Reads.{is_quality_byte};
-ghost use Rattle.kc_fastx.specs.Lines.{line_count, skip_blanks, Passes};
+ghost use Rattle.kc_fastx.specs.Lines.{line_count, next_begins_with, skip_blanks, Passes};
 ghost use Rattle.kc_fastx.specs.Records.{FirstFault};
-ghost use Rattle.kc_fastx.specs.Fastq.{IsFastqRecord, FastqFails, BeginsWithQuality, QualityFails};
+ghost use Rattle.kc_fastx.specs.Fastq.{IsFastqRecord, FastqFails, BeginsWithQuality, QualityFails, at_sign};
 ghost use Rattle.kc_fastx.specs.Parsing.{IsFastq};
 ghost use Rattle.kc_fastx.specs.Faults.{UnlessMemory};
 
@@ -44,6 +44,7 @@ pub(crate) fn next_fastq(
     ensures counted { OnOk result (line_count lines.new ≡ line_count lines.old) }
     ensures passes { OnOk result (Passes lines.old lines.new) }
     ensures err { IfErr result (UnlessMemory (FastqFails (line_count lines.old) lines.old.left)) }
+    ensures memory { result ≡ Err FastxFault.Memory → next_begins_with at_sign lines.old.left ≡ true }
 {
     let Some(title) = lines.next_line() else {
         return Ok(None);
@@ -65,7 +66,7 @@ pub(crate) fn next_fastq(
 }
 
 // Takes quality lines while they are shorter than `need` together, and joins them in `quals`, which is empty and has no
-// more room than bytes are left.
+// more room than bytes are left or are needed.
 fn take_quality(
     mut quals: Vec<u8>,
     lines: &mut LineCursor<'_>,
@@ -73,6 +74,7 @@ fn take_quality(
 ) -> Result<Vec<u8>, FastxFault>
     requires empty { quals.items ≡ [] }
     requires room { vec_capacity quals ≤ length lines.old.bytes }
+    requires most { vec_capacity quals ≤ need }
     ensures ok { IfOk result (λ quals. BeginsWithQuality need lines.old.left quals.items lines.new.left) }
     ensures counted { OnOk result (line_count lines.new ≡ line_count lines.old) }
     ensures passes { OnOk result (Passes lines.old lines.new) }

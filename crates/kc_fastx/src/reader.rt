@@ -4,7 +4,7 @@ ghost use Rattle.kc_io.specs.Sources.{Seen};
 ghost use Rattle.kc_fastx.specs.Reads.{Read};
 ghost use Rattle.kc_fastx.specs.Parsing.{most_bytes};
 ghost use Rattle.kc_fastx.specs.Faults.{UnlessMemory};
-ghost use Rattle.kc_fastx.specs.Reading.{Reader, first_stand, HasGiven, GivesNext};
+ghost use Rattle.kc_fastx.specs.Reading.{Reader, first_stand, HasGiven, GivesNext, LacksMemory, TakesFew};
 
 use crate::read_faults::FastxFault;
 use crate::reads::SeqRead;
@@ -66,6 +66,8 @@ impl<S: Source + Drop> Reads<S> {
             → HasGiven start self.old.source limit reads self.old.stand
             → GivesNext start self.new.source limit reads self.new.stand result }
         ensures used { IfOk result (λ next. IfSome next (λ read. self.old.stand.used < self.new.stand.used)) }
+        ensures few { TakesFew self.old.stand self.new.stand }
+        ensures memory { result ≡ Err FastxFault.Memory → self.old.stand.failed ≡ None → LacksMemory self.new.stand }
         ensures again { IfSome self.old.stand.failed (λ fault. result ≡ Err fault) }
         ensures unchanged { OnSome self.old.stand.failed (self.new ≡ self.old) }
         ensures kept { IfErr result (UnlessMemory (λ fault. self.new.stand.failed ≡ Some fault)) }

@@ -3,11 +3,13 @@ ghost use Rattle.std.specs.Prelude.{◌≡◌, ℕ, List, true, false, None, Som
 ghost use Rattle.std.specs.Prelude.{length, IfOk, IfErr, OnOk, OnErr, IfSome, OnSome};
 ghost use Rattle.kc_io.specs.Sources.{Seen};
 ghost use Rattle.kc_fastx.specs.Reads.{Read};
-ghost use Rattle.kc_fastx.specs.Lines.{line_count, skip_blanks, Passes, HasWhole};
+ghost use Rattle.kc_fastx.specs.Lines.{line_count, skip_blanks, Passes, HasWhole, HasLongestWhole};
 ghost use Rattle.kc_fastx.specs.Parsing.{most_bytes, RefusesFor};
 ghost use Rattle.kc_fastx.specs.Reading.{first_stand, HasGiven, MeetsFault, GivesNext, TellsNext};
-ghost use Rattle.kc_fastx.specs.Reading.{IsNext, NextFails, IsSure, Moves, Grows};
-ghost use Rattle.kc_fastx.specs.Titles.{Record, HasGivenRecords, GivesRecord, TellsRecord};
+ghost use Rattle.kc_fastx.specs.Reading.{ComesBehind, IsNext, NextFails, IsSure, IsUnsure, Moves, Grows};
+ghost use Rattle.kc_fastx.specs.Reading.{AtMostDoubles, TakesFew, UsesFront, WantsMore};
+ghost use Rattle.kc_fastx.specs.Titles.{Record, HasGivenRecords, GivesRecord, TellsRecord, reads_in};
+ghost use Rattle.kc_fastx.specs.Reading.{BeginsRecord, BeginsTitle, LacksMemory};
 ghost use Rattle.kc_fastx.specs.Faults.{UnlessMemory, kept_fault};
 
 use crate::fasta::next_fasta;
@@ -104,7 +106,12 @@ impl Reading {
         ensures given { (start : Seen) (limit : ℕ) (reads : List Read)
             → HasGiven start (S.seen source.old) limit reads self.old
             → GivesNext start (S.seen source.new) limit reads self.new result }
+        ensures behind { (start : Seen) (limit : ℕ) (reads : List Read)
+            → HasGiven start (S.seen source.old) limit reads self.old
+            → IfErr result (ComesBehind start (S.seen source.new) reads self.new) }
         ensures used { IfOk result (λ next. IfSome next (λ read. self.old.used < self.new.used)) }
+        ensures few { TakesFew self.old self.new }
+        ensures memory { result ≡ Err FastxFault.Memory → self.old.failed ≡ None → LacksMemory self.new }
         ensures again { IfSome self.old.failed (λ fault. result ≡ Err fault) }
         ensures unchanged { OnSome self.old.failed (self.new ≡ self.old) }
         ensures untaken { OnSome self.old.failed (S.seen source.new ≡ S.seen source.old) }
@@ -130,7 +137,12 @@ impl Reading {
         ensures given { (start : Seen) (limit : ℕ) (records : List Record)
             → HasGivenRecords start (S.seen source.old) limit records self.old
             → GivesRecord start (S.seen source.new) limit records self.new title.new.items result }
+        ensures behind { (start : Seen) (limit : ℕ) (records : List Record)
+            → HasGivenRecords start (S.seen source.old) limit records self.old
+            → IfErr result (ComesBehind start (S.seen source.new) (reads_in records) self.new) }
         ensures used { IfOk result (λ next. IfSome next (λ read. self.old.used < self.new.used)) }
+        ensures few { TakesFew self.old self.new }
+        ensures memory { result ≡ Err FastxFault.Memory → self.old.failed ≡ None → LacksMemory self.new }
         ensures again { IfSome self.old.failed (λ fault. result ≡ Err fault) }
         ensures unchanged { OnSome self.old.failed (self.new ≡ self.old) }
         ensures untaken { OnSome self.old.failed (S.seen source.new ≡ S.seen source.old) }
@@ -180,7 +192,12 @@ impl Reading {
         ensures titled { is_titled ≡ true → (start : Seen) (limit : ℕ) (records : List Record)
             → HasGivenRecords start (S.seen source.old) limit records self.old
             → GivesRecord start (S.seen source.new) limit records self.new title.new.items result }
+        ensures behind { (start : Seen) (limit : ℕ) (reads : List Read)
+            → HasGiven start (S.seen source.old) limit reads self.old
+            → IfErr result (ComesBehind start (S.seen source.new) reads self.new) }
         ensures used { IfOk result (λ next. IfSome next (λ read. self.old.used < self.new.used)) }
+        ensures few { TakesFew self.old self.new }
+        ensures memory { result ≡ Err FastxFault.Memory → self.old.failed ≡ None → LacksMemory self.new }
         ensures again { IfSome self.old.failed (λ fault. result ≡ Err fault) }
         ensures unchanged { OnSome self.old.failed (self.new ≡ self.old) }
         ensures untaken { OnSome self.old.failed (S.seen source.new ≡ S.seen source.old) }
@@ -210,7 +227,9 @@ impl Reading {
     fn grow<S: Source>(&mut self, source: &mut S) -> Result<(), TakeFault>
         requires ended { self.old.ended ≡ false }
         requires failed { self.old.failed ≡ None }
-        ensures { Grows (S.seen source.old) (S.seen source.new) self.old self.new result }
+        ensures grows { Grows (S.seen source.old) (S.seen source.new) self.old self.new result }
+        ensures few { AtMostDoubles self.old self.new }
+        ensures unended { OnErr result (self.new.ended ≡ false) }
     {
         let wanted = self.intake.as_slice().len().saturating_mul(2);
         'filling: loop {
@@ -253,7 +272,12 @@ impl Reading {
         requires { self.old.failed ≡ None }
         ensures tells { (start now : Seen) (limit : ℕ) (reads : List Read)
             → HasGiven start now limit reads self.old → TellsNext start now limit reads self.new result }
+        ensures behind { (start now : Seen) (limit : ℕ) (reads : List Read)
+            → HasGiven start now limit reads self.old → IfErr result (ComesBehind start now reads self.new) }
         ensures moves { Moves self.old self.new result }
+        ensures memory { result ≡ Err FastxFault.Memory → BeginsRecord self.old }
+        ensures wants { WantsMore self.old result }
+        ensures uses { UsesFront self.old self.new }
         ensures titled { is_titled ≡ true → TellsRecord self.old self.new title.new.items result }
     {
         let whole = self.whole_lines();
@@ -284,7 +308,8 @@ impl Reading {
 
     // The bytes up to the last line end, or all of them once the source has ended.
     fn whole_lines(&self) -> &[u8]
-        ensures { HasWhole self.now.ended self.now.unread.bytes result.now }
+        ensures whole { HasWhole self.now.ended self.now.unread.bytes result.now }
+        ensures longest { self.now.ended ≡ false → HasLongestWhole self.now.unread.bytes result.now }
     {
         let bytes = self.intake.as_slice();
         if self.ended {
@@ -308,6 +333,7 @@ fn next_record(
     ensures counted { OnOk result (line_count lines.new ≡ line_count lines.old) }
     ensures passes { OnOk result (Passes lines.old lines.new) }
     ensures err { IfErr result (UnlessMemory (NextFails is_fastq (line_count lines.old) lines.old.left)) }
+    ensures memory { result ≡ Err FastxFault.Memory → BeginsTitle is_fastq lines.old.left }
 {
     if !is_fastq && lines.left.first() == Some(&b'>') {
         let Some(read) = next_fasta(alloc, lines)? else {
@@ -323,7 +349,8 @@ fn next_record(
 
 // Whether this answer stays right whatever bytes the source still gives: a record may go on in lines to come.
 fn is_sure(next: &Result<Option<(SeqRead, bool)>, FastxFault>, lines: &LineCursor<'_>) -> bool
-    ensures { result ≡ true → IsSure next.now lines.now.left }
+    ensures sure { result ≡ true → IsSure next.now lines.now.left }
+    ensures unsure { result ≡ false → IsUnsure next.now lines.now.left }
 {
     match next {
         Ok(Some(_)) => !lines.left.is_empty(),

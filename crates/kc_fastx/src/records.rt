@@ -2,7 +2,7 @@
 ghost use Rattle.std.specs.Prelude.{◌≡◌, ◌<◌, ◌≤◌, true, [], length, vec_capacity, IfOk, IfErr, OnOk};
 ghost use Rattle.std.specs.List.{list_all};
 ghost use Rattle.kc_fastx.specs.Reads.{is_sequence_byte};
-ghost use Rattle.kc_fastx.specs.Lines.{line_count, ends_or_begins_with, Passes};
+ghost use Rattle.kc_fastx.specs.Lines.{line_count, ends_or_begins_with, Passes, IsNotAmong};
 ghost use Rattle.kc_fastx.specs.Records.{BeginsWithSequence, SequenceFails};
 ghost use Rattle.kc_fastx.specs.Faults.{UnlessMemory};
 
@@ -10,8 +10,8 @@ use crate::read_faults::FastxFault;
 use crate::text_lines::LineCursor;
 
 // Takes the sequence lines up to the end or the next line that begins with `stop`, and joins them in `bases`, which is
-// empty and has no more room than bytes are left. No sequence byte is `stop`, so that room for the bytes in front of
-// the next such byte is enough where the sequence is good. Condition: `stop` comes behind the bytes that end lines.
+// empty and has no more room than bytes are left in front of the next `stop`. No sequence byte is `stop`, so that this
+// room is enough where the sequence is good. Condition: `stop` comes behind the bytes that end lines.
 pub(crate) fn take_sequence(
     mut bases: Vec<u8>,
     lines: &mut LineCursor<'_>,
@@ -20,6 +20,7 @@ pub(crate) fn take_sequence(
     requires stop { 13 < stop }
     requires empty { bases.items ≡ [] }
     requires room { vec_capacity bases ≤ length lines.old.bytes }
+    requires front { IsNotAmong stop lines.old.bytes (vec_capacity bases) }
     ensures ok { IfOk result (λ bases. BeginsWithSequence stop lines.old.left bases.items lines.new.left) }
     ensures ends { OnOk result (ends_or_begins_with stop lines.new.left ≡ true) }
     ensures counted { OnOk result (line_count lines.new ≡ line_count lines.old) }

@@ -26,8 +26,8 @@ use Rattle.kc_booking.specs.Stripe.{StripeState, NumbersDiffer, reads_in, word_o
 use Rattle.kc_gather.specs.Gathering.{IsWhole, position_sum}
 use Rattle.kc_gather.specs.declared.stripe_part.StripeNumbers.{StripeNumbers}
 use Rattle.kc_gather.specs.JoinedStripes.{first_counts, AreNumbersOf}
-use Rattle.kc_gather.specs.TallyBins.{AreBinsOf}
-use Rattle.kc_gather.specs.TallyStatistics.{AreStatisticsOf}
+use Rattle.kc_gather.specs.declared.gathered_numbers.Numbers.{Numbers}
+use Rattle.kc_gather.specs.TallyNumbers.{AreNumbersOfTally}
 use Rattle.kc_gather.proofs.Rows.{whole-occurrences}
 use Rattle.kc_gather.proofs.Tallies.{few_words}
 
@@ -203,19 +203,12 @@ words-few setup batches counts short are =
 
 -- ---- bins and statistics
 
--- their bins are those of the tally
-pub bins-of_tally : (setup : StripeSetup) (batches : List NumberedPieces) (counts bins : List ℕ) → setup.rule.k ≤ 31 → AreAllCounts setup batches counts → bins ≡ bins_of counts
-    → AreBinsOf setup.rule (reads_in batches) bins
-bins-of_tally setup batches counts bins short are is =
-    let have = have_tally setup batches counts short are in
-    record { tally = have.tally; is_tally = have.is_tally; bins_are = is ∙ bins_of-same counts (counts_of have.tally.rows) have.weigh; few = have.few }
-
--- the words in them are no more than fit
+-- the words in their bins are no more than fit
 pub bins-few : (setup : StripeSetup) (batches : List NumberedPieces) (counts bins : List ℕ) → setup.rule.k ≤ 31 → AreAllCounts setup batches counts → bins ≡ bins_of counts → sum bins < 2 ^ 64
-bins-few setup batches counts bins short all is =
-    let are = bins-of_tally setup batches counts bins short all is in
-    let words = distinct-bins are.tally.rows bins are.bins_are are.is_tally.rows.ordered.present in
-    omega (arith, words, are.few)
+bins-few setup batches counts bins short are is =
+    let have = have_tally setup batches counts short are in
+    let words = distinct-bins have.tally.rows bins (is ∙ bins_of-same counts (counts_of have.tally.rows) have.weigh) have.is_tally.rows.ordered.present in
+    omega (arith, words, have.few)
 
 -- nor are their occurrences
 pub total-few : (setup : StripeSetup) (batches : List NumberedPieces) (counts : List ℕ) → setup.rule.k ≤ 31 → AreAllCounts setup batches counts
@@ -235,16 +228,19 @@ pub record AreFoundOf (bins counts : List ℕ) (statistics : Statistics) : Type 
   pub total : statistics.total ≡ sum counts
   pub greatest : statistics.greatest ≡ greatest_of counts
 
--- are the statistics of the tally
-pub statistics-of_tally : (setup : StripeSetup) (batches : List NumberedPieces) (counts bins : List ℕ) (statistics : Statistics) → setup.rule.k ≤ 31 → AreAllCounts setup batches counts
-    → bins ≡ bins_of counts → AreFoundOf bins counts statistics → AreStatisticsOf setup.rule (reads_in batches) statistics
-statistics-of_tally setup batches counts bins statistics short are is found =
+-- are the statistics of the tally, and the bins are its bins
+pub numbers-of_tally : (setup : StripeSetup) (batches : List NumberedPieces) (counts : List ℕ) (numbers : Numbers) → setup.rule.k ≤ 31 → AreAllCounts setup batches counts
+    → numbers.histogram ≡ bins_of counts → AreFoundOf numbers.histogram counts numbers.statistics → AreNumbersOfTally setup.rule (reads_in batches) numbers
+numbers-of_tally setup batches counts numbers short are is found =
     let have = have_tally setup batches counts short are in
+    let bins_are = is ∙ bins_of-same counts (counts_of have.tally.rows) have.weigh in
     record {
       tally = have.tally;
       is_tally = have.is_tally;
-      statistics_are = statistics-are have.tally.rows bins counts statistics (record {
-        bins_are = is ∙ bins_of-same counts (counts_of have.tally.rows) have.weigh;
+      bins_are = bins_are;
+      few = have.few;
+      statistics_are = statistics-are have.tally.rows numbers.histogram counts numbers.statistics (record {
+        bins_are = bins_are;
         present = have.is_tally.rows.ordered.present;
         weigh = have.weigh;
         unique = found.unique;

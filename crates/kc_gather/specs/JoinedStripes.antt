@@ -14,11 +14,6 @@ use Rattle.kc_gather.specs.declared.stripe_part.StripeNumbers.{StripeNumbers}
 abbrev pub first_counts : (ℕ → List ℕ) → ℕ → List ℕ
 first_counts counts n = flat_map counts (range_with_len 0 n)
 
--- each part has the bins of its counts
-abbrev pub HaveBins : (ℕ → List ℕ) → List StripePart → Type 0
-HaveBins counts parts = (i : ℕ) (part : StripePart) → i < length parts
-    → (slice_index_or parts i part).numbers.histogram ≡ bins_of (counts i)
-
 -- the bins of the counts, their sum and the greatest one
 pub record AreNumbersOf (counts : List ℕ) (numbers : StripeNumbers) : Type 0 where
   pub bins_are : numbers.histogram ≡ bins_of counts
@@ -30,10 +25,6 @@ abbrev pub HaveNumbers : (ℕ → List ℕ) → List StripePart → Type 0
 HaveNumbers counts parts = (i : ℕ) (part : StripePart) → i < length parts
     → AreNumbersOf (counts i) (slice_index_or parts i part).numbers
 
--- the bins of stripe n in a count of the batches
-abbrev pub HasStripeBins : StripeSetup → List NumberedPieces → ℕ → StripePart → Type 0
-HasStripeBins setup batches n part = part.numbers.histogram ≡ bins_of (stripe_occurrences setup n batches)
-
--- and its numbers
+-- the numbers of stripe n in a count of the batches
 abbrev pub HasStripeNumbers : StripeSetup → List NumberedPieces → ℕ → StripePart → Type 0
 HasStripeNumbers setup batches n part = AreNumbersOf (stripe_occurrences setup n batches) part.numbers

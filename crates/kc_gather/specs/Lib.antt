@@ -3,5 +3,4 @@ pub mod Parts
 pub mod JoinedStripes
 pub mod Laws
 pub mod Piles
-pub mod TallyBins
-pub mod TallyStatistics
+pub mod TallyNumbers

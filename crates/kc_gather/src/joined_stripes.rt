@@ -1,25 +1,10 @@
 //! What the stripes of a count have together, without a row.
-ghost use Rattle.std.specs.Prelude.{◌≡◌, ◌<◌, ◌^◌, ℕ, List, length, sum, IfOk};
-ghost use Rattle.kc_tally.specs.Histogram.{bins_of};
-ghost use Rattle.kc_gather.specs.JoinedStripes.{first_counts, HaveBins, AreNumbersOf, HaveNumbers};
+ghost use Rattle.std.specs.Prelude.{◌<◌, ◌^◌, ℕ, List, length, sum, IfOk};
+ghost use Rattle.kc_gather.specs.JoinedStripes.{first_counts, AreNumbersOf, HaveNumbers};
 
 use crate::stripe_part::{StripeNumbers, StripePart};
 use kc_tally::Histogram;
 use std::alloc::{AllocError, Global};
-
-/// The histograms of all parts, added bin by bin. Condition: they have fewer than 2^64 words together.
-pub(crate) fn joined_histogram(alloc: Global, parts: &[StripePart]) -> Result<Histogram, AllocError>
-    requires { (counts : ℕ → List ℕ) × HaveBins counts parts.now
-        × (length (first_counts counts (length parts.now)) < 2 ^ 64) }
-    ensures { (counts : ℕ → List ℕ) → HaveBins counts parts.now
-        → IfOk result (λ bins. bins ≡ bins_of (first_counts counts (length parts.now))) }
-{
-    let mut histogram = Histogram::new(alloc)?;
-    for part in parts {
-        histogram.add(&part.numbers.histogram);
-    }
-    Ok(histogram)
-}
 
 /// The numbers of all parts together. Conditions: they have fewer than 2^64 words together, and their sum fits.
 pub(crate) fn joined_numbers(

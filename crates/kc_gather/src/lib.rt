@@ -10,8 +10,7 @@
 mod columns;
 mod gather_fault;
 pub mod gather_laws;
-mod gathered_histogram;
-mod gathered_statistics;
+mod gathered_numbers;
 mod gatherer;
 mod joined_stripes;
 mod journal;
@@ -24,6 +23,7 @@ mod taken_parts;
 mod taken_rows;
 
 pub use gather_fault::GatherFault;
+pub use gathered_numbers::Numbers;
 pub use gatherer::gather;
 /// The tables with which a count begins.
 pub use kc_booking::{plain_tables, quotient_tables};

@@ -1,4 +1,4 @@
-//! `Summary`, what a count may end in: the tally of its batches, or something of that tally for which no row is taken.
+//! `Summary`, what a count may end in: the tally of its batches or, with no row taken, the numbers of that tally.
 ghost use Rattle.std.specs.Prelude.{◌≡◌, ◌≢◌, ℕ, ◌≤◌, ◌^◌, List, length, IfOk, OnOk, IfErr};
 ghost use Rattle.kc_fastx.specs.Reads.{Read};
 ghost use Rattle.kc_kmer.specs.Rule.{CountingRule};
@@ -23,7 +23,7 @@ use std::alloc::{AllocError, Global};
 use std::sync::Arc;
 use std::thread::Threads;
 
-/// What a count may end in: the `Tally` of its batches or, without a row of it, its `Histogram` or its `Statistics`.
+/// What a count may end in: the `Tally` of its batches or, without a row of it, its `Numbers`.
 // It is `Send`, since the checker takes no call in another thread that rests on a bound of a type that is not.
 pub trait Summary: Sized + Send {
     ghost use Rattle.kc_gather.specs.declared.stripe_part.StripePart.{StripePart};

@@ -1,6 +1,6 @@
 //! The intake of a source's bytes block by block, for readers that use them as they come.
 ghost use Rattle.std.specs.Prelude.{◌≡◌, ◌≢◌, ◌+◌, ◌<◌, ◌≤◌, ◌++◌, List, ℕ, [], ◌∷◌, length, drop};
-ghost use Rattle.std.specs.Prelude.{IfOk, IfErr, OnErr};
+ghost use Rattle.std.specs.Prelude.{IfOk, IfErr, OnErr, vec_capacity};
 ghost use Rattle.kc_io.specs.declared.intakes.TakeFault.TheVariants.{Memory};
 ghost use Rattle.kc_io.specs.Intakes.{TakesAll, TakingFails, Fills, AsksFor, Skips};
 
@@ -51,14 +51,15 @@ pub struct Intake {
 }
 
 impl Model for Intake {
-    ghost use Rattle.std.specs.Prelude.{◌≡◌, ◌≤◌, length, drop};
+    ghost use Rattle.std.specs.Prelude.{◌≡◌, ◌≤◌, length, drop, vec_capacity};
     ghost use Rattle.kc_io.specs.Intakes.{Unread};
 
     ghost Value = { Unread };
 
     ghost view = { λ i. record { bytes = drop i.used i.bytes.items; room = i.room } };
 
-    ghost invariant = { λ i. (i.used ≤ length i.bytes.items) × (length i.block.items ≡ 65536) };
+    ghost invariant = { λ i.
+        (i.used ≤ length i.bytes.items) × (length i.block.items ≡ 65536) × (vec_capacity i.block ≡ 65536) };
 }
 
 impl Intake {
@@ -69,11 +70,10 @@ impl Intake {
     pub fn new(alloc: Global, limit: u64) -> Result<Intake, AllocError>
         ensures { IfOk result (λ intake. intake ≡ record { bytes = []; room = limit }) }
     {
-        let block = vec![in alloc; 0u8; BLOCK_SIZE]?;
         Ok(Intake {
             bytes: Vec::new(alloc),
             used: 0,
-            block,
+            block: zeros(alloc)?,
             room: limit,
         })
     }
@@ -140,6 +140,18 @@ impl Intake {
     {
         skip_by_blocks(source, self.room, self.block.as_mut_slice())
     }
+}
+
+// A block of zeros, in room for it alone.
+fn zeros(alloc: Global) -> Result<Vec<u8>, AllocError>
+    ensures whole { IfOk result (λ block. length block.items ≡ BLOCK_SIZE) }
+    ensures bounded { IfOk result (λ block. vec_capacity block ≡ BLOCK_SIZE) }
+{
+    let mut block = Vec::with_capacity(alloc, BLOCK_SIZE)?;
+    for _ in 0..BLOCK_SIZE {
+        block.push_reserved(0);
+    }
+    Ok(block)
 }
 
 // Takes all bytes of the source, by way of the block, and answers how many they were.

@@ -1,8 +1,8 @@
 //! Whole runs: numbered batches are counted by several workers, and gathered.
 //!
 //! `run` counts numbered batches with several workers, each in a thread of its own, over one table in locked stripes,
-//! and answers the tally of all batches, its histogram or its statistics. The workers draw the numbers of the batches
-//! from the tickets of `kc_tickets`.
+//! and answers the tally of all batches or its numbers. The workers draw the numbers of the batches from the tickets of
+//! `kc_tickets`.
 //!
 //! ```ignore
 //! let tables = plain_tables(alloc, &setup)?;
@@ -21,6 +21,6 @@ mod worker_rounds;
 pub use crate::gate::{Gate, NoGate};
 pub use crate::run_fault::RunFault;
 pub use crate::whole_run::run;
-pub use kc_gather::{GatherFault, Summary, gather, plain_tables, quotient_tables};
+pub use kc_gather::{GatherFault, Numbers, Summary, gather, plain_tables, quotient_tables};
 pub use kc_tally::{Histogram, Statistics, Tally};
 pub use kc_tickets::{Seat, Tickets, ticket_laws, tickets};

@@ -4,12 +4,12 @@
 #[cfg(test)]
 mod draws;
 #[cfg(test)]
+mod gate_calls;
+#[cfg(test)]
+mod numbers_of_runs;
+#[cfg(test)]
 mod run_assertions;
 #[cfg(test)]
 mod run_examples;
 #[cfg(test)]
-mod whole_histograms;
-#[cfg(test)]
 mod whole_runs;
-#[cfg(test)]
-mod whole_statistics;

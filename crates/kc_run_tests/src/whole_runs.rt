@@ -9,7 +9,7 @@ ghost use Rattle.kc_gather.specs.Gathering.{position_sum};
 use crate::run_assertions::assert_same;
 use kc_fastx::SeqRead;
 use kc_hash::{Hash, Matrix};
-use kc_run::{Gate, NoGate, RunFault, Tally, plain_tables, run};
+use kc_run::{Gate, NoGate, RunFault, Summary, Tally, plain_tables, run};
 use kc_stripe::Setup;
 use kc_table::{Counts, LimitedCounts, QuotientTable, TableFault};
 use kc_tally::{Row, slow_tally};
@@ -76,21 +76,26 @@ pub(crate) fn batches_of(
 
 // The batches of a read, of so many positions each, and so many workers.
 #[derive(Drop)]
-struct Case<'a> {
-    bases: &'a [u8],
-    size: u64,
-    workers: u32,
+pub(crate) struct Case<'a> {
+    pub(crate) bases: &'a [u8],
+    pub(crate) size: u64,
+    pub(crate) workers: u32,
 }
 
 // What a run over these tables answers.
-fn run_over<H: Threads + Wait + Sync, C: Counts + Drop + Send, G: Gate + Sync>(
+pub(crate) fn run_over<
+    S: Summary,
+    H: Threads + Wait + Sync,
+    C: Counts + Drop + Send,
+    G: Gate + Sync,
+>(
     rt: &H,
     alloc: Global,
     setup: &Setup,
     tables: Vec<C>,
     case: &Case<'_>,
     gate: &G,
-) -> Result<Result<Tally, RunFault>, Fail>
+) -> Result<Result<S, RunFault>, Fail>
     requires one_each { length tables.items ≡ stripe_count setup.now }
     requires tables { All (λ table. (C.counts table ≡ empty) × (C.bits table ≡ key_bits setup.now)) tables.items }
 {
@@ -336,7 +341,7 @@ fn crowded(alloc: Global, words: u64) -> Result<Vec<u8>, AllocError> {
 }
 
 // The base that two bits of a word stand for, those from this one on.
-fn base_at(word: u64, shift: u32) -> u8
+pub(crate) fn base_at(word: u64, shift: u32) -> u8
     requires { shift < 64 }
 {
     match (word >> shift) % 4 {

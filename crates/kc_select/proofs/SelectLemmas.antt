@@ -11,7 +11,7 @@ use Rattle.kc_io.specs.Sinks.{Written, HasTaken, HasWritten, HasBegun, Drains, W
 use Rattle.kc_io.proofs.SinksLemmas.{begin, taken_both}
 use Rattle.kc_fastx.specs.declared.read_faults.FastxFault.{FastxFault}
 use Rattle.kc_fastx.specs.Reads.{Read}
-use Rattle.kc_fastx.specs.Reading.{Stand, first_stand, MeetsFault}
+use Rattle.kc_fastx.specs.Reading.{Stand, first_stand, MeetsFault, ComesBehind}
 use Rattle.kc_fastx.specs.Titles.{Record, record_of, HasGivenRecords, GivesRecords, reads_in}
 use Rattle.kc_fastx.proofs.TitlesLemmas.{records_none}
 use Rattle.kc_tally.specs.Tally.{TallySeen}
@@ -22,7 +22,7 @@ use Rattle.kc_select.specs.Texts.{text_of_selected, selected_text}
 use Rattle.kc_select.specs.declared.selection_counts.SelectionCounts.{SelectionCounts}
 use Rattle.kc_select.specs.declared.selection_counts.Selected.{Selected}
 use Rattle.kc_select.specs.Counts.{counts_of, no_counts, both_counts}
-use Rattle.kc_select.specs.Selecting.{Task, Streams, Selects, EndsWith}
+use Rattle.kc_select.specs.Selecting.{Task, Streams, Meets, Selects, EndsWith}
 use Rattle.kc_select.proofs.CountsLemmas.{counts_push, taken_same, AreFew, counts_few}
 use Rattle.kc_select.proofs.TextLemmas.{drains_more, drains_both, drains_begins}
 
@@ -165,12 +165,13 @@ module _ {task : Task} {old now : Streams} {stand : Stand} {block : List ℕ} {c
 
   -- the reads met a fault, and what stood in the block was to be written
   pub selects_before : (new : Streams) (next : Stand) (fault : FastxFault) (answer : SelectFault)
-      → MeetsFault old.source new.source task.limit next fault → EndsWith now.sink new.sink block fault answer
-      → Selects task old new (Err answer)
-  selects_before new next fault (Reads met) meets ends = (
+      → MeetsFault old.source new.source task.limit next fault
+      → ComesBehind old.source new.source (reads_in s.records) next fault
+      → EndsWith now.sink new.sink block fault answer → Selects task old new (Err answer)
+  selects_before new next fault (Reads met) meets comes ends = (
     s.records,
     (now.source, stand, s.given),
-    (next, subst (λ v. MeetsFault old.source new.source task.limit next v) (sym ends.0) meets),
+    subst (λ v. Meets task old.source new.source s.records v) (sym ends.0) (next, meets, comes),
     written new.sink ends.1,
   )
-  selects_before new next fault Write meets ends = fails_last new ends
+  selects_before new next fault Write meets comes ends = fails_last new ends

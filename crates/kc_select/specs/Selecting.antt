@@ -3,7 +3,7 @@ use Rattle.std.specs.Prelude.{◌≡◌, ℕ, List, length, Result, Ok, Err}
 use Rattle.kc_io.specs.Sources.{Seen}
 use Rattle.kc_io.specs.Sinks.{Written, HasWritten, HasBegun}
 use Rattle.kc_fastx.specs.declared.read_faults.FastxFault.{FastxFault}
-use Rattle.kc_fastx.specs.Reading.{Stand, MeetsFault}
+use Rattle.kc_fastx.specs.Reading.{Stand, MeetsFault, ComesBehind}
 use Rattle.kc_fastx.specs.Titles.{Record, HasGivenRecords, GivesRecords, reads_in}
 use Rattle.kc_tally.specs.Tally.{TallySeen}
 use Rattle.kc_select.specs.declared.select_fault.SelectFault.{SelectFault}
@@ -33,9 +33,11 @@ abbrev pub BeginWith : Task → Seen → List Record → Type 0
 BeginWith task start records =
     (now : Seen) × (stand : Stand) × HasGivenRecords start now task.limit records stand
 
--- The reads of the source meet this fault; memory may be refused at any time.
-abbrev pub Meets : Task → Seen → Seen → FastxFault → Type 0
-Meets task start now fault = (stand : Stand) × MeetsFault start now task.limit stand fault
+-- Behind these records the reads of the source meet this fault, which is that of the next record, where it is one of
+-- lines. Memory may be refused at any time.
+abbrev pub Meets : Task → Seen → Seen → List Record → FastxFault → Type 0
+Meets task start now records fault = (stand : Stand) × MeetsFault start now task.limit stand fault
+    × ComesBehind start now (reads_in records) stand fault
 
 -- what is answered about these bytes, which say these records
 abbrev pub selected_of : Task → List ℕ → List Record → Selected
@@ -43,7 +45,8 @@ selected_of task bytes records =
     record { bytes = length bytes; counts = counts_of task.tally task.rule (reads_in records) }
 
 -- Ok: the text of the selected records of all bytes was written and flushed, and they were counted. Where the reads
--- meet a fault, the text of the selected ones of the records that came before was written and flushed. Where the writer
+-- meet a fault, the text of the selected ones of the records that came before was written and flushed: where it is a
+-- fault of lines, of all records in front of the faulty one. Where the writer
 -- failed, a beginning of the text of the selected ones of the records that had come was taken.
 abbrev pub Selects : Task → Streams → Streams → Result Selected SelectFault → Type 0
 Selects task old new (Ok selected) =
@@ -51,7 +54,7 @@ Selects task old new (Ok selected) =
     × HasWritten old.sink new.sink (selected_text task.tally task.rule records)
     × (selected ≡ selected_of task gives.0 records)
 Selects task old new (Err (Reads fault)) =
-    (records : List Record) × BeginWith task old.source records × Meets task old.source new.source fault
+    (records : List Record) × BeginWith task old.source records × Meets task old.source new.source records fault
     × HasWritten old.sink new.sink (selected_text task.tally task.rule records)
 Selects task old new (Err Write) =
     (records : List Record) × BeginWith task old.source records

@@ -1,4 +1,5 @@
 //! Assertions that tell what they were about, by its name or its number.
+use std::alloc::AllocError;
 use std::fmt::{Debug, Display};
 use std::process::Abort;
 
@@ -20,4 +21,15 @@ pub fn assert_bytes<H: Abort, W: Display + Drop>(rt: &H, what: W, got: &[u8], wa
 /// Asserts that numbers are the wanted ones.
 pub fn assert_numbers<H: Abort, W: Display + Drop>(rt: &H, what: W, got: &[u64], want: &[u64]) {
     assert_eq!(rt; got, want, "{what}");
+}
+
+/// Asserts that a value is displayed as this text.
+pub fn assert_displayed<H: Abort + AllocGlobal, T: Display>(
+    rt: &H,
+    value: &T,
+    text: &str,
+) -> Result<(), AllocError> {
+    let displayed = value.to_string(rt.alloc())?;
+    assert_eq!(rt; displayed.as_str(), text);
+    Ok(())
 }

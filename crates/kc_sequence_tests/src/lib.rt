@@ -9,6 +9,8 @@ mod batches;
 #[cfg(test)]
 mod counters;
 #[cfg(test)]
+mod gzip_files;
+#[cfg(test)]
 mod listed_words;
 #[cfg(test)]
 mod read_streams;
@@ -16,6 +18,8 @@ mod read_streams;
 mod sample_reads;
 #[cfg(test)]
 mod sequence_examples;
+#[cfg(test)]
+mod sequence_fault_texts;
 #[cfg(test)]
 mod sequence_files;
 #[cfg(test)]

@@ -1,5 +1,5 @@
 //! A stripe together with its keeper, as they lie behind the stripe's lock.
-ghost use Rattle.std.specs.Prelude.{◌≡◌, ◌+◌, ◌<◌, ◌≤◌, ◌^◌, ◌↔◌, ◌⊎◌, ◌++◌, ◌∷◌, [], length, IfOk, OnOk, OnErr};
+ghost use Rattle.std.specs.Prelude.{◌≡◌, ◌+◌, ◌<◌, ◌≤◌, ◌^◌, ◌↔◌, ◌⊎◌, ◌++◌, ◌∷◌, [], length, IfOk, IsOk, OnOk, OnErr};
 ghost use Rattle.kc_share.specs.Share.{with_booking};
 ghost use Rattle.kc_booking.specs.Setup.{word_count};
 ghost use Rattle.kc_booking.specs.Cut.{keys_of};
@@ -87,6 +87,7 @@ impl<C: Counts, N: Books> Locked<C, N> {
             (all_keys_of cuts.now) }
         ensures memory { result ≡ Err BookFault.Memory
             → self.old.total + length (all_keys_of cuts.now) ≤ 2 ^ 62 }
+        ensures empty { cuts.now.batches ≡ [] → IsOk result }
     {
         self.stripe.book_all(cuts, ordered)?;
         let keeper = &mut self.keeper;

@@ -1,5 +1,5 @@
 //! The stripes of a count, which threads share.
-ghost use Rattle.std.specs.Prelude.{◌≡◌, ◌<◌, ◌≤◌, [], All, IfOk, OnOk, OnErr, vec_len};
+ghost use Rattle.std.specs.Prelude.{◌≡◌, ◌<◌, ◌≤◌, [], All, IfOk, IsOk, OnOk, OnErr, vec_len};
 ghost use Rattle.std.specs.FinMap.{empty};
 ghost use Rattle.kc_share.specs.Share.{share_of, with_booking, with_one_part_less, new_share, joined_shares};
 ghost use Rattle.kc_booking.specs.Setup.{word_count, stripe_count, key_bits};
@@ -147,7 +147,8 @@ impl<C: Counts, N: Books> Stripes<C, N> {
     ///
     /// It returns how many slots the stripe's table has then: for speed alone, as no clause can say it behind a lock.
     ///
-    /// The stripe of the cuts is one of these. A refused booking leaves the share as it was.
+    /// The stripe of the cuts is one of these. A refused booking leaves the share as it was. A round of no batches is
+    /// never refused.
     pub fn book_all<R: Wait>(
         &self,
         rt: &R,
@@ -159,6 +160,7 @@ impl<C: Counts, N: Books> Stripes<C, N> {
         ensures booked { OnOk result (share.new ≡ with_bookings share.old (cuts_in cuts.now)) }
         ensures kept { (share.new.parts ≡ share.old.parts) × (share.new.plan ≡ share.old.plan) }
         ensures refused { OnErr result (share.new ≡ share.old) }
+        ensures empty { cuts.now.batches ≡ [] → IsOk result }
     {
         self.locks[cuts.stripe() as usize]
             .lock(rt)

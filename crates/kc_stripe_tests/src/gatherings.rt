@@ -153,7 +153,7 @@ fn gathered<H: Threads + Sync>(
 }
 
 // What gathering these stripes by so many threads answers, or, if there are none, `gather`.
-fn gather_by<H: Threads + Sync>(
+pub(crate) fn gather_by<H: Threads + Sync>(
     rt: &H,
     threads: u32,
     alloc: Global,

@@ -7,7 +7,7 @@ mod bookings;
 #[cfg(test)]
 mod cut_rows;
 #[cfg(test)]
-mod gathered_histograms;
+mod foreign_stripes;
 #[cfg(test)]
 mod gathered_tallies;
 #[cfg(test)]
@@ -19,6 +19,8 @@ mod many_threads;
 #[cfg(test)]
 mod meetings;
 #[cfg(test)]
+mod numbers_of_stripes;
+#[cfg(test)]
 mod refusals;
 #[cfg(test)]
 mod rounds;
@@ -29,8 +31,8 @@ mod sharings;
 #[cfg(test)]
 mod sheets;
 #[cfg(test)]
-mod statistics_of_stripes;
-#[cfg(test)]
 mod stripe_assertions;
 #[cfg(test)]
 mod stripe_examples;
+#[cfg(test)]
+mod stripe_fault_texts;

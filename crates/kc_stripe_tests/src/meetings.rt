@@ -1,11 +1,12 @@
-//! Two stripes that are booked at the same time, each under its own lock.
+//! Two stripes that are booked at the same time, each under its own lock, by one batch and by a round.
 ghost use Rattle.std.specs.Prelude.{◌≡◌, All, IfOk, vec_len};
 ghost use Rattle.std.specs.FinMap.{empty};
 ghost use Rattle.kc_booking.specs.Setup.{stripe_count, key_bits};
 
-use crate::sample_batches::{cuts_in, made_setup};
+use crate::rounds::made_round;
+use crate::sample_batches::{batches_in, cuts_in, made_setup};
 use kc_share::{Books, Share, Sheet};
-use kc_stripe::{BookFault, Cut, Setup, Stripes};
+use kc_stripe::{BookFault, Cut, Cuts, Ordered, Round, Setup, Stripes};
 use kc_table::{Counts, PlainCounts, TableFault};
 use std::alloc::{AllocError, Global};
 use std::marker::Brand;
@@ -117,6 +118,24 @@ fn book_once<C: Counts, N: Books, R: Wait>(
     }
 }
 
+// Books the words of a round in one stripe with a share that is given up then.
+fn book_round_once<C: Counts, N: Books, R: Wait>(
+    rt: &R,
+    alloc: Global,
+    stripes: &Stripes<C, N>,
+    mut share: Share<N>,
+    cuts: &Cuts,
+) -> Result<(), BookFault> {
+    if cuts.stripe() >= stripes.setup().stripes() {
+        return Err(BookFault::Stranger);
+    }
+    let mut ordered = Ordered::new(alloc)?;
+    match stripes.book_all(rt, &mut share, cuts, &mut ordered) {
+        Ok(_) => Ok(()),
+        Err(fault) => Err(fault),
+    }
+}
+
 // Two empty tables that look for one another.
 fn meeting_tables<'a>(
     alloc: Global,
@@ -187,6 +206,22 @@ fn two_stripes_are_booked_at_once(rt: HostRuntime) -> Result<(), Fail> {
     meet(&rt, alloc, &setup, &cuts)
 }
 
+impl Flags {
+    fn lowered() -> Flags {
+        Flags {
+            raised: (AtomicBool::new(false), AtomicBool::new(false)),
+            met: (AtomicBool::new(false), AtomicBool::new(false)),
+        }
+    }
+}
+
+// Both bookings were taken, and each met the other one.
+fn assert_met(rt: &impl Abort, booked: &[Result<(), BookFault>; 2], flags: &Flags) {
+    assert!(rt; *booked == [Ok(()), Ok(())]);
+    assert!(rt; flags.met.0.load(Ordering::SeqCst));
+    assert!(rt; flags.met.1.load(Ordering::SeqCst));
+}
+
 // The cuts of two stripes are booked at once: each booking met the other one.
 fn meet<R: Threads + Wait + Abort + Sync>(
     rt: &R,
@@ -200,14 +235,73 @@ fn meet<R: Threads + Wait + Abort + Sync>(
     if setup.stripes() != 2 {
         return Err(Fail::from("another setup"));
     }
-    let flags = Flags {
-        raised: (AtomicBool::new(false), AtomicBool::new(false)),
-        met: (AtomicBool::new(false), AtomicBool::new(false)),
-    };
+    let flags = Flags::lowered();
     let sheet = Sheet::new(alloc, 2, 2)?;
     let booked = book_at_once::<Brand, _>(rt, alloc, setup, sheet, (first, second), &flags)?;
-    assert!(rt; booked == [Ok(()), Ok(())]);
-    assert!(rt; flags.met.0.load(Ordering::SeqCst));
-    assert!(rt; flags.met.1.load(Ordering::SeqCst));
+    assert_met(rt, &booked, &flags);
+    Ok(())
+}
+
+// The words of a round in two stripes are booked over two tables that look for one another, by a thread for each
+// stripe.
+fn book_round_at_once<N: Books + Send + Sync, R: Threads + Wait + Sync>(
+    rt: &R,
+    alloc: Global,
+    round: &Round,
+    sheet: Sheet,
+    flags: &Flags,
+) -> Result<[Result<(), BookFault>; 2], AllocError>
+    requires name { sheet.table ≡ N.table }
+    requires plan { (sheet.plan.stripes ≡ 2) × (sheet.plan.parts ≡ 2) × (stripe_count round.now.setup ≡ 2) }
+{
+    let setup = round.setup();
+    let tables = meeting_tables(alloc, setup, flags)?;
+    let (stripes, one) = Stripes::<MeetingCounts<'_>, N>::new(alloc, setup, tables, sheet)?;
+    Ok(book_round_by_two(rt, alloc, &stripes, one, round))
+}
+
+// Splits the share in two, and books the words of each stripe with one of them, by a thread of its own.
+fn book_round_by_two<N: Books + Send + Sync, R: Threads + Wait + Sync>(
+    rt: &R,
+    alloc: Global,
+    stripes: &Stripes<MeetingCounts<'_>, N>,
+    mut one: Share<N>,
+    round: &Round,
+) -> [Result<(), BookFault>; 2]
+    requires parts { one.parts ≡ 2 }
+    requires two { stripe_count round.now.setup ≡ 2 }
+{
+    let other = stripes.split(&mut one);
+    let (first, second) = (round.cuts(0), round.cuts(1));
+    let (one, other) = join(
+        rt,
+        move || book_round_once(rt, alloc, stripes, one, &first),
+        move || book_round_once(rt, alloc, stripes, other, &second),
+    );
+    [one, other]
+}
+
+#[test]
+fn a_round_is_booked_into_two_stripes_at_once(rt: HostRuntime) -> Result<(), Fail> {
+    let alloc = rt.alloc();
+    let setup = made_setup(3, 2)?;
+    let batches = batches_in(alloc, &setup, &[b"AAAC"], 8)?;
+    let round = made_round(alloc, &setup, &batches)?;
+    meet_in_round(&rt, alloc, &round)
+}
+
+// The words of the round in two stripes are booked at once: each booking met the other one.
+fn meet_in_round<R: Threads + Wait + Abort + Sync>(
+    rt: &R,
+    alloc: Global,
+    round: &Round,
+) -> Result<(), Fail> {
+    if round.setup().stripes() != 2 {
+        return Err(Fail::from("another setup"));
+    }
+    let flags = Flags::lowered();
+    let sheet = Sheet::new(alloc, 2, 2)?;
+    let booked = book_round_at_once::<Brand, _>(rt, alloc, round, sheet, &flags)?;
+    assert_met(rt, &booked, &flags);
     Ok(())
 }

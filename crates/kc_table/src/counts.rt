@@ -40,13 +40,13 @@ pub trait Counts {
         ensures same_bits { bits self.new ≡ bits self.old }
         ensures same_limits { (m : KeyCounts) (q : ℕ) → may_be_full self.new m q ↔ may_be_full self.old m q };
 
-    /// Stores the key where it is not stored, adds one to its count, and returns the new count. `Full` comes only where
-    /// the type's `may_be_full` allows it, never for a stored key, and `Memory` where a growth was refused. After a
-    /// refusal no count has changed.
+    /// Stores the key where it is not stored, adds one to its count, and returns the new count; a stored key is never
+    /// refused. `Full` comes only where the type's `may_be_full` allows it, and `Memory` where a growth was refused.
+    /// After a refusal no count has changed.
     fn count(&mut self, key: u64) -> Result<u64, TableFault>
         requires in_range { key < 2 ^ bits self.old }
         requires room { count_at (counts self.old) key < 2 ^ count_bits }
-        ensures known { IsStored (counts self.old) key → ¬ (result ≡ Err TableFault.Full) }
+        ensures known { IsStored (counts self.old) key → IsOk result }
         ensures new_count { IfOk result (λ count. count ≡ count_at (counts self.old) key + 1) }
         ensures counted { OnOk result (counts self.new ≡ added (counts self.old) key) }
         ensures refused { OnErr result (counts self.new ≡ counts self.old) }

@@ -92,7 +92,7 @@ impl Counts for LimitedCounts {
     fn count(&mut self, key: u64) -> Result<u64, TableFault>
         requires in_range { key < 2 ^ self.old.bits }
         requires room { count_at self.old.counts key < 2 ^ count_bits }
-        ensures known { IsStored self.old.counts key → ¬ (result ≡ Err TableFault.Full) }
+        ensures known { IsStored self.old.counts key → IsOk result }
         ensures new_count { IfOk result (λ count. count ≡ count_at self.old.counts key + 1) }
         ensures counted { OnOk result (self.new.counts ≡ added self.old.counts key) }
         ensures refused { OnErr result (self.new.counts ≡ self.old.counts) }

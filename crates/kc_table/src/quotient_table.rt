@@ -219,7 +219,7 @@ impl Counts for QuotientTable {
     fn count(&mut self, key: u64) -> Result<u64, TableFault>
         requires in_range { key < 2 ^ self.old.bits }
         requires room { count_at (counts_in self.old.slots) key < 2 ^ count_bits }
-        ensures known { IsStored (counts_in self.old.slots) key → ¬ (result ≡ Err TableFault.Full) }
+        ensures known { IsStored (counts_in self.old.slots) key → IsOk result }
         ensures new_count { IfOk result (λ count. count ≡ count_at (counts_in self.old.slots) key + 1) }
         ensures counted { OnOk result (counts_in self.new.slots ≡ added (counts_in self.old.slots) key) }
         ensures refused { OnErr result (counts_in self.new.slots ≡ counts_in self.old.slots) }

@@ -1,5 +1,6 @@
 //! Rows of a tally that come one by one, in the order of their words, and are packed meanwhile.
 ghost use Rattle.std.specs.Prelude.{◌≡◌, ◌-◌, ◌^◌, ◌<◌, ◌≤◌, ◌++◌, [], ◌∷◌, IfOk, OnOk, OnErr, length, slice_get};
+ghost use Rattle.std.specs.Vec.{vec_capacity};
 ghost use Rattle.kc_tally.specs.Tally.{AreRows};
 
 use crate::packed_rows::{PART_ROWS, PackedRows};
@@ -20,8 +21,9 @@ pub struct GrowingRows {
 }
 
 impl Model for GrowingRows {
-    ghost use Rattle.std.specs.Prelude.{List, ◌++◌};
+    ghost use Rattle.std.specs.Prelude.{List, ◌++◌, ◌≤◌};
     ghost use Rattle.std.specs.List.{flat_map};
+    ghost use Rattle.std.specs.Vec.{vec_capacity};
     ghost use Rattle.kc_tally.specs.Packing.{AreGrowing};
     ghost use Rattle.kc_tally.specs.declared.row.Row.{Row};
 
@@ -29,7 +31,7 @@ impl Model for GrowingRows {
 
     ghost view = { λ g. flat_map (λ part. part) g.packed.items ++ g.rows.items };
 
-    ghost invariant = { λ g. AreGrowing g.packed.items g.rows.items };
+    ghost invariant = { λ g. AreGrowing g.packed.items g.rows.items × (vec_capacity g.rows ≤ 65536) };
 }
 
 impl GrowingRows {
@@ -53,7 +55,8 @@ impl GrowingRows {
         ensures kept { OnErr result (self.new ≡ self.old) }
     {
         if self.rows.len() < PART_ROWS {
-            self.rows.push(row)?;
+            make_room(&mut self.rows)?;
+            self.rows.push_reserved(row);
             return Ok(());
         }
         let mut rows = Vec::with_capacity(self.alloc, PART_ROWS)?;
@@ -97,4 +100,20 @@ impl GrowingRows {
         drop(rows);
         Tally::of_packed(alloc, k, both, packed)
     }
+}
+
+// Makes room for one row more, where there is none: for as many again, and for no more than a part has.
+#[inline(always)]
+fn make_room(rows: &mut Vec<Row>) -> Result<(), AllocError>
+    requires fewer { length rows.old.items < PART_ROWS }
+    requires bounded { vec_capacity rows.old ≤ PART_ROWS }
+    ensures unchanged { rows.new.items ≡ rows.old.items }
+    ensures room { OnOk result (length rows.new.items < vec_capacity rows.new) }
+    ensures bounded { vec_capacity rows.new ≤ PART_ROWS }
+{
+    let len = rows.len();
+    if len < rows.capacity() {
+        return Ok(());
+    }
+    rows.reserve_exact(len.max(4).min(PART_ROWS - len))
 }

@@ -13,6 +13,8 @@ mod source_lists;
 #[cfg(test)]
 mod tables_together;
 #[cfg(test)]
+mod told_bytes;
+#[cfg(test)]
 mod tool_examples;
 #[cfg(test)]
 mod written_bytes;

@@ -1,7 +1,8 @@
 //! What is told while a count works, and the line that shows it.
 use crate::command_lines::words_of;
 use crate::written_bytes::{assert_bytes, assert_same};
-use kc_tool::{Gate, NoProgress, Progress, ProgressLine, program_showing};
+use kc_fastx::FromBytes;
+use kc_tool::{Gate, NamedFiles, NoProgress, Progress, ProgressLine, Stage, ToWrite, run};
 use std::alloc::{AllocError, Global};
 use std::cell::RefCell;
 use std::fmt::Display;
@@ -91,35 +92,45 @@ impl Print for Screen {
     }
 }
 
-// What a count tells.
+// What a command tells.
 #[derive(Clone, Copy)]
 enum Told {
+    ToFile,
+    Input,
+    Have(Option<u64>),
     Read(u64),
-    Begins(u64),
+    Batches(u64),
     Turns,
     Counted,
+    Begins(Stage),
     Ends,
 }
 
 fn tell<P: Progress>(progress: &P, told: Told) {
     match told {
+        Told::ToFile => progress.text_goes_to_file(),
+        Told::Input => progress.input_is_read(),
+        Told::Have(bytes) => progress.sources_have(bytes),
         Told::Read(count) => progress.bytes_read(count),
-        Told::Begins(batches) => progress.counting_begins(batches),
+        Told::Batches(batches) => progress.counting_begins(batches),
         Told::Turns => progress.before_book(0, 0),
         Told::Counted => progress.after_book(0, 0),
+        Told::Begins(stage) => progress.begins(stage),
         Told::Ends => progress.ends(),
     }
 }
 
 // After how many milliseconds what is told, and what is then written.
-const LINES: &[(u64, Told, &str)] = &[
+type Line = (u64, Told, &'static str);
+
+const LINES: &[Line] = &[
     (0, Told::Read(1_000_000), ""),
     (124, Told::Read(999_999), ""),
     (125, Told::Read(1), "\rread 2 MB, 0 s\x1b[K"),
     (200, Told::Read(5_900_000), ""),
     (249, Told::Read(0), ""),
     (1_999, Told::Read(0), "\rread 7 MB, 1 s\x1b[K"),
-    (2_123, Told::Begins(3), ""),
+    (2_123, Told::Batches(3), ""),
     (
         2_124,
         Told::Turns,
@@ -135,26 +146,163 @@ const LINES: &[(u64, Told, &str)] = &[
     (
         3_600_001,
         Told::Counted,
-        "\rread 7 MB, counted 3 of 3 batches, 3600 s\x1b[K",
+        "\rread 7 MB, counted 3 of 3 batches, gathering, 3600 s\x1b[K",
     ),
     (3_600_002, Told::Ends, "\r\x1b[K"),
-    (3_700_000, Told::Begins(4), ""),
+    (3_700_000, Told::Batches(4), ""),
     (3_700_000, Told::Counted, ""),
+    (3_700_000, Told::Input, ""),
+    (3_700_000, Told::Begins(Stage::Tables), ""),
+    (3_700_000, Told::Begins(Stage::Text), ""),
     (3_700_000, Told::Ends, ""),
 ];
 
 // What is told of a count that is over soon, and the line that is shown then.
-const NO_LINES: &[(u64, Told, &str)] = &[
+const NO_LINES: &[Line] = &[
     (0, Told::Read(1_000_000), ""),
-    (100, Told::Begins(1), ""),
+    (100, Told::Batches(1), ""),
     (124, Told::Counted, ""),
     (125, Told::Ends, ""),
 ];
 
+// What is told where it is known, or not, how many bytes there are.
+const PERCENTAGES: &[Line] = &[
+    (0, Told::Have(Some(3_000_000)), ""),
+    (1_000, Told::Read(0), "\rread 0 MB (0%), 1 s\x1b[K"),
+    (2_000, Told::Read(1_999_999), "\rread 1 MB (66%), 2 s\x1b[K"),
+    (3_000, Told::Read(1_000_000), "\rread 2 MB (99%), 3 s\x1b[K"),
+    (4_000, Told::Read(1), "\rread 3 MB (100%), 4 s\x1b[K"),
+    // a file that grows, and a list's bytes
+    (
+        5_000,
+        Told::Read(3_000_000),
+        "\rread 6 MB (100%), 5 s\x1b[K",
+    ),
+    (
+        6_000,
+        Told::Batches(2),
+        "\rread 6 MB (100%), counted 0 of 2 batches, 6 s\x1b[K",
+    ),
+    (7_000, Told::Have(Some(u64::MAX)), ""),
+    (
+        7_000,
+        Told::Turns,
+        "\rread 6 MB (0%), counted 0 of 2 batches, 7 s\x1b[K",
+    ),
+    (8_000, Told::Have(Some(0)), ""),
+    (
+        8_000,
+        Told::Turns,
+        "\rread 6 MB, counted 0 of 2 batches, 8 s\x1b[K",
+    ),
+    (9_000, Told::Have(Some(1)), ""),
+    (9_000, Told::Have(None), ""),
+    (
+        9_000,
+        Told::Turns,
+        "\rread 6 MB, counted 0 of 2 batches, 9 s\x1b[K",
+    ),
+    (10_000, Told::Ends, "\r\x1b[K"),
+];
+
+// What is told of a selection whose reads go to a file, and of one whose reads go to standard output.
+const SELECTION: &[Line] = &[
+    (0, Told::ToFile, ""),
+    (0, Told::Begins(Stage::Tables), "\rreading tables\x1b[K"),
+    (1, Told::Begins(Stage::Selection), "\rselecting reads\x1b[K"),
+    (200, Told::Read(1), ""),
+    (9_000, Told::Ends, "\r\x1b[K"),
+];
+
+const SELECTION_SHOWN: &[Line] = &[
+    (0, Told::Begins(Stage::Tables), "\rreading tables\x1b[K"),
+    (1, Told::Begins(Stage::Selection), "\r\x1b[K"),
+    (200, Told::Read(1), ""),
+    (9_000, Told::Ends, ""),
+];
+
+// What is told of a command that reads tables, then reads, and then writes a text that goes to a file.
+const STAGES: &[Line] = &[
+    (0, Told::ToFile, ""),
+    (0, Told::Begins(Stage::Tables), "\rreading tables\x1b[K"),
+    (2, Told::Read(1), ""),
+    (200, Told::Read(1), "\rread 0 MB, 0 s\x1b[K"),
+    (201, Told::Begins(Stage::Text), "\rwriting\x1b[K"),
+    (9_000, Told::Read(1), ""),
+    (9_000, Told::Batches(1), ""),
+    (9_000, Told::Counted, ""),
+    (9_000, Told::Begins(Stage::Tables), ""),
+    (9_001, Told::Ends, "\r\x1b[K"),
+    (9_002, Told::Ends, ""),
+];
+
+// What is told where the text goes to standard output.
+const TEXT_SHOWN: &[Line] = &[
+    (0, Told::Begins(Stage::Tables), "\rreading tables\x1b[K"),
+    (1, Told::Begins(Stage::Text), "\r\x1b[K"),
+    (9_000, Told::Read(1), ""),
+    (9_000, Told::Counted, ""),
+    (9_000, Told::Begins(Stage::Selection), ""),
+    (9_000, Told::Ends, ""),
+];
+
+// The same where nothing was shown before.
+const TEXT_ALONE: &[Line] = &[
+    (1, Told::Begins(Stage::Text), ""),
+    (9_000, Told::Read(1), ""),
+    (9_000, Told::Ends, ""),
+];
+
+// What is told where the text goes to a file that is named.
+const TEXT_FILED: &[Line] = &[
+    (0, Told::ToFile, ""),
+    (1, Told::Begins(Stage::Text), "\rwriting\x1b[K"),
+    (9_000, Told::Read(1), ""),
+    (9_000, Told::Ends, "\r\x1b[K"),
+];
+
+// What is told where standard input is typed. What was shown is taken away first.
+const INPUT_TYPED: &[Line] = &[
+    (
+        0,
+        Told::Input,
+        "reading standard input; end it with Ctrl-D\n",
+    ),
+    (200, Told::Read(1), "\rread 0 MB, 0 s\x1b[K"),
+    (
+        201,
+        Told::Input,
+        "\r\x1b[Kreading standard input; end it with Ctrl-D\n",
+    ),
+    (202, Told::Ends, ""),
+];
+
+// What is told where standard input is no terminal.
+const INPUT_GIVEN: &[Line] = &[(0, Told::Input, ""), (1, Told::Ends, "")];
+
+// Whether standard input is a terminal, and what is told then.
+const TABLES: &[(bool, &[Line])] = &[
+    (false, LINES),
+    (true, NO_LINES),
+    (false, PERCENTAGES),
+    (false, SELECTION),
+    (false, SELECTION_SHOWN),
+    (true, STAGES),
+    (false, TEXT_SHOWN),
+    (false, TEXT_ALONE),
+    (false, TEXT_FILED),
+    (true, INPUT_TYPED),
+    (false, INPUT_GIVEN),
+];
+
 // Asserts that a line writes these texts.
-fn assert_lines<H: Abort + AllocGlobal>(rt: &H, lines: &[(u64, Told, &str)]) -> Result<(), Fail> {
+fn assert_lines<H: Abort + AllocGlobal>(
+    rt: &H,
+    is_typed: bool,
+    lines: &[Line],
+) -> Result<(), Fail> {
     let (clock, screen) = (SetClock::new(false), Screen::new(rt, true));
-    let line = ProgressLine::new(&clock, &screen);
+    let line = ProgressLine::new(&clock, &screen, is_typed);
     for (millis, told, text) in lines {
         clock.millis.store(*millis, Ordering::SeqCst);
         tell(&line, *told);
@@ -177,14 +325,16 @@ fn assert_taken<H: Abort + AllocGlobal>(
 
 #[test]
 fn the_line_is_written_over_and_cleared(rt: HostRuntime) -> Result<(), Fail> {
-    assert_lines(&rt, LINES)?;
-    assert_lines(&rt, NO_LINES)
+    for (is_typed, lines) in TABLES {
+        assert_lines(&rt, *is_typed, lines)?;
+    }
+    Ok(())
 }
 
 #[test]
 fn a_line_is_written_eight_times_a_second(rt: HostRuntime) -> Result<(), Fail> {
     let (clock, screen) = (SetClock::new(false), Screen::new(&rt, true));
-    let line = ProgressLine::new(&clock, &screen);
+    let line = ProgressLine::new(&clock, &screen, false);
     for millis in 1..=3_000 {
         clock.millis.store(millis, Ordering::SeqCst);
         line.after_book(0, 0);
@@ -194,15 +344,17 @@ fn a_line_is_written_eight_times_a_second(rt: HostRuntime) -> Result<(), Fail> {
     Ok(())
 }
 
-// Asserts that a line with such a clock and screen writes nothing.
+// Asserts that a line with such a clock and screen writes nothing of this.
 fn assert_nothing_shown<H: Abort + AllocGlobal>(
     rt: &H,
     is_broken: bool,
     is_terminal: bool,
+    is_typed: bool,
+    lines: &[Line],
 ) -> Result<(), Fail> {
     let (clock, screen) = (SetClock::new(is_broken), Screen::new(rt, is_terminal));
-    let line = ProgressLine::new(&clock, &screen);
-    for (millis, told, _) in LINES {
+    let line = ProgressLine::new(&clock, &screen, is_typed);
+    for (millis, told, _) in lines {
         clock.millis.store(*millis, Ordering::SeqCst);
         tell(&line, *told);
     }
@@ -210,36 +362,82 @@ fn assert_nothing_shown<H: Abort + AllocGlobal>(
 }
 
 #[test]
-fn nothing_is_shown_without_a_terminal_or_a_clock(rt: HostRuntime) -> Result<(), Fail> {
-    assert_nothing_shown(&rt, false, false)?;
-    assert_nothing_shown(&rt, true, true)
+fn nothing_is_shown_without_a_terminal_and_of_a_count_without_a_clock(
+    rt: HostRuntime,
+) -> Result<(), Fail> {
+    for (is_typed, lines) in TABLES {
+        assert_nothing_shown(&rt, false, false, *is_typed, lines)?;
+    }
+    assert_nothing_shown(&rt, true, true, false, LINES)?;
+    assert_nothing_shown(&rt, true, true, false, PERCENTAGES)
+}
+
+// Milliseconds, and the tenths of a second that have passed then.
+const TENTHS: &[(u64, u64)] = &[(0, 0), (99, 0), (100, 1), (3_149, 31), (3_600_000, 36_000)];
+
+#[test]
+fn the_tenths_that_passed_are_told(rt: HostRuntime) -> Result<(), Fail> {
+    for is_terminal in [false, true] {
+        let (clock, screen) = (SetClock::new(false), Screen::new(&rt, is_terminal));
+        clock.millis.store(7_050, Ordering::SeqCst);
+        let line = ProgressLine::new(&clock, &screen, false);
+        for (millis, tenths) in TENTHS {
+            clock.millis.store(7_050 + *millis, Ordering::SeqCst);
+            assert_same(&rt, *millis, &line.tenths_passed(), &Some(*tenths));
+        }
+        let broken = SetClock::new(true);
+        let line = ProgressLine::new(&broken, &screen, false);
+        assert_same(&rt, "no clock", &line.tenths_passed(), &None);
+    }
+    assert_same(&rt, "no line", &NoProgress.tenths_passed(), &None);
+    Ok(())
 }
 
 // Keeps what it is told.
 #[derive(Drop)]
-struct Heard {
+pub(crate) struct Heard {
     bytes: AtomicU64,
+    // the most that were told by one call
+    most_bytes: AtomicU64,
     batches: AtomicU64,
     begun: AtomicU64,
     counted: AtomicU64,
     ends: AtomicU64,
     // how many calls came behind an end
     late: AtomicU64,
+    // how many calls of each came
+    filed: AtomicU64,
+    inputs: AtomicU64,
+    sizes: AtomicU64,
+    tables: AtomicU64,
+    texts: AtomicU64,
 }
 
 impl Heard {
-    fn nothing() -> Heard {
+    pub(crate) fn nothing() -> Heard {
         Heard {
             bytes: AtomicU64::new(0),
+            most_bytes: AtomicU64::new(0),
             batches: AtomicU64::new(0),
             begun: AtomicU64::new(0),
             counted: AtomicU64::new(0),
             ends: AtomicU64::new(0),
             late: AtomicU64::new(0),
+            filed: AtomicU64::new(0),
+            inputs: AtomicU64::new(0),
+            sizes: AtomicU64::new(0),
+            tables: AtomicU64::new(0),
+            texts: AtomicU64::new(0),
         }
     }
 
-    // In the order of the fields.
+    // How many bytes were told, and the most by one call.
+    pub(crate) fn bytes(&self) -> (u64, u64) {
+        let order = Ordering::SeqCst;
+        (self.bytes.load(order), self.most_bytes.load(order))
+    }
+
+    // How many bytes, batches, batches that were begun and counted, ends, and calls behind an end were told.
     fn numbers(&self) -> [u64; 6] {
         let order = Ordering::SeqCst;
         [
@@ -249,6 +447,18 @@ impl Heard {
             self.counted.load(order),
             self.ends.load(order),
             self.late.load(order),
+        ]
+    }
+
+    // How many calls came of each of the fields behind the late ones.
+    fn calls(&self) -> [u64; 5] {
+        let order = Ordering::SeqCst;
+        [
+            self.filed.load(order),
+            self.inputs.load(order),
+            self.sizes.load(order),
+            self.tables.load(order),
+            self.texts.load(order),
         ]
     }
 
@@ -279,7 +489,20 @@ impl Progress for Heard {
         false
     }
 
+    fn text_goes_to_file(&self) {
+        self.hear(&self.filed, 1);
+    }
+
+    fn input_is_read(&self) {
+        self.hear(&self.inputs, 1);
+    }
+
+    fn sources_have(&self, _bytes: Option<u64>) {
+        self.hear(&self.sizes, 1);
+    }
+
     fn bytes_read(&self, count: u64) {
+        self.most_bytes.fetch_max(count, Ordering::SeqCst);
         self.hear(&self.bytes, count);
     }
 
@@ -287,22 +510,33 @@ impl Progress for Heard {
         self.hear(&self.batches, batches);
     }
 
+    fn begins(&self, stage: Stage) {
+        match stage {
+            Stage::Tables => self.hear(&self.tables, 1),
+            Stage::Selection | Stage::Text => self.hear(&self.texts, 1),
+        }
+    }
+
     fn ends(&self) {
         self.hear(&self.ends, 1);
     }
+
+    fn tenths_passed(&self) -> Option<u64> {
+        None
+    }
 }
 
-// A writer that keeps whether an end was told before each of its writes.
+// A writer that keeps whether this was told before each of its writes.
 #[derive(Drop)]
 struct Behind<'a> {
-    heard: &'a Heard,
+    what: &'a AtomicU64,
     taken: Vec<u8>,
     is_behind: bool,
 }
 
 impl Write for Behind<'_> {
     fn write(&mut self, buf: &[u8]) -> io::Result<usize> {
-        self.is_behind &= self.heard.ends.load(Ordering::SeqCst) > 0;
+        self.is_behind &= self.what.load(Ordering::SeqCst) > 0;
         self.taken.extend_from_slice(buf)?;
         Ok(buf.len())
     }
@@ -313,14 +547,14 @@ impl Write for Behind<'_> {
 }
 
 // A command line, its input, and what it writes to the output and to the errors; how many bytes are told, and how many
-// batches.
+// batches; and how many tables and texts begin.
 type Run = (
     &'static str,
     &'static str,
     &'static str,
     &'static str,
-    u64,
-    u64,
+    (u64, u64),
+    (u64, u64),
 );
 
 const RUNS: &[Run] = &[
@@ -329,45 +563,67 @@ const RUNS: &[Run] = &[
         ">r\nACGTA\n",
         "ACG 1\nCGT 1\nGTA 1\n",
         "",
-        9,
-        3,
+        (9, 3),
+        (0, 1),
     ),
-    ("count -m 3 --print dump --column", "", "", "", 0, 0),
+    (
+        "count -m 3 --print dump --column",
+        "",
+        "",
+        "",
+        (0, 0),
+        (0, 1),
+    ),
+    (
+        "count -m 3 --print dump --column --explain",
+        ">r\nACGTA\n",
+        "ACG 1\nCGT 1\nGTA 1\n",
+        "1 read, 3 k-mers, 3 distinct\n",
+        (9, 1),
+        (0, 1),
+    ),
     (
         "count -m 3",
         ">r\nA@C\n",
         "",
         "kcount: 2: bad base, source 1, line 2\n",
         // bytes are told with the reads that they say
-        0,
-        0,
+        (0, 0),
+        (0, 0),
     ),
     (
         "dump -c",
         "KCT 2 3 s a 33 1\nACG 1\nEND 1 1\n",
         "ACG 1\n",
         "",
-        0,
-        0,
+        (0, 0),
+        (1, 1),
     ),
 ];
 
 // A writer of this kind that took nothing.
-fn writer_behind(alloc: Global, heard: &Heard) -> Behind<'_> {
+fn writer_behind(alloc: Global, what: &AtomicU64) -> Behind<'_> {
     Behind {
-        heard,
+        what,
         taken: Vec::new(alloc),
         is_behind: true,
     }
 }
 
-// Asserts what was written and told of a run.
-fn assert_heard<H: Abort>(rt: &H, written: &Behind<'_>, told: &Behind<'_>, run: &Run) {
-    let (line, _, output, errors, bytes, batches) = run;
+// Asserts what was written and told of a run, which reads its input.
+fn assert_heard<H: Abort>(
+    rt: &H,
+    heard: &Heard,
+    written: &Behind<'_>,
+    told: &Behind<'_>,
+    run: &Run,
+) {
+    let (line, _, output, errors, (bytes, batches), (tables, texts)) = run;
     assert_bytes(rt, *line, &written.taken, output.as_bytes());
     assert_bytes(rt, *line, &told.taken, errors.as_bytes());
     let want = [*bytes, *batches, *batches, *batches, 1, 0];
-    assert_same(rt, *line, &written.heard.numbers(), &want);
+    assert_same(rt, *line, &heard.numbers(), &want);
+    assert_same(rt, *line, &heard.calls(), &[0, 1, 1, *tables, *texts]);
     let is_behind = written.is_behind && told.is_behind;
     assert_same(rt, *line, &is_behind, &true);
 }
@@ -375,28 +631,29 @@ fn assert_heard<H: Abort>(rt: &H, written: &Behind<'_>, told: &Behind<'_>, run: 
 // Runs the command line, and asserts what it writes and tells.
 fn assert_run<H: Files + Threads + Wait + Abort + Sync + AllocGlobal>(
     rt: &H,
-    run: &Run,
+    example: &Run,
 ) -> Result<(), AllocError> {
     let alloc = rt.alloc();
-    let words = words_of(alloc, run.0, ' ')?;
+    let words = words_of(alloc, example.0, ' ')?;
     let heard = Heard::nothing();
-    let mut written = writer_behind(alloc, &heard);
-    let mut told = writer_behind(alloc, &heard);
-    program_showing(
+    let mut written = writer_behind(alloc, &heard.texts);
+    let mut told = writer_behind(alloc, &heard.ends);
+    run(
         rt,
         alloc,
-        Ok(words),
-        run.1.as_bytes(),
-        &mut written,
-        &mut told,
+        &Ok(words),
+        &mut NamedFiles::new(rt),
+        &mut FromBytes::new(example.1.as_bytes()),
+        &mut ToWrite::new(&mut written),
+        &mut ToWrite::new(&mut told),
         &heard,
     );
-    assert_heard(rt, &written, &told, run);
+    assert_heard(rt, &heard, &written, &told, example);
     Ok(())
 }
 
-// The bytes of all sources and each batch are told, and then the end, once and before anything is written. A command
-// that reads a table tells the end alone.
+// The bytes of all sources and each batch are told, then that the text begins, before any of it is written, and then
+// the end, once and before anything goes to the errors.
 #[test]
 fn a_count_tells_its_bytes_and_batches(rt: HostRuntime) -> Result<(), AllocError> {
     for run in RUNS {
@@ -407,7 +664,9 @@ fn a_count_tells_its_bytes_and_batches(rt: HostRuntime) -> Result<(), AllocError
 
 #[test]
 fn no_progress_takes_all_that_is_told() {
-    for (_, told, _) in LINES {
-        tell(&NoProgress, *told);
+    for (_, lines) in TABLES {
+        for (_, told, _) in *lines {
+            tell(&NoProgress, *told);
+        }
     }
 }

@@ -470,6 +470,8 @@ const OPTION_FAULTS: &[(OptionName, &str)] = &[
     (OptionName::MerLen, "kcount: 51: bad option --mer-len\n"),
     (OptionName::Size, "kcount: 51: bad option --size\n"),
     (OptionName::Threads, "kcount: 51: bad option --threads\n"),
+    (OptionName::MinCount, "kcount: 51: bad option --min-count\n"),
+    (OptionName::MinShare, "kcount: 51: bad option --min-share\n"),
     (
         OptionName::MinQualChar,
         "kcount: 51: bad option --min-qual-char\n",

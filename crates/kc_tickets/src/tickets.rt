@@ -3,7 +3,7 @@
 //! Cell 0 has the next number, cell 1 the limit, and cell 2 the number of seats. `specs/WholeDraws.antt` has the rule
 //! that the cells and the seats keep between any two atomic steps.
 ghost use Rattle.std.specs.Prelude.{◌≡◌, ◌<◌, ◌≤◌, ◌^◌, ◌↔◌, [], ◌∷◌, ◌++◌, ◌+◌, All, IfOk, IsNone, IsTrue};
-ghost use Rattle.std.specs.Prelude.{MatchOption, OnSome, length, sum_by, vec_len, ℕ};
+ghost use Rattle.std.specs.Prelude.{MatchOption, OnSome, length, sum_by, vec_len, vec_capacity, ℕ};
 ghost use Rattle.std.specs.List.{flat_map};
 ghost use Rattle.kc_tickets.specs.Tickets.{IsSeatOf, IsDone, Draws, answers_of, AreNumbersBelow};
 
@@ -144,6 +144,7 @@ impl Tickets {
         ensures seats { IfOk result (λ made. (made.0.seats ≡ seats) × (vec_len made.1 ≡ seats)) }
         ensures own { IfOk result (λ made. All (IsSeatOf made.0) made.1.items) }
         ensures fresh { IfOk result (λ made. All (λ seat. seat.drawn ≡ []) made.1.items) }
+        ensures bounded { IfOk result (λ made. vec_capacity made.1 ≤ seats) }
     {
         let plan = Plan {
             limit,
@@ -154,12 +155,12 @@ impl Tickets {
         let mut row = Vec::with_capacity(alloc, seats as usize)?;
         for _ in 1..seats {
             let token = table.shared.split_seat::<OneSeat>(&mut first);
-            row.push(Seat { token, done: false })?;
+            row.push_reserved(Seat { token, done: false });
         }
-        row.push(Seat {
+        row.push_reserved(Seat {
             token: first,
             done: false,
-        })?;
+        });
         Ok((Tickets { table }, row))
     }
 

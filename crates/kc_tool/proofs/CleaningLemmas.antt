@@ -14,6 +14,7 @@ use Rattle.kc_word.specs.OpenCutting.{OpenCutting, HasTaken}
 use Rattle.kc_kmer.specs.Rule.{CountingRule}
 use Rattle.kc_word.proofs.Cleaning.{length-cleaned}
 use Rattle.kc_tool.specs.GivenSources.{ReadsAt}
+use Rattle.kc_command.specs.Settings.{Settings}
 use Rattle.kc_tool.specs.Tallies.{CutsNext, CutsSources, FailsAt, RefusesSource, RefusesSources, pieces_of}
 use Rattle.kc_tool.specs.declared.counted_sources.ReadsInCutting.{ReadsInCutting}
 use Rattle.kc_tool.specs.declared.tool_faults.ToolFault.{ToolFault}
@@ -103,22 +104,22 @@ one_more_cut {old = old} {new = new} {rule = rule} d later {cut} {after} r withi
 pub refused_cleaning : {old new : List Seen} {rule : CountingRule} {batch : ℕ} (d later : Seen) {cut : ReadsInCutting}
     (fault : ToolFault) → CutSoFar old new rule batch cut → cut.sources < length new
     → RefusesSource (get_or new cut.sources d) later (cut.sources + 1) cut.left fault
-    → RefusesSources old (set new cut.sources later) fault
-refused_cleaning {old = old} {new = new} d later {cut} (Fastx at fault) r within h =
+    → (settings : Settings) → RefusesSources settings old (set new cut.sources later) fault
+refused_cleaning {old = old} {new = new} d later {cut} (Fastx at fault) r within h settings =
     subst (λ v. FailsAt old (set new cut.sources later) v fault) (sym h.0) (refused d later fault r.so_far within h.1)
-refused_cleaning d later Memory r within h = tt
-refused_cleaning d later (Run fault) r within h = absurd h
-refused_cleaning d later BadHeader r within h = absurd h
-refused_cleaning d later (BadRow line) r within h = absurd h
-refused_cleaning d later BadEnd r within h = absurd h
-refused_cleaning d later TableTooLong r within h = absurd h
-refused_cleaning d later TableRead r within h = absurd h
-refused_cleaning d later (BadOption name) r within h = absurd h
-refused_cleaning d later (BadWord at) r within h = absurd h
-refused_cleaning d later Write r within h = absurd h
-refused_cleaning d later (OpenFailed name) r within h = absurd h
-refused_cleaning d later Unlike r within h = absurd h
-refused_cleaning d later TooLarge r within h = absurd h
+refused_cleaning d later Memory r within h settings = tt
+refused_cleaning d later (Run fault) r within h settings = absurd h
+refused_cleaning d later BadHeader r within h settings = absurd h
+refused_cleaning d later (BadRow line) r within h settings = absurd h
+refused_cleaning d later BadEnd r within h settings = absurd h
+refused_cleaning d later TableTooLong r within h settings = absurd h
+refused_cleaning d later TableRead r within h settings = absurd h
+refused_cleaning d later (BadOption name) r within h settings = absurd h
+refused_cleaning d later (BadWord at) r within h settings = absurd h
+refused_cleaning d later Write r within h settings = absurd h
+refused_cleaning d later (OpenFailed name) r within h settings = absurd h
+refused_cleaning d later Unlike r within h settings = absurd h
+refused_cleaning d later TooLarge r within h settings = absurd h
 
 -- The same, where it is read at its index.
 module _ {old now : List Seen} {rule : CountingRule} {batch i : ℕ} {cut : ReadsInCutting} (counted : cut.sources ≡ i)
@@ -136,12 +137,12 @@ module _ {old now : List Seen} {rule : CountingRule} {batch i : ℕ} {cut : Read
 
   pub read_refused : {next : List Seen} (fault : ToolFault)
       → ReadsAt i now next (λ before later. RefusesSource before later (cut.sources + 1) cut.left fault)
-      → RefusesSources old next fault
-  read_refused fault at =
+      → (settings : Settings) → RefusesSources settings old next fault
+  read_refused fault at settings =
       let here = ap (λ n. get_or now n at.here) counted ∙ at.was in
       let all = ap (λ n. set now n at.later) counted ∙ sym at.are in
-      subst (λ v. RefusesSources old v fault) all
-      (refused_cleaning at.here at.later fault r below (subst (λ v. RefusesSource v at.later (cut.sources + 1) cut.left fault) (sym here) at.reads))
+      subst (λ v. RefusesSources settings old v fault) all
+      (refused_cleaning at.here at.later fault r below (subst (λ v. RefusesSource v at.later (cut.sources + 1) cut.left fault) (sym here) at.reads) settings)
 
 -- All sources were read.
 pub all_cut : {old new : List Seen} {rule : CountingRule} {batch : ℕ} {cut : ReadsInCutting}

@@ -1,12 +1,12 @@
 -- How a command line ends.
-use Rattle.std.proofs.Common.{◌≡◌, ◌≤◌, ◌∙◌, arith, ℕ, refl, sym, ap, subst, List, [], inl, inr, Option, Some, None, Result, Ok, Err, IfOk, IfErr, Bool, true, codes, ◌++◌, append_assoc, append-nil}
+use Rattle.std.proofs.Common.{◌≡◌, ◌≤◌, ◌∙◌, arith, ℕ, refl, sym, ap, subst, List, [], ◌∷◌, inl, inr, Option, Some, None, Result, Ok, Err, IfOk, IfErr, Bool, true, codes, ◌++◌, append_assoc, append-nil}
 use Rattle.std.specs.Prelude.{◌⊎◌, option_map, Box, IsErrAnd, MatchResult}
 use Rattle.std.specs.Box.{box_value}
 use Rattle.clap.specs.declared.parser.matches.ArgMatches.TheViews.{out-ArgMatches, out-SubCommand}
 use Rattle.clap.specs.declared.parser.matches.SubCommand.{SubCommand}
 use Rattle.clap.specs.Faults.{fault_of, is_simple_and_free}
 use Rattle.clap.specs.Kinds.{FailsBy, HasKind, IsAmong, Kinds}
-use Rattle.clap.specs.Words.{App, HasMatchesOf, Row, Text, kind_of, subcommand_name_of, subcommand_of, subcommand_rows, subcommand_rows_of}
+use Rattle.clap.specs.Words.{App, HasMatchesOf, Row, Text, kind_of, one_of, subcommand_name_of, subcommand_of, subcommand_rows, subcommand_rows_of}
 use Rattle.clap.specs.declared.parser.matches.ArgMatches.{ArgMatches}
 use Rattle.clap.specs.declared.error.Error.{Error}
 use Rattle.clap.specs.declared.error.kind.ErrorKind.{ErrorKind}
@@ -14,10 +14,11 @@ use Rattle.clap.specs.declared.error.kind.ErrorKind.TheVariants.{DisplayHelp, Di
 use Rattle.kc_io.specs.Sources.{Seen}
 use Rattle.kc_command.specs.Command.{IsCommand, kcount_app}
 use Rattle.kc_tool.specs.CommandLine.{AskForHelp, AreTaken, CarriesOut, DoesCommand, EndsWell, FailsSo}
-use Rattle.kc_tool.specs.CommandLine.{IsHelp, IsTold, MayExplain, ShowsSo, status_of}
+use Rattle.kc_tool.specs.CommandLine.{IsHelp, IsTold, MayExplain, SaysText, ShowsSo, WantsMore, status_of}
 use Rattle.kc_tool.specs.FaultLines.{fault_line}
 use Rattle.kc_tool.specs.Process.{Ends}
-use Rattle.kc_tool.specs.Selections.{Told}
+use Rattle.kc_tool.specs.Told.{IsClosing, closing_line}
+use Rattle.kc_tool.specs.declared.told.Told.{Told}
 use Rattle.kc_tool.specs.Commands.{EndsSo, Surroundings, name_of, verb_named}
 use Rattle.kc_tool.specs.FileEvents.{FileEvent}
 use Rattle.kc_tool.specs.declared.commands.Verb.{Verb}
@@ -211,12 +212,14 @@ small_status Unlike = omega arith
 small_status TooLarge = omega arith
 
 -- How the program ends, by its status.
-module _ {arguments : List Text} {old new : Surroundings} {errors errors_after : Written} (explained : Text) where
-  pub ends_well : EndsWell arguments old new errors errors_after → Ends arguments old new errors errors_after explained 0
+module _ (watched : Bool) {arguments : List Text} {old new : Surroundings} {errors errors_after : Written}
+    (explained : Text) where
+  pub ends_well : EndsWell watched arguments old new errors errors_after explained
+      → Ends watched arguments old new errors errors_after explained 0
   ends_well well = record { done = λ status. well; fault = λ status. cc; refused = λ status. cc; within = omega arith }
 
   pub ends_in_fault : (fault : ToolFault) (status : ℕ) → status ≡ status_of fault → FailsSo arguments old new fault
-      → IsTold errors errors_after (fault_line fault ++ explained) → Ends arguments old new errors errors_after explained status
+      → IsTold errors errors_after (fault_line fault ++ explained) → Ends watched arguments old new errors errors_after explained status
   ends_in_fault fault status exit failed told = record {
     done = λ is. absurd (omega (arith, is, exit, some_status fault));
     fault = λ is. record { fault = fault; exit = sym is ∙ exit; failed = failed; told = told };
@@ -250,3 +253,39 @@ pub begun_second : {a b c : Written} {x y : List ℕ} → HasWritten a b x → H
 begun_second {a} {b} {c} {x} {y} first begun =
     let pending : Pending a b (x ++ y) (y ++ []) = record { front = x; whole = ap (λ v. x ++ v) (sym (append-nil y)); taken = first.taken } in
     began_front a b c (x ++ y) y [] pending begun
+
+-- A text that is there went to the errors.
+pub says : (text : List ℕ) {old new : Written} → (text ≡ [] → ⊥) → IsTold old new text → SaysText text old new
+says [] some told = absurd (some refl)
+says (byte ∷ text) some told = told
+
+-- Of help and the version nothing is said, and a fault needs no closing line.
+pub unsaid : (error : Error) (old new : Written) (watched : Bool) (arguments : List Text) (r : Result Told Ending)
+    → ShowsSo error old new r → IfOk r (λ told. WantsMore watched arguments → IsClosing told [])
+unsaid error old new watched arguments (Ok told) shows = λ wants. (None, sym (ap (λ v. closing_line v None) shows.0))
+unsaid error old new watched arguments (Err ending) shows = tt
+
+-- Where more is wanted, the errors are read by a person, or the options that were taken ask for it.
+wants : {watched : Bool} {arguments : List Text} (matches : ArgMatches) (options : List Row) → AreTaken arguments matches
+    → Some options ≡ option_map (λ p. p.1) (subcommand_rows_of matches) → WantsMore watched arguments
+    → (watched ≡ true) ⊎ (one_of (codes "explain") options ≡ Some (codes "true"))
+wants matches options taken found (inl watched) = inl watched
+wants matches options taken found (inr asked) =
+    let named : Text × List Row = (name_of taken.command, taken.options) in
+    let here = same_rows named (found ∙ ap (option_map (λ p. p.1)) taken.entered) in
+    let there = same_rows named (ap (option_map (λ p. p.1)) (sym asked.2.named ∙ taken.asked.named)) in
+    inr (subst (λ v. one_of (codes "explain") v ≡ Some (codes "true")) (there ∙ sym here) asked.3)
+
+-- What closes a command closes the command line.
+pub still_closing : (watched : Bool) (arguments : List Text) (matches : ArgMatches) (options : List Row)
+    → AreTaken arguments matches → Some options ≡ option_map (λ p. p.1) (subcommand_rows_of matches) → (text : List ℕ)
+    (outcome : Result Told ToolFault) (r : Result Told Ending)
+    → MatchResult outcome (λ told. r ≡ Ok told) (λ fault. IsErrAnd r (λ ending. ending ≡ Fault fault))
+    → IfOk outcome (λ told. (watched ≡ true) ⊎ (one_of (codes "explain") options ≡ Some (codes "true"))
+    → IsClosing told text)
+    → IfOk r (λ told. WantsMore watched arguments → IsClosing told text)
+still_closing watched arguments matches options taken found text (Ok told) r is closes =
+    subst (λ (r : Result Told Ending). IfOk r (λ told. WantsMore watched arguments → IsClosing told text)) (sym is)
+    (λ more. closes (wants matches options taken found more))
+still_closing watched arguments matches options taken found text (Err fault) (Ok told) is closes = absurd is
+still_closing watched arguments matches options taken found text (Err fault) (Err ending) is closes = tt

@@ -14,8 +14,11 @@ use Rattle.kc_tool.specs.NamedSources.{names_of, seen_of}
 use Rattle.kc_tool.specs.Files.{AreOf, AreOpened, FailsToOpen, FileRead, HasNoOutput, LacksFile, OpensAll, TellsName}
 use Rattle.kc_tool.specs.Files.{files_named, given_back, openings, output_of, returned, tried_alone, unread}
 use Rattle.kc_tool.specs.Outputs.{ClosesOutput, OpensOutput}
-use Rattle.kc_tool.specs.Commands.{DoesByTally, HasFaultFor, HasNoAnswer, HasNoTallyFor, IsAboutTally, IsAnswer, Stage, untold}
-use Rattle.kc_tool.specs.Selections.{Told}
+use Rattle.kc_tool.specs.Commands.{DoesByTally, HasFaultFor, HasNoAnswer, HasNoTallyFor, IsAnswer, Stage, told_about, told_of_count}
+use Rattle.kc_tool.specs.Told.{counted_of}
+use Rattle.kc_tool.specs.declared.told.CountedWords.{CountedWords}
+use Rattle.kc_tool.specs.declared.told.Told.{Told}
+use Rattle.kc_tool.specs.declared.told.Told.TheVariants as says
 use Rattle.kc_tool.specs.Commands.{Answers, Does, HasFilesFor, IsTallyFor, behind_list, given_of, sources_in}
 use Rattle.kc_tool.specs.Commands.{AsksForTask, DoesTaskInto, EndsSo, IsRefused, IsRefusedOption, KeepsInput, LacksOutput}
 use Rattle.kc_tool.specs.Commands.{Surroundings, files_of, first_refused, stage_after, stage_before}
@@ -171,10 +174,10 @@ module _ (task : Task) (old new : Stage) where
   undone TooLarge other same why = (same, why)
 
   -- The answer about the tally was written, or a beginning of it, or nothing.
-  pub answered : (table : TableSeen) (outcome : Result (Unit {0}) ToolFault) → IsTallyFor old.given new.given task table
+  pub answered : (table : TableSeen) (outcome : Result Told ToolFault) → IsTallyFor old.given new.given task table
       → Answers task table old.output new.output outcome → DoesByTally task old new outcome
-  answered table (Ok done) is h = (h.0, (table, is, h.1), h.2)
-  answered table (Err Write) is h = (h.0, (table, is, h.1), h.2)
+  answered table (Ok told) is h = (h.0, (table, is, h.1, h.3), h.2)
+  answered table (Err Write) is h = (h.0, told_about task table, (table, is, h.1, refl), h.2)
   answered table (Err (Fastx number fault)) is h = (h.0, inr (table, is, h.1))
   answered table (Err BadHeader) is h = (h.0, inr (table, is, h.1))
   answered table (Err (BadRow line)) is h = (h.0, inr (table, is, h.1))
@@ -191,35 +194,22 @@ module _ (task : Task) (old new : Stage) where
 
   -- So it is of the report on what was counted.
   pub reported : (settings : Settings) → ((table : TableSeen) → IsAnswer task table (report_text (report_of settings) table))
+      → ((table : TableSeen) → says.Counted (counted_of table) ≡ told_about task table)
       → ((table : TableSeen) → HasNoAnswer task table Memory) → (HasNoTallyFor old.given new.given task Write → ⊥)
-      → (outcome : Result (Unit {0}) ToolFault)
+      → (outcome : Result CountedWords ToolFault)
       → ReportsOn (λ table. IsTallyFor old.given new.given task table) (λ fault. HasNoTallyFor old.given new.given task fault)
       settings old.output new.output outcome
-      → DoesByTally task old new outcome
-  reported settings text memory tallied (Ok done) (inl h) = (report_text (report_of settings) h.0, (h.0, h.1, text h.0), h.2)
-  reported settings text memory tallied (Err fault) (inl h) =
+      → DoesByTally task old new (told_of_count outcome)
+  reported settings text said memory tallied (Ok words) (inl h) =
+      (report_text (report_of settings) h.0, (h.0, h.1, text h.0, ap says.Counted h.3 ∙ said h.0), h.2)
+  reported settings text said memory tallied (Err fault) (inl h) =
       ⊎_elim (λ begun. subst (λ v. DoesByTally task old new (Err v)) (sym begun.0)
-      (report_text (report_of settings) h.0, (h.0, h.1, text h.0), begun.1))
+      (report_text (report_of settings) h.0, told_about task h.0, (h.0, h.1, text h.0, refl), begun.1))
       (λ none. subst (λ v. DoesByTally task old new (Err v)) (sym none.0) (none.1, inr (h.0, h.1, memory h.0)))
-      (text_fault _ old.output new.output fault h.2)
-  reported settings text memory tallied outcome (inr h) =
-      subst (λ v. DoesByTally task old new v) (sym h.1)
+      (text_fault CountedWords _ old.output new.output fault h.2)
+  reported settings text said memory tallied outcome (inr h) =
+      subst (λ v. DoesByTally task old new (told_of_count v)) (sym h.1)
       (undone h.0 (λ is. tallied (subst (λ v. HasNoTallyFor old.given new.given task v) is h.2)) h.3 (inl h.2))
-
--- What a task does about a tally is what it does, where it is no selection, and it tells nothing.
-pub tells_nothing : (task : Task) (old new : Stage) (outcome : Result (Unit {0}) ToolFault) → IsAboutTally task
-    → DoesByTally task old new outcome → Does task old new (untold outcome)
-tells_nothing (Count settings) old new (Ok done) about does = (refl, does)
-tells_nothing (Count settings) old new (Err fault) about does = does
-tells_nothing (CountListed settings) old new (Ok done) about does = (refl, does)
-tells_nothing (CountListed settings) old new (Err fault) about does = does
-tells_nothing (Report report) old new (Ok done) about does = (refl, does)
-tells_nothing (Report report) old new (Err fault) about does = does
-tells_nothing (Query words) old new (Ok done) about does = (refl, does)
-tells_nothing (Query words) old new (Err fault) about does = does
-tells_nothing Merge old new (Ok done) about does = (refl, does)
-tells_nothing Merge old new (Err fault) about does = does
-tells_nothing (Select rule tells) old new outcome about does = absurd about
 
 -- Sources that were lent are given back as they were left.
 pub back_as_left : (asked : List FileEvent) {asked_after : List FileEvent} {lent left : List (NamedSource Seen)} → asked_after ≡ asked ++ given_back lent → lent ≡ left

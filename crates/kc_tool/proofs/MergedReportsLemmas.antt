@@ -26,7 +26,7 @@ use Rattle.kc_kmer.specs.Occurrences.{words_in, words_of}
 use Rattle.kc_tally.specs.declared.row.Row.{Row}
 use Rattle.kc_tally.specs.Tally.{AreRows, IsTallyOf, TallySeen, count_of, total_of}
 use Rattle.kc_tally.specs.Sum.{IsSum}
-use Rattle.kc_tally.proofs.Tallies.{one_value, summed_tally, tally-AreRows, tally_total}
+use Rattle.kc_tally.proofs.Tallies.{bounded_tally, one_value, summed_tally, tally-AreRows, tally_total}
 use Rattle.kc_report.specs.Table.{table_text}
 use Rattle.kc_report.specs.TableReading.{IsTable, IsTableOf}
 use Rattle.kc_report.specs.Merging.{IsCountRead, counted_from, joined_origin, reads_together}
@@ -34,10 +34,10 @@ use Rattle.kc_report.proofs.MergingLemmas.{counts_match}
 use Rattle.kc_report.proofs.TableAnswers.{same_tally}
 use Rattle.kc_command.specs.declared.settings.Print.TheVariants as print
 use Rattle.kc_command.specs.Settings.{Settings, rule_of}
-use Rattle.kc_tool.specs.MergedReports.{ApartIsTogether, IsReportOn, MergeWritesMerged, MergedReports}
+use Rattle.kc_tool.specs.MergedReports.{ApartIsTogether, IsReportOn, MergeWritesMerged, MergedReports, ReportsFit}
 use Rattle.kc_tool.specs.MergedReports.{OneReport, ReportTellsReads, ReportsMatch, TellsReads}
-use Rattle.kc_tool.specs.Reports.{printed_text}
-use Rattle.kc_tool.specs.Tallies.{GaveInputs, GivesList, TableSeen, TalliesSources}
+use Rattle.kc_tool.specs.Reports.{IsReportOf, printed_text}
+use Rattle.kc_tool.specs.Tallies.{GaveInputs, GivesList, TableSeen, TalliesSources, given}
 use Rattle.kc_tool.proofs.ReadCountLemmas.{read_count-within}
 
 -- ---- how much reads are
@@ -161,6 +161,44 @@ count_read {rule} {reads} {text} {table} tells read = record {
 pub reports_match : ReportsMatch
 reports_match rule reads more first second table other tells tells_ read read_ =
     counts_match rule reads more table other (count_read tells read) (count_read tells_ read_)
+
+-- What is read of a report on sources: few k-mers, of few reads.
+record IsFewRead (rule : CountingRule) (table : TableSeen) : Type 0 where
+  reads : List Read
+  few : AreFew reads most_bytes
+  origin : table.1 ≡ counted_from rule reads
+  total : total_of table.0.rows ≤ most_bytes
+
+few_read : (settings : Settings) → AreSettings settings → (sources : List Seen) (text : List ℕ) (table : TableSeen)
+    → settings.print ≡ print.Table → IsReportOf (given None sources) settings text → IsTableOf text (Ok table)
+    → IsFewRead (rule_of settings) table
+few_read settings are sources text table is_table report read =
+    let told = report_tells settings are sources text is_table report in
+    let gave = told.1.1 in
+    let all = few_of told.1.0 told.0 gave.has_reads in
+    let is = is_read table told.2 read in
+    let words = bounded_tally (rule_of settings) told.0 table.0.rows are.some is.counted.rows in
+    record {
+      reads = told.0;
+      few = record {
+        count = omega (arith, all.count, gave.within);
+        bases = omega (arith, all.bases, gave.within);
+      };
+      origin = is.origin;
+      total = omega (arith, words, all.bases, gave.within);
+    }
+
+pub reports_fit : (settings : Settings) → AreSettings settings → ReportsFit settings
+reports_fit settings are sources more first second table other is_table one two read read_ =
+    let here = few_read settings are sources first table is_table one read in
+    let there = few_read settings are more second other is_table two read_ in
+    let rule = rule_of settings in
+    record {
+      totals = omega (arith, here.total, there.total);
+      reads = subst (λ v. reads_together v other.1 ≤ 2 ^ 62) (sym here.origin)
+          (subst (λ v. reads_together (counted_from rule here.reads) v ≤ 2 ^ 62) (sym there.origin)
+          (omega (arith, here.few.count, there.few.count)));
+    }
 
 pub one_report : OneReport
 one_report rule reads text other tells tells_ =
@@ -345,7 +383,7 @@ apart_is_together settings are inputs more first second merged whole is_table on
 -- ---- the command
 
 pub merge_writes : MergeWritesMerged
-merge_writes first second first_after second_after text is =
+merge_writes first second first_after second_after text told is =
     let sum = is.1 in
     let tables = sum.2 in (
       tables.told.bytes,

@@ -27,7 +27,7 @@ use Rattle.kc_gather.specs.Gathering.{position_sum}
 use Rattle.kc_gather.proofs.LawLemmas.{cutting_tally}
 use Rattle.kc_report.specs.declared.origin.Origin.{Origin}
 use Rattle.kc_command.specs.Settings.{Settings, rule_of}
-use Rattle.kc_tool.specs.Tallies.{Counts, CutsBatches, FailsAt, GaveReads, GivesList, IsCuttingOf, ListFailsIn, RefusesCount, ReadsSources, RefusesSource, RefusesSources, TableSeen, TalliesSources}
+use Rattle.kc_tool.specs.Tallies.{Counts, CutsBatches, FailsAt, GaveReads, GivesList, IsCuttingOf, ListFailsIn, ListGave, RefusesCount, ReadsSources, RefusesList, RefusesSources, TableSeen, TalliesSources}
 use Rattle.kc_tool.specs.CountedTallies.{KnowsOne}
 use Rattle.kc_tool.specs.Commands.{sources_from}
 use Rattle.kc_tool.specs.NamedSources.{names_of, seen_of}
@@ -204,33 +204,44 @@ module _ {S : Type 0} (seen : S → Seen) (input after : Seen) (empty : input.le
   refused_nothing (file ∷ files) later none same unfailed still number fault h = let no : ⊥ = cc in absurd no
 
   pub refused_without : (files later : List (NamedSource S)) → files ≡ [] → names_of later ≡ names_of files
-      → input.history.failures ≡ 0 → after.history.failures ≡ 0 → (fault : ToolFault) → reader_lacks_memory fault ≡ false
-      → RefusesSources (sources_from input (seen_of seen files)) (sources_from after (seen_of seen later)) fault
-      → RefusesSources (seen_of seen files) (seen_of seen later) fault
-  refused_without files later none same unfailed still (Fastx number fault) other h =
+      → input.history.failures ≡ 0 → after.history.failures ≡ 0 → (settings : Settings) (fault : ToolFault)
+      → reader_lacks_memory fault ≡ false
+      → RefusesSources settings (sources_from input (seen_of seen files)) (sources_from after (seen_of seen later)) fault
+      → RefusesSources settings (seen_of seen files) (seen_of seen later) fault
+  refused_without files later none same unfailed still settings (Fastx number fault) other h =
       let is = refused_nothing files later none same unfailed still number fault h in
       let lacks : reader_lacks_memory (Fastx number fault) ≡ true = rw is refl in
       let no : ⊥ = cc in absurd no
-  refused_without files later none same unfailed still Memory other h = tt
-  refused_without files later none same unfailed still (Run fault) other h = none_read seen files later none same
-  refused_without files later none same unfailed still BadHeader other h = absurd h
-  refused_without files later none same unfailed still (BadRow line) other h = absurd h
-  refused_without files later none same unfailed still BadEnd other h = absurd h
-  refused_without files later none same unfailed still TableTooLong other h = absurd h
-  refused_without files later none same unfailed still TableRead other h = absurd h
-  refused_without files later none same unfailed still (BadOption name) other h = absurd h
-  refused_without files later none same unfailed still (BadWord at) other h = absurd h
-  refused_without files later none same unfailed still Write other h = absurd h
-  refused_without files later none same unfailed still (OpenFailed name) other h = absurd h
-  refused_without files later none same unfailed still Unlike other h = absurd h
-  refused_without files later none same unfailed still TooLarge other h = absurd h
+  refused_without files later none same unfailed still settings Memory other h = tt
+  refused_without files later none same unfailed still settings (Run fault) other h =
+      let none = none_read seen files later none same in (none.0, none.1, h.2)
+  refused_without files later none same unfailed still settings BadHeader other h = absurd h
+  refused_without files later none same unfailed still settings (BadRow line) other h = absurd h
+  refused_without files later none same unfailed still settings BadEnd other h = absurd h
+  refused_without files later none same unfailed still settings TableTooLong other h = absurd h
+  refused_without files later none same unfailed still settings TableRead other h = absurd h
+  refused_without files later none same unfailed still settings (BadOption name) other h = absurd h
+  refused_without files later none same unfailed still settings (BadWord at) other h = absurd h
+  refused_without files later none same unfailed still settings Write other h = absurd h
+  refused_without files later none same unfailed still settings (OpenFailed name) other h = absurd h
+  refused_without files later none same unfailed still settings Unlike other h = absurd h
+  refused_without files later none same unfailed still settings TooLarge other h = absurd h
 
-  pub refused_alone : (files later : List (NamedSource S)) → (files ≡ [] → ⊥) → names_of later ≡ names_of files → (fault : ToolFault)
-      → RefusesSources (sources_from input (seen_of seen files)) (sources_from after (seen_of seen later)) fault
-      → RefusesSources (seen_of seen files) (seen_of seen later) fault
-  refused_alone [] later some same fault h = absurd (some refl)
-  refused_alone (file ∷ files) [] some same fault h = let no : ⊥ = cc in absurd no
-  refused_alone (file ∷ files) (source ∷ later) some same fault h = h
+  pub refused_alone : (files later : List (NamedSource S)) → (files ≡ [] → ⊥) → names_of later ≡ names_of files
+      → (settings : Settings) (fault : ToolFault)
+      → RefusesSources settings (sources_from input (seen_of seen files)) (sources_from after (seen_of seen later)) fault
+      → RefusesSources settings (seen_of seen files) (seen_of seen later) fault
+  refused_alone [] later some same settings fault h = absurd (some refl)
+  refused_alone (file ∷ files) [] some same settings fault h = let no : ⊥ = cc in absurd no
+  refused_alone (file ∷ files) (source ∷ later) some same settings fault h = h
+
+-- A list that is given gave its reads.
+pub gave_list : (rule : CountingRule) (before after : Option Seen) (list : Option (List ℕ)) → GivesList rule before after list
+    → ListGave before after
+gave_list rule None after list h = tt
+gave_list rule (Some before) (Some after) (Some words) h = (h.1.reads, h.1.bytes, h.1.given)
+gave_list rule (Some before) (Some after) None h = absurd h
+gave_list rule (Some before) None list h = absurd h
 
 -- The list, where one is given, was read, and then the sources were.
 module _ (list : Option (List ℕ)) (before after : Option Seen) (old new : List Seen) (settings : Settings)
@@ -239,9 +250,9 @@ module _ (list : Option (List ℕ)) (before after : Option Seen) (old new : List
       → Counts (given before old) (given after new) settings table
   sources_counted table h = record { list = list; listed = listed; tallied = h }
 
-  pub sources_refused : (fault : ToolFault) → RefusesSources old new fault
+  pub sources_refused : (fault : ToolFault) → RefusesSources settings old new fault
       → RefusesCount (given before old) (given after new) settings fault
-  sources_refused Memory h = tt
+  sources_refused Memory h = gave_list (rule_of settings) before after list listed
   sources_refused (Fastx number fault) h = inr (record { list = list; listed = listed; refused = h })
   sources_refused BadHeader h = inr (record { list = list; listed = listed; refused = h })
   sources_refused (BadRow line) h = inr (record { list = list; listed = listed; refused = h })
@@ -258,9 +269,9 @@ module _ (list : Option (List ℕ)) (before after : Option Seen) (old new : List
 
 -- The list has no reads.
 pub list_refused : (before after : Seen) (sources : List Seen) (settings : Settings) (fault : ToolFault)
-    → RefusesSource before after 0 most_bytes fault
+    → RefusesList before after fault
     → RefusesCount (given (Some before) sources) (given (Some after) sources) settings fault
-list_refused before after sources settings Memory h = tt
+list_refused before after sources settings Memory h = h
 list_refused before after sources settings (Fastx number fault) h = inl (before, after, refl, refl, h.0, h.1, refl)
 list_refused before after sources settings BadHeader h = absurd h
 list_refused before after sources settings (BadRow line) h = absurd h

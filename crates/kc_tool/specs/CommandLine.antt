@@ -1,8 +1,9 @@
 -- How the program ends, for each command line: source, the README ("The exit status") and our formats page.
 use Rattle.std.specs.Prelude.{◌≡◌, ◌≢◌, ◌⊎◌, ℕ, Bool, true, List, [], ◌++◌, None, Some, Result, Ok, Err, codes}
+use Rattle.std.specs.Prelude.{string_bytes}
 use Rattle.clap.specs.Faults.{fault_of}
 use Rattle.clap.specs.Kinds.{IsAmong}
-use Rattle.clap.specs.Words.{Row, Text, kind_of, subcommand_of, subcommand_rows_of}
+use Rattle.clap.specs.Words.{Row, Text, kind_of, one_of, subcommand_of, subcommand_rows_of}
 use Rattle.clap.specs.declared.parser.matches.ArgMatches.{ArgMatches}
 use Rattle.clap.specs.declared.error.Error.{Error}
 use Rattle.clap.specs.declared.error.kind.ErrorKind.{ErrorKind}
@@ -12,12 +13,16 @@ use Rattle.kc_command.specs.Arguments.{IsFlag}
 use Rattle.kc_command.specs.Command.{kcount_app}
 use Rattle.kc_tool.specs.FaultLines.{fault_line}
 use Rattle.kc_tool.specs.Commands.{EndsSo, Surroundings, name_of}
-use Rattle.kc_tool.specs.Selections.{Told, counts_line}
+use Rattle.kc_tool.specs.Told.{IsClosing, asked_line}
+use Rattle.kc_tool.specs.declared.told.Told.{Told}
+use Rattle.kc_tool.specs.declared.told.Told.TheVariants.{Nothing}
 use Rattle.kc_tool.specs.declared.commands.Verb.{Verb}
 use Rattle.kc_tool.specs.declared.tool_faults.ToolFault.{ToolFault}
 use Rattle.kc_tool.specs.declared.tool_faults.ToolFault.TheVariants.{Memory, BadOption, Write}
 use Rattle.kc_tool.specs.declared.command_line.Ending.{Ending}
 use Rattle.kc_tool.specs.declared.command_line.Ending.TheVariants.{Fault, Refused}
+use Rattle.kc_tool.specs.declared.command_line.Remark.{Remark}
+use Rattle.kc_tool.specs.declared.command_line.Remark.TheVariants.{Unsaid, Closing, Explained}
 
 -- the exit status of a fault: a bad option refuses the command line
 abbrev pub status_of : ToolFault → ℕ
@@ -85,7 +90,7 @@ IsHelp error = (kind_of error ≡ DisplayHelp) ⊎ (kind_of error ≡ DisplayVer
 -- what is done with an answer of `clap`: help and the version were written, and nothing is told, or a beginning where
 -- writing failed; any other refuses the arguments, and nothing was written
 abbrev pub ShowsSo : Error → Written → Written → Result Told Ending → Type 0
-ShowsSo error old new (Ok told) = (told ≡ None) × ((text : List ℕ) × IsHelp error × HasWritten old new text)
+ShowsSo error old new (Ok told) = (told ≡ Nothing) × ((text : List ℕ) × IsHelp error × HasWritten old new text)
 ShowsSo error old new (Err (Fault Write)) = (text : List ℕ) × IsHelp error × HasBegun old new text
 ShowsSo error old new (Err (Fault Memory)) = new ≡ old
 ShowsSo error old new (Err (Fault fault)) = ⊥
@@ -96,26 +101,41 @@ ShowsSo error old new (Err (Refused text)) = (new ≡ old) × (kind_of error ≢
 -- read, written or asked of files
 abbrev pub CarriesOut : List Text → Surroundings → Surroundings → Result Told Ending → Type 0
 CarriesOut arguments old new (Ok told) =
-    DoesCommand arguments old new (Ok told) ⊎ (ShowsHelp arguments old new × (told ≡ None))
+    DoesCommand arguments old new (Ok told) ⊎ (ShowsHelp arguments old new × (told ≡ Nothing))
 CarriesOut arguments old new (Err (Fault fault)) = FailsSo arguments old new fault
 CarriesOut arguments old new (Err (Refused text)) = AreRefused arguments × (new ≡ old)
+
+-- what is said beside the lines for programs
+abbrev pub text_of : Remark → Text
+text_of Unsaid = []
+text_of (Closing text) = text
+text_of (Explained text) = string_bytes text
 
 -- the text was written, or a beginning of it before the sink failed
 abbrev pub IsTold : Written → Written → List ℕ → Type 0
 IsTold old new text = HasWritten old new text ⊎ HasBegun old new text
 
--- what a command tells went to the errors; where it tells nothing, they are as they were
-abbrev pub IsToldOf : Told → Written → Written → Type 0
-IsToldOf None errors errors_after = errors_after ≡ errors
-IsToldOf (Some counts) errors errors_after = IsTold errors errors_after (counts_line counts)
+-- the text went to the errors; where it is empty, they are as they were
+abbrev pub SaysText : Text → Written → Written → Type 0
+SaysText [] errors errors_after = errors_after ≡ errors
+SaysText text errors errors_after = IsTold errors errors_after text
 
--- status 0: the command or the help was carried out, and to the errors went what it tells
-pub record EndsWell (arguments : List Text) (old new : Surroundings) (errors errors_after : Written) : Type 0 where
+-- a person reads the errors, or the command line asks that more is said
+abbrev pub WantsMore : Bool → List Text → Type 0
+WantsMore watched arguments = (watched ≡ true)
+    ⊎ ((command : Verb) × (options : List Row) × AskFor arguments command options
+    × (one_of (codes "explain") options ≡ Some (codes "true")))
+
+-- status 0: the command or the help was carried out, and to the errors went the counts that it asks for, and behind
+-- them this text, which is the closing line where that is wanted
+pub record EndsWell (watched : Bool) (arguments : List Text) (old new : Surroundings) (errors errors_after : Written)
+    (closing : Text) : Type 0 where
   pub tells : Told
-  pub done : DoesCommand arguments old new (Ok tells) ⊎ (ShowsHelp arguments old new × (tells ≡ None))
-  pub told : IsToldOf tells errors errors_after
+  pub done : DoesCommand arguments old new (Ok tells) ⊎ (ShowsHelp arguments old new × (tells ≡ Nothing))
+  pub closes : WantsMore watched arguments → IsClosing tells closing
+  pub told : SaysText (asked_line tells ++ closing) errors errors_after
 
--- a fault is explained, by this text, where a person reads the errors, or where the command line asks for that
+-- a text beside the lines for programs: it is empty, unless a person reads the errors, or the command line asks for it
 abbrev pub MayExplain : Bool → List Text → Text → Type 0
 MayExplain watched arguments text = (text ≡ []) ⊎ (watched ≡ true)
     ⊎ ((command : Verb) × (options : List Row) × AskFor arguments command options

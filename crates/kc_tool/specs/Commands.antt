@@ -18,7 +18,8 @@ use Rattle.kc_command.specs.Arguments.{first_table_of, only_of, second_table_of,
 use Rattle.kc_command.specs.Arguments.{first_bad_of_select}
 use Rattle.kc_select.specs.Solid.{SelectionRule}
 use Rattle.kc_select.specs.declared.selection_counts.SelectionCounts.{SelectionCounts}
-use Rattle.kc_tool.specs.Selections.{SelectsFrom, Told}
+use Rattle.kc_tool.specs.Selections.{SelectsFrom}
+use Rattle.kc_tool.specs.Told.{counted_of, counted_with}
 use Rattle.kc_command.specs.declared.option_name.OptionName.{OptionName}
 use Rattle.kc_command.specs.declared.settings.Print.TheVariants as print
 use Rattle.kc_tool.specs.Faults.{report_fault}
@@ -33,6 +34,9 @@ use Rattle.kc_report.specs.declared.origin.Origin.{Origin}
 use Rattle.kc_tool.specs.Tallies.{Counts, Given, RefusesCount, TableSeen, given}
 use Rattle.kc_tool.specs.declared.tool_faults.ToolFault.{ToolFault}
 use Rattle.kc_tool.specs.declared.tool_faults.ToolFault.TheVariants.{Memory, BadOption, BadWord, OpenFailed, Write}
+use Rattle.kc_tool.specs.declared.told.CountedWords.{CountedWords}
+use Rattle.kc_tool.specs.declared.told.Told.{Told}
+use Rattle.kc_tool.specs.declared.told.Told.TheVariants as says
 use Rattle.kc_tool.specs.declared.commands.Task.{Task}
 use Rattle.kc_tool.specs.declared.commands.Task.TheVariants.{Count, CountListed, Report, Query, Merge, Select}
 use Rattle.kc_tool.specs.declared.commands.Verb.{Verb}
@@ -53,14 +57,14 @@ abbrev pub TellsNoTable : Seen → Seen → ToolFault → Type 0
 TellsNoTable old new fault =
     (why : ReportFault) × RefusesTable old new most_table_bytes why × (fault ≡ report_fault why)
 
+abbrev pub TellNoTable : List Seen → List Seen → ToolFault → Type 0
+TellNoTable (old ∷ []) (new ∷ []) fault = TellsNoTable old new fault
+TellNoTable old new fault = ⊥
+
 -- it gave this one, whose origin a header can say, or none
 abbrev pub TellsOrNot : Seen → Seen → Result TableSeen ToolFault → Type 0
 TellsOrNot old new (Ok table) = GivesTable old new most_table_bytes table × MaySay table.1
 TellsOrNot old new (Err fault) = TellsNoTable old new fault
-
-abbrev pub TellNoTable : List Seen → List Seen → ToolFault → Type 0
-TellNoTable (old ∷ []) (new ∷ []) fault = TellsNoTable old new fault
-TellNoTable old new fault = ⊥
 
 -- the source of a table told this one, or none, for this reason
 abbrev pub TellsTableOf : Option Seen → Option Seen → TableSeen → Type 0
@@ -184,9 +188,17 @@ HasNoAnswer (Query words) table fault = ⊥
 HasNoAnswer task table Memory = ⊤
 HasNoAnswer task table fault = ⊥
 
+-- what there is to say of a task that was done about a tally: how much was counted, or added
+abbrev pub told_about : Task → TableSeen → Told
+told_about (Count settings) table = says.Counted (counted_of table)
+told_about (CountListed settings) table = says.Counted (counted_of table)
+told_about Merge table = says.Counted (counted_with None table.0)
+told_about task table = says.Nothing
+
 -- what a task does about a tally: its answer was written; or a beginning of it, where writing failed; or nothing
-abbrev pub Answers : Task → TableSeen → Written → Written → Result (Unit {0}) ToolFault → Type 0
-Answers task table old new (Ok done) = (text : List ℕ) × IsAnswer task table text × HasWritten old new text
+abbrev pub Answers : Task → TableSeen → Written → Written → Result Told ToolFault → Type 0
+Answers task table old new (Ok told) =
+    (text : List ℕ) × IsAnswer task table text × HasWritten old new text × (told ≡ told_about task table)
 Answers task table old new (Err Write) = (text : List ℕ) × IsAnswer task table text × HasBegun old new text
 Answers task table old new (Err fault) = (new ≡ old) × HasNoAnswer task table fault
 
@@ -204,23 +216,24 @@ abbrev pub stage_after : Task → Seen → List FileRead → Written → Stage
 stage_after task input files output =
     record { given = given_of task input (map (λ file. file.after) files); output = output }
 
--- the text is what the task writes, from what it was given
-abbrev pub IsTextFor : Given → Given → Task → List ℕ → Type 0
-IsTextFor old new task text = (table : TableSeen) × IsTallyFor old new task table × IsAnswer task table text
+-- the text is what the task writes, from what it was given, and this is said of it
+abbrev pub IsTextFor : Given → Given → Task → List ℕ → Told → Type 0
+IsTextFor old new task text told = (table : TableSeen) × IsTallyFor old new task table × IsAnswer task table text
+    × (told ≡ told_about task table)
 
 -- why the task writes nothing, with what it was given: that has no tally, or the task has no answer about its tally
 abbrev pub HasFaultFor : Given → Given → Task → ToolFault → Type 0
 HasFaultFor old new task fault = HasNoTallyFor old new task fault
     ⊎ ((table : TableSeen) × IsTallyFor old new task table × HasNoAnswer task table fault)
 
--- what is told of a task that has nothing to tell
-abbrev pub untold : Result (Unit {0}) ToolFault → Result Told ToolFault
-untold (Ok done) = Ok None
-untold (Err fault) = Err fault
+-- what there is to say of a count
+abbrev pub told_of_count : Result CountedWords ToolFault → Result Told ToolFault
+told_of_count (Ok words) = Ok (says.Counted words)
+told_of_count (Err fault) = Err fault
 
--- what is told of a selection, where it is asked to tell it
+-- what there is to say of a selection: what was counted of its reads, and whether that is asked for
 abbrev pub told_of : Bool → Result SelectionCounts ToolFault → Result Told ToolFault
-told_of tells (Ok counts) = Ok (if tells then Some counts else None)
+told_of tells (Ok counts) = Ok (says.Selected counts tells)
 told_of tells (Err fault) = Err fault
 
 -- what a selection does: the source of its table told one, and by it the reads of the sources were selected; or it told
@@ -234,23 +247,17 @@ SelectsBy rule tells old new outcome =
     × (new.given.sources ≡ old.given.sources) × (new.output ≡ old.output))
 
 -- what a task does about a tally: its text was written; or a beginning of it, where writing failed; or nothing
-abbrev pub DoesByTally : Task → Stage → Stage → Result (Unit {0}) ToolFault → Type 0
-DoesByTally task old new (Ok done) =
-    (text : List ℕ) × IsTextFor old.given new.given task text × HasWritten old.output new.output text
-DoesByTally task old new (Err Write) =
-    (text : List ℕ) × IsTextFor old.given new.given task text × HasBegun old.output new.output text
+abbrev pub DoesByTally : Task → Stage → Stage → Result Told ToolFault → Type 0
+DoesByTally task old new (Ok told) =
+    (text : List ℕ) × IsTextFor old.given new.given task text told × HasWritten old.output new.output text
+DoesByTally task old new (Err Write) = (text : List ℕ) × (told : Told)
+    × IsTextFor old.given new.given task text told × HasBegun old.output new.output text
 DoesByTally task old new (Err fault) = (new.output ≡ old.output) × HasFaultFor old.given new.given task fault
 
--- a task other than a selection is about a tally
-abbrev pub IsAboutTally : Task → Type 0
-IsAboutTally (Select rule tells) = ⊥
-IsAboutTally task = ⊤
-
--- what a task does, and what it tells: nothing, but for a selection
+-- what a task does, and what there is to say of it
 abbrev pub Does : Task → Stage → Stage → Result Told ToolFault → Type 0
 Does (Select rule tells) old new outcome = SelectsBy rule tells old new outcome
-Does task old new (Ok told) = (told ≡ None) × DoesByTally task old new (Ok tt)
-Does task old new (Err fault) = DoesByTally task old new (Err fault)
+Does task old new outcome = DoesByTally task old new outcome
 
 -- the name of a command
 abbrev pub name_of : Verb → Text

@@ -1,9 +1,9 @@
 -- What is known of the tally of a count by its summary: source, our formats page ("Reports").
-use Rattle.std.specs.Prelude.{◌≡◌, ◌≤◌, ◌<◌, ◌^◌, ℕ, List, length}
+use Rattle.std.specs.Prelude.{◌≡◌, ◌≤◌, ◌<◌, ◌^◌, ◌⊎◌, length}
 use Rattle.kc_tally.specs.Tally.{TallySeen}
 use Rattle.kc_tally.specs.Histogram.{bins_of, counts_of}
 use Rattle.kc_tally.specs.Statistics.{statistics_of}
-use Rattle.kc_tally.specs.declared.tally_statistics.Statistics.{Statistics}
+use Rattle.kc_gather.specs.declared.gathered_numbers.Numbers.{Numbers}
 use Rattle.kc_tool.specs.declared.reports.Report.{Report}
 use Rattle.kc_command.specs.declared.settings.Print.TheVariants as print
 
@@ -14,18 +14,13 @@ pub record KnowsOne {S : Type 0} (Knows : S → TallySeen → Type 0) (summary :
   pub knows : Knows summary tally
   pub holds : P tally
 
--- of the tally the bins alone are known, and that it has fewer than 2 ^ 64 rows
-abbrev pub KnowBins : List ℕ → TallySeen → Type 0
-KnowBins bins tally = (bins ≡ bins_of (counts_of tally.rows)) × (length tally.rows < 2 ^ 64)
+-- of the tally the bins and the statistics alone are known, and that it has fewer than 2 ^ 64 rows
+pub record KnowNumbers (numbers : Numbers) (tally : TallySeen) : Type 0 where
+  pub bins_are : numbers.histogram ≡ bins_of (counts_of tally.rows)
+  pub few : length tally.rows < 2 ^ 64
+  pub statistics_are : numbers.statistics ≡ statistics_of tally.rows
 
--- they are enough for a histogram in which no count above 10,000 has a line of its own
-abbrev pub WantsBins : Report → Type 0
-WantsBins report = (report.print ≡ print.Histo) × (report.high ≤ 10000)
-
--- of the tally the statistics alone are known
-abbrev pub KnowNumbers : Statistics → TallySeen → Type 0
-KnowNumbers numbers tally = numbers ≡ statistics_of tally.rows
-
--- they are enough where they are printed
+-- they are enough for the statistics, and for a histogram in which no count above 10,000 has a line of its own
 abbrev pub WantsNumbers : Report → Type 0
-WantsNumbers report = report.print ≡ print.Stats
+WantsNumbers report =
+    ((report.print ≡ print.Histo) × (report.high ≤ 10000)) ⊎ (report.print ≡ print.Stats)

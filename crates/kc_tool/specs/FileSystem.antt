@@ -6,7 +6,7 @@ use Rattle.kc_io.specs.Sources.{Seen}
 use Rattle.kc_tool.specs.Commands.{WritesTo}
 use Rattle.kc_tool.specs.FileEvents.{FileEvent}
 use Rattle.kc_tool.specs.Files.{FileRead, HasNoOutput}
-use Rattle.kc_tool.specs.Selections.{Told}
+use Rattle.kc_tool.specs.declared.told.Told.{Told}
 use Rattle.kc_tool.specs.declared.commands.Task.{Task}
 use Rattle.kc_tool.specs.declared.file_acts.FileAct.{FileAct}
 use Rattle.kc_tool.specs.declared.file_acts.FileAct.TheVariants.{Created, Made, Wrote, Renamed, Removed}

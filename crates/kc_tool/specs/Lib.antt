@@ -15,3 +15,4 @@ pub mod Progress
 pub mod Reports
 pub mod Selections
 pub mod Tallies
+pub mod Told

@@ -7,13 +7,14 @@ use Rattle.kc_kmer.specs.Rule.{CountingRule}
 use Rattle.kc_tally.specs.Tally.{TallySeen, IsTallyOf}
 use Rattle.kc_report.specs.Table.{table_text}
 use Rattle.kc_report.specs.TableReading.{IsTableOf}
-use Rattle.kc_report.specs.Merging.{AreAlike, Merges, counted_from}
+use Rattle.kc_report.specs.Merging.{AreAlike, AreSmall, Merges, counted_from}
 use Rattle.kc_command.specs.declared.settings.Print.TheVariants as print
 use Rattle.kc_command.specs.Settings.{Settings, rule_of}
 use Rattle.kc_tool.specs.Reports.{IsReportOf}
 use Rattle.kc_tool.specs.Tallies.{ReadsSources, TableSeen, given}
 use Rattle.kc_tool.specs.Commands.{IsTextFor, most_table_bytes}
 use Rattle.kc_tool.specs.declared.commands.Task.TheVariants.{Merge}
+use Rattle.kc_tool.specs.declared.told.Told.{Told}
 
 -- read as a table, the text says the tally of these reads under the rule, and that it was counted from so many, with
 -- the floor of the rule and without a list
@@ -52,6 +53,14 @@ ReportsMatch = (rule : CountingRule) (reads more : List Read) (first second : Li
     → TellsReads rule reads first → TellsReads rule more second
     → IsTableOf first (Ok table) → IsTableOf second (Ok other) → AreAlike table.0 other.0 table.1 other.1
 
+-- two reports of counts without a list that are tables are never too large to be put together, whatever the sources
+-- gave: no count takes more than 2 ^ 36 bytes
+abbrev pub ReportsFit : Settings → Type 0
+ReportsFit settings = (sources more : List Seen) (first second : List ℕ) (table other : TableSeen)
+    → settings.print ≡ print.Table
+    → IsReportOf (given None sources) settings first → IsReportOf (given None more) settings second
+    → IsTableOf first (Ok table) → IsTableOf second (Ok other) → AreSmall table.0 other.0 table.1 other.1
+
 -- merged, they tell the reads of the first and then those of the second
 abbrev pub MergedReports : Type 0
 MergedReports = (rule : CountingRule) (reads more : List Read) (first second text : List ℕ)
@@ -71,7 +80,7 @@ ApartIsTogether settings = (inputs more : List (List ℕ)) (first second merged 
 
 -- the command `merge` writes what comes of the texts that its two files gave
 abbrev pub MergeWritesMerged : Type 0
-MergeWritesMerged = (first second first_after second_after : Seen) (text : List ℕ)
-    → IsTextFor (given None (first ∷ second ∷ [])) (given None (first_after ∷ second_after ∷ [])) Merge text
+MergeWritesMerged = (first second first_after second_after : Seen) (text : List ℕ) (told : Told)
+    → IsTextFor (given None (first ∷ second ∷ [])) (given None (first_after ∷ second_after ∷ [])) Merge text told
     → (one other : List ℕ) × TakesAll first first_after most_table_bytes one
     × TakesAll second second_after most_table_bytes other × AreMerged one other text

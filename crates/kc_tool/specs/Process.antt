@@ -12,21 +12,21 @@ use Rattle.kc_tool.specs.Commands.{Surroundings}
 use Rattle.kc_tool.specs.FaultLines.{fault_line}
 use Rattle.kc_tool.specs.declared.tool_faults.ToolFault.TheVariants.{Memory}
 
--- how the program ends, by its status, where this text explains a fault
-pub record Ends (arguments : List Text) (old new : Surroundings) (errors errors_after : Written) (explained : Text)
-    (status : ℕ) : Type 0 where
-  pub done : status ≡ 0 → EndsWell arguments old new errors errors_after
+-- how the program ends, by its status, where this text explains a fault, or closes what ended well
+pub record Ends (watched : Bool) (arguments : List Text) (old new : Surroundings) (errors errors_after : Written)
+    (explained : Text) (status : ℕ) : Type 0 where
+  pub done : status ≡ 0 → EndsWell watched arguments old new errors errors_after explained
   pub fault : status ≡ 1 → EndsInFault arguments old new errors errors_after explained 1
   pub refused : status ≡ 2 → EndsInFault arguments old new errors errors_after explained 2
       ⊎ EndsRefused arguments old new errors errors_after
   pub within : status ≤ 2
 
--- so it ends, and where a fault is explained, that may be so
+-- so it ends, and where a fault is explained, or a closing line is written, that may be so
 pub record EndsSaying (watched : Bool) (arguments : List Text) (old new : Surroundings)
     (errors errors_after : Written) (status : ℕ) : Type 0 where
   pub explained : Text
   pub may : MayExplain watched arguments explained
-  pub ends : Ends arguments old new errors errors_after explained status
+  pub ends : Ends watched arguments old new errors errors_after explained status
 
 -- what is told of arguments that std can't give, and the status: one of them is no text, or there was no memory
 abbrev pub TellsUnread : Error → Written → Written → ℕ → Type 0
@@ -58,8 +58,3 @@ pub record EndsOver (watched : Bool) (arguments : List Text) (old : Surroundings
   pub new : Surroundings
   pub errors_after : Written
   pub ends : EndsSaying watched arguments old new errors errors_after status
-
-pub record EndsUnreadOver (error : Error) (old : Surroundings) (errors : Written) (status : ℕ) : Type 0 where
-  pub new : Surroundings
-  pub errors_after : Written
-  pub ends : EndsUnread error old new errors errors_after status

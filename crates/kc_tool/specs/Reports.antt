@@ -1,5 +1,5 @@
 -- Reports on a tally, and what counting the words of sources writes: source, our formats page ("Reports").
-use Rattle.std.specs.Prelude.{◌≡◌, ◌≤◌, ◌⊎◌, ℕ, List, Option, Some, None, Result, Ok, Err}
+use Rattle.std.specs.Prelude.{◌≡◌, ◌≤◌, ◌⊎◌, ℕ, List, Option, Some, None, Result, Ok, Err, IfOk}
 use Rattle.kc_io.specs.Sinks.{Written, HasWritten, HasBegun}
 use Rattle.kc_io.specs.Sources.{Seen}
 use Rattle.kc_tool.specs.Tallies.{Counts, Given, IsRefusedCountOf, RefusesCount, RefusesSources, TableSeen}
@@ -13,6 +13,8 @@ use Rattle.kc_report.specs.Table.{table_text}
 use Rattle.kc_tool.specs.declared.tool_faults.ToolFault.{ToolFault}
 use Rattle.kc_tool.specs.declared.tool_faults.ToolFault.TheVariants.{Memory, Write}
 use Rattle.kc_tool.specs.declared.reports.Report.{Report}
+use Rattle.kc_tool.specs.declared.told.CountedWords.{CountedWords}
+use Rattle.kc_tool.specs.Told.{counted_of}
 use Rattle.kc_command.specs.declared.settings.Print.{Print}
 use Rattle.kc_command.specs.declared.settings.Print.TheVariants as print
 use Rattle.kc_command.specs.Settings.{Settings}
@@ -72,21 +74,27 @@ abbrev pub LeavesUnwritten : Given → Settings → Written → Written → Tool
 LeavesUnwritten given settings old new fault =
     (new ≡ old) × IsRefusedCountOf given settings fault
 
--- the report that is set was written on a table that was counted, or a beginning of it, or nothing for want of memory;
--- or nothing was counted for this reason, and nothing was written
+-- the report that is set was written on a table that was counted, and it is told how much was counted; or a beginning
+-- of it was, or nothing for want of memory; or nothing was counted for this reason, and nothing was written
 abbrev pub ReportsOn : (TableSeen → Type 0) → (ToolFault → Type 0) → Settings → Written → Written
-    → Result (Unit {0}) ToolFault → Type 0
+    → Result CountedWords ToolFault → Type 0
 ReportsOn Counted Refused settings old new outcome =
-    ((table : TableSeen) × Counted table × WritesText (report_text (report_of settings) table) old new outcome)
+    ((table : TableSeen) × Counted table × WritesText (report_text (report_of settings) table) old new outcome
+    × IfOk outcome (λ words. words ≡ counted_of table))
     ⊎ ((fault : ToolFault) × (outcome ≡ Err fault) × Refused fault × (new ≡ old))
+
+-- the same without how much was counted
+abbrev pub done_of : Result CountedWords ToolFault → Result (Unit {0}) ToolFault
+done_of (Ok words) = Ok tt
+done_of (Err fault) = Err fault
 
 -- so it is of the sources, with the words of a list where one is given
 abbrev pub ReportsSources : List Seen → List Seen → Option (List ℕ) → Settings → Written → Written
-    → Result (Unit {0}) ToolFault → Type 0
+    → Result CountedWords ToolFault → Type 0
 ReportsSources old new list settings before after outcome =
-    ReportsOn (TalliesSources old new settings list) (RefusesSources old new) settings before after outcome
+    ReportsOn (TalliesSources old new settings list) (RefusesSources settings old new) settings before after outcome
 
 -- so it is of what was given
-abbrev pub ReportsCount : Given → Given → Settings → Written → Written → Result (Unit {0}) ToolFault → Type 0
+abbrev pub ReportsCount : Given → Given → Settings → Written → Written → Result CountedWords ToolFault → Type 0
 ReportsCount old new settings before after outcome =
     ReportsOn (Counts old new settings) (RefusesCount old new settings) settings before after outcome

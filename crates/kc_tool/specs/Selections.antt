@@ -1,5 +1,5 @@
 -- The reads of several sources that a table selects: source, our formats page.
-use Rattle.std.specs.Prelude.{◌≡◌, ℕ, ◌-◌, List, [], ◌∷◌, ◌++◌, length, Option, Result, Ok, Err, codes, decimal}
+use Rattle.std.specs.Prelude.{◌≡◌, ℕ, ◌-◌, List, [], ◌∷◌, ◌++◌, length, Result, Ok, Err, codes, decimal}
 use Rattle.kc_io.specs.Sinks.{Written, HasWritten, HasBegun}
 use Rattle.kc_io.specs.Sources.{Seen}
 use Rattle.kc_fastx.specs.Parsing.{most_bytes}
@@ -16,11 +16,7 @@ use Rattle.kc_tool.specs.Tallies.{SourcePlace}
 use Rattle.kc_tool.specs.declared.tool_faults.ToolFault.{ToolFault}
 use Rattle.kc_tool.specs.declared.tool_faults.ToolFault.TheVariants.{Fastx, Memory, Write}
 
--- what a command that went well tells on the errors: what was counted of the reads that were selected, or nothing
-abbrev pub Told : Type 0
-Told = Option SelectionCounts
-
--- the line that tells it
+-- the line that says what was counted of the reads
 abbrev pub counts_line : SelectionCounts → List ℕ
 counts_line counts = codes "kcount: " ++ decimal counts.reads ++ codes " reads, "
     ++ decimal counts.kept ++ codes " kept, "
@@ -73,7 +69,7 @@ SelectsFrom rule tally old new before after (Ok counts) = (records : List (List 
     × HasWritten before after (selected_text tally rule (all_records records))
     × (counts ≡ counts_of tally rule (reads_in (all_records records)))
 SelectsFrom rule tally old new before after (Err (Fastx number fault)) = (stop : StopsAt rule tally old new number)
-    × Meets (task_within rule tally stop.limit) stop.place.here stop.place.left fault
+    × Meets (task_within rule tally stop.limit) stop.place.here stop.place.left stop.first fault
     × HasWritten before after (selected_text tally rule (all_records stop.earlier ++ stop.first))
 SelectsFrom rule tally old new before after (Err Write) = (number : ℕ) × (stop : StopsAt rule tally old new number)
     × HasBegun before after (selected_text tally rule (all_records stop.earlier ++ stop.first))

@@ -14,6 +14,8 @@ use Rattle.kc_word.specs.Only.{WordList, IsListOf}
 use Rattle.kc_kmer.specs.Rule.{CountingRule, with_list}
 use Rattle.kc_tally.specs.Tally.{TallySeen, IsTallyOf}
 use Rattle.kc_report.specs.declared.origin.Origin.{Origin}
+use Rattle.kc_run.specs.Runs.{IsRunFault}
+use Rattle.kc_run.specs.declared.run_fault.RunFault.{RunFault}
 use Rattle.kc_command.specs.Settings.{Settings, rule_of}
 use Rattle.kc_tool.specs.declared.counted_sources.ReadsInCutting.{ReadsInCutting}
 use Rattle.kc_tool.specs.declared.tool_faults.ToolFault.{ToolFault}
@@ -84,6 +86,12 @@ RefusesSource old new number limit (Fastx source fault) = (source ≡ number) ×
 RefusesSource old new number limit Memory = ⊤
 RefusesSource old new number limit _ = ⊥
 
+-- why the source of a list, whose number is 0, gave no list; where memory was refused outside its reader, it had given
+-- all its reads
+abbrev pub RefusesList : Seen → Seen → ToolFault → Type 0
+RefusesList old new Memory = (reads : List Read) × (bytes : ℕ) × GivesReads old new most_bytes reads bytes
+RefusesList old new fault = RefusesSource old new 0 most_bytes fault
+
 -- one source more may be read: there are not too many bytes or sources so far
 pub record MayCutNext (cut : ReadsInCutting) : Type 0 where
   pub few : cut.reads + cut.left ≤ most_bytes
@@ -116,13 +124,17 @@ pub record FailsAt (old new : List Seen) (number : ℕ) (fault : FastxFault) : T
   pub earlier : GaveReads place.before place.given inputs reads
   pub fails : RefusesFor place.here place.left (most_bytes - length (concat inputs)) fault
 
+-- a fault with which a run may end that counts by these settings: it names one of their threads or of their stripes
+abbrev pub MayFail : Settings → RunFault → Type 0
+MayFail settings fault = IsRunFault settings.workers settings.stripes fault
+
 -- why the sources were not counted: one has no reads; or all gave reads, and the run over them was refused. Of want of
 -- memory outside the readers nothing is said
-abbrev pub RefusesSources : List Seen → List Seen → ToolFault → Type 0
-RefusesSources old new (Fastx number fault) = FailsAt old new number fault
-RefusesSources old new (Run fault) = (reads : List Read) × ReadsSources old new reads
-RefusesSources old new Memory = ⊤
-RefusesSources old new _ = ⊥
+abbrev pub RefusesSources : Settings → List Seen → List Seen → ToolFault → Type 0
+RefusesSources settings old new (Fastx number fault) = FailsAt old new number fault
+RefusesSources settings old new (Run fault) = (reads : List Read) × ReadsSources old new reads × MayFail settings fault
+RefusesSources settings old new Memory = ⊤
+RefusesSources settings old new _ = ⊥
 
 -- there was no memory for the reader of a source
 abbrev pub reader_lacks_memory : ToolFault → Bool
@@ -203,7 +215,7 @@ GivesListOf rule source list = (later : Option Seen) × GivesList rule source la
 -- the source of the list is refused for this reason, which a later state of it shows; it is number 0
 abbrev pub ListFailsIn : Option Seen → ToolFault → Type 0
 ListFailsIn None fault = ⊥
-ListFailsIn (Some source) fault = (later : Seen) × RefusesSource source later 0 most_bytes fault
+ListFailsIn (Some source) fault = (later : Seen) × RefusesList source later fault
 
 -- the table that is counted: the list, where one is given, and then the sources gave their reads
 pub record Counts (old new : Given) (settings : Settings) (table : TableSeen) : Type 0 where
@@ -221,11 +233,17 @@ ListFails old new _ = ⊥
 pub record SourcesFail (old new : Given) (settings : Settings) (fault : ToolFault) : Type 0 where
   pub list : Option (List ℕ)
   pub listed : GivesList (rule_of settings) old.list new.list list
-  pub refused : RefusesSources old.sources new.sources fault
+  pub refused : RefusesSources settings old.sources new.sources fault
 
--- why nothing was counted. Of want of memory outside the readers nothing is said
+-- the source of a list, where there is one, gave all its reads
+abbrev pub ListGave : Option Seen → Option Seen → Type 0
+ListGave None new = ⊤
+ListGave (Some old) (Some new) = (reads : List Read) × (bytes : ℕ) × GivesReads old new most_bytes reads bytes
+ListGave (Some old) None = ⊥
+
+-- why nothing was counted. Of want of memory outside the readers no more is said than that a list had given its reads
 abbrev pub RefusesCount : Given → Given → Settings → ToolFault → Type 0
-RefusesCount old new settings Memory = ⊤
+RefusesCount old new settings Memory = ListGave old.list new.list
 RefusesCount old new settings fault = ListFails old new fault ⊎ SourcesFail old new settings fault
 
 -- the table that is counted of what was given, and why nothing was counted of it, up to later states of it

@@ -1,15 +1,19 @@
 //! The command line: what its arguments ask for is carried out, over streams that the caller keeps.
-ghost use Rattle.std.specs.Prelude.{◌≡◌, ◌≤◌, ◌⊎◌, ◌++◌, [], true, IfErr, IfOk, List, codes, map, string_bytes};
-ghost use Rattle.clap.specs.Words.{Text, found_of, rows_of};
+ghost use Rattle.std.specs.Prelude.{◌≡◌, ◌≤◌, ◌⊎◌, ◌++◌, [], Bool, true, IfErr, IfOk, List, Some, codes, map};
+ghost use Rattle.std.specs.Prelude.{string_bytes};
+ghost use Rattle.clap.specs.Words.{Text, found_of, one_of, rows_of};
 ghost use Rattle.kc_command.specs.Arguments.{IsFlag};
 ghost use Rattle.kc_io.specs.Sinks.{Writes};
 ghost use Rattle.kc_tool.specs.FaultLines.{fault_line};
-ghost use Rattle.kc_tool.specs.CommandLine.{CarriesOut, ShowsSo, status_of};
+ghost use Rattle.kc_tool.specs.CommandLine.{CarriesOut, SaysText, ShowsSo, WantsMore, status_of, text_of};
 ghost use Rattle.kc_tool.specs.Commands.{Surroundings};
+ghost use Rattle.kc_tool.specs.Selections.{counts_line};
+ghost use Rattle.kc_tool.specs.Told.{IsClosing, asked_line};
 ghost use Rattle.kc_tool.specs.Process.{Ends, EndsSaying, EndsUnread, TellsUnread};
 ghost use Rattle.kc_tool.specs.declared.tool_faults.ToolFault.TheVariants.{Memory, Write};
 ghost use Rattle.kc_tool.specs.declared.command_line.Ending.TheVariants.{Fault};
 
+use crate::closing_line::closing_line;
 use crate::commands::{Verb, run_command, verb_named};
 use crate::count_progress::Progress;
 use crate::counted_sources::Means;
@@ -18,12 +22,14 @@ use crate::explanations::{Known, explanation};
 use crate::fault_lines::write_fault;
 use crate::files::NamedFiles;
 use crate::option_tips::with_tip;
+use crate::told::{Told, asked_counts};
 use crate::tool_faults::ToolFault;
 use clap::ArgMatches;
 use clap::error::ErrorKind;
 use kc_command::command::command;
 use kc_command::has_flag;
 use kc_io::{Failed, Sink, Source, write_out};
+use kc_report::Block;
 use kc_select::SelectionCounts;
 use std::alloc::{AllocError, AllocFailed, Global};
 use std::io;
@@ -80,11 +86,11 @@ pub fn run<H: Threads + Wait + Sync, S: Files, R: Source, W: Sink, E: Sink, P: P
         Err(error) => return tell_unread(error, errors),
     };
     let Ok(app) = command(alloc) else {
-        return tell_end(Err(Ending::Fault(ToolFault::Memory)), "", errors);
+        return tell_end(Err(Ending::Fault(ToolFault::Memory)), b"", errors);
     };
     let matches = match app.try_get_matches_from(arguments) {
         Ok(matches) => matches,
-        Err(error) => return tell_end(show(alloc, &error, arguments, output), "", errors),
+        Err(error) => return tell_end(show(alloc, &error, arguments, output), b"", errors),
     };
     // `clap` passes no command line without one of the commands
     let Some((name, matches)) = matches.subcommand() else {
@@ -99,38 +105,69 @@ pub fn run<H: Threads + Wait + Sync, S: Files, R: Source, W: Sink, E: Sink, P: P
         progress,
     };
     let ended = run_command(&means, verb, matches, files, input, output);
-    let explained = explained(&means, &ended, verb, matches, files);
-    tell_end(ended.map_err(Ending::Fault), explained.as_str(), errors)
+    progress.ends();
+    let said = said(&means, &ended, verb, matches, files);
+    tell_end(ended.map_err(Ending::Fault), said.as_bytes(), errors)
 }
 
-// The text that explains a fault where a person reads the errors, or where that is asked for. Elsewhere, and where
-// there is no memory for it, it is empty.
-fn explained<H: Threads, S: Files, P: Progress>(
+// What is said beside the lines for programs.
+#[derive(Drop)]
+enum Remark {
+    // Nothing.
+    Unsaid,
+    // What was counted or selected.
+    Closing(Block),
+    // Why there was a fault.
+    Explained(String),
+}
+
+impl Remark {
+    // The text.
+    fn as_bytes(&self) -> &[u8]
+        ensures { result.now ≡ text_of self.now }
+    {
+        match self {
+            Remark::Unsaid => b"",
+            Remark::Closing(text) => text.as_slice(),
+            Remark::Explained(text) => text.as_bytes(),
+        }
+    }
+}
+
+// The closing line of what ended well, or the text that explains a fault, where a person reads the errors, or where
+// that is asked for. Elsewhere nothing is said, nor where there is no memory to explain a fault.
+fn said<H: Threads, S: Files, P: Progress>(
     means: &Means<'_, H, P>,
-    ended: &Result<Option<SelectionCounts>, ToolFault>,
+    ended: &Result<Told, ToolFault>,
     verb: Verb,
     matches: &ArgMatches<'_>,
     files: &NamedFiles<'_, S>,
-) -> String
-    ensures { (string_bytes result ≡ []) ⊎ (P.watched means.now.progress.now ≡ true)
+) -> Remark
+    ensures asked { (text_of result ≡ []) ⊎ (P.watched means.now.progress.now ≡ true)
         ⊎ IsFlag (rows_of (found_of matches.now)) (codes "explain") true }
+    ensures closing { IfOk ended.now (λ told. (P.watched means.now.progress.now ≡ true)
+        ⊎ (one_of (codes "explain") (rows_of (found_of matches.now)) ≡ Some (codes "true"))
+        → IsClosing told (text_of result)) }
 {
     let is_asked = has_flag(matches, "explain");
-    match ended {
-        Err(fault) if means.progress.is_watched() || is_asked => {
-            let looks = files.looks();
-            let known = Known {
-                verb,
-                matches,
-                looks: &looks,
-                refusal: files.refusal(),
-            };
-            match explanation(means.alloc, fault, &known) {
-                Ok(text) => text,
-                Err(_) => String::new(means.alloc),
-            }
-        }
-        _ => String::new(means.alloc),
+    if !means.progress.is_watched() && !is_asked {
+        return Remark::Unsaid;
+    }
+    let fault = match ended {
+        Ok(told) => return Remark::Closing(closing_line(told, means.progress.tenths_passed())),
+        Err(fault) => fault,
+    };
+    let looks = files.looks();
+    let known = Known {
+        verb,
+        matches,
+        looks: &looks,
+        refusal: files.refusal(),
+        output_refusal: files.output_refusal(),
+    };
+    match explanation(means.alloc, fault, &known) {
+        Ok(text) => Remark::Explained(text),
+        Err(_) => Remark::Unsaid,
     }
 }
 
@@ -147,25 +184,22 @@ fn tell_unread<E: Sink>(error: &io::Error, errors: &mut E) -> u8
     FAULT
 }
 
-// Tells how a command line ended, and puts this text behind the line of a fault: the exit status. Failing to say so
-// changes no status.
-fn tell_end<E: Sink>(
-    ended: Result<Option<SelectionCounts>, Ending>,
-    explained: &str,
-    errors: &mut E,
-) -> u8
+// Tells how a command line ended, and puts this text behind the line of a fault, or of what was asked for: the exit
+// status. Failing to say so changes no status.
+fn tell_end<E: Sink>(ended: Result<Told, Ending>, said: &[u8], errors: &mut E) -> u8
     ensures within { result ≤ 2 }
-    ensures ends { (arguments : List Text) (old new : Surroundings) → CarriesOut arguments old new ended
-        → Ends arguments old new (E.seen errors.old) (E.seen errors.new) explained.now result }
+    ensures ends { (watched : Bool) (arguments : List Text) (old new : Surroundings)
+        → CarriesOut arguments old new ended
+        → IfOk ended (λ told. WantsMore watched arguments → IsClosing told said.now)
+        → Ends watched arguments old new (E.seen errors.old) (E.seen errors.new) said.now result }
 {
     match ended {
-        Ok(None) => DONE,
-        Ok(Some(counts)) => {
-            let _ = write_counts(errors, &counts);
+        Ok(told) => {
+            let _ = write_told(errors, &told, said);
             DONE
         }
         Err(Ending::Fault(fault)) => {
-            let _ = write_explained(errors, &fault, explained);
+            let _ = write_explained(errors, &fault, said);
             status_of(&fault)
         }
         Err(Ending::Refused(text)) => {
@@ -175,18 +209,48 @@ fn tell_end<E: Sink>(
     }
 }
 
+// Writes the counts of a selection, where they are asked for, and behind them this text. Where there is nothing to
+// write, nothing is asked of the errors.
+fn write_told<E: Sink>(errors: &mut E, told: &Told, said: &[u8]) -> Result<(), Failed>
+    ensures { SaysText (asked_line told.now ++ said.now) (E.seen errors.old) (E.seen errors.new) }
+{
+    match asked_counts(told) {
+        Some(counts) => write_counted(errors, &counts, said),
+        None if said.is_empty() => Ok(()),
+        None => write_out(errors, said),
+    }
+}
+
+// Writes the line of the counts of a selection, and behind it this text.
+fn write_counted<E: Sink>(
+    errors: &mut E,
+    counts: &SelectionCounts,
+    said: &[u8],
+) -> Result<(), Failed>
+    ensures { Writes (E.seen errors.old) (E.seen errors.new) result (counts_line counts.now ++ said.now) }
+{
+    match write_counts(errors, counts) {
+        Err(failed) => Err(failed),
+        Ok(()) if said.is_empty() => Ok(()),
+        Ok(()) => match write_out(errors, said) {
+            Ok(()) => Ok(()),
+            Err(failed) => Err(failed),
+        },
+    }
+}
+
 // Writes the line of a fault, and behind it this text.
 fn write_explained<E: Sink>(
     errors: &mut E,
     fault: &ToolFault,
-    explained: &str,
+    explained: &[u8],
 ) -> Result<(), ToolFault>
     ensures { Writes (E.seen errors.old) (E.seen errors.new) result (fault_line fault.now ++ explained.now) }
 {
     match write_fault(errors, fault) {
         Err(failed) => Err(failed),
         Ok(()) if explained.is_empty() => Ok(()),
-        Ok(()) => match write_out(errors, explained.as_bytes()) {
+        Ok(()) => match write_out(errors, explained) {
             Ok(()) => Ok(()),
             Err(Failed) => Err(ToolFault::Write),
         },
@@ -234,7 +298,7 @@ fn show<W: Sink>(
     error: &clap::Error,
     arguments: &[String],
     output: &mut W,
-) -> Result<Option<SelectionCounts>, Ending>
+) -> Result<Told, Ending>
     ensures { ShowsSo error.now (W.seen output.old) (W.seen output.new) result }
 {
     if error.kind() == ErrorKind::OutOfMemory {
@@ -245,5 +309,5 @@ fn show<W: Sink>(
         return Err(Ending::Refused(with_tip(alloc, text, arguments)?));
     }
     write_out(output, text.as_bytes())?;
-    Ok(None)
+    Ok(Told::Nothing)
 }

@@ -23,15 +23,15 @@ ghost use Rattle.kc_tool.specs.Commands.{
   own_of,
   sources_in,
   told_of,
-  untold,
+  told_of_count,
   verb_named,
 };
 ghost use Rattle.kc_tool.specs.Reports.{IsWritable};
 ghost use Rattle.kc_tool.specs.Tallies.{given};
 
-use crate::count_progress::Progress;
+use crate::count_progress::{Progress, Stage};
 use crate::counted_sources::Means;
-use crate::files::{FileSource, NamedFiles, open_files, take_sources};
+use crate::files::{FileSource, NamedFiles, open_files, size_of_all, take_sources};
 use crate::given_options::{dump_options, high_of, options, select_options};
 use crate::given_sources::GivenSources;
 use crate::named_sources::NamedSource;
@@ -39,6 +39,7 @@ use crate::outputs::{close_output, open_output};
 use crate::reports::{Crew, Report, report_given, write_report};
 use crate::selected_sources::select_given;
 use crate::task_tallies::{report_listed, sum_of, table_from, table_of};
+use crate::told::{CountedWords, Told};
 use crate::tool_faults::ToolFault;
 use clap::ArgMatches;
 use kc_command::command::{COUNT, DUMP, HISTO, MERGE, QUERY, SELECT, STATS};
@@ -110,7 +111,7 @@ pub(crate) enum Task {
 /// Runs a command with its options: opens its files, takes the tally that it is about, and writes its answer. Files are
 /// opened in order before anything is read, the file for the output behind them, and at the end all are closed. A text
 /// takes the place of the file that is named for it once it is whole. How far a count has come is told. It answers what
-/// is to be told of a selection.
+/// there is to say of what was done.
 ///
 /// # Errors
 /// `BadOption` with the first option whose value is outside its limits, before any file is asked for. `OpenFailed` with
@@ -131,7 +132,7 @@ pub(crate) fn run_command<
     files: &mut NamedFiles<'_, S>,
     input: &mut R,
     output: &mut W,
-) -> Result<Option<SelectionCounts>, ToolFault>
+) -> Result<Told, ToolFault>
     ensures { EndsSo verb (rows_of (found_of matches.now))
         (record { input = R.seen input.old; output = W.seen output.old; asked = files.old })
         (record { input = R.seen input.new; output = W.seen output.new; asked = files.new }) result }
@@ -140,6 +141,10 @@ pub(crate) fn run_command<
     let task = task_of(alloc, verb, matches)?;
     let names = file_names(alloc, verb, matches)?;
     let mut sources = open_files(alloc, files, &names)?;
+    if sources.len() <= own_of(&task) {
+        means.progress.input_is_read();
+    }
+    means.progress.sources_have(size_of_all(&sources));
     match text_of(matches, "output") {
         None => {
             let outcome = answer(means, &task, &mut sources, input, output);
@@ -160,7 +165,7 @@ fn answer_into<H: Threads + Wait + Sync, S: Files, R: Source, P: Progress + Sync
     sources: Vec<NamedSource<'_, FileSource<S::File>>>,
     input: &mut R,
     name: &str,
-) -> Result<Option<SelectionCounts>, ToolFault>
+) -> Result<Told, ToolFault>
     requires files { HasFilesFor task.now (seen_of (λ s. s) sources.items) }
     requires writable { HasWritableReport task.now }
     ensures { DoesTaskInto name.now sources.entry.items task.now (R.seen input.old) (R.seen input.new)
@@ -175,6 +180,7 @@ fn answer_into<H: Threads + Wait + Sync, S: Files, R: Source, P: Progress + Sync
             return Err(fault);
         }
     };
+    means.progress.text_goes_to_file();
     let sink = &mut output.file.sink;
     let work = answer(means, task, &mut sources, input, sink);
     take_sources(files, sources);
@@ -189,7 +195,7 @@ fn answer<H: Threads + Wait + Sync, R: Source, F: Source, W: Sink, P: Progress +
     files: &mut [NamedSource<'_, F>],
     input: &mut R,
     output: &mut W,
-) -> Result<Option<SelectionCounts>, ToolFault>
+) -> Result<Told, ToolFault>
     requires files { HasFilesFor task.now (seen_of F.seen files.old) }
     requires writable { HasWritableReport task.now }
     ensures done { Does task.now
@@ -202,13 +208,13 @@ fn answer<H: Threads + Wait + Sync, R: Source, F: Source, W: Sink, P: Progress +
     let own = own_of(task);
     let mut sources = GivenSources { files, input, own };
     match task {
-        Task::Count(options) => untold(report_given(means, options, None, &mut sources, output)),
-        Task::CountListed(options) => untold(report_listed(means, options, &mut sources, output)),
-        Task::Report(report) => untold(report_table(means, *report, &mut sources, output)),
-        Task::Query(words) => untold(query_table(means, words, &mut sources, output)),
-        Task::Merge => untold(write_sum(means, &mut sources, output)),
+        Task::Count(options) => count_words(means, options, &mut sources, output),
+        Task::CountListed(options) => count_listed(means, options, &mut sources, output),
+        Task::Report(report) => report_table(means, *report, &mut sources, output),
+        Task::Query(words) => query_table(means, words, &mut sources, output),
+        Task::Merge => write_sum(means, &mut sources, output),
         Task::Select(selection, tells) => {
-            select_by_table(means.alloc, *selection, *tells, &mut sources, output)
+            select_by_table(means, *selection, *tells, &mut sources, output)
         }
     }
 }
@@ -223,12 +229,47 @@ fn own_of(task: &Task) -> usize
     }
 }
 
-// What is told of a task that has nothing to tell.
-fn untold(done: Result<(), ToolFault>) -> Result<Option<SelectionCounts>, ToolFault>
-    ensures { result ≡ untold done }
+// Counts the words of the sources, and writes the report on them.
+fn count_words<H: Threads + Wait + Sync, R: Source, F: Source, W: Sink, P: Progress + Sync>(
+    means: &Means<'_, H, P>,
+    options: &Options,
+    sources: &mut GivenSources<'_, '_, '_, R, F>,
+    output: &mut W,
+) -> Result<Told, ToolFault>
+    ensures done { DoesByTally (Task.Count options.now)
+        (record { given = given None (seen_in R.seen F.seen sources.old); output = W.seen output.old })
+        (record { given = given None (seen_in R.seen F.seen sources.new); output = W.seen output.new })
+        result }
+    ensures kept { Keeps R.seen F.seen sources.old sources.new }
 {
-    match done {
-        Ok(()) => Ok(None),
+    counted(report_given(means, options, None, sources, output))
+}
+
+// Counts those words of the sources that occur in the first file, and writes the report on them. Condition: the first
+// file, and no other, comes before the sources.
+fn count_listed<H: Threads + Wait + Sync, R: Source, F: Source, W: Sink, P: Progress + Sync>(
+    means: &Means<'_, H, P>,
+    options: &Options,
+    sources: &mut GivenSources<'_, '_, '_, R, F>,
+    output: &mut W,
+) -> Result<Told, ToolFault>
+    requires own { sources.old.own ≡ 1 }
+    requires some { 1 ≤ length sources.old.files.now }
+    ensures done { DoesByTally (Task.CountListed options.now)
+        (record { given = listed_in R.seen F.seen sources.old; output = W.seen output.old })
+        (record { given = listed_in R.seen F.seen sources.new; output = W.seen output.new })
+        result }
+    ensures kept { KeepsFiles R.seen F.seen sources.old sources.new }
+{
+    counted(report_listed(means, options, sources, output))
+}
+
+// What there is to say of a count.
+fn counted(counted: Result<CountedWords, ToolFault>) -> Result<Told, ToolFault>
+    ensures { result ≡ told_of_count counted }
+{
+    match counted {
+        Ok(words) => Ok(Told::Counted(words)),
         Err(fault) => Err(fault),
     }
 }
@@ -239,7 +280,7 @@ fn report_table<H: Threads + Sync, R: Source, F: Source, W: Sink, P: Progress>(
     report: Report,
     sources: &mut GivenSources<'_, '_, '_, R, F>,
     output: &mut W,
-) -> Result<(), ToolFault>
+) -> Result<Told, ToolFault>
     requires one { length (seen_in R.seen F.seen sources.old) ≡ 1 }
     requires writable { IsWritable report }
     ensures done { DoesByTally (Task.Report report)
@@ -248,13 +289,15 @@ fn report_table<H: Threads + Sync, R: Source, F: Source, W: Sink, P: Progress>(
         result }
     ensures kept { Keeps R.seen F.seen sources.old sources.new }
 {
-    means.progress.ends();
+    means.progress.begins(Stage::Tables);
     let (tally, origin) = table_of(means.alloc, sources)?;
+    means.progress.begins(Stage::Text);
     let crew = Crew {
         rt: means.rt,
         threads: 1,
     };
-    write_report(&crew, means.alloc, output, &tally, origin, report)
+    write_report(&crew, means.alloc, output, &tally, origin, report)?;
+    Ok(Told::Nothing)
 }
 
 // Reads the table of the one source, and writes the counts of these words.
@@ -263,7 +306,7 @@ fn query_table<H: Threads, R: Source, F: Source, W: Sink, P: Progress>(
     words: &Vec<String>,
     sources: &mut GivenSources<'_, '_, '_, R, F>,
     output: &mut W,
-) -> Result<(), ToolFault>
+) -> Result<Told, ToolFault>
     requires { length (seen_in R.seen F.seen sources.old) ≡ 1 }
     ensures done { DoesByTally (Task.Query words.now)
         (record { given = given None (seen_in R.seen F.seen sources.old); output = W.seen output.old })
@@ -271,9 +314,11 @@ fn query_table<H: Threads, R: Source, F: Source, W: Sink, P: Progress>(
         result }
     ensures kept { Keeps R.seen F.seen sources.old sources.new }
 {
-    means.progress.ends();
+    means.progress.begins(Stage::Tables);
     let (tally, _origin) = table_of(means.alloc, sources)?;
-    Ok(query(output, &tally, words)?)
+    means.progress.begins(Stage::Text);
+    query(output, &tally, words)?;
+    Ok(Told::Nothing)
 }
 
 // Reads the tables of the two sources, and writes their sum.
@@ -281,7 +326,7 @@ fn write_sum<H: Threads, R: Source, F: Source, W: Sink, P: Progress>(
     means: &Means<'_, H, P>,
     sources: &mut GivenSources<'_, '_, '_, R, F>,
     output: &mut W,
-) -> Result<(), ToolFault>
+) -> Result<Told, ToolFault>
     requires { length (seen_in R.seen F.seen sources.old) ≡ 2 }
     ensures done { DoesByTally Task.Merge
         (record { given = given None (seen_in R.seen F.seen sources.old); output = W.seen output.old })
@@ -289,20 +334,22 @@ fn write_sum<H: Threads, R: Source, F: Source, W: Sink, P: Progress>(
         result }
     ensures kept { Keeps R.seen F.seen sources.old sources.new }
 {
-    means.progress.ends();
+    means.progress.begins(Stage::Tables);
     let (sum, origin) = sum_of(means.alloc, sources)?;
-    Ok(write_table(output, &sum, origin.as_ref())?)
+    means.progress.begins(Stage::Text);
+    write_table(output, &sum, origin.as_ref())?;
+    Ok(Told::Counted(CountedWords::of(&sum, None)))
 }
 
 // Reads the table of the first file, and writes the reads of the sources that it selects. It answers what was counted
-// of the reads, where that is to be told. Condition: the first file, and no other, comes before the sources.
-fn select_by_table<R: Source, F: Source, W: Sink>(
-    alloc: Global,
+// of the reads, and whether that is asked for. Condition: the first file, and no other, comes before the sources.
+fn select_by_table<H: Threads, R: Source, F: Source, W: Sink, P: Progress>(
+    means: &Means<'_, H, P>,
     selection: Selection,
     tells: bool,
     sources: &mut GivenSources<'_, '_, '_, R, F>,
     output: &mut W,
-) -> Result<Option<SelectionCounts>, ToolFault>
+) -> Result<Told, ToolFault>
     requires own { sources.old.own ≡ 1 }
     requires some { 1 ≤ length sources.old.files.now }
     ensures done { SelectsBy selection tells
@@ -312,23 +359,21 @@ fn select_by_table<R: Source, F: Source, W: Sink>(
     ensures kept { KeepsFiles R.seen F.seen sources.old sources.new }
 {
     let files = &mut *sources.files;
-    let (tally, _origin) = table_from(alloc, &mut files[0].source)?;
+    means.progress.begins(Stage::Tables);
+    let (tally, _origin) = table_from(means.alloc, &mut files[0].source)?;
+    means.progress.begins(Stage::Selection);
     told_of(
-        select_given(alloc, sources, &tally, selection, output),
+        select_given(means.alloc, sources, &tally, selection, output),
         tells,
     )
 }
 
-// What is told of a selection: what was counted of the reads, where that is to be told.
-fn told_of(
-    selected: Result<SelectionCounts, ToolFault>,
-    tells: bool,
-) -> Result<Option<SelectionCounts>, ToolFault>
+// What there is to say of a selection.
+fn told_of(selected: Result<SelectionCounts, ToolFault>, tells: bool) -> Result<Told, ToolFault>
     ensures { result ≡ told_of tells selected }
 {
     match selected {
-        Ok(counts) if tells => Ok(Some(counts)),
-        Ok(_) => Ok(None),
+        Ok(counts) => Ok(Told::Selected(counts, tells)),
         Err(fault) => Err(fault),
     }
 }

@@ -15,6 +15,7 @@ ghost use Rattle.kc_tool.specs.Tallies.{
   CutsSources,
   GivesWords,
   IsListUnder,
+  RefusesList,
   RefusesSource,
   RefusesSources,
   TalliesSources,
@@ -22,7 +23,7 @@ ghost use Rattle.kc_tool.specs.Tallies.{
   reader_lacks_memory,
   words_of,
 };
-ghost use Rattle.kc_command.specs.Settings.{rule_of};
+ghost use Rattle.kc_command.specs.Settings.{Settings, rule_of};
 
 use crate::count_progress::Progress;
 use crate::given_sources::{GivenSources, ReadsSource};
@@ -63,7 +64,7 @@ pub(crate) fn read_list<R: Source, P: Progress>(
     progress: &P,
 ) -> Result<Only, ToolFault>
     ensures list { IfOk result (GivesWords rule.now (R.seen source.old) (R.seen source.new)) }
-    ensures fault { IfErr result (RefusesSource (R.seen source.old) (R.seen source.new) 0 most_bytes) }
+    ensures fault { IfErr result (RefusesList (R.seen source.old) (R.seen source.new)) }
 {
     match read_all(alloc, source, MOST_BYTES) {
         Ok((reads, count)) => {
@@ -112,8 +113,8 @@ pub(crate) fn count_given<
         IfOk result (λ table. KnowsOne S.knows table.0
         (λ tally. Tallies options.now (words_of list) (tally, table.1))) }
     ensures origin { IfOk result (λ table. MaySay table.1) }
-    ensures fault { IfErr result
-        (RefusesSources (seen_in R.seen F.seen sources.old) (seen_in R.seen F.seen sources.new)) }
+    ensures fault { let Refuses = RefusesSources options.now (seen_in R.seen F.seen sources.old) in
+        IfErr result (Refuses (seen_in R.seen F.seen sources.new)) }
     ensures kept { Keeps R.seen F.seen sources.old sources.new }
 {
     let Means {
@@ -155,8 +156,8 @@ fn batches_given<R: Source, F: Source, P: Progress>(
     ensures few { IfOk result (λ cut. length cut.0.items ≤ 2 ^ 40) }
     ensures small { IfOk result (λ cut. position_sum options.now.k (values cut.0.items) ≤ 2 ^ 62) }
     ensures origin { IfOk result (λ cut. IsOrigin cut.1) }
-    ensures fault { IfErr result
-        (RefusesSources (seen_in R.seen F.seen sources.old) (seen_in R.seen F.seen sources.new)) }
+    ensures fault { let Refuses = RefusesSources options.now (seen_in R.seen F.seen sources.old) in
+        IfErr result (Refuses (seen_in R.seen F.seen sources.new)) }
     ensures kept { Keeps R.seen F.seen sources.old sources.new }
 {
     let words = match list {
@@ -195,8 +196,8 @@ fn cut_given<R: Source, F: Source, P: Progress>(
     requires { 1 ≤ size }
     ensures cut { let Cuts = CutsSources (seen_in R.seen F.seen sources.old) (seen_in R.seen F.seen sources.new) in
         IfOk result (λ cut. Cuts cutter.now.rule.now size cut.0 cut.1) }
-    ensures fault { IfErr result
-        (RefusesSources (seen_in R.seen F.seen sources.old) (seen_in R.seen F.seen sources.new)) }
+    ensures fault { (settings : Settings) → IfErr result
+        (RefusesSources settings (seen_in R.seen F.seen sources.old) (seen_in R.seen F.seen sources.new)) }
     ensures kept { Keeps R.seen F.seen sources.old sources.new }
 {
     let mut cut = ReadsInCutting {

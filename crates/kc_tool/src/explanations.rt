@@ -26,6 +26,8 @@ pub(crate) struct Known<'a, 'm> {
     pub looks: &'a Looks,
     /// Why the system refused a file, where it did.
     pub refusal: Option<Refusal>,
+    /// Why it refused what was written to the output, where it did.
+    pub output_refusal: Option<Refusal>,
 }
 
 /// The line that explains a fault.
@@ -45,7 +47,8 @@ pub(crate) fn explanation(
         ToolFault::BadWord(number) => of_word(alloc, *number, known),
         ToolFault::OpenFailed(name) => of_file(alloc, name.as_str(), known),
         ToolFault::Unlike => of_unlike(alloc, known),
-        _ => line(alloc, text_of_rest(fault, known), "", ""),
+        ToolFault::Write => of_output(alloc, known),
+        _ => line(alloc, text_of_rest(fault), "", ""),
     }
 }
 
@@ -54,14 +57,8 @@ const READ_FAILED: &str =
     " can't be read: it may be a folder, or a disk or the network may have failed";
 
 // The faults that need no more than a text.
-fn text_of_rest(fault: &ToolFault, known: &Known<'_, '_>) -> &'static str {
+fn text_of_rest(fault: &ToolFault) -> &'static str {
     match fault {
-        ToolFault::Write if text_of(known.matches, "output").is_some() => {
-            "the text can't be written, and the file of -o is as it was; is the disk full?"
-        }
-        ToolFault::Write => {
-            "the output can't be written: the disk is full, or the program that reads it has gone"
-        }
         ToolFault::Run(RunFault::NoThread(_)) => {
             "a thread can't be started: give fewer by -t, or raise the limit (ulimit -u)"
         }
@@ -131,12 +128,18 @@ fn table_name<'m>(known: &Known<'_, 'm>) -> &'m str {
     }
 }
 
-// The kind of the file that was read last, where it is no standard input.
+// The kind of what was read last: standard input, where that is its name, or else a file.
 fn kind_of_last(name: &str, known: &Known<'_, '_>) -> FileKind {
-    if name == STANDARD_INPUT || !known.looks.last.was_read() {
-        return FileKind::Unknown;
+    let look = if name == STANDARD_INPUT {
+        &known.looks.input
+    } else {
+        &known.looks.last
+    };
+    if look.was_read() {
+        kind_of(look.bytes())
+    } else {
+        FileKind::Unknown
     }
-    kind_of(known.looks.last.bytes())
 }
 
 // The fault of a source of reads.
@@ -169,6 +172,9 @@ fn of_text(
 ) -> Result<String, AllocError> {
     match reads_of_kind(kind_of_last(name, known)) {
         Some((is, command)) => {
+            if name == STANDARD_INPUT {
+                return line(alloc, name, is, command.strip_suffix(" ").unwrap_or(""));
+            }
             let mut text = String::from_str(alloc, is)?;
             text.push_str(command)?;
             line(alloc, name, text.as_str(), name)
@@ -323,6 +329,23 @@ fn tip_of_name(name: &str, known: &Known<'_, '_>) -> &'static str {
     }
     ""
 }
+
+// The text can't be written.
+fn of_output(alloc: Global, known: &Known<'_, '_>) -> Result<String, AllocError> {
+    if text_of(known.matches, "output").is_some() {
+        let why = known.refusal.unwrap_or(Refusal::Other);
+        return line(
+            alloc,
+            "the text can't be written: ",
+            why.text(),
+            FILE_IS_KEPT,
+        );
+    }
+    let why = known.output_refusal.unwrap_or(Refusal::Other);
+    line(alloc, "the output can't be written: ", why.text(), "")
+}
+
+const FILE_IS_KEPT: &str = "; a regular file of -o is as it was";
 
 // Two tables don't match.
 fn of_unlike(alloc: Global, known: &Known<'_, '_>) -> Result<String, AllocError> {

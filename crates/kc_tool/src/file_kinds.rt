@@ -44,11 +44,9 @@ pub(crate) fn kind_of(bytes: &[u8]) -> FileKind {
     if is_of_jellyfish(bytes) {
         return FileKind::Jellyfish;
     }
-    if tabs_of(bytes) > 2 {
-        return FileKind::Sam;
-    }
     match bytes.first() {
         Some(b'>' | b'@') => FileKind::Reads,
+        _ if tabs_of(bytes) > 2 => FileKind::Sam,
         _ => FileKind::Unknown,
     }
 }

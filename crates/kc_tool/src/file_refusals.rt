@@ -1,9 +1,9 @@
-//! Why the system refuses a file.
+//! Why the system refuses a file, or what is written.
 use std::io::{Error, ErrorKind};
 
-/// Why a file can't be opened, made or renamed, as far as that shows what to do.
+/// Why a file can't be opened, made or renamed, or a text not be written, as far as that shows what to do.
 #[derive(Clone, Copy, Debug, PartialEq, Eq)]
-pub(crate) enum Refusal {
+pub enum Refusal {
     /// There is no such file, or no such folder.
     Missing,
     /// The permissions forbid it.
@@ -18,6 +18,8 @@ pub(crate) enum Refusal {
     Full,
     /// The file system can't be written.
     ReadOnly,
+    /// The program that read a pipe has ended.
+    Gone,
     /// Any other reason.
     Other,
 }
@@ -32,6 +34,7 @@ pub(crate) fn refusal_of(error: &Error) -> Refusal {
         ErrorKind::InvalidFilename | ErrorKind::InvalidInput => Refusal::BadName,
         ErrorKind::StorageFull | ErrorKind::QuotaExceeded => Refusal::Full,
         ErrorKind::ReadOnlyFilesystem => Refusal::ReadOnly,
+        ErrorKind::BrokenPipe => Refusal::Gone,
         _ => Refusal::Other,
     }
 }
@@ -47,6 +50,7 @@ impl Refusal {
             Refusal::BadName => "the name is too long, or is no name of a file",
             Refusal::Full => "the disk or the quota is full",
             Refusal::ReadOnly => "the file system is read-only",
+            Refusal::Gone => "the program that reads it has ended",
             Refusal::Other => "the system refuses it",
         }
     }

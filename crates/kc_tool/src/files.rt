@@ -1,8 +1,8 @@
 //! The files that a command line names.
 //!
 //! No contract says what a file contains, or what the system does. So what is here of a runtime is to be read by eye:
-//! each method of `NamedFiles` makes one call, with the name that the log keeps, and nothing else asks anything of
-//! files.
+//! each method of `NamedFiles` makes one call, with the name that the log keeps, or looks up besides how large the file
+//! is or what permissions it has, and nothing else asks anything of files.
 ghost use Rattle.std.specs.Prelude.{◌≡◌, List, [], ◌∷◌, ◌++◌, IfErr, IfOk, IfSome, MatchOption, map, string_bytes};
 ghost use Rattle.std.specs.Prelude.{if◌then◌else◌};
 ghost use Rattle.kc_io.specs.History.{no_history};
@@ -16,6 +16,8 @@ use crate::file_acts::FileAct;
 use crate::file_refusals::{Refusal, refusal_of};
 use crate::looks::{Look, Looks};
 use crate::named_sources::NamedSource;
+use crate::noted_writers::NotedWriter;
+use crate::process::StreamNotes;
 use crate::tool_faults::ToolFault;
 use kc_io::{Failed, FromRead, Heard, Sink, Source, ToWrite};
 use std::alloc::Global;
@@ -32,14 +34,34 @@ pub(crate) struct FileSource<F: Read> {
     stream: FromRead<F>,
     heard: Heard,
     look: Look,
+    // how many bytes it has, where it is a regular file
+    size: Option<u64>,
+}
+
+impl<F: Read> FileSource<F> {
+    // A file of this size, of which nothing was read.
+    fn new(size: Option<u64>, file: F) -> FileSource<F>
+        ensures { result.history ≡ no_history }
+    {
+        FileSource {
+            stream: FromRead::new(file),
+            heard: Heard::nothing(),
+            look: Look::nothing(),
+            size,
+        }
+    }
 }
 
 impl<F: Read> Model for FileSource<F> {
+    ghost use Rattle.std.specs.Prelude.{◌≡◌};
     ghost use Rattle.kc_io.specs.Sources.{Seen};
 
     ghost Value = { Seen };
 
-    ghost view = { λ f. record { left = f.stream.seen.left; history = f.heard.history } };
+    ghost view = { λ f. f.stream.seen };
+
+    // what goes into the log is what the stream answered
+    ghost invariant = { λ f. f.heard.history ≡ f.stream.seen.history };
 }
 
 impl<F: Read> Source for FileSource<F> {
@@ -82,16 +104,20 @@ pub(crate) enum NotMade {
 /// A file that is written.
 #[derive(Drop)]
 pub(crate) struct FileSink<F: Write> {
-    stream: ToWrite<F>,
+    stream: ToWrite<NotedWriter<F, Option<Refusal>>>,
     heard: Heard,
 }
 
 impl<F: Write> Model for FileSink<F> {
+    ghost use Rattle.std.specs.Prelude.{◌≡◌};
     ghost use Rattle.kc_io.specs.Sinks.{Written};
 
     ghost Value = { Written };
 
-    ghost view = { λ f. record { bytes = f.stream.seen.bytes; history = f.heard.history } };
+    ghost view = { λ f. f.stream.seen };
+
+    // what goes into the log is what the stream answered
+    ghost invariant = { λ f. f.heard.history ≡ f.stream.seen.history };
 }
 
 impl<F: Write> Sink for FileSink<F> {
@@ -157,7 +183,8 @@ pub struct NamedFiles<'a, H: Files> {
     rt: &'a H,
     log: FileLog,
     looks: Looks,
-    // why the last of those was not opened, made or renamed that couldn't be
+    notes: Option<&'a StreamNotes>,
+    // why a file could not be opened, made, written or renamed, the last that could not
     refusal: Option<Refusal>,
 }
 
@@ -179,18 +206,41 @@ impl<'a, H: Files> NamedFiles<'a, H> {
             rt,
             log: FileLog::nothing(),
             looks: Looks::nothing(),
+            notes: None,
             refusal: None,
         }
     }
 
-    /// What is known of the files that were read.
-    pub(crate) fn looks(&self) -> Looks {
-        self.looks
+    /// The same, beside what is remembered of standard input and output.
+    pub fn beside(self, notes: &'a StreamNotes) -> NamedFiles<'a, H>
+        ensures { result ≡ self.entry }
+    {
+        NamedFiles {
+            rt: self.rt,
+            log: self.log,
+            looks: self.looks,
+            notes: Some(notes),
+            refusal: self.refusal,
+        }
     }
 
-    /// Why the last of those could not be opened, made or renamed that couldn't be.
+    /// What is known of the files that were read, and of standard input.
+    pub(crate) fn looks(&self) -> Looks {
+        let mut looks = self.looks;
+        if let Some(notes) = self.notes {
+            looks.input = notes.look.get();
+        }
+        looks
+    }
+
+    /// Why a file could not be opened, made, written or renamed, the last that could not.
     pub(crate) fn refusal(&self) -> Option<Refusal> {
         self.refusal
+    }
+
+    /// Why the output could not be written.
+    pub(crate) fn output_refusal(&self) -> Option<Refusal> {
+        self.notes?.refusal.get()
     }
 
     /// Opens the file of this name; None where it can't be opened.
@@ -203,14 +253,7 @@ impl<'a, H: Files> NamedFiles<'a, H> {
         match fs::open(self.rt, name) {
             Ok(file) => {
                 self.log = self.log.and_act(FileAct::Opened, name);
-                let stream = FromRead::new(file);
-                let heard = Heard::nothing();
-                let look = Look::nothing();
-                let source = FileSource {
-                    stream,
-                    heard,
-                    look,
-                };
+                let source = FileSource::new(size_of::<H>(&file), file);
                 Some(NamedSource { name, source })
             }
             Err(error) => {
@@ -303,11 +346,12 @@ impl<'a, H: Files> NamedFiles<'a, H> {
         ensures { self.new ≡ self.old
             ++ (if result then renamed name.now path.now else not_renamed name.now path.now) ∷ [] }
     {
-        let done = fs::rename(self.rt, name, path).is_ok();
-        let act = if done {
-            FileAct::Renamed
-        } else {
-            FileAct::NotRenamed
+        let (act, done) = match fs::rename(self.rt, name, path) {
+            Ok(()) => (FileAct::Renamed, true),
+            Err(error) => {
+                self.refusal = Some(refusal_of(&error));
+                (FileAct::NotRenamed, false)
+            }
         };
         let heard = Heard::nothing();
         self.log = self.log.and(&act, name.as_bytes(), path.as_bytes(), &heard);
@@ -342,9 +386,13 @@ impl<'a, H: Files> NamedFiles<'a, H> {
         ensures asked { self.new ≡ self.old ++ wrote (string_bytes file.name) file.sink.history ∷ [] }
         ensures named { string_bytes result ≡ string_bytes file.name }
     {
-        let name = file.name.as_bytes();
-        self.log = self.log.and(&FileAct::Wrote, name, b"", &file.sink.heard);
-        file.name
+        let NamedSink { name, sink } = file;
+        let heard = &sink.heard;
+        self.log = self.log.and(&FileAct::Wrote, name.as_bytes(), b"", heard);
+        if let Some(refusal) = sink.stream.into_inner().note {
+            self.refusal = Some(refusal);
+        }
+        name
     }
 }
 
@@ -354,13 +402,31 @@ impl<F: Write> NamedSink<F> {
         ensures named { string_bytes result.name ≡ string_bytes name }
         ensures fresh { result.sink.history ≡ no_history }
     {
-        let stream = ToWrite::new(file);
+        let stream = ToWrite::new(NotedWriter::new(file, None));
         let heard = Heard::nothing();
         NamedSink {
             name,
             sink: FileSink { stream, heard },
         }
     }
+}
+
+// How many bytes a file has, where it is a regular one.
+fn size_of<H: Files>(file: &H::File) -> Option<u64> {
+    match file.metadata() {
+        Ok(metadata) if metadata.is_file() => Some(metadata.len()),
+        _ => None,
+    }
+}
+
+/// How many bytes the files have together; None where one is no regular file, and where there is none.
+pub(crate) fn size_of_all<F: Read>(files: &[NamedSource<'_, FileSource<F>>]) -> Option<u64> {
+    let mut all: Option<u64> = None;
+    for file in files {
+        let size = file.source.size?;
+        all = Some(all.unwrap_or(0).saturating_add(size));
+    }
+    all
 }
 
 // Opens a file to be written as it is, and makes it where there is none; with its permissions, if it is a regular file.

@@ -18,6 +18,7 @@
 //! ```
 #![tactic(auto)]
 
+mod closing_line;
 mod command_line;
 mod commands;
 mod count_progress;
@@ -32,8 +33,10 @@ mod file_refusals;
 mod files;
 mod given_options;
 mod given_sources;
+mod input_source;
 mod looks;
 mod named_sources;
+mod noted_writers;
 mod option_ranges;
 mod option_tips;
 mod outputs;
@@ -43,10 +46,12 @@ mod reported;
 mod reports;
 mod selected_sources;
 mod task_tallies;
+mod terminal_line;
+mod told;
 mod tool_faults;
 
 pub use command_line::run;
-pub use count_progress::{NoProgress, Progress, ProgressLine};
+pub use count_progress::{NoProgress, Progress, Stage};
 pub use fault_lines::write_fault;
 pub use file_acts::FileAct;
 pub use files::NamedFiles;
@@ -60,6 +65,7 @@ pub use kc_report::{
 pub use kc_run::{Gate, RunFault};
 pub use kc_tally::{Row, Tally};
 pub use kc_word::K;
-pub use process::{program, program_showing};
+pub use process::{StreamNotes, program};
 pub use reports::count_reads;
+pub use terminal_line::ProgressLine;
 pub use tool_faults::ToolFault;

@@ -1,6 +1,7 @@
-//! The first bytes of the files that a command reads, which show of what kind they are. They are kept for explanations
-//! alone.
+//! The first bytes of the files that a command reads, and of standard input, which show of what kind they are. They are
+//! kept for explanations alone.
 use kc_io::Failed;
+use std::cell::Cell;
 
 /// How many bytes are kept.
 const MOST_KEPT: usize = 64;
@@ -60,6 +61,8 @@ pub(crate) struct Looks {
     pub before: Look,
     /// The last.
     pub last: Look,
+    /// Standard input.
+    pub input: Look,
 }
 
 impl Looks {
@@ -69,6 +72,7 @@ impl Looks {
             count: 0,
             before: Look::nothing(),
             last: Look::nothing(),
+            input: Look::nothing(),
         }
     }
 
@@ -79,5 +83,32 @@ impl Looks {
             self.before = self.last;
             self.last = *look;
         }
+    }
+}
+
+/// The first bytes of standard input, which its source keeps, and which are looked at when the command has ended.
+#[derive(Drop)]
+pub(crate) struct InputLook {
+    look: Cell<Look>,
+}
+
+impl InputLook {
+    /// Nothing was read yet.
+    pub fn nothing() -> InputLook {
+        InputLook {
+            look: Cell::new(Look::nothing()),
+        }
+    }
+
+    /// Keeps the first bytes of what a read gave.
+    pub fn note(&self, answer: &Result<usize, Failed>, buffer: &[u8]) {
+        let mut look = self.look.get();
+        look.note(answer, buffer);
+        self.look.set(look);
+    }
+
+    /// What was kept.
+    pub fn get(&self) -> Look {
+        self.look.get()
     }
 }

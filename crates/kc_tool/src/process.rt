@@ -1,21 +1,54 @@
-//! The program as a process runs it: with the arguments as std gives them, and over standard streams by value.
-ghost use Rattle.std.specs.Prelude.{◌≡◌, ◌≤◌, false, IfErr, IfOk, map, string_bytes};
-ghost use Rattle.kc_tool.specs.Process.{EndsOver, EndsUnreadOver, at_first, unwritten};
+//! The program over standard streams, and what is remembered of these to explain a fault.
+ghost use Rattle.std.specs.Prelude.{◌≡◌, ◌≤◌, false, map, string_bytes};
+ghost use Rattle.kc_tool.specs.Process.{EndsOver, at_first, untouched, unwritten};
 
 use crate::command_line::run;
-use crate::count_progress::{NoProgress, Progress};
+use crate::count_progress::NoProgress;
 use crate::files::NamedFiles;
-use kc_io::{FromRead, ToWrite};
+use crate::input_source::InputSource;
+use crate::looks::InputLook;
+use crate::noted_writers::{NotedWriter, SharedNote};
+use kc_io::ToWrite;
 use std::alloc::Global;
 use std::io;
 use std::rt::Files;
 use std::sync::Wait;
 use std::thread::Threads;
 
-/// Carries out the command line `arguments`, which begins with the program's name, and answers the exit status: 0; 1
-/// for a fault; 2 for a command line that is refused. The line of a fault goes to `errors`, and so does the text of a
-/// refusal. Failing to write there changes no status. Files are opened and created by `rt`. How far a count has come is
-/// shown nowhere.
+/// What is remembered of standard input and output: the first bytes of the one, and why the other refused a write.
+#[derive(Drop)]
+pub struct StreamNotes {
+    pub(crate) look: InputLook,
+    pub(crate) refusal: SharedNote,
+}
+
+impl StreamNotes {
+    /// Nothing was read or written yet.
+    pub fn none() -> StreamNotes {
+        StreamNotes {
+            look: InputLook::nothing(),
+            refusal: SharedNote::nothing(),
+        }
+    }
+
+    /// A source over standard input, whose first bytes are remembered.
+    pub fn source_over<R: io::Read>(&self, input: R) -> InputSource<'_, R>
+        ensures { result ≡ untouched (R.remaining input) }
+    {
+        InputSource::new(input, &self.look)
+    }
+
+    /// A sink over standard output. Why the last write failed that did is remembered.
+    pub fn sink_over<W: io::Write>(&self, output: W) -> ToWrite<NotedWriter<W, &SharedNote>>
+        ensures { result.seen ≡ unwritten (W.contents output) }
+    {
+        ToWrite::new(NotedWriter::new(output, &self.refusal))
+    }
+}
+
+/// Carries out the command line `arguments`, which begins with the program's name, as `run` does, over streams that it
+/// takes for good, and answers the exit status: 0; 1 for a fault; 2 for a command line that is refused. Files are
+/// opened and created by `rt`. How far a count has come is shown nowhere.
 pub fn program<
     H: Files + Threads + Wait + Sync,
     I: io::Read + Drop,
@@ -26,44 +59,19 @@ pub fn program<
     ensures ends { EndsOver false (map string_bytes arguments.items)
         (at_first (I.remaining input) (O.contents output)) (unwritten (E.contents errors)) result }
 {
-    program_showing(rt, alloc, Ok(arguments), input, output, errors, &NoProgress)
-}
-
-/// What `program` does with the arguments as std gives them, where `progress` is told how far a count has come. It is
-/// told the end before the report or the line of a fault is written.
-pub fn program_showing<
-    H: Files + Threads + Wait + Sync,
-    I: io::Read + Drop,
-    O: io::Write + Drop,
-    E: io::Write + Drop,
-    P: Progress + Sync,
->(
-    rt: &H,
-    alloc: Global,
-    arguments: io::Result<Vec<String>>,
-    input: I,
-    output: O,
-    errors: E,
-    progress: &P,
-) -> u8
-    ensures within { result ≤ 2 }
-    ensures texts { IfOk arguments (λ texts. EndsOver (P.watched progress.now) (map string_bytes texts.items)
-        (at_first (I.remaining input) (O.contents output)) (unwritten (E.contents errors)) result) }
-    ensures unread { IfErr arguments (λ error. EndsUnreadOver error
-        (at_first (I.remaining input) (O.contents output)) (unwritten (E.contents errors)) result) }
-{
-    let mut output = ToWrite::new(output);
+    let notes = StreamNotes::none();
+    let mut files = NamedFiles::new(rt).beside(&notes);
+    let mut input = notes.source_over(input);
+    let mut output = notes.sink_over(output);
     let mut errors = ToWrite::new(errors);
-    let mut input = FromRead::new(input);
-    let mut files = NamedFiles::new(rt);
     run(
         rt,
         alloc,
-        &arguments,
+        &Ok(arguments),
         &mut files,
         &mut input,
         &mut output,
         &mut errors,
-        progress,
+        &NoProgress,
     )
 }

@@ -5,18 +5,20 @@ ghost use Rattle.kc_tool.specs.MergedReports.{
   MergedReports,
   OneReport,
   ReportTellsReads,
+  ReportsFit,
   ReportsMatch,
 };
 
 use kc_command::Options;
 
 /// Where `count_reads` has no list and writes a table, its text tells the reads that the sources gave. Two such texts
-/// under one rule match, so that they are never refused as unlike. What the command `merge` writes of them tells the
-/// reads of both, and one text alone does. So of sources that tell their bytes, the tables of two inputs that were
-/// counted apart, merged, are byte for byte the table of both counted together.
+/// under one rule match, and they fit, so that they are never refused as unlike or as too large. What the command
+/// `merge` writes of them tells the reads of both, and one text alone does. So of sources that tell their bytes, the
+/// tables of two inputs that were counted apart, merged, are byte for byte the table of both counted together.
 pub fn merged_reports(options: &Options)
     ensures report { ReportTellsReads options.now }
     ensures matched { ReportsMatch }
+    ensures fits { ReportsFit options.now }
     ensures merged { MergedReports }
     ensures only { OneReport }
     ensures together { ApartIsTogether options.now }

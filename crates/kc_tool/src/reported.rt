@@ -5,16 +5,19 @@ ghost use Rattle.kc_fastx.specs.Reads.{Read};
 ghost use Rattle.kc_kmer.specs.Rule.{CountingRule};
 ghost use Rattle.kc_tally.specs.Tally.{IsTallyOf, TallySeen};
 ghost use Rattle.kc_report.specs.Table.{MaySay};
-ghost use Rattle.kc_tool.specs.CountedTallies.{KnowBins, KnowNumbers, KnowsOne, WantsBins, WantsNumbers};
+ghost use Rattle.kc_tool.specs.CountedTallies.{KnowNumbers, KnowsOne, WantsNumbers};
 ghost use Rattle.kc_tool.specs.Reports.{IsWritable, WritesOrGives, WritesText, report_text};
 ghost use Rattle.kc_tool.specs.Tallies.{TableSeen};
+ghost use Rattle.kc_tool.specs.Told.{counted_with};
 
 use crate::reports::{Crew, Report, write_report};
+use crate::told::CountedWords;
 use crate::tool_faults::ToolFault;
-use kc_gather::Summary;
+use kc_command::Print;
+use kc_gather::{Numbers, Summary};
 use kc_io::Sink;
 use kc_report::{Origin, write_histo_of_bins, write_stats_of};
-use kc_tally::{Histogram, Statistics, Tally};
+use kc_tally::Tally;
 use std::alloc::Global;
 use std::thread::Threads;
 
@@ -43,6 +46,11 @@ pub(crate) trait Reported: Summary {
         requires enough { suits report }
         ensures { (table : TableSeen) → knows self.now table.0
             → WritesOrGives (λ tally. tally.now) table report (W.seen writer.old) (W.seen writer.new) result };
+
+    /// How many words the tally has, of so many reads.
+    fn words(&self, reads: Option<u64>) -> CountedWords
+        requires { (tally : TallySeen) × knows self.now tally }
+        ensures { (tally : TallySeen) → knows self.now tally → result ≡ counted_with reads tally };
 
     /// Writes a report on the tally, as `write_report` does. Condition besides: what is known is enough for it.
     ///
@@ -89,40 +97,40 @@ impl Reported for Tally {
     ) -> Result<Option<&Tally>, ToolFault> {
         Ok(Some(self))
     }
+
+    fn words(&self, reads: Option<u64>) -> CountedWords {
+        CountedWords::of(self, reads)
+    }
 }
 
-impl Reported for Histogram {
-    ghost knows = { KnowBins };
+impl Reported for Numbers {
+    ghost knows = { KnowNumbers };
 
-    ghost suits = { WantsBins };
+    ghost suits = { WantsNumbers };
 
-    ghost tells = { λ rule reads bins are.
-        record { tally = are.tally; knows = (are.bins_are, are.few); holds = are.is_tally } };
+    ghost tells = { λ rule reads numbers are. record {
+      tally = are.tally;
+      knows = record { bins_are = are.bins_are; few = are.few; statistics_are = are.statistics_are };
+      holds = are.is_tally;
+    } };
 
     fn write_or_rows<W: Sink>(
         &self,
         writer: &mut W,
         report: Report,
     ) -> Result<Option<&Tally>, ToolFault> {
-        write_histo_of_bins(writer, self, report.high)?;
+        match report.print {
+            Print::Histo => write_histo_of_bins(writer, &self.histogram, report.high)?,
+            _ => write_stats_of(writer, &self.statistics)?,
+        }
         Ok(None)
     }
-}
 
-impl Reported for Statistics {
-    ghost knows = { KnowNumbers };
-
-    ghost suits = { WantsNumbers };
-
-    ghost tells = { λ rule reads numbers are.
-        record { tally = are.tally; knows = are.statistics_are; holds = are.is_tally } };
-
-    fn write_or_rows<W: Sink>(
-        &self,
-        writer: &mut W,
-        _report: Report,
-    ) -> Result<Option<&Tally>, ToolFault> {
-        write_stats_of(writer, self)?;
-        Ok(None)
+    fn words(&self, reads: Option<u64>) -> CountedWords {
+        CountedWords {
+            reads,
+            total: self.statistics.total,
+            distinct: self.statistics.distinct,
+        }
     }
 }

@@ -3,24 +3,27 @@ ghost use Rattle.std.specs.Prelude.{◌≡◌, ◌≢◌, OnOk, IfErr, IfOk, IfS
 ghost use Rattle.kc_tool.specs.GivenSources.{Keeps, seen_in};
 ghost use Rattle.kc_tool.specs.Commands.{sources_from};
 ghost use Rattle.kc_tool.specs.NamedSources.{names_of, seen_of};
-ghost use Rattle.kc_tool.specs.Reports.{BeginsReport, IsWritable, LeavesUnwritten, WritesReport, WritesText};
+ghost use Rattle.kc_tool.specs.Reports.{BeginsReport, IsWritable, LeavesUnwritten, WritesReport, WritesText, done_of};
+ghost use Rattle.kc_tool.specs.Told.{reads_of};
 ghost use Rattle.kc_tool.specs.Reports.{ReportsSources, report_of, report_text};
 ghost use Rattle.kc_tool.specs.Tallies.{GivesListOf, IsListUnder, ListFailsIn, given, words_of};
 ghost use Rattle.kc_report.specs.Table.{MaySay};
 ghost use Rattle.kc_command.specs.Settings.{rule_of};
 
-use crate::count_progress::{NoProgress, Progress};
+use crate::count_progress::{NoProgress, Progress, Stage};
 use crate::counted_sources::{Means, count_given, read_list, reader_lacks_memory};
 use crate::given_sources::GivenSources;
 use crate::named_sources::NamedSource;
 use crate::reported::Reported;
+use crate::told::CountedWords;
 use crate::tool_faults::ToolFault;
 use kc_command::{Options, Print};
+use kc_gather::Numbers;
 use kc_io::{FromBytes, Sink, Source};
 use kc_report::{
     Dump, Origin, write_dump_in_parallel, write_histo, write_stats, write_table_in_parallel,
 };
-use kc_tally::{Histogram, Statistics, Tally};
+use kc_tally::Tally;
 use kc_word::Only;
 use std::alloc::{AllocError, Global};
 use std::sync::Wait;
@@ -77,14 +80,24 @@ pub fn count_reads<H: Threads + Wait + Sync, Q: Source + Drop, R: Source + Drop,
         IfErr result (λ fault. fault ≢ ToolFault.Write
         → Leaves options.now (W.seen writer.old) (W.seen writer.new) fault) }
 {
-    let mut sources = unnamed(alloc, sources)?;
     let list = list_of(alloc, only, options)?;
+    let mut sources = unnamed(alloc, sources)?;
     let means = Means {
         rt,
         alloc,
         progress: &NoProgress,
     };
-    report_sources(&means, options, list, &mut sources, writer)
+    done(report_sources(&means, options, list, &mut sources, writer))
+}
+
+// What a count comes to, without how much was counted.
+fn done(counted: Result<CountedWords, ToolFault>) -> Result<(), ToolFault>
+    ensures { result ≡ done_of counted }
+{
+    match counted {
+        Ok(_) => Ok(()),
+        Err(fault) => Err(fault),
+    }
 }
 
 // The list of the words that occur in the reads of this source, where there is one.
@@ -136,7 +149,7 @@ fn report_sources<H: Threads + Wait + Sync, R: Source, W: Sink, P: Progress + Sy
     list: Option<Only>,
     sources: &mut [NamedSource<'_, R>],
     writer: &mut W,
-) -> Result<(), ToolFault>
+) -> Result<CountedWords, ToolFault>
     requires { IfSome list (IsListUnder (rule_of options.now)) }
     ensures { ReportsSources (seen_of R.seen sources.old) (seen_of R.seen sources.new) (words_of list)
         options.now (W.seen writer.old) (W.seen writer.new) result }
@@ -150,7 +163,7 @@ fn report_sources<H: Threads + Wait + Sync, R: Source, W: Sink, P: Progress + Sy
     // for the proof: no read of it failed
     let _rest = nothing.as_slice();
     let fault = match reported {
-        Ok(()) => return Ok(()),
+        Ok(words) => return Ok(words),
         Err(fault) => fault,
     };
     // no bytes have no fault, so their reader can only have lacked memory
@@ -168,7 +181,7 @@ fn report_files<H: Threads + Wait + Sync, R: Source, F: Source, W: Sink, P: Prog
     files: &mut [NamedSource<'_, F>],
     input: &mut R,
     writer: &mut W,
-) -> Result<(), ToolFault>
+) -> Result<CountedWords, ToolFault>
     requires { IfSome list (IsListUnder (rule_of options.now)) }
     ensures done { let Reports = ReportsSources (sources_from (R.seen input.old) (seen_of F.seen files.old)) in
         Reports (sources_from (R.seen input.new) (seen_of F.seen files.new)) (words_of list)
@@ -183,8 +196,8 @@ fn report_files<H: Threads + Wait + Sync, R: Source, F: Source, W: Sink, P: Prog
     report_given(means, options, list, &mut sources, writer)
 }
 
-/// Counts words as `count_given` does, and writes the report that the options ask for. Of the tally no more is gathered
-/// than the report is about. The end of the count is told before anything is written, or the fault is answered.
+/// Counts words as `count_given` does, writes the report that the options ask for, and answers how many were counted.
+/// Of the tally no more is gathered than the report is about. How far it has come is told, and when the writing begins.
 ///
 /// # Errors
 /// Those of `count_given`; nothing was written. Those of `write_report`.
@@ -200,7 +213,7 @@ pub(crate) fn report_given<
     list: Option<Only>,
     sources: &mut GivenSources<'_, '_, '_, R, F>,
     writer: &mut W,
-) -> Result<(), ToolFault>
+) -> Result<CountedWords, ToolFault>
     requires { IfSome list (IsListUnder (rule_of options.now)) }
     ensures done { let Reports = ReportsSources (seen_in R.seen F.seen sources.old) in
         Reports (seen_in R.seen F.seen sources.new) (words_of list)
@@ -209,11 +222,9 @@ pub(crate) fn report_given<
 {
     match options.print() {
         Print::Histo if options.high() <= GREATEST_BIN => {
-            report_as::<Histogram, H, R, F, W, P>(means, options, list, sources, writer)
+            report_as::<Numbers, H, R, F, W, P>(means, options, list, sources, writer)
         }
-        Print::Stats => {
-            report_as::<Statistics, H, R, F, W, P>(means, options, list, sources, writer)
-        }
+        Print::Stats => report_as::<Numbers, H, R, F, W, P>(means, options, list, sources, writer),
         _ => report_as::<Tally, H, R, F, W, P>(means, options, list, sources, writer),
     }
 }
@@ -232,7 +243,7 @@ fn report_as<
     list: Option<Only>,
     sources: &mut GivenSources<'_, '_, '_, R, F>,
     writer: &mut W,
-) -> Result<(), ToolFault>
+) -> Result<CountedWords, ToolFault>
     requires list { IfSome list (IsListUnder (rule_of options.now)) }
     requires enough { S.suits (report_of options.now) }
     ensures done { let Reports = ReportsSources (seen_in R.seen F.seen sources.old) in
@@ -240,17 +251,26 @@ fn report_as<
         options.now (W.seen writer.old) (W.seen writer.new) result }
     ensures kept { Keeps R.seen F.seen sources.old sources.new }
 {
-    let counted = count_given::<S, H, R, F, P>(means, options, list, sources);
-    // what shows the count is cleared before the report, or the line of a fault, is written
-    means.progress.ends();
-    let (summary, origin) = counted?;
+    let (summary, origin) = count_given::<S, H, R, F, P>(means, options, list, sources)?;
+    means.progress.begins(Stage::Text);
     let threads = options.workers();
     let crew = Crew {
         rt: means.rt,
         threads,
     };
     let report = report_of(options);
-    summary.write(&crew, means.alloc, writer, origin, report)
+    summary.write(&crew, means.alloc, writer, origin, report)?;
+    Ok(summary.words(reads_of(&origin)))
+}
+
+// How many reads a table was counted from, where that is told.
+fn reads_of(origin: &Option<Origin>) -> Option<u64>
+    ensures { result ≡ reads_of origin.now }
+{
+    match origin {
+        Some(origin) => Some(origin.reads),
+        None => None,
+    }
 }
 
 /// Writes a report on a tally; a table says what it was counted from, where that is told. Conditions: a histogram is

@@ -19,6 +19,7 @@ use crate::count_progress::Progress;
 use crate::counted_sources::{Means, read_list};
 use crate::given_sources::{GivenSources, ReadsSource};
 use crate::reports::report_given;
+use crate::told::CountedWords;
 use crate::tool_faults::ToolFault;
 use kc_command::Options;
 use kc_io::{Sink, Source};
@@ -48,7 +49,7 @@ pub(crate) fn report_listed<
     options: &Options,
     sources: &mut GivenSources<'_, '_, '_, R, F>,
     writer: &mut W,
-) -> Result<(), ToolFault>
+) -> Result<CountedWords, ToolFault>
     requires own { sources.old.own ≡ 1 }
     requires some { 1 ≤ length sources.old.files.now }
     ensures done { let Reports = ReportsCount (listed_in R.seen F.seen sources.old) in
@@ -57,13 +58,7 @@ pub(crate) fn report_listed<
 {
     let rule = options.rule();
     let files = &mut *sources.files;
-    let list = match read_list(means.alloc, &mut files[0].source, &rule, means.progress) {
-        Ok(list) => list,
-        Err(fault) => {
-            means.progress.ends();
-            return Err(fault);
-        }
-    };
+    let list = read_list(means.alloc, &mut files[0].source, &rule, means.progress)?;
     report_given(means, options, Some(list), sources, writer)
 }
 

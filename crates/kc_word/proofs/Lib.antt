@@ -19,3 +19,4 @@ pub mod Joining
 pub mod Readings
 pub mod Splitting
 pub mod OnlyLemmas
+pub mod StartLemmas

@@ -1,5 +1,5 @@
 //! Where the words of each prefix begin in a list of words, so that a word is looked up among few.
-ghost use Rattle.std.specs.Prelude.{◌≡◌, ◌<◌, ◌≤◌, ◌^◌, true, IfOk, IfSome, Some, length};
+ghost use Rattle.std.specs.Prelude.{◌≡◌, ◌+◌, ◌*◌, ◌/◌, ◌<◌, ◌≤◌, ◌^◌, true, IfOk, IfSome, Some, length, min};
 ghost use Rattle.std.specs.List.Sorted.{IsStrictlyIncreasing};
 ghost use Rattle.std.specs.Vec.{vec_capacity};
 ghost use Rattle.kc_kmer.specs.Rule.{is_listed};
@@ -39,9 +39,11 @@ impl Model for Starts {
 }
 
 impl Starts {
-    /// The starts of these words. The room for them is asked for once.
+    /// The starts of these words: where they rise, at least one for four words. The room for them is asked for once.
     pub(crate) fn of(alloc: Global, words: &[u64]) -> Result<Starts, AllocError>
-        ensures { IfOk result (λ s. length s.starts ≤ length words.now) }
+        ensures few { IfOk result (λ s. length s.starts ≤ length words.now) }
+        ensures many { IsStrictlyIncreasing words.now → length words.now < 2 ^ 32
+            → IfOk result (λ s. length words.now ≤ 4 * length s.starts) }
     {
         let last = words.last().copied().unwrap_or(0);
         let shift = shift_for(words.len(), last);
@@ -115,16 +117,22 @@ impl Starts {
 
 // How many low bits are not of a prefix, in a list of so many words with this last one.
 fn shift_for(count: usize, last: u64) -> u32
-    ensures { result < 64 }
+    ensures below { result < 64 }
+    ensures enough { count ≤ last + 1 → count ≤ 4 * (last / 2 ^ result + 1) }
 {
-    let bits = 64 - last.leading_zeros();
-    bits.saturating_sub(count.max(1).ilog2()).min(63)
+    let top = last.max(1).ilog2();
+    let high = count.max(1).ilog2();
+    if top < high {
+        return 0;
+    }
+    (top - high + 1).min(63)
 }
 
 // How many prefixes have a start, in a list of so many words whose last one has this prefix.
 fn prefixes(count: usize, last: u64) -> usize
     ensures few { result ≤ count }
     ensures many { 2 ^ 32 ≤ count → result ≡ 0 }
+    ensures all { count < 2 ^ 32 → result ≡ min count (last + 1) }
 {
     if count >= TOO_MANY {
         return 0;

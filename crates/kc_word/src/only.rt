@@ -1,5 +1,6 @@
 //! A list of words, to which a count may be kept.
-ghost use Rattle.std.specs.Prelude.{◌≡◌, ℕ, ◌<◌, ◌^◌, ◌↔◌, Some, true, All, filter, IfOk, Contains};
+ghost use Rattle.std.specs.Prelude.{◌≡◌, ℕ, ◌-◌, ◌*◌, ◌<◌, ◌≤◌, ◌^◌, ◌↔◌, Some, true, All, filter, IfOk, Contains};
+ghost use Rattle.std.specs.Prelude.{length, max, min};
 ghost use Rattle.std.specs.List.Sorted.{IsStrictlyIncreasing};
 ghost use Rattle.kc_kmer.specs.Rule.{is_listed};
 ghost use Rattle.kc_kmer.specs.Occurrences.{words_of};
@@ -146,15 +147,26 @@ fn words_in_reads(alloc: Global, reads: &[SeqRead], rule: &Rule) -> Result<Vec<u
     for read in reads {
         let more = read_words(alloc, read, rule)?;
         words.extend_from_slice(&more)?;
-        if words.len() >= limit {
-            keep_once(&mut words);
-            // so that the words at most double in between
-            limit = words.len().saturating_mul(2).max(LEAST_LIMIT);
-        }
+        limit = keep_once_at(&mut words, limit);
     }
     keep_once(&mut words);
     words.shrink_to_fit();
     Ok(words)
+}
+
+// Where there are as many words as the limit, puts them in rising order, each once, and answers a limit that they reach
+// when they have doubled, so that they are rarely sorted. Fewer words stay as they are.
+fn keep_once_at(words: &mut Vec<u64>, limit: usize) -> usize
+    ensures same { (n : ℕ) → Contains words.new.items n ↔ Contains words.old.items n }
+    ensures fewer { length words.old.items < limit → (words.new.items ≡ words.old.items) × (result ≡ limit) }
+    ensures next { limit ≤ length words.old.items
+        → result ≡ max (min (2 * length words.new.items) (2 ^ 64 - 1)) LEAST_LIMIT }
+{
+    if words.len() < limit {
+        return limit;
+    }
+    keep_once(words);
+    words.len().saturating_mul(2).max(LEAST_LIMIT)
 }
 
 // Puts the words in rising order, each once.

@@ -1,24 +1,32 @@
 //! `kcount`, a counter of the k-mers (words of length k) in sequence reads.
 #![tactic(auto)]
 
-use kc_tool::ProgressLine;
+use kc_tool::{NamedFiles, ProgressLine, StreamNotes, ToWrite, run};
+use std::io::IsTerminal;
 use std::process::ExitCode;
 use std::{env, io};
 
 fn main(rt: HostRuntime) -> ExitCode {
-    let errors = rt.stderr();
     let arguments = match env::args(&rt) {
         Ok(arguments) => arguments.collect(rt.alloc()).map_err(io::Error::from),
         Err(error) => Err(error),
     };
-    let status = kc_tool::program_showing(
+    let terminal = rt.stderr();
+    let progress = ProgressLine::new(&rt, &terminal, rt.stdin().is_terminal());
+    let notes = StreamNotes::none();
+    let mut files = NamedFiles::new(&rt).beside(&notes);
+    let mut input = notes.source_over(rt.stdin());
+    let mut output = notes.sink_over(rt.stdout());
+    let mut errors = ToWrite::new(rt.stderr());
+    let status = run(
         &rt,
         rt.alloc(),
-        arguments,
-        rt.stdin(),
-        rt.stdout(),
-        errors,
-        &ProgressLine::new(&rt, &errors),
+        &arguments,
+        &mut files,
+        &mut input,
+        &mut output,
+        &mut errors,
+        &progress,
     );
     ExitCode::from(status)
 }

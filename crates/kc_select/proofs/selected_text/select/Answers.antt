@@ -16,7 +16,7 @@ returns-in_default g c =
     let none = selecting_none task start (first_stand c.args.limit) c.new-block.result c.none-counts.result refl c.new-block.ensures
     c.none-counts.ensures in
     selects_before none _ (first_stand c.args.limit) _ c.end_with.result
-    (begun_in_vain (seen c.args.source.now) c.args.limit) c.end_with.ensures
+    (begun_in_vain (seen c.args.source.now) c.args.limit) tt c.end_with.ensures
 
 pub reads-init : goal.reads-init
 reads-init g c =
@@ -58,7 +58,8 @@ pub returns-in-Err : goal.returns-in-Err
 returns-in-Err g c =
     let s = c.reads.invariant in
     selects_before s _ c.next_titled.new.self c.in-Err.fault c.end_with-in-Err.result
-    (c.in-Err.ensures.given _ _ s.records s.given) c.end_with-in-Err.ensures
+    (c.in-Err.ensures.given _ _ s.records s.given) (c.in-Err.ensures.behind _ _ s.records s.given)
+    c.end_with-in-Err.ensures
 
 pub byte_count-bytes-requires : goal.byte_count-bytes-requires
 byte_count-bytes-requires g c =

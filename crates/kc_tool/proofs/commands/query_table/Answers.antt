@@ -10,6 +10,7 @@ use Rattle.kc_tool.specs.Commands.{Answers}
 use Rattle.kc_tool.specs.GivenSources.{seen_in}
 use Rattle.kc_tool.specs.Tallies.{TableSeen, given}
 use Rattle.kc_tool.specs.declared.commands.Task.TheVariants.{Query}
+use Rattle.kc_tool.specs.declared.told.Told.TheVariants.{Nothing}
 use Rattle.kc_tool.proofs.CommandsLemmas.{answered}
 use Rattle.kc_tool.proofs.commands.query_table.Goals as goal
 
@@ -33,9 +34,9 @@ returns-clause-done g c =
     let after = given None (seen_in g.R.Source.seen g.F.Source.seen c.table_of.new.sources) in
     let old = g.W.Sink.seen c.args.output.now in
     let new = g.W.Sink.seen c.query.new.writer in
-    let answers : Answers (Query c.args.words.now) (c.in_ok-tally.tally, c.in_ok-tally._origin) old new (Ok tt) = search rules in
+    let answers : Answers (Query c.args.words.now) (c.in_ok-tally.tally, c.in_ok-tally._origin) old new (Ok Nothing) = search rules in
     answered (Query c.args.words.now) (record { given = before; output = old }) (record { given = after; output = new })
-    (c.in_ok-tally.tally, c.in_ok-tally._origin) (Ok tt) c.in_ok-tally.ensures.table answers
+    (c.in_ok-tally.tally, c.in_ok-tally._origin) (Ok Nothing) c.in_ok-tally.ensures.table answers
 
 pub returns-in_err-query-clause-done : goal.returns-in_err-query-clause-done
 returns-in_err-query-clause-done g c =

@@ -37,12 +37,13 @@ loop-i-preserved g c =
     }
 
 pub returns-in_err-read-clause-fault : goal.returns-in_err-read-clause-fault
-returns-in_err-read-clause-fault g c =
+returns-in_err-read-clause-fault g c = λ settings.
     let p = err_from_is_err_and c.from_residual.result c.from_residual.ensures.1 in
     let loop = c.loop-i in
     let seen = seen_in g.R.Source.seen g.F.Source.seen in
     let within : loop.i < length (seen loop.sources) = omega (arith, loop.invariant.as_many, c.count-i-end.ensures) in
-    rw (p.1, p.2) (read_refused loop.invariant.counted within loop.invariant.so_far c.in_err-read.field-0.0 c.in_err-read.ensures.one)
+    rw (p.1, p.2) (read_refused loop.invariant.counted within loop.invariant.so_far c.in_err-read.field-0.0 c.in_err-read.ensures.one
+    settings)
 
 pub returns-in_err-read-clause-kept : goal.returns-in_err-read-clause-kept
 returns-in_err-read-clause-kept g c = keeps_both g.R.Source.seen g.F.Source.seen c.loop-i.invariant.kept c.in_err-read.ensures.kept

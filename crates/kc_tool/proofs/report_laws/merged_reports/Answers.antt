@@ -1,5 +1,5 @@
 use Rattle.kc_tool.proofs.MergedReportsLemmas.{AreSettings, apart_is_together, merge_writes, merged_reports}
-use Rattle.kc_tool.proofs.MergedReportsLemmas.{one_report, report_tells, reports_match}
+use Rattle.kc_tool.proofs.MergedReportsLemmas.{one_report, report_tells, reports_fit, reports_match}
 use Rattle.kc_tool.proofs.report_laws.merged_reports.Goals as goal
 
 pub returns : goal.returns
@@ -14,6 +14,7 @@ returns c =
     record {
       report = report_tells settings are;
       matched = reports_match;
+      fits = reports_fit settings are;
       merged = merged_reports;
       only = one_report;
       together = apart_is_together settings are;

@@ -16,7 +16,7 @@ returns-then-not-is_empty g c =
     let some = something_named c.args.sources.now _ (sym c.is_empty-is_empty.ensures ∙ c.if-not-is_empty.true) refl in
     put_otherwise c.args.options.now c.report_files-reported.result
     (tallied_alone seen c.new-nothing.result after.input empty c.args.sources.now after.files named c.args.options.now (words_of c.args.list))
-    (λ fault is. refused_alone seen c.new-nothing.result after.input empty c.args.sources.now after.files some named fault)
+    (λ fault is. refused_alone seen c.new-nothing.result after.input empty c.args.sources.now after.files some named c.args.options.now fault)
     c.report_files-reported.ensures.done
 
 pub returns-in-Ok : goal.returns-in-Ok
@@ -54,5 +54,5 @@ returns g c =
     let same : fault ≡ c.in-Err.fault = cc in
     let lacks : reader_lacks_memory fault ≡ false = rw same other in
     refused_without seen c.new-nothing.result after.input empty c.args.sources.now after.files none named unfailed
-    c.as_slice-rest.ensures.unfailed fault lacks h)
+    c.as_slice-rest.ensures.unfailed c.args.options.now fault lacks h)
     c.in-Err.ensures.done

@@ -1,4 +1,5 @@
-use Rattle.std.proofs.Common.{Some, get_or, inr, refl, set}
+use Rattle.std.proofs.Common.{◌∙◌, Err, Some, ap, get_or, inr, refl, set}
+use Rattle.std.proofs.lemmas.Result.{err_from_is_err_and}
 use Rattle.kc_tool.specs.Reports.{ReportsCount}
 use Rattle.kc_tool.specs.Tallies.{RefusesCount}
 use Rattle.kc_tool.proofs.GivenLemmas.{files_both, first_read, keeps_files, listed_done, listed_left}
@@ -16,8 +17,8 @@ returns g c =
     let given = c.args.sources.now in
     let file = get_or given.files.now 0 c.index-files-0.result in
     let mid = record given { files = record given.files { now = set given.files.now 0 (record { name = file.name; source = later }) } } in
-    let gives = rw c.rule-rule.ensures at c.in-Ok.ensures.list in
-    let list = c.in-Ok.list in
+    let gives = rw c.rule-rule.ensures at c.in_ok-list.ensures.list in
+    let list = c.in_ok-list.list in
     let kept = c.report_given.ensures.kept in
     record {
       done = listed_done seen seen_file given mid c.index-files-0.result later c.requires.own c.requires.some refl refl refl new.sources kept
@@ -30,23 +31,24 @@ returns g c =
           (keeps_files seen seen_file kept);
     }
 
-pub returns-in-Err : goal.returns-in-Err
-returns-in-Err g c =
+pub returns-in_err-list : goal.returns-in_err-list
+returns-in_err-list g c =
     let seen = g.R.Source.seen in
     let seen_file = g.F.Source.seen in
+    let p = err_from_is_err_and c.from_residual.result c.from_residual.ensures.1 in
     let later = c.read_list.new.source in
     let given = c.args.sources.now in
     let file = get_or given.files.now 0 c.index-files-0.result in
     let mid = record given { files = record given.files { now = set given.files.now 0 (record { name = file.name; source = later }) } } in
-    let fault = c.in-Err.fault in
+    let fault = c.in_err-list.field-0.0 in
     let settings = c.args.options.now in
     record {
       done = inr (
         fault,
-        refl,
+        p.1 ∙ ap Err p.2,
         listed_left seen seen_file given mid c.index-files-0.result later c.requires.own c.requires.some refl refl refl
             (λ before after. RefusesCount before after settings fault)
-            (λ sources. list_refused _ (seen_file later) sources settings fault c.in-Err.ensures.fault),
+            (λ sources. list_refused _ (seen_file later) sources settings fault c.in_err-list.ensures.fault),
         refl,
       );
       kept = first_read seen seen_file given mid c.index-files-0.result later c.requires.own c.requires.some refl refl refl refl;

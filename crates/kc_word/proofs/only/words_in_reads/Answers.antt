@@ -1,7 +1,6 @@
 use Rattle.std.proofs.Common.{[], ◌++◌, Contains, ap, sym, ◌∙◌, subst, arith}
 use Rattle.kc_word.proofs.OnlyLemmas.{HasWords, HasWords-none, HasWords-same, HasWords-more, HasWords-all}
 use Rattle.kc_word.proofs.only.words_in_reads.Goals as goal
-use Rattle.kc_word.proofs.only.words_in_reads.Goals.{then-len-limit, else-len-limit}
 
 pub loop-read-init : goal.loop-read-init
 loop-read-init c = subst (λ ws. HasWords c.args.rule.now [] ws) (sym c.new-words.ensures.items) (HasWords-none c.args.rule.now)
@@ -12,16 +11,13 @@ loop-read-preserved c =
     (omega arith) c.read-item.is
     (c.in_ok-extend_from_slice.ensures.items ∙ ap (λ ws. c.loop-read.words.items ++ ws) (c.deref.ensures.value ∙ c.in_ok-more.ensures.words))
     c.loop-read.invariant in
-    elim c.if-len-limit.branch [
-      | then-len-limit w ↦ rw w.words-is (HasWords-same w.keep_once.new.words.items w.keep_once.ensures.same more)
-      | else-len-limit w ↦ rw w.words-is more
-    ]
+    HasWords-same c.keep_once_at-limit.new.words.items c.keep_once_at-limit.ensures.same more
 
 pub returns-clause-words : goal.returns-clause-words
 returns-clause-words c =
     HasWords-all c.args.rule.now c.args.reads.now c.loop-read.read-index c.shrink_to_fit.new.self.items c.loop-read-test.false
     (HasWords-same c.shrink_to_fit.new.self.items
     (λ n. (
-      λ h. (c.keep_once-2.ensures.same n).0 (subst (λ ws. Contains ws n) c.shrink_to_fit.ensures.items h),
-      λ h. subst (λ ws. Contains ws n) (sym c.shrink_to_fit.ensures.items) ((c.keep_once-2.ensures.same n).1 h),
+      λ h. (c.keep_once.ensures.same n).0 (subst (λ ws. Contains ws n) c.shrink_to_fit.ensures.items h),
+      λ h. subst (λ ws. Contains ws n) (sym c.shrink_to_fit.ensures.items) ((c.keep_once.ensures.same n).1 h),
     )) c.loop-read.invariant)

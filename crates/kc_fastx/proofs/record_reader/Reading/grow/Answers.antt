@@ -1,4 +1,5 @@
-use Rattle.std.proofs.Common.{◌∙◌, ◌+◌, ap, sym, length, Some}
+use Rattle.std.proofs.Common.{arith, ◌∙◌, ◌+◌, ap, sym, length, Some}
+use Rattle.std.proofs.lemmas.Grind.{common_steps}
 use Rattle.kc_io.proofs.IntakesLemmas.{filled_both, filled_end, filled_fails}
 use Rattle.kc_fastx.proofs.ReadingLemmas.{filling_none, some_came}
 use Rattle.kc_fastx.proofs.record_reader.Reading.grow.Goals as goal
@@ -11,17 +12,19 @@ filling-init g c =
       filling = filling_none (g.S.Source.seen c.args.source.now) _ (rw (← c.self.view_is) at c.requires.ended) failed;
       few = c.self.invariant.0;
       fits = c.self.invariant.1 failed;
+      wanted = first_of (omega arith, grind (arith, common_steps));
+      short = omega arith;
     })
 
-pub returns-in-Err : goal.returns-in-Err
-returns-in-Err g c = (
+pub returns-in-Err-clause-grows : goal.returns-in-Err-clause-grows
+returns-in-Err-clause-grows g c = (
   filled_fails (g.S.Source.seen c.fill.new.source) c.in-Err.why c.filling.invariant.filling.filled
       c.in-Err.ensures.filled,
   ap Some c.from.ensures,
 )
 
-pub returns-in-Ok-false : goal.returns-in-Ok-false
-returns-in-Ok-false g c =
+pub returns-in-Ok-false-clause-grows : goal.returns-in-Ok-false-clause-grows
+returns-in-Ok-false-clause-grows g c =
     let filling = c.filling.invariant.filling in
     let told = rw c.in-Ok-false.field-0-test at c.in-Ok-false.ensures.filled in
     record {
@@ -36,8 +39,8 @@ returns-in-Ok-false g c =
       unfailed = filling.unfailed;
     }
 
-pub returns-then-as_slice-wanted : goal.returns-then-as_slice-wanted
-returns-then-as_slice-wanted g c =
+pub returns-then-as_slice-wanted-clause-grows : goal.returns-then-as_slice-wanted-clause-grows
+returns-then-as_slice-wanted-clause-grows g c =
     let filling = c.filling.invariant.filling in
     let told = rw c.in-Ok-true.field-0-test at c.in-Ok-true.ensures.filled in
     let both = filled_both filling.filled told.0 in

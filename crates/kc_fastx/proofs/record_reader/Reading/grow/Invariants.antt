@@ -1,5 +1,5 @@
 use Rattle.kc_fastx.proofs.ReadingLemmas.{Filling}
-use Rattle.std.proofs.Common.{◌≤◌, ◌<◌, ◌+◌, length}
+use Rattle.std.proofs.Common.{◌≤◌, ◌<◌, ◌+◌, ◌*◌, length}
 use Rattle.kc_fastx.proofs.record_reader.Reading.grow.Given as goal
 
 abbrev pub invariant-filling : goal.invariant-filling
@@ -14,6 +14,8 @@ invariant-filling g l = record {
   });
   few : l.self-inside.lines_used ≤ l.self-inside.used;
   fits : l.self-inside.used + (length l.self-inside.intake.bytes + l.self-inside.intake.room) < 9223372036854775808;
+  wanted : l.wanted ≤ 2 * length l.fn.self.unread.bytes;
+  short : length l.self-inside.intake.bytes ≤ 2 * length l.fn.self.unread.bytes;
 }
 
 abbrev pub decreases-filling : goal.decreases-filling

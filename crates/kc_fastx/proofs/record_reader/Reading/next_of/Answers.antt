@@ -1,7 +1,11 @@
-use Rattle.std.proofs.Common.{◌≡◌, ap, sym, subst, ◌∙◌}
-use Rattle.kc_fastx.specs.Reading.{Stand, HasGiven, GivesNext}
+use Rattle.std.proofs.Common.{◌≡◌, refl, ap, sym, subst, ◌∙◌, inl, inr, Some, Err}
+use Rattle.kc_fastx.specs.Reading.{Stand, HasGiven, GivesNext, HoldNoRecord, BeginsRecord}
 use Rattle.std.proofs.lemmas.Result.{err_from_is_err_and}
 use Rattle.kc_fastx.proofs.ReadingLemmas.{given_grown, given_kept, given_refused, meets_kept}
+use Rattle.kc_fastx.proofs.ReadingLemmas.{comes_kept, comes_taking}
+use Rattle.kc_fastx.specs.Faults.{kept_fault}
+use Rattle.kc_fastx.specs.declared.read_faults.FastxFault.TheVariants.{Memory}
+use Rattle.kc_fastx.proofs.TakingLemmas.{Taking, begins_kept, err_is, taken_in_steps, taking_more}
 use Rattle.kc_fastx.specs.Titles.{reads_in, HasGivenRecords, GivesRecord}
 use Rattle.kc_fastx.proofs.TitlesLemmas.{IsLonger, longer_grown, longer_kept, records_more, records_same, records_all}
 use Rattle.kc_fastx.proofs.record_reader.Reading.next_of.Goals as goal
@@ -35,7 +39,8 @@ pub reading-preserved : goal.reading-preserved
 reading-preserved g c =
     let seen = g.S.Source.seen in
     let more = rw c.in-Ok-Short.field-0-is at c.in-Ok-Short.ensures.moves in
-    let grown = c.in_ok-grow-in-Ok-Short.ensures in
+    let grown = c.in_ok-grow-in-Ok-Short.ensures.grows in
+    let wants = rw c.in-Ok-Short.field-0-is at c.in-Ok-Short.ensures.wants in
     record {
       given = λ start limit reads h.
           let tells = rw c.in-Ok-Short.field-0-is at c.in-Ok-Short.ensures.tells start (seen c.reading.source) limit
@@ -45,6 +50,9 @@ reading-preserved g c =
           (sym more.0) c.reading.invariant.longer) more.1 (seen c.grow.new.source) c.grow.new.self grown;
       unfailed = grown.unfailed;
       used = grown.used ∙ ap (λ (s : Stand). s.used) more.0 ∙ c.reading.invariant.used;
+      taking = taking_more (subst (λ v. Taking c.args.self.now v) (sym more.0) c.reading.invariant.taking)
+          (subst (λ (v : Stand). HoldNoRecord v.is_fastq v.unread.bytes) (sym more.0) wants) c.grow.ensures.few
+          grown.is_fastq;
     }
 
 pub returns-in_err-grow-in-Ok-Short-clause-given : goal.returns-in_err-grow-in-Ok-Short-clause-given
@@ -55,7 +63,7 @@ returns-in_err-grow-in-Ok-Short-clause-given g c = λ start limit reads h.
     reads (c.reading.invariant.given start limit reads h) in
     let p = err_from_is_err_and c.from_residual.result c.from_residual.ensures.1 in
     rw (p.1, p.2) (given_refused (record { given = tells; unended = more.1 }) (seen c.grow.new.source) c.grow.new.self
-    c.in_err-grow-in-Ok-Short.field-0.0 c.in_err-grow-in-Ok-Short.ensures.0)
+    c.in_err-grow-in-Ok-Short.field-0.0 c.in_err-grow-in-Ok-Short.ensures.grows.0)
 
 pub returns-in_err-grow-in-Ok-Short-clause-titled : goal.returns-in_err-grow-in-Ok-Short-clause-titled
 returns-in_err-grow-in-Ok-Short-clause-titled g c = λ wanted start limit records h.
@@ -83,3 +91,42 @@ returns-in-Err-clause-resumed_titled g c = λ none start limit records h.
     let given = c.reading.invariant.given start limit (reads_in records) h.given in
     rw (c.keep.ensures.kept, same) (records_same h (longer_kept _ c.reading.invariant.longer)
     (given_kept _ given unfailed))
+
+pub returns-in_err-grow-in-Ok-Short-clause-behind : goal.returns-in_err-grow-in-Ok-Short-clause-behind
+returns-in_err-grow-in-Ok-Short-clause-behind g c = λ start limit reads h.
+    let p = err_from_is_err_and c.from_residual.result c.from_residual.ensures.1 in
+    rw (p.1, p.2) (comes_taking start (g.S.Source.seen c.grow.new.source) reads c.grow.new.self
+    c.in_err-grow-in-Ok-Short.field-0.0)
+
+pub returns-in-Err-clause-behind : goal.returns-in-Err-clause-behind
+returns-in-Err-clause-behind g c = λ start limit reads h.
+    let now = g.S.Source.seen c.reading.source in
+    let stand = c.next_of_whole.new.self in
+    let fault = c.in-Err.fault in
+    let comes = c.in-Err.ensures.behind start now limit reads
+    (c.reading.invariant.given start limit reads h) in
+    rw (c.keep.ensures.answered, c.keep.ensures.kept)
+    (comes_kept start now reads stand fault (kept_fault stand.failed fault) comes)
+
+pub returns-in_err-grow-in-Ok-Short-clause-few : goal.returns-in_err-grow-in-Ok-Short-clause-few
+returns-in_err-grow-in-Ok-Short-clause-few g c =
+    let more = rw c.in-Ok-Short.field-0-is at c.in-Ok-Short.ensures.moves in
+    let wants = rw c.in-Ok-Short.field-0-is at c.in-Ok-Short.ensures.wants in
+    taken_in_steps (subst (λ v. Taking c.args.self.now v) (sym more.0) c.reading.invariant.taking)
+    (subst (λ (v : Stand). HoldNoRecord v.is_fastq v.unread.bytes) (sym more.0) wants) c.grow.ensures.few
+
+pub returns-in_err-grow-in-Ok-Short-clause-memory : goal.returns-in_err-grow-in-Ok-Short-clause-memory
+returns-in_err-grow-in-Ok-Short-clause-memory g c = λ refused unfailed.
+    let p = err_from_is_err_and c.from_residual.result c.from_residual.ensures.1 in
+    let fault = sym p.2 ∙ err_is c.from_residual.result p.0 Memory p.1 refused in
+    inl (
+      c.in_err-grow-in-Ok-Short.ensures.unended,
+      c.in_err-grow-in-Ok-Short.ensures.grows.1 ∙ ap (λ v. Some v) fault,
+    )
+
+pub returns-in-Err-clause-memory : goal.returns-in-Err-clause-memory
+returns-in-Err-clause-memory g c = λ refused unfailed.
+    let same : c.next_of_whole.new.self ≡ c.reading.self = c.in-Err.ensures.moves in
+    let fault : c.in-Err.fault ≡ Memory = sym c.keep.ensures.answered ∙ err_is _ c.keep.result Memory refl refused in
+    let begins = c.next_of_whole.ensures.memory (subst (λ v. c.next_of_whole.result ≡ Err v) fault c.in-Err.is) in
+    rw c.keep.ensures.kept (inr (begins_kept _ (subst (λ v. BeginsRecord v) (sym same) begins)))

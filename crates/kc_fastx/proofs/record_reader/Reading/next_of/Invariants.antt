@@ -2,6 +2,7 @@ use Rattle.std.proofs.Common.{◌≡◌, ℕ, List, ◌+◌, cond, None}
 use Rattle.kc_io.specs.Sources.{Seen}
 use Rattle.kc_fastx.specs.Reads.{Read}
 use Rattle.kc_fastx.specs.Reading.{HasGiven}
+use Rattle.kc_fastx.proofs.TakingLemmas.{Taking}
 use Rattle.kc_fastx.proofs.TitlesLemmas.{IsLonger}
 use Rattle.kc_fastx.proofs.record_reader.Reading.next_of.Given as goal
 
@@ -13,6 +14,7 @@ invariant-reading g l = record {
   longer : IsLonger (g.S.Source.seen l.fn.source) (g.S.Source.seen l.source) l.fn.self l.self;
   unfailed : l.self.failed ≡ None;
   used : l.self.used ≡ l.fn.self.used;
+  taking : Taking l.fn.self l.self;
 }
 
 abbrev pub decreases-reading : goal.decreases-reading

@@ -1,5 +1,5 @@
 use Rattle.std.proofs.Common.{rules, arith, refl, ◌≡◌, ◌∙◌, ap, sym, subst, true, true≢false, ◌-◌}
-use Rattle.std.proofs.Common.{inl, inr, ◌⊎◌, Ok, [], ◌∷◌, ◌++◌, length}
+use Rattle.std.proofs.Common.{inl, inr, ◌⊎◌, Ok, Err, [], ◌∷◌, ◌++◌, length}
 use Rattle.std.proofs.lemmas.Result.{err_from_is_err_and}
 use Rattle.kc_fastx.specs.Lines.{Cursor, lines, skip_blanks}
 use Rattle.kc_fastx.specs.Reading.{Stand, HasGiven, IsSure}
@@ -7,7 +7,12 @@ use Rattle.kc_fastx.specs.declared.record_reader.Next.TheVariants.{Given}
 use Rattle.kc_fastx.specs.Titles.{TellsRecord, title_at}
 use Rattle.kc_fastx.proofs.TailLemmas.{skip_blanks-again}
 use Rattle.kc_fastx.proofs.TitlesLemmas.{record_read}
-use Rattle.kc_fastx.proofs.ReadingLemmas.{ArePassed, IsRead, behind_is, given_fault, given_more, reaches, uses_some}
+use Rattle.kc_fastx.proofs.ReadingLemmas.{ArePassed, IsRead, behind_is, given_fault, fault_comes, given_more}
+use Rattle.kc_fastx.proofs.ReadingLemmas.{reaches, uses_some}
+use Rattle.kc_fastx.proofs.ReadingLemmas.{uses_front}
+use Rattle.kc_fastx.proofs.TakingLemmas.{err_is, next_title}
+use Rattle.kc_fastx.specs.declared.read_faults.FastxFault.TheVariants.{Memory}
+use Rattle.kc_fastx.specs.Reading.{UsesFront}
 use Rattle.kc_fastx.proofs.record_reader.Reading.next_of_whole.Goals as goal
 use Rattle.kc_fastx.proofs.record_reader.Reading.next_of_whole.Goals.{After-use_up, Joined-else-not-self}
 use Rattle.kc_fastx.proofs.record_reader.Reading.next_of_whole.Goals.{else-not-self-via-then-not-self+else-not-is_sure}
@@ -23,7 +28,7 @@ next_record-next-requires c =
 is_sure : (c : Joined-else-not-self)
     → (c.args.self.now.ended ≡ true) ⊎ IsSure c.next_record-next.result c.next_record-next.new.lines.left
 is_sure c = elim c.else-not-self.branch [
-  | else-not-self-via-then-not-self+else-not-is_sure w ↦ inr (w.is_sure.ensures (search rules))
+  | else-not-self-via-then-not-self+else-not-is_sure w ↦ inr (w.is_sure.ensures.sure (search rules))
   | else-not-self-via-else-not-self w ↦ inl (search rules)
 ]
 
@@ -36,7 +41,18 @@ returns-in_err-read-clause-tells c = λ start now limit reads h.
     let sure = rw c.in_err-read.was at (is_sure (goal.at.returns-in_err-read-clause-tells c).Joined-else-not-self) in
     let p = err_from_is_err_and c.from_residual.result c.from_residual.ensures.1 in
     rw (p.1, p.2) (given_fault h c.whole_lines-whole.result.now c.next_record-next.new.lines.left
-    c.in_err-read.field-0.0 c.whole_lines-whole.ensures fails sure)
+    c.in_err-read.field-0.0 c.whole_lines-whole.ensures.whole fails sure)
+
+pub returns-in_err-read-clause-behind : goal.returns-in_err-read-clause-behind
+returns-in_err-read-clause-behind c = λ start now limit reads h.
+    let taken = ap (λ (s : Stand). s.lines_used) c.self.view_is in
+    let is_fastq = ap (λ (s : Stand). s.is_fastq) c.self.view_is in
+    let fails = rw (c.pass_blanks.ensures.counted, c.pass_blanks.ensures.left, taken, is_fastq)
+    at c.in_err-read.ensures.err in
+    let sure = rw c.in_err-read.was at (is_sure (goal.at.returns-in_err-read-clause-behind c).Joined-else-not-self) in
+    let p = err_from_is_err_and c.from_residual.result c.from_residual.ensures.1 in
+    rw (p.1, p.2) (fault_comes h c.whole_lines-whole.result.now c.next_record-next.new.lines.left
+    c.in_err-read.field-0.0 c.whole_lines-whole.ensures.whole fails sure)
 
 -- the blank lines and the record that were passed
 passed : (c : After-use_up) → ArePassed c.args.self.now (record {
@@ -62,7 +78,7 @@ one c =
     let left : after.left ≡ lines after.bytes = sym (ap (λ (s : Cursor). s.left) c.lines-2.view_is) ∙ ap lines rest in
     let is_fastq = ap (λ (s : Stand). s.is_fastq) c.self.view_is in
     record {
-      has_whole = c.whole_lines-whole.ensures;
+      has_whole = c.whole_lines-whole.ensures.whole;
       reaches = reaches (passed c) whole refl refl left;
       one = rw (is_fastq, c.pass_blanks.ensures.left, c.in-Some.is) at c.in_ok-read.ensures.ok;
       sure = rw (c.in_ok-read.was, c.in-Some.is) at (is_sure (goal.at.After-use_up c).Joined-else-not-self);
@@ -99,3 +115,32 @@ returns-clause-moves c =
     let rest = ap (λ (s : Cursor). length s.bytes) c.lines-2.view_is in
     let used = ap (λ (s : Stand). s.used) c.self.view_is in
     omega (arith, some, rest, used)
+
+pub returns-clause-uses : goal.returns-clause-uses
+returns-clause-uses c =
+    let behind = behind_is (length c.whole_lines-whole.result.now - length c.lines-2.inside.left.now)
+    c.in-Some.is_fastq c.self.view_is c.use_up.ensures (ap (λ (s : Cursor). s.taken) c.lines-2.view_is) in
+    subst (λ v. UsesFront c.args.self.now v) (sym behind) (uses_front (one c))
+
+pub returns-in_err-read-clause-memory : goal.returns-in_err-read-clause-memory
+returns-in_err-read-clause-memory c = λ refused.
+    let is_fastq = ap (λ (s : Stand). s.is_fastq) c.self.view_is in
+    let p = err_from_is_err_and c.from_residual.result c.from_residual.ensures.1 in
+    let fault = sym p.2 ∙ err_is c.from_residual.result p.0 Memory p.1 refused in
+    let is = subst (λ v. c.next_record-next.result ≡ Err v) fault c.in_err-read.was in
+    record {
+      whole = c.whole_lines-whole.result.now;
+      has_whole = c.whole_lines-whole.ensures.whole;
+      title = rw (c.pass_blanks.ensures.left, is_fastq) at (c.next_record-next.ensures.memory is);
+    }
+
+pub returns-in_err-extend_from_slice-clause-memory : goal.returns-in_err-extend_from_slice-clause-memory
+returns-in_err-extend_from_slice-clause-memory c = λ refused.
+    let whole = lines c.whole_lines-whole.result.now in
+    let is_fastq = ap (λ (s : Stand). s.is_fastq) c.self.view_is in
+    let one = rw (is_fastq, c.pass_blanks.ensures.left, c.in-Some.is) at c.in_ok-read.ensures.ok in
+    record {
+      whole = c.whole_lines-whole.result.now;
+      has_whole = c.whole_lines-whole.ensures.whole;
+      title = next_title c.args.self.now.is_fastq (skip_blanks whole) _ _ (skip_blanks-again whole) one;
+    }

@@ -1,4 +1,4 @@
-use Rattle.std.proofs.Common.{◌≡◌, [], ◌+◌, length}
+use Rattle.std.proofs.Common.{◌≡◌, [], ◌+◌, length, vec_capacity}
 use Rattle.std.specs.Prelude.{All}
 use Rattle.kc_tickets.specs.Tickets.{TicketsSeen, SeatSeen, IsSeatOf}
 use Rattle.kc_tickets.proofs.tickets.Tickets.new.Given as goal
@@ -14,6 +14,7 @@ invariant-loop l =
       counted : length l.row.items + 1 ≡ l.counter;
       none_drawn : l.first.me.0.drawn ≡ [];
       no_slots : l.first.me.1 ≡ [];
+      room : vec_capacity l.row ≡ l.seats;
       own : All (IsSeatOf tickets) l.row.items;
       fresh : All (λ (seat : SeatSeen). seat.drawn ≡ []) l.row.items;
     }

@@ -1,0 +1,9 @@
+pub mod Bits
+pub mod Blocks
+pub mod Buffer
+pub mod Codes
+pub mod Crc
+pub mod Elements
+pub mod Members
+pub mod Reading
+pub mod Search

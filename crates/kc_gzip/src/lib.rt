@@ -1,0 +1,28 @@
+//! Gzip: the text that compressed bytes say (RFC 1951 and RFC 1952).
+//!
+//! `gunzip` answers the text of all members of a file, or a `GzipFault`: the bytes are broken or cut short. `crc32` is
+//! the check sum of a member. What bytes say is defined in `specs/` (`Bits`, `Codes`, `Elements`, `Blocks`, `Members`;
+//! `Crc` for the check sum), and `laws` has worked rows.
+//!
+//! ```ignore
+//! let file = b"\x1f\x8b\x08\x00\x00\x00\x00\x00\x00\xff\xb3+2\xe4rt\xe6\x02\x00\xc6\xce\xff\x9a\x07\x00\x00\x00";
+//! let text = gunzip(alloc, file)?;
+//! assert_eq!(rt; text.as_slice(), b">r1\nAC\n".as_slice());
+//! assert_eq!(rt; crc32(&text), 2_600_455_878);
+//! ```
+#![tactic(auto)]
+
+mod bits;
+mod blocks;
+mod checksum;
+mod codes;
+mod completeness;
+mod dynamic_codes;
+mod elements;
+mod faults;
+pub mod laws;
+mod members;
+
+pub use checksum::crc32;
+pub use faults::GzipFault;
+pub use members::gunzip;
