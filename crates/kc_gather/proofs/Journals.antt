@@ -1,27 +1,27 @@
 -- Journals beside the batches that were given.
-use Rattle.std.proofs.Common.{◌≡◌, ◌≢◌, ℕ, zero, suc, ◌+◌, ◌<◌, ◌≤◌, ⊎_elim, Bool, true, false, cond, eqb, ltb, nat_eq, List, [], ◌∷◌, ◌++◌, length, get_or, set, take, replicate, Some, None, Option, IfSome, IfNone, slice_get, sum_by, All, Contains, refl, ap, sym, ◌∙◌, subst, arith}
-use Rattle.std.specs.Prelude.{◌↔◌, IsTrue}
+use Rattle.std.proofs.Common.{◌≡◌, ◌≢◌, ℕ, zero, suc, ◌+◌, ◌<◌, ◌≤◌, ⊎_elim, Bool, true, false, cond, eqb, ltb, nat_eq, List, [], ◌∷◌, length, get_or, take, Some, slice_get, sum_by, count_by, All, Contains, refl, ap, sym, ◌∙◌, subst, arith}
+use Rattle.std.specs.Prelude.{◌↔◌, IsTrue, MatchBool}
 use Rattle.std.specs.List.{IsDistinct, range_with_len}
 use Rattle.std.specs.declared.sync.Arc.{Arc}
 use Rattle.std.specs.declared.alloc.Global.{Global}
 use Rattle.kc_word.specs.declared.batch.Batch.{Batch}
 use Rattle.kc_word.specs.Shared.{values}
-use Rattle.std.proofs.lemmas.Bool.{cases_lt, cases_eq, ne_eqb, le-ltb}
+use Rattle.std.proofs.lemmas.Bool.{cases_lt, ne_eqb, lt-ltb, le-ltb}
 use Rattle.std.proofs.lemmas.Bool.Decides.{eqb_tells}
 use Rattle.std.proofs.lemmas.Option.{get_or_from_slice_get, slice_get-get_or, slice_get_within}
-use Rattle.std.proofs.lemmas.List.{length-map, length-set, length-replicate, get_or-map, get_or-set_same, get_or-set_other, get_or-replicate, get_or_default, get_or_past, take_more, take_all, map_push}
-use Rattle.std.proofs.lemmas.List.Elements.{All-push, All-nil, All-map, Contains-push, Contains-push_cases, Contains-append_left}
+use Rattle.std.proofs.lemmas.List.{length-map, get_or-map, get_or_default, take_all}
+use Rattle.std.proofs.lemmas.List.Elements.{All-map}
 use Rattle.std.proofs.lemmas.List.Sums.{sum_by-cons, sum_by_more}
-use Rattle.kc_lemmas.proofs.Distinct.{head_apart}
+use Rattle.kc_lemmas.proofs.Distinct.{head_apart, times, times-distinct, times-some, Contains-from_times}
 use Rattle.kc_lemmas.proofs.Numbers.{none_left_out}
 use Rattle.kc_lemmas.proofs.Lists.{Contains-cons_cases, All-range}
-use Rattle.kc_lemmas.proofs.Sums.{sum_by-same, sum_by-map, sum_by-zeros, sum_by-swap, sum_by-one_place, sum_by-range_more}
+use Rattle.kc_lemmas.proofs.Sums.{sum_by-same, sum_by-map, sum_by-zeros, sum_by-swap, sum_by-one_place, sum_by-range_more, count_by-none}
 use Rattle.kc_lemmas.proofs.Permutations.{WeighTheSame}
 use Rattle.std.proofs.lemmas.Map.Keys.{IsDistinct-tail}
 use Rattle.kc_word.specs.Cutting.{NumberedPieces, is_same_batch}
 use Rattle.kc_word.proofs.Sameness.{is_same_batch-Decides}
-use Rattle.kc_booking.specs.Stripe.{numbers_of, IsBooked}
-use Rattle.kc_gather.specs.Gathering.{IsGiven, IsLeastMissing, HasAllNumbers}
+use Rattle.kc_booking.specs.Stripe.{numbers_of, NumbersDiffer, IsBooked}
+use Rattle.kc_gather.specs.Gathering.{IsGiven, IsLeastMissing, HasAllBelow, HasAllNumbers}
 
 -- ---- given batches
 
@@ -56,71 +56,6 @@ pub given_past : (batches : List (Arc Batch Global)) (batch : NumberedPieces) (n
 given_past batches batch number same past =
     let long = length-map batches (λ (b : Arc Batch Global). b.value) in
     is_given-past (values batches) batch (ltb number (length batches)) (omega (arith, long, past, same)) (le-ltb number (length batches) past)
-
--- ---- marks
-
--- the first i batches of the journal are given ones, and the numbers of these are marked
-pub record IsMarkedTo (batches journal : List NumberedPieces) (marks : List Bool) (i : ℕ) : Type 0 where
-  pub one_each : length marks ≡ length batches
-  pub given : All (IsGiven batches) (take i journal)
-  pub marked : (n : ℕ) → get_or marks n false ≡ true → IsBooked (take i journal) n
-  pub booked : (n : ℕ) → IsBooked (take i journal) n → get_or marks n false ≡ true
-
-pub IsMarkedTo-none : (batches journal : List NumberedPieces) (marks : List Bool) (n : ℕ) → n ≡ length batches → marks ≡ replicate n false → IsMarkedTo batches journal marks 0
-IsMarkedTo-none batches journal marks n all is = record {
-  one_each = ap length is ∙ length-replicate n false ∙ all;
-  given = All-nil (IsGiven batches);
-  marked = λ m true_. absurd (let never : true ≡ false = sym true_ ∙ ap (λ ms. get_or ms m false) is ∙ unmarked n m in cc);
-  booked = λ m stands. let (k, within, at) = stands in absurd (omega (arith, within));
-}
-  where
-    unmarked : (n m : ℕ) → get_or (replicate n false) m false ≡ false
-    unmarked n m = ⊎_elim
-        (λ (h : m < n). get_or-replicate n m false false h)
-        (λ (h : n ≤ m). let long = length-replicate n false in get_or_past (replicate n false) m false (omega (arith, long, h)))
-        (cases_lt m n)
-
--- the numbers in one batch more
-booked-more : (journal : List NumberedPieces) (i : ℕ) (batch : NumberedPieces) → i < length journal → batch ≡ get_or journal i batch
-    → numbers_of (take (i + 1) journal) ≡ numbers_of (take i journal) ++ batch.number ∷ []
-booked-more journal i batch within is =
-    ap numbers_of (take_more journal i batch within) ∙ map_push (λ (b : NumberedPieces). b.number) (take i journal) (get_or journal i batch)
-    ∙ ap (λ (b : NumberedPieces). numbers_of (take i journal) ++ b.number ∷ []) (sym is)
-
-pub IsMarkedTo-more : (batches journal : List NumberedPieces) (marks : List Bool) (i : ℕ) (batch : NumberedPieces) → (i < length journal) × (batch ≡ get_or journal i batch)
-    → IsGiven batches batch → IsMarkedTo batches journal marks i → IsMarkedTo batches journal (set marks batch.number true) (i + 1)
-IsMarkedTo-more batches journal marks i batch (within, is) given before = record {
-  one_each = length-set marks batch.number true ∙ before.one_each;
-  given = subst (All (IsGiven batches)) (sym (take_more journal i batch within))
-      (All-push (IsGiven batches) (take i journal) (get_or journal i batch) before.given (subst (IsGiven batches) is given));
-  marked = λ n true_. subst (λ ns. Contains ns n) (sym (booked-more journal i batch within is)) (⊎_elim
-      (λ (here : n ≡ batch.number). subst (Contains (numbers_of (take i journal) ++ batch.number ∷ [])) (sym here) (Contains-push (numbers_of (take i journal)) batch.number))
-      (λ (other : n ≢ batch.number). Contains-append_left (numbers_of (take i journal)) (batch.number ∷ []) n
-      (before.marked n (sym (get_or-set_other marks batch.number n true false other) ∙ true_)))
-      (cases_eq n batch.number));
-  booked = λ n stands. ⊎_elim
-      (λ (earlier : Contains (numbers_of (take i journal)) n). ⊎_elim
-      (λ (here : n ≡ batch.number). at_mark n here)
-      (λ (other : n ≢ batch.number). get_or-set_other marks batch.number n true false other ∙ before.booked n earlier)
-      (cases_eq n batch.number))
-      (λ (last : batch.number ≡ n). at_mark n (sym last))
-      (Contains-push_cases (numbers_of (take i journal)) batch.number n (subst (λ ns. Contains ns n) (booked-more journal i batch within is) stands));
-}
-  where
-    at_mark : (n : ℕ) → n ≡ batch.number → get_or (set marks batch.number true) n false ≡ true
-    at_mark n here =
-        let long = before.one_each in
-        let inside = slice_get_within batches batch.number batch given in
-        ap (λ m. get_or (set marks batch.number true) m false) here ∙ get_or-set_same marks batch.number true false (omega (arith, long, inside))
-
--- the marks of the whole journal
-pub IsMarkedTo-all : (batches journal : List NumberedPieces) (marks : List Bool) (i : ℕ) → length journal ≤ i → IsMarkedTo batches journal marks i
-    → All (IsGiven batches) journal × ((n : ℕ) → (get_or marks n false ≡ true) ↔ IsBooked journal n)
-IsMarkedTo-all batches journal marks i all marked =
-    let whole = take_all i journal all in (
-      subst (All (IsGiven batches)) whole marked.given,
-      λ n. (λ true_. subst (λ j. IsBooked j n) whole (marked.marked n true_), λ stands. marked.booked n (subst (λ j. IsBooked j n) (sym whole) stands)),
-    )
 
 -- a batch that isn't given under its number
 pub not_all_given : (batches journal : List NumberedPieces) (i : ℕ) (batch : NumberedPieces) → i < length journal → batch ≡ get_or journal i batch
@@ -190,58 +125,105 @@ weighs_whole batches journal distinct given all f =
 
 -- ---- the first number that a journal lacks
 
--- the marks say which numbers the journal has
-abbrev pub AreMarksOf : List NumberedPieces → List NumberedPieces → List Bool → Type 0
-AreMarksOf batches journal marks = (n : ℕ) → n < length batches → (get_or marks n false ≡ true) ↔ IsBooked journal n
+-- as many numbers are below m + 1 as below m, and as m is there
+below_more : (m : ℕ) (xs : List ℕ) → count_by (λ n. ltb n (m + 1)) xs ≡ count_by (λ n. ltb n m) xs + times eqb eqb_tells m xs
+below_more m [] = refl
+below_more m (x ∷ xs) =
+    let next = sum_by-cons (λ n. cond (ltb n (m + 1)) 1 0) x xs in
+    let before = sum_by-cons (λ n. cond (ltb n m) 1 0) x xs in
+    let here = sum_by-cons (λ n. cond (eqb n m) 1 0) x xs in
+    let rest = below_more m xs in
+    ⊎_elim
+    (λ (less : x < m).
+    let one : cond (ltb x (m + 1)) 1 0 ≡ 1 = ap {B = ℕ} (λ b. cond b 1 0) (lt-ltb x (m + 1) (omega (arith, less))) in
+    let two : cond (ltb x m) 1 0 ≡ 1 = ap {B = ℕ} (λ b. cond b 1 0) (lt-ltb x m less) in
+    let none : cond (eqb x m) 1 0 ≡ 0 = ap {B = ℕ} (λ b. cond b 1 0) (ne_eqb x m (λ same. absurd (omega (arith, less, same)))) in
+    omega (arith, next, before, here, rest, one, two, none))
+    (λ (not_less : m ≤ x). ⊎_elim
+    (λ (same : (eqb x m ≡ true) × (x ≡ m)).
+    let same_number = same.1 in
+    let one : cond (ltb x (m + 1)) 1 0 ≡ 1 = ap {B = ℕ} (λ b. cond b 1 0) (lt-ltb x (m + 1) (omega (arith, same_number))) in
+    let none : cond (ltb x m) 1 0 ≡ 0 = ap {B = ℕ} (λ b. cond b 1 0) (le-ltb x m not_less) in
+    let two : cond (eqb x m) 1 0 ≡ 1 = ap {B = ℕ} (λ b. cond b 1 0) same.0 in
+    omega (arith, next, before, here, rest, one, two, none))
+    (λ (other : (eqb x m ≡ false) × (x ≢ m)).
+    let more : m + 1 ≤ x = past x m not_less other.1 in
+    let one : cond (ltb x (m + 1)) 1 0 ≡ 0 = ap {B = ℕ} (λ b. cond b 1 0) (le-ltb x (m + 1) more) in
+    let none : cond (ltb x m) 1 0 ≡ 0 = ap {B = ℕ} (λ b. cond b 1 0) (le-ltb x m not_less) in
+    let two : cond (eqb x m) 1 0 ≡ 0 = ap {B = ℕ} (λ b. cond b 1 0) other.0 in
+    omega (arith, next, before, here, rest, one, two, none))
+    (eqb_tells x m))
+    (cases_lt x m)
+  where
+    past : (x m : ℕ) → m ≤ x → x ≢ m → m + 1 ≤ x
+    past x m not_less other = ⊎_elim (λ (less : m < x). omega (arith, less)) (λ (most : x ≤ m). absurd (other (omega (arith, not_less, most)))) (cases_lt m x)
 
-pub least_missing : (batches journal : List NumberedPieces) (marks : List Bool) (n : ℕ) → length marks ≡ length batches → AreMarksOf batches journal marks
-    → (n < length marks) × (get_or marks n true ≡ false) → ((m : ℕ) → m < n → get_or marks m false ≡ true) → IsLeastMissing batches journal n
-least_missing batches journal marks n one_each are found before = record {
-  given = omega (arith, found.0, one_each);
-  missing = λ stands.
-      let here : get_or marks n false ≡ true = (are n (omega (arith, found.0, one_each))).1 stands in
-      let same : get_or marks n false ≡ get_or marks n true = get_or_default marks n false true found.0 in
-      absurd (let never : true ≡ false = sym here ∙ same ∙ found.1 in cc);
-  least = λ m less. (are m (omega (arith, found.0, one_each, less))).0 (before m less);
-}
+-- of numbers that differ at most m are below m: as many where none of these is lacking, and fewer where one is
+module _ (numbers : List ℕ) (differ : IsDistinct nat_eq numbers) where
+  below-most : (m : ℕ) → count_by (λ n. ltb n m) numbers ≤ m
+  below-most zero = let none = count_by-none (λ n. ltb n 0) numbers (λ k d within. le-ltb (get_or numbers k d) 0 (omega arith)) in omega (arith, none)
+  below-most (suc m) =
+      let once = times-distinct eqb eqb_tells m numbers differ in
+      let next : m + 1 ≡ suc m = omega arith in
+      subst (λ n. count_by (λ x. ltb x n) numbers ≤ n) next (omega (arith, below_more m numbers, below-most m, once))
 
-pub all_numbers : (batches journal : List NumberedPieces) (marks : List Bool) → length marks ≡ length batches → AreMarksOf batches journal marks
-    → ((m : ℕ) → m < length marks → get_or marks m false ≡ true) → HasAllNumbers batches journal
-all_numbers batches journal marks one_each are each n within = (are n within).0 (each n (omega (arith, one_each, within)))
+  pub all-below : (m : ℕ) → ((n : ℕ) → n < m → Contains numbers n) → count_by (λ n. ltb n m) numbers ≡ m
+  all-below zero all = let few = below-most 0 in omega (arith, few)
+  all-below (suc m) all =
+      let once = times-distinct eqb eqb_tells m numbers differ in
+      let there = times-some eqb eqb_tells m numbers (all m (omega arith)) in
+      let next : m + 1 ≡ suc m = omega arith in
+      let before = all-below m (λ n less. all n (omega (arith, less))) in
+      subst (λ n. count_by (λ x. ltb x n) numbers ≡ n) next (omega (arith, below_more m numbers, before, once, there))
+
+  pub below-all : (m : ℕ) → count_by (λ n. ltb n m) numbers ≡ m → (n : ℕ) → n < m → Contains numbers n
+  below-all zero many n less = absurd (omega (arith, less))
+  below-all (suc m) many n less =
+      let once = times-distinct eqb eqb_tells m numbers differ in
+      let next : m + 1 ≡ suc m = omega arith in
+      let counted : count_by (λ x. ltb x (m + 1)) numbers ≡ suc m = ap (λ b. count_by (λ x. ltb x b) numbers) next ∙ many in
+      let few = below-most m in
+      let more = below_more m numbers in
+      ⊎_elim
+      (λ (earlier : n < m). below-all m (omega (arith, counted, more, once, few)) n earlier)
+      (λ (last : m ≤ n).
+      let here : m ≡ n = omega (arith, last, less) in
+      subst (Contains numbers) here (Contains-from_times eqb eqb_tells m numbers (omega (arith, counted, more, once, few))))
+      (cases_lt n m)
+
+-- what is known by counting
+pub has_all_told : (journal : List NumberedPieces) (count number : ℕ) → NumbersDiffer journal → count ≡ count_by (λ batch. ltb batch.number number) journal
+    → MatchBool (nat_eq count number) (HasAllBelow journal number) (¬ HasAllBelow journal number)
+has_all_told journal count number differ is =
+    let counted : count ≡ count_by (λ n. ltb n number) (numbers_of journal) = is ∙ sym (sum_by-map (λ n. cond (ltb n number) 1 0) (λ (batch : NumberedPieces). batch.number) journal) in
+    ⊎_elim
+    (λ (same : (eqb count number ≡ true) × (count ≡ number)).
+    subst (λ b. MatchBool b (HasAllBelow journal number) (¬ HasAllBelow journal number)) (sym same.0) (below-all (numbers_of journal) differ number (sym counted ∙ same.1)))
+    (λ (other : (eqb count number ≡ false) × (count ≢ number)).
+    subst (λ b. MatchBool b (HasAllBelow journal number) (¬ HasAllBelow journal number)) (sym other.0) (λ all. other.1 (counted ∙ all-below (numbers_of journal) differ number all)))
+    (eqb_tells count number)
 
 -- a journal of given batches that has as many entries as there are batches lacks none
-pub none_missing : (batches journal : List NumberedPieces) (n : ℕ) → IsDistinct nat_eq (numbers_of journal) → All (IsGiven batches) journal → length journal ≡ length batches
-    → ¬ IsLeastMissing batches journal n
-none_missing batches journal n distinct given many lacking =
+pub none_missing : (batches journal : List NumberedPieces) → NumbersDiffer journal → All (IsGiven batches) journal → length journal ≡ length batches
+    → HasAllNumbers batches journal
+none_missing batches journal distinct given many =
     let below : All (λ number. number < length batches) (numbers_of journal) =
     All-map (λ number. number < length batches) (λ (batch : NumberedPieces). batch.number) journal (λ k d within.
     slice_get_within batches (get_or journal k d).number (get_or journal k d) (given k d within)) in
-    lacking.missing (none_left_out (length batches) (numbers_of journal) distinct below (length-map journal (λ (batch : NumberedPieces). batch.number) ∙ many) n lacking.given)
+    none_left_out (length batches) (numbers_of journal) distinct below (length-map journal (λ (batch : NumberedPieces). batch.number) ∙ many)
 
--- what is answered for the first number that isn't marked
-module _ (batches journal : List NumberedPieces) (marks : List Bool) (one_each : length marks ≡ length batches) (are : AreMarksOf batches journal marks) where
-  pub least_told : (answer : Option ℕ) → IfSome answer (λ n. (n < length marks) × (get_or marks n true ≡ false))
-      → IfSome answer (λ n. (m : ℕ) → m < n → get_or marks m false ≡ true) → IfSome answer (IsLeastMissing batches journal)
-  least_told (Some n) found before = least_missing batches journal marks n one_each are found before
-  least_told None found before = tt
-
-  pub all_told : (answer : Option ℕ) → IfNone answer ((m : ℕ) → m < length marks → get_or marks m false ≡ true) → IfNone answer (HasAllNumbers batches journal)
-  all_told (Some n) none = tt
-  all_told None none = all_numbers batches journal marks one_each are none
-
--- as many entries as there are batches lack none
-pub count_told : (batches journal : List NumberedPieces) (answer : Option ℕ) → IsDistinct nat_eq (numbers_of journal) → All (IsGiven batches) journal
-    → IfSome answer (IsLeastMissing batches journal) → IfSome answer (λ _. length journal ≢ length batches)
-count_told batches journal (Some n) distinct given lacking = λ many. none_missing batches journal n distinct given many lacking
-count_told batches journal None distinct given lacking = tt
-
--- the same for shared batches, and what is seen of them
-pub marks_of : (batches : List (Arc Batch Global)) (seen journal : List NumberedPieces) (items marks : List Bool) → seen ≡ journal → marks ≡ items
-    → ((n : ℕ) → n < length batches → (get_or items n false ≡ true) ↔ IsBooked seen n) → AreMarksOf (values batches) journal marks
-marks_of batches seen journal items marks same is are n within =
-    let long = length-map batches (λ (b : Arc Batch Global). b.value) in
-    let told = are n (omega (arith, long, within)) in
-    (λ h. subst (λ j. IsBooked j n) same (told.0 (sym (ap (λ ms. get_or ms n false) is) ∙ h)), λ h. ap (λ ms. get_or ms n false) is ∙ told.1 (subst (λ j. IsBooked j n) (sym same) h))
-
-pub as_many_marks : (batches : List (Arc Batch Global)) (items marks : List Bool) → marks ≡ items → length items ≡ length batches → length marks ≡ length (values batches)
-as_many_marks batches items marks is one_each = ap length is ∙ one_each ∙ sym (length-map batches (λ (b : Arc Batch Global). b.value))
+-- what halving came to: all numbers below one are there, and not all below the next
+pub least_missing : (batches journal : List NumberedPieces) (from to : ℕ) → NumbersDiffer journal → All (IsGiven batches) journal → to ≤ length batches
+    → HasAllBelow journal from → ¬ HasAllBelow journal to → from < to → to ≤ from + 1 → IsLeastMissing batches journal from
+least_missing batches journal from to distinct given within all not_all less next = record {
+  given = omega (arith, within, less);
+  missing = lacking;
+  least = all;
+  counted = λ many. lacking (none_missing batches journal distinct given many from (omega (arith, within, less)));
+}
+  where
+    lacking : ¬ IsBooked journal from
+    lacking there = not_all (λ n below. ⊎_elim
+        (λ (earlier : n < from). all n earlier)
+        (λ (last : from ≤ n). let here : from ≡ n = omega (arith, last, below, next) in subst (IsBooked journal) here there)
+        (cases_lt n from))

@@ -1,7 +1,7 @@
 -- Items in piles, and what is answered for each pile, joined.
-use Rattle.std.proofs.Common.{◌≡◌, ℕ, suc, ◌+◌, ◌-◌, ◌^◌, ◌<◌, List, [], ◌∷◌, ◌++◌, length, get_or, map, min, take, drop, Vec, Global, Result, Ok, Err, OnOk, IfErr, append-nil, ap, sym, ◌∙◌, arith}
+use Rattle.std.proofs.Common.{◌≡◌, ℕ, suc, ◌+◌, ◌-◌, ◌^◌, ◌<◌, List, [], ◌∷◌, ◌++◌, length, get_or, map, min, take, Vec, Global, Result, Ok, append-nil, ap, sym, ◌∙◌, arith}
 use Rattle.std.specs.List.{flat_map}
-use Rattle.std.proofs.lemmas.List.{length-map, length-append, get_or-map, map-id, take-append-drop, drop_more}
+use Rattle.std.proofs.lemmas.List.{length-map, length-append, get_or-map}
 use Rattle.std.proofs.lemmas.List.Concat.{flat_map-append}
 use Rattle.kc_lemmas.proofs.Lists.{flat_map_take_more}
 
@@ -38,7 +38,7 @@ in_piles joins (pile ∷ piles) (list ∷ lists) as_many each =
     joins.both pile.items (all_items piles) list.items (all_items lists) (each 0 pile list (omega arith))
     (in_piles joins piles lists (omega (arith, as_many)) (λ i p l within. each (suc i) p l (omega (arith, within))))
 
--- the answers that are not want of memory
+-- the answers, where memory was refused to none
 pub answer-at : {X E : Type 0} (lists : List (Vec X Global)) (answers : List (Result (Vec X Global) E)) → map (λ list. Ok list) lists ≡ answers → (i : ℕ) (list : Vec X Global) → i < length lists
     → get_or answers i (Ok list) ≡ Ok (get_or lists i list)
 answer-at {X} {E} lists answers are i list within =
@@ -46,33 +46,3 @@ answer-at {X} {E} lists answers are i list within =
 
 pub answer-count : {X E : Type 0} (lists : List (Vec X Global)) (answers : List (Result (Vec X Global) E)) → map (λ list. Ok list) lists ≡ answers → length answers ≡ length lists
 answer-count {X} {E} lists answers are = ap length (sym are) ∙ length-map lists (λ (l : Vec X Global). Ok l)
-
--- items of which some were yielded, and then this one
-pub yielded-split : {X : Type 0} (all yielded : List X) (item : X) → map (λ x. x) yielded ≡ take (length yielded) all
-    → (length yielded < length all) × (item ≡ get_or all (length yielded) item) → all ≡ yielded ++ item ∷ drop (length yielded + 1) all
-yielded-split {X} all yielded item front (within, is) =
-    sym (take-append-drop (length yielded) all)
-    ∙ ap (λ xs. xs ++ drop (length yielded) all) (sym front ∙ map-id yielded)
-    ∙ ap (λ rest. yielded ++ rest) (drop_more all (length yielded) item within ∙ ap (λ x. x ∷ drop (length yielded + 1) all) (sym is))
-
--- a fault of a list is one of the list with more behind it, and of the list with fine items in front of it
-pub record Faults {T E : Type 0} (AreFine : List T → Type 0) (HaveFault : List T → E → Type 0) : Type 0 where
-  pub with_more : (xs ys : List T) (fault : E) → HaveFault xs fault → HaveFault (xs ++ ys) fault
-  pub behind_fine : (xs ys : List T) (fault : E) → AreFine xs → HaveFault ys fault → HaveFault (xs ++ ys) fault
-
--- the answer tells that a list is fine, or a fault that it has
-abbrev pub Tells : {T X E : Type 0} → (List T → Type 0) → (List T → E → Type 0) → List T → Result X E → Type 0
-Tells AreFine HaveFault items answer = OnOk answer (AreFine items) × IfErr answer (HaveFault items)
-
--- where each answer tells of its pile, the first fault is one of all items
-pub first_fault : {T X E : Type 0} {AreFine : List T → Type 0} {HaveFault : List T → E → Type 0} → Faults AreFine HaveFault
-    → (piles : List (Vec T Global)) (before : List X) (fault : E) (behind : List (Result X E)) → length piles ≡ length (map (λ x. Ok x) before ++ Err fault ∷ behind)
-    → ((i : ℕ) (pile : Vec T Global) (answer : Result X E) → i < length piles
-    → Tells AreFine HaveFault (get_or piles i pile).items (get_or (map (λ x. Ok x) before ++ Err fault ∷ behind) i answer))
-    → HaveFault (all_items piles) fault
-first_fault faults [] before fault behind as_many each =
-    absurd (let long = length-append (map (λ x. Ok x) before) (Err fault ∷ behind) in omega (arith, as_many, long))
-first_fault faults (pile ∷ piles) [] fault behind as_many each = faults.with_more pile.items (all_items piles) fault (each 0 pile (Err fault) (omega arith)).1
-first_fault faults (pile ∷ piles) (x ∷ before) fault behind as_many each =
-    faults.behind_fine pile.items (all_items piles) fault (each 0 pile (Ok x) (omega arith)).0
-    (first_fault faults piles before fault behind (omega (arith, as_many)) (λ i p answer within. each (suc i) p answer (omega (arith, within))))

@@ -1,6 +1,6 @@
 -- When the stripes of a count may be gathered, and why not.
 -- Source: this project's own.
-use Rattle.std.specs.Prelude.{◌≡◌, ◌≢◌, ℕ, ◌<◌, ◌≤◌, ◌^◌, List, ◌∷◌, ◌++◌, length, map, sum_by, All, Some, nat_eq}
+use Rattle.std.specs.Prelude.{◌≡◌, ◌≢◌, ℕ, ◌<◌, ◌≤◌, ◌^◌, List, length, map, sum_by, All, Some, nat_eq}
 use Rattle.std.specs.Prelude.{slice_get, slice_index_or, Vec}
 use Rattle.std.specs.List.{IsDistinct}
 use Rattle.std.specs.List.Sorted.{IsPermutation}
@@ -13,7 +13,6 @@ use Rattle.kc_tally.specs.Packing.{LooseSeen}
 use Rattle.kc_gather.specs.Parts.{ArePartsOf, part_rows}
 use Rattle.kc_gather.specs.declared.gather_fault.GatherFault.{GatherFault}
 use Rattle.kc_gather.specs.declared.gather_fault.GatherFault.TheVariants.{Foreign, Missing, Memory}
-use Rattle.kc_gather.specs.declared.placed.Placed.{Placed}
 
 -- how many positions the batches have together
 abbrev pub position_sum : ℕ → List NumberedPieces → ℕ
@@ -23,15 +22,20 @@ position_sum k batches = sum_by (λ batch. position_total k batch.pieces) batche
 abbrev pub IsGiven : List NumberedPieces → NumberedPieces → Type 0
 IsGiven batches batch = slice_get batches batch.number ≡ Some batch
 
--- n is the least number of a given batch that the journal lacks
-pub record IsLeastMissing (batches journal : List NumberedPieces) (n : ℕ) : Type 0 where
-  pub given : n < length batches
-  pub missing : ¬ IsBooked journal n
-  pub least : (m : ℕ) → m < n → IsBooked journal m
+-- the journal holds a batch of each number below this one
+abbrev pub HasAllBelow : List NumberedPieces → ℕ → Type 0
+HasAllBelow journal number = (n : ℕ) → n < number → IsBooked journal n
 
 -- the journal holds a batch of each given number
 abbrev pub HasAllNumbers : List NumberedPieces → List NumberedPieces → Type 0
-HasAllNumbers batches journal = (n : ℕ) → n < length batches → IsBooked journal n
+HasAllNumbers batches journal = HasAllBelow journal (length batches)
+
+-- n is the least number of a given batch that the journal lacks, which has not as many entries as there are batches
+pub record IsLeastMissing (batches journal : List NumberedPieces) (n : ℕ) : Type 0 where
+  pub given : n < length batches
+  pub missing : ¬ IsBooked journal n
+  pub least : HasAllBelow journal n
+  pub counted : length journal ≢ length batches
 
 -- at this index stands such a stripe
 abbrev pub StandsThere : {C : Type 0} → List (StripeState C) → ℕ → (StripeState C → Type 0) → Type 0
@@ -50,11 +54,23 @@ module _ {C : Type 0} (setup : StripeSetup) (batches : List NumberedPieces) wher
     pub own : IsOwn i stripe
     pub all : HasAllNumbers batches stripe.journal
 
-  -- why a stripe at this index is refused
+  -- why a stripe at this index is refused; whatever memory there is
   abbrev pub IsStripeRefusal : ℕ → StripeState C → GatherFault → Type 0
   IsStripeRefusal i stripe (Foreign at) = (at ≡ i) × ¬ IsOwn i stripe
   IsStripeRefusal i stripe (Missing at n) = (at ≡ i) × IsOwn i stripe × IsLeastMissing batches stripe.journal n
-  IsStripeRefusal i stripe Memory = Unit
+  IsStripeRefusal i stripe Memory = ⊥
+
+  -- the journals of the stripes from one index to before another hold exactly the given batches
+  abbrev pub AreWholeIn : List (StripeState C) → ℕ → ℕ → Type 0
+  AreWholeIn stripes from to = (i : ℕ) → from ≤ i → i < to → StandsThere stripes i (IsWhole i)
+
+  -- of the stripes from one index to before another the first that isn't whole is refused for this
+  pub record IsRefusedIn (stripes : List (StripeState C)) (from to : ℕ) (fault : GatherFault) : Type 0 where
+    pub at : ℕ
+    pub behind : from ≤ at
+    pub before : at < to
+    pub whole : AreWholeIn stripes from at
+    pub refusal : StandsThere stripes at (λ stripe. IsStripeRefusal at stripe fault)
 
   -- the journals of the first n stripes hold exactly the given batches
   abbrev pub AreWholeBefore : List (StripeState C) → ℕ → Type 0
@@ -68,31 +84,11 @@ module _ {C : Type 0} (setup : StripeSetup) (batches : List NumberedPieces) wher
   abbrev pub IsLacking : List (StripeState C) → ℕ → ℕ → Type 0
   IsLacking stripes i n = StandsThere stripes i (λ stripe. IsOwn i stripe × IsLeastMissing batches stripe.journal n)
 
-  -- why the first stripe that is refused is refused; want of memory says nothing of the stripes
+  -- why the first stripe that is refused is refused; memory is wanted only where none is
   abbrev pub IsRefusal : List (StripeState C) → GatherFault → Type 0
   IsRefusal stripes (Foreign i) = AreWholeBefore stripes i × IsForeign stripes i
   IsRefusal stripes (Missing i n) = AreWholeBefore stripes i × IsLacking stripes i n
-  IsRefusal stripes Memory = Unit
-
-  -- the stripe that was given at this index is the one of this index, and whole
-  abbrev pub IsWholeThere : Placed C → Type 0
-  IsWholeThere there = IsWhole there.index there.stripe
-
-  -- the first of these stripes that is refused, wherever they were given, is refused for this; it lacks no batch if its
-  -- journal has as many entries as there are batches
-  pub record IsFirstRefusal (stripes : List (Placed C)) (fault : GatherFault) : Type 0 where
-    pub before : List (Placed C)
-    pub refused : Placed C
-    pub behind : List (Placed C)
-    pub stripes_are : stripes ≡ before ++ refused ∷ behind
-    pub whole : All IsWholeThere before
-    pub refusal : IsStripeRefusal refused.index refused.stripe fault
-    pub counted : (index n : ℕ) → fault ≡ Missing index n → length refused.stripe.journal ≢ length batches
-
--- each of the stripes with its index
-pub record AreAtPlaces {C : Type 0} (stripes : List (StripeState C)) (placed : List (Placed C)) : Type 0 where
-  pub stripes_are : map (λ there. there.stripe) placed ≡ stripes
-  pub indices_are : (i : ℕ) (there : Placed C) → i < length placed → (slice_index_or placed i there).index ≡ i
+  IsRefusal stripes Memory = AreWholeBefore stripes (length stripes)
 
 -- the rows are the words that fall in the stripes from number n on and occur in the batches, each once, with its
 -- occurrences
@@ -111,12 +107,14 @@ pub record HasRowsOf {Z : Type 0} (setup : StripeSetup) (batches : List Numbered
   pub rows_are : AreStripeRows setup n batches rows
   pub same : IsPermutation rows (part_rows parts)
 
--- what was taken from these stripes, wherever they were given: the part of each
-pub record HavePartsOf {C P : Type 0} (IsPart : ℕ → P → Type 0) (stripes : List (Placed C)) (parts : List P)
-    : Type 0 where
+-- what was taken from these stripes: of each the part, whichever stripe of which count it is
+pub record HavePartsOf {C P : Type 0} (IsPart : StripeSetup → List NumberedPieces → ℕ → P → Type 0)
+    (stripes : List (StripeState C)) (parts : List P) : Type 0 where
   pub all : length parts ≡ length stripes
-  pub each : (i : ℕ) (there : Placed C) (part : P) → i < length stripes
-      → IsPart (slice_index_or stripes i there).index (slice_index_or parts i part)
+  pub each : (i : ℕ) (stripe : StripeState C) (part : P) → i < length stripes
+      → (setup : StripeSetup) (batches : List NumberedPieces) (n : ℕ)
+      → IsWhole setup batches n (slice_index_or stripes i stripe)
+      → IsPart setup batches n (slice_index_or parts i part)
 
 -- the parts of all stripes of a count of the batches, in order; the batches have together at most 2 ^ 62 positions
 pub record AreAllParts {P : Type 0} (IsPart : StripeSetup → List NumberedPieces → ℕ → P → Type 0) (setup : StripeSetup)

@@ -2,5 +2,4 @@ pub mod Gathering
 pub mod Parts
 pub mod JoinedStripes
 pub mod Laws
-pub mod Piles
 pub mod TallyNumbers

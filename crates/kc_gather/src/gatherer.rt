@@ -1,16 +1,16 @@
 //! The tally that is gathered from the stripes of a count.
-ghost use Rattle.std.specs.Prelude.{◌≡◌, ◌≢◌, ℕ, ◌≤◌, ◌^◌, length, IfOk, OnOk, IfErr};
+ghost use Rattle.std.specs.Prelude.{◌≡◌, ◌≤◌, ◌^◌, length, IfOk, OnOk, IfErr};
 ghost use Rattle.kc_word.specs.Shared.{values};
 ghost use Rattle.kc_tally.specs.Tally.{AreRows, IsTallyOf};
 ghost use Rattle.kc_booking.specs.Setup.{stripe_count};
 ghost use Rattle.kc_booking.specs.Stripe.{reads_in};
 ghost use Rattle.kc_gather.specs.Parts.{list_rows};
 ghost use Rattle.kc_gather.specs.Gathering.{position_sum, AreWholeBefore};
-ghost use Rattle.kc_gather.specs.Gathering.{IsRefusal, StandsThere, HasRowsOf};
+ghost use Rattle.kc_gather.specs.Gathering.{IsRefusal, HasRowsOf};
 
 use crate::columns::{columns_of, sorted_each};
 use crate::gather_fault::GatherFault;
-use crate::placed::at_places;
+use crate::given_stripes::GivenStripes;
 use crate::stripe_part::{StripeNumbers, StripePart};
 use crate::summary::Summary;
 use crate::taken_parts::taken_of_each;
@@ -23,8 +23,9 @@ use std::alloc::{AllocError, Global};
 use std::sync::Arc;
 
 /// The tally of the batches, gathered from the stripes in which they were booked. It is refused unless each stripe is
-/// that of its index and its journal holds exactly the given batches, whichever stripe counted what. No batch is
-/// missing in a journal that has as many entries as there are batches.
+/// that of its index and its journal holds exactly the given batches, whichever stripe counted what. All stripes are
+/// looked at before memory is asked for. No batch is missing in a journal that has as many entries as there are
+/// batches.
 ///
 /// Conditions: as many stripes as the setup says; the batches have together at most 2^62 positions.
 pub fn gather<C: Counts + Drop>(
@@ -38,11 +39,16 @@ pub fn gather<C: Counts + Drop>(
     ensures whole { OnOk result (AreWholeBefore setup.now (values batches.now) stripes.items (length stripes.items)) }
     ensures tally { IfOk result (IsTallyOf setup.now.rule (reads_in (values batches.now))) }
     ensures refused { IfErr result (IsRefusal setup.now (values batches.now) stripes.items) }
-    ensures counted { (index batch : ℕ) → result ≡ Err (GatherFault.Missing index batch)
-        → StandsThere stripes.items index (λ stripe. length stripe.journal ≢ length batches.now) }
 {
-    let placed = at_places(alloc, stripes, setup)?;
-    let parts = taken_of_each::<Tally, C>(alloc, placed, batches, setup)?;
+    // for the proof: what is known of the number of stripes
+    setup.stripes();
+    let given = GivenStripes {
+        stripes: &stripes,
+        batches,
+        setup,
+    };
+    given.check(0, stripes.len())?;
+    let parts = taken_of_each::<Tally, C>(alloc, stripes)?;
     let sort = |columns| sorted_each(alloc, columns);
     let tally = Tally::of_parts(alloc, parts, setup, &sort)?;
     Ok(tally)

@@ -1,22 +1,19 @@
 //! Whether a stripe's journal holds the batches that were given.
-ghost use Rattle.std.specs.Prelude.{◌≡◌, ◌≢◌, ℕ, ◌<◌, ◌↔◌, ◌≤◌, length, replicate, All, true, false};
-ghost use Rattle.std.specs.Prelude.{IsTrue, IfOk, OnOk, IfErr, IfSome, IfNone, slice_index_or};
-ghost use Rattle.std.specs.Vec.{vec_capacity};
+ghost use Rattle.std.specs.Prelude.{◌≡◌, ◌<◌, ◌↔◌, All, count_by, nat_lt, MatchBool};
+ghost use Rattle.std.specs.Prelude.{IsTrue, OnOk, IfErr, IfSome, IfNone};
 ghost use Rattle.kc_word.specs.Shared.{values};
-ghost use Rattle.kc_booking.specs.Stripe.{IsBooked};
-ghost use Rattle.kc_gather.specs.Gathering.{HasAllNumbers, IsGiven, IsLeastMissing, IsOwn, IsStripeRefusal, IsWhole};
+ghost use Rattle.kc_booking.specs.Stripe.{NumbersDiffer};
+ghost use Rattle.kc_gather.specs.Gathering.{HasAllBelow, HasAllNumbers, IsGiven, IsLeastMissing};
+ghost use Rattle.kc_gather.specs.Gathering.{IsOwn, IsStripeRefusal, IsWhole};
 
 use crate::gather_fault::GatherFault;
 use kc_booking::{Setup, Stripe};
 use kc_table::Counts;
 use kc_word::Batch;
-use std::alloc::{AllocError, Global};
 use std::sync::Arc;
 
-/// Whether the stripe is that of this index, and its journal holds exactly the given batches. A stripe that is not its
-/// own is foreign, whatever memory there is.
+/// Whether the stripe is that of this index, and its journal holds exactly the given batches. It takes no memory.
 pub(crate) fn check_stripe<C: Counts>(
-    alloc: Global,
     index: u32,
     stripe: &Stripe<C>,
     batches: &[Arc<Batch>],
@@ -26,13 +23,13 @@ pub(crate) fn check_stripe<C: Counts>(
     ensures refused { IfErr result (IsStripeRefusal setup.now (values batches.now) index stripe.now) }
     ensures foreign { result ≡ Err (GatherFault.Foreign index)
         ↔ ¬ IsOwn setup.now (values batches.now) index stripe.now }
-    ensures counted { (at batch : ℕ) → result ≡ Err (GatherFault.Missing at batch)
-        → length stripe.now.journal ≢ length (values batches.now) }
 {
     if !is_own(index, stripe, batches, setup) {
         return Err(GatherFault::Foreign(index));
     }
-    match first_missing(alloc, stripe, batches)? {
+    // for the proof: the numbers in the journal differ
+    stripe.is_lawful();
+    match first_missing(stripe.journal(), batches) {
         Some(number) => Err(GatherFault::Missing(index, number)),
         None => Ok(()),
     }
@@ -43,25 +40,6 @@ fn is_own<C: Counts>(index: u32, stripe: &Stripe<C>, batches: &[Arc<Batch>], set
     ensures { IsTrue result ↔ IsOwn setup.now (values batches.now) index stripe.now }
 {
     stripe.setup() == setup && stripe.number() == index && are_given(stripe.journal(), batches)
-}
-
-// The least number of a given batch that the stripe's journal lacks. Condition: each batch in the journal is the one
-// that is given under its number.
-fn first_missing<C: Counts>(
-    alloc: Global,
-    stripe: &Stripe<C>,
-    batches: &[Arc<Batch>],
-) -> Result<Option<u64>, AllocError>
-    requires { All (IsGiven (values batches.now)) stripe.now.journal }
-    ensures least { IfOk result (λ answer. IfSome answer (IsLeastMissing (values batches.now) stripe.now.journal)) }
-    ensures counted { IfOk result (λ answer. IfSome answer (λ _.
-        length stripe.now.journal ≢ length (values batches.now))) }
-    ensures none { IfOk result (λ answer. IfNone answer (HasAllNumbers (values batches.now) stripe.now.journal)) }
-{
-    // for the proof: what is known of the journal
-    stripe.is_lawful();
-    let marks = booked_marks(alloc, stripe.journal(), batches)?;
-    Ok(first_unset(&marks))
 }
 
 // Whether the batch is the one that is given under its number.
@@ -84,46 +62,49 @@ fn are_given(journal: &[Arc<Batch>], batches: &[Arc<Batch>]) -> bool
     true
 }
 
-// For each given batch, in order, whether the journal holds one of its number.
-fn booked_marks(
-    alloc: Global,
-    journal: &[Arc<Batch>],
-    batches: &[Arc<Batch>],
-) -> Result<Vec<bool>, AllocError>
-    requires { All (IsGiven (values batches.now)) (values journal.now) }
-    ensures one_each { IfOk result (λ marks. length marks.items ≡ length batches.now) }
-    ensures marks { IfOk result (λ marks. (n : ℕ) → n < length batches.now
-        → (slice_index_or marks.items n false ≡ true) ↔ IsBooked (values journal.now) n) }
+// The least number of a given batch that the journal lacks. It is looked for by halving, without memory: of numbers
+// that differ as many as m are below m exactly where none of them is lacking. Conditions: the numbers in the journal
+// differ, and each batch in it is the one that is given under its number.
+fn first_missing(journal: &[Arc<Batch>], batches: &[Arc<Batch>]) -> Option<u64>
+    requires differ { NumbersDiffer (values journal.now) }
+    requires given { All (IsGiven (values batches.now)) (values journal.now) }
+    ensures least { IfSome result (IsLeastMissing (values batches.now) (values journal.now)) }
+    ensures none { IfNone result (HasAllNumbers (values batches.now) (values journal.now)) }
 {
-    let mut marks = unset_marks(alloc, batches)?;
-    for batch in journal {
-        marks[batch.number() as usize] = true;
+    let mut to = batches.len() as u64;
+    if has_all_below(journal, to) {
+        return None;
     }
-    Ok(marks)
-}
-
-// For each given batch a mark that isn't set, in room for these alone.
-fn unset_marks(alloc: Global, batches: &[Arc<Batch>]) -> Result<Vec<bool>, AllocError>
-    ensures unset { IfOk result (λ marks. marks.items ≡ replicate (length batches.now) false) }
-    ensures bounded { IfOk result (λ marks. vec_capacity marks ≤ length batches.now) }
-{
-    let mut marks = Vec::with_capacity(alloc, batches.len())?;
-    for _ in 0..batches.len() {
-        marks.push_reserved(false);
-    }
-    Ok(marks)
-}
-
-// The index of the first mark that isn't set.
-fn first_unset(marks: &[bool]) -> Option<u64>
-    ensures found { IfSome result (λ n. (n < length marks.now) × (slice_index_or marks.now n true ≡ false)) }
-    ensures before { IfSome result (λ n. (m : ℕ) → m < n → slice_index_or marks.now m false ≡ true) }
-    ensures none { IfNone result ((m : ℕ) → m < length marks.now → slice_index_or marks.now m false ≡ true) }
-{
-    for (i, mark) in marks.iter().enumerate() {
-        if !*mark {
-            return Some(i as u64);
+    let mut from = 0;
+    while to - from > 1 {
+        let middle = from + (to - from) / 2;
+        if has_all_below(journal, middle) {
+            from = middle;
+        } else {
+            to = middle;
         }
     }
-    None
+    Some(from)
+}
+
+// Whether the journal holds a batch of each number below this one. Condition: its numbers differ.
+fn has_all_below(journal: &[Arc<Batch>], number: u64) -> bool
+    requires { NumbersDiffer (values journal.now) }
+    ensures { MatchBool result (HasAllBelow (values journal.now) number)
+        (¬ HasAllBelow (values journal.now) number) }
+{
+    count_below(journal, number) == number
+}
+
+// How many batches in the journal have a number below this one.
+fn count_below(journal: &[Arc<Batch>], number: u64) -> u64
+    ensures { result ≡ count_by (λ batch. nat_lt batch.number number) (values journal.now) }
+{
+    let mut below = 0;
+    for batch in journal {
+        if batch.number() < number {
+            below += 1;
+        }
+    }
+    below
 }

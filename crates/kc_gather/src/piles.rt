@@ -1,8 +1,7 @@
 //! Items that are dealt out in piles, one for each thread, and what the threads answer, joined.
-ghost use Rattle.std.specs.Prelude.{◌≡◌, ◌≤◌, ◌^◌, ◌-◌, [], ◌∷◌, ◌++◌, length, map, min, IfOk, IfErr, Ok};
+ghost use Rattle.std.specs.Prelude.{◌≡◌, ◌≤◌, ◌^◌, ◌-◌, [], ◌∷◌, ◌++◌, length, map, min, IfOk, Ok};
 ghost use Rattle.std.specs.List.{flat_map};
 ghost use Rattle.std.specs.Vec.{vec_capacity};
-ghost use Rattle.kc_gather.specs.Piles.{IsFirstFault};
 
 use kc_lemmas::room_for_each;
 use std::alloc::{AllocError, Global};
@@ -58,22 +57,18 @@ fn total_weight<T: Weighed>(items: &[T]) -> usize {
     total
 }
 
-/// The lists that were answered, or the first fault that was answered.
-pub(crate) fn all_ok<T: Drop, E: Drop>(
+/// The lists that were answered. Memory is refused where it was refused to one of them.
+pub(crate) fn all_ok<T: Drop>(
     alloc: Global,
-    answers: Vec<Result<Vec<T>, E>>,
-) -> Result<Result<Vec<Vec<T>>, E>, AllocError>
-    ensures lists { IfOk result (λ all. IfOk all (λ lists. map (λ list. Ok list) lists.items ≡ answers.items)) }
-    ensures fault { IfOk result (λ all. IfErr all (λ fault. IsFirstFault answers.items fault)) }
+    answers: Vec<Result<Vec<T>, AllocError>>,
+) -> Result<Vec<Vec<T>>, AllocError>
+    ensures { IfOk result (λ lists. map (λ list. Ok list) lists.items ≡ answers.items) }
 {
     let mut lists = room_for_each(alloc, &answers)?;
     for answer in answers {
-        match answer {
-            Ok(list) => lists.push(list)?,
-            Err(fault) => return Ok(Err(fault)),
-        }
+        lists.push(answer?)?;
     }
-    Ok(Ok(lists))
+    Ok(lists)
 }
 
 /// All items, one list after the other. Each list is freed as soon as its items are taken.

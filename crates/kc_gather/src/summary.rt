@@ -1,18 +1,18 @@
 //! `Summary`, what a count may end in: the tally of its batches or, with no row taken, the numbers of that tally.
-ghost use Rattle.std.specs.Prelude.{◌≡◌, ◌≢◌, ℕ, ◌≤◌, ◌^◌, List, length, IfOk, OnOk, IfErr};
+ghost use Rattle.std.specs.Prelude.{◌≡◌, ℕ, ◌≤◌, ◌^◌, List, length, IfOk, OnOk, IfErr};
 ghost use Rattle.kc_fastx.specs.Reads.{Read};
 ghost use Rattle.kc_kmer.specs.Rule.{CountingRule};
 ghost use Rattle.kc_word.specs.Cutting.{NumberedPieces};
 ghost use Rattle.kc_word.specs.Shared.{values};
 ghost use Rattle.kc_booking.specs.Setup.{StripeSetup, stripe_count};
 ghost use Rattle.kc_booking.specs.Stripe.{reads_in};
-ghost use Rattle.kc_gather.specs.Gathering.{position_sum, AreWholeBefore, IsRefusal, StandsThere};
+ghost use Rattle.kc_gather.specs.Gathering.{position_sum, AreWholeBefore, IsRefusal};
 ghost use Rattle.kc_gather.specs.Gathering.{IsWhole, AreAllParts};
 ghost use Rattle.kc_gather.specs.Parts.{AreSorted, list_rows};
 
 use crate::columns::sorted_in_parallel;
 use crate::gather_fault::GatherFault;
-use crate::placed::at_places;
+use crate::given_stripes::GivenStripes;
 use crate::stripe_part::StripePart;
 use crate::taken_parts::taken_in_parallel;
 use kc_booking::{Setup, Stripe};
@@ -61,7 +61,7 @@ pub trait Summary: Sized + Send {
     ///
     /// Conditions: those of `gather`, and at least one thread.
     // It is final, since the checker takes no function of an impl that hands a bounded type to another thread.
-    final fn gathered<C: Counts + Drop + Send, H: Threads + Sync>(
+    final fn gathered<C: Counts + Drop + Send + Sync, H: Threads + Sync>(
         rt: &H,
         alloc: Global,
         threads: u32,
@@ -76,11 +76,16 @@ pub trait Summary: Sized + Send {
             (AreWholeBefore setup.now (values batches.now) stripes.items (length stripes.items)) }
         ensures summary { IfOk result (is_of setup.now.rule (reads_in (values batches.now))) }
         ensures refused { IfErr result (IsRefusal setup.now (values batches.now) stripes.items) }
-        ensures counted { (index batch : ℕ) → result ≡ Err (GatherFault.Missing index batch)
-            → StandsThere stripes.items index (λ stripe. length stripe.journal ≢ length batches.now) }
     {
-        let placed = at_places(alloc, stripes, setup)?;
-        let parts = taken_in_parallel::<Self, C, H>(rt, alloc, threads, placed, batches, setup)?;
+        // for the proof: what is known of the number of stripes
+        setup.stripes();
+        let given = GivenStripes {
+            stripes: &stripes,
+            batches,
+            setup,
+        };
+        given.check_by(rt, threads, 0, stripes.len())?;
+        let parts = taken_in_parallel::<Self, C, H>(rt, alloc, threads, stripes)?;
         let sort = |columns: Vec<LooseLists>| -> Result<Vec<PackedRows>, AllocError>
             requires { 1 ≤ threads }
             ensures { IfOk result (λ sorted. AreSorted (λ column. column.rows) columns.items (list_rows sorted)) }

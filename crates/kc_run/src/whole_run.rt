@@ -36,7 +36,12 @@ use std::thread::Threads;
 ///
 /// Conditions: 1 to 64 workers; at most 2^40 batches, with together at most 2^62 positions; a table for each stripe,
 /// with nothing stored and keys of the setup's `key_bits`.
-pub fn run<S: Summary, H: Threads + Wait + Sync, C: Counts + Drop + Send, G: Gate + Sync>(
+pub fn run<
+    S: Summary,
+    H: Threads + Wait + Sync,
+    C: Counts + Drop + Send + Sync,
+    G: Gate + Sync,
+>(
     rt: &H,
     alloc: Global,
     batches: &[Arc<Batch>],
@@ -129,7 +134,7 @@ fn counted<
 
 // The summary that is gathered from the stripes. No stripe lacks a batch, since each journal has as many entries as
 // there are batches.
-fn gathered<S: Summary, H: Threads + Sync, C: Counts + Drop + Send, G: Gate>(
+fn gathered<S: Summary, H: Threads + Sync, C: Counts + Drop + Send + Sync, G: Gate>(
     rt: &H,
     alloc: Global,
     count: &Count<G>,

@@ -86,7 +86,7 @@ pub(crate) struct Case<'a> {
 pub(crate) fn run_over<
     S: Summary,
     H: Threads + Wait + Sync,
-    C: Counts + Drop + Send,
+    C: Counts + Drop + Send + Sync,
     G: Gate + Sync,
 >(
     rt: &H,
