@@ -1,11 +1,11 @@
 -- A lawful stripe: it holds the counts of the batches that its journal names.
 -- Source: the occurrences of a word, Marçais and Kingsford 2011; the stripes and their journals are this project's.
-use Rattle.std.specs.Prelude.{◌≡◌, ℕ, Bool, ◌<◌, ◌≤◌, ◌^◌, List, map, sum, All, Contains, nat_eq}
+use Rattle.std.specs.Prelude.{◌≡◌, ℕ, Bool, ◌<◌, ◌≤◌, ◌^◌, List, map, sum, sum_by, All, Contains, nat_eq}
 use Rattle.std.specs.List.{IsDistinct, flat_map, list_any}
 use Rattle.kc_fastx.specs.Reads.{Read}
 use Rattle.kc_kmer.specs.Word.{text}
 use Rattle.kc_kmer.specs.Occurrences.{occurrences}
-use Rattle.kc_word.specs.Cutting.{NumberedPieces, as_reads}
+use Rattle.kc_word.specs.Cutting.{NumberedPieces, position_total, as_reads}
 use Rattle.kc_table.specs.Counts.{KeyCounts, count_at}
 use Rattle.kc_tally.specs.declared.row.Row.{Row}
 use Rattle.kc_tally.specs.Tally.{count_of}
@@ -35,6 +35,10 @@ NumbersDiffer journal = IsDistinct nat_eq (numbers_of journal)
 -- it is known of each number whether it is in the journal
 abbrev pub KnowsNumbers : (ℕ → Bool) → List NumberedPieces → Type 0
 KnowsNumbers known journal = (n : ℕ) → known n ≡ list_any (nat_eq n) (numbers_of journal)
+
+-- how many positions the batches have together
+abbrev pub position_sum : ℕ → List NumberedPieces → ℕ
+position_sum k batches = sum_by (λ batch. position_total k batch.pieces) batches
 
 -- the pieces of the batches in a journal, each as a read without qualities
 abbrev pub reads_in : List NumberedPieces → List Read

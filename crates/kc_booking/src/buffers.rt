@@ -1,5 +1,5 @@
 //! Vectors that are made once and kept: they are emptied, and their room stays.
-ghost use Rattle.std.specs.Prelude.{◌≡◌, ℕ, ◌+◌, ◌<◌, ◌≤◌, [], length, max, slice_index, IfOk, OnOk};
+ghost use Rattle.std.specs.Prelude.{◌≡◌, ℕ, ◌+◌, ◌<◌, ◌≤◌, ◌⊎◌, [], length, max, slice_index, IfOk, OnOk};
 ghost use Rattle.std.specs.Vec.{vec_capacity};
 ghost use Rattle.kc_booking.specs.Round.{items_at, room_at, rooms_of, with_an_eighth};
 
@@ -50,6 +50,8 @@ pub(crate) fn make_room_for<T>(vec: &mut Vec<T>, more: usize) -> Result<(), Allo
     ensures room { OnOk result (length vec.old.items + more ≤ vec_capacity vec.new) }
     ensures bounded { vec_capacity vec.new ≤ max (vec_capacity vec.old)
         (with_an_eighth (length vec.old.items + more)) }
+    ensures grown { OnOk result ((vec_capacity vec.new ≡ vec_capacity vec.old)
+        ⊎ (with_an_eighth (length vec.old.items + more) ≤ vec_capacity vec.new)) }
 {
     if more <= vec.capacity() - vec.len() {
         return Ok(());

@@ -353,6 +353,8 @@ fn make_room(
     ensures same_numbers { (n : ℕ) → contains nat_eq booked.new n ≡ contains nat_eq booked.old n }
     ensures bounded { vec_capacity journal.new
         ≤ max (vec_capacity journal.old) (2 * length journal.old.items + more) }
+    ensures doubled { OnOk result ((vec_capacity journal.new ≡ vec_capacity journal.old)
+        ⊎ (2 * length journal.old.items + more ≤ vec_capacity journal.new)) }
 {
     if journal.capacity() - journal.len() < more {
         journal.reserve_exact(journal.len().saturating_add(more))?;

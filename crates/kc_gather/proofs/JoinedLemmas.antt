@@ -22,8 +22,8 @@ use Rattle.kc_tally.proofs.StatisticsLemmas.{distinct-bins, statistics-are}
 use Rattle.kc_tally.proofs.Tallies.{tally_total}
 use Rattle.kc_tally.proofs.WholeTallies.{has_tally}
 use Rattle.kc_booking.specs.Setup.{StripeSetup, word_count, stripe_count, stripe_of}
-use Rattle.kc_booking.specs.Stripe.{StripeState, NumbersDiffer, reads_in, word_occurrences, stripe_occurrences}
-use Rattle.kc_gather.specs.Gathering.{IsWhole, position_sum}
+use Rattle.kc_booking.specs.Stripe.{StripeState, NumbersDiffer, reads_in, word_occurrences, stripe_occurrences, position_sum}
+use Rattle.kc_gather.specs.Gathering.{IsWhole}
 use Rattle.kc_gather.specs.declared.stripe_part.StripeNumbers.{StripeNumbers}
 use Rattle.kc_gather.specs.JoinedStripes.{first_counts, AreNumbersOf}
 use Rattle.kc_gather.specs.declared.gathered_numbers.Numbers.{Numbers}

@@ -6,10 +6,10 @@ use Rattle.std.proofs.Math.ListN.{get_or-append}
 use Rattle.std.proofs.lemmas.Option.{get_or_from_slice_get}
 use Rattle.kc_word.specs.Cutting.{NumberedPieces}
 use Rattle.kc_booking.specs.Setup.{StripeSetup, stripe_count}
-use Rattle.kc_booking.specs.Stripe.{StripeState}
+use Rattle.kc_booking.specs.Stripe.{StripeState, position_sum}
 use Rattle.kc_tally.specs.Packing.{LooseSeen}
 use Rattle.kc_gather.specs.declared.stripe_part.StripePart.{StripePart}
-use Rattle.kc_gather.specs.Gathering.{IsWhole, AreWholeBefore, HavePartsOf, AreAllParts, HasRowsOf, position_sum}
+use Rattle.kc_gather.specs.Gathering.{IsWhole, AreWholeBefore, HavePartsOf, AreAllParts, HasRowsOf}
 
 -- what is a part of one kind
 module _ {C P : Type 0} (IsPart : StripeSetup → List NumberedPieces → ℕ → P → Type 0) where

@@ -21,10 +21,10 @@ use Rattle.kc_tally.specs.declared.row.Row.{Row}
 use Rattle.kc_tally.specs.Tally.{TallySeen, row_of, AreRows, IsTally, IsTallyOf}
 use Rattle.kc_tally.proofs.Tallies.{tally_total}
 use Rattle.kc_booking.specs.Setup.{StripeSetup, word_count, stripe_of}
-use Rattle.kc_booking.specs.Stripe.{reads_in}
+use Rattle.kc_booking.specs.Stripe.{reads_in, position_sum}
 use Rattle.kc_tally.specs.Packing.{LooseSeen, ListsSeen}
 use Rattle.kc_gather.specs.Parts.{ArePartsOf, AreColumnsOf, AreSorted, part_rows, part_shift}
-use Rattle.kc_gather.specs.Gathering.{AreRowsFrom, AreAllParts, HasRowsOf, position_sum}
+use Rattle.kc_gather.specs.Gathering.{AreRowsFrom, AreAllParts, HasRowsOf}
 use Rattle.kc_gather.proofs.PartLemmas.{in_column, AreSorted-permutation, AreSorted-rise}
 use Rattle.kc_gather.proofs.Rows.{words_in_rows, weight_of, count_of-sum, distinct-permuted, AreRowsFrom-taken}
 

@@ -1,22 +1,18 @@
 -- When the stripes of a count may be gathered, and why not.
 -- Source: this project's own.
-use Rattle.std.specs.Prelude.{◌≡◌, ◌≢◌, ℕ, ◌<◌, ◌≤◌, ◌^◌, List, length, map, sum_by, All, Some, nat_eq}
+use Rattle.std.specs.Prelude.{◌≡◌, ◌≢◌, ℕ, ◌<◌, ◌≤◌, ◌^◌, List, length, map, All, Some, nat_eq}
 use Rattle.std.specs.Prelude.{slice_get, slice_index_or, Vec}
 use Rattle.std.specs.List.{IsDistinct}
 use Rattle.std.specs.List.Sorted.{IsPermutation}
-use Rattle.kc_word.specs.Cutting.{NumberedPieces, position_total}
+use Rattle.kc_word.specs.Cutting.{NumberedPieces}
 use Rattle.kc_tally.specs.declared.row.Row.{Row}
 use Rattle.kc_tally.specs.Tally.{count_of}
 use Rattle.kc_booking.specs.Setup.{StripeSetup, word_count, stripe_count, stripe_of}
-use Rattle.kc_booking.specs.Stripe.{StripeState, IsBooked, AreStripeRows, word_occurrences}
+use Rattle.kc_booking.specs.Stripe.{StripeState, IsBooked, AreStripeRows, position_sum, word_occurrences}
 use Rattle.kc_tally.specs.Packing.{LooseSeen}
 use Rattle.kc_gather.specs.Parts.{ArePartsOf, part_rows}
 use Rattle.kc_gather.specs.declared.gather_fault.GatherFault.{GatherFault}
 use Rattle.kc_gather.specs.declared.gather_fault.GatherFault.TheVariants.{Foreign, Missing, Memory}
-
--- how many positions the batches have together
-abbrev pub position_sum : ℕ → List NumberedPieces → ℕ
-position_sum k batches = sum_by (λ batch. position_total k batch.pieces) batches
 
 -- the batch is the one that is given under its number, that is, at this index
 abbrev pub IsGiven : List NumberedPieces → NumberedPieces → Type 0

@@ -3,9 +3,9 @@ ghost use Rattle.std.specs.Prelude.{◌≡◌, ◌≤◌, ◌^◌, length, IfOk,
 ghost use Rattle.kc_word.specs.Shared.{values};
 ghost use Rattle.kc_tally.specs.Tally.{AreRows, IsTallyOf};
 ghost use Rattle.kc_booking.specs.Setup.{stripe_count};
-ghost use Rattle.kc_booking.specs.Stripe.{reads_in};
+ghost use Rattle.kc_booking.specs.Stripe.{reads_in, position_sum};
 ghost use Rattle.kc_gather.specs.Parts.{list_rows};
-ghost use Rattle.kc_gather.specs.Gathering.{position_sum, AreWholeBefore};
+ghost use Rattle.kc_gather.specs.Gathering.{AreWholeBefore};
 ghost use Rattle.kc_gather.specs.Gathering.{IsRefusal, HasRowsOf};
 
 use crate::columns::{columns_of, sorted_each};

@@ -5,8 +5,8 @@ ghost use Rattle.kc_kmer.specs.Rule.{CountingRule};
 ghost use Rattle.kc_word.specs.Cutting.{NumberedPieces};
 ghost use Rattle.kc_word.specs.Shared.{values};
 ghost use Rattle.kc_booking.specs.Setup.{StripeSetup, stripe_count};
-ghost use Rattle.kc_booking.specs.Stripe.{reads_in};
-ghost use Rattle.kc_gather.specs.Gathering.{position_sum, AreWholeBefore, IsRefusal};
+ghost use Rattle.kc_booking.specs.Stripe.{reads_in, position_sum};
+ghost use Rattle.kc_gather.specs.Gathering.{AreWholeBefore, IsRefusal};
 ghost use Rattle.kc_gather.specs.Gathering.{IsWhole, AreAllParts};
 ghost use Rattle.kc_gather.specs.Parts.{AreSorted, list_rows};
 

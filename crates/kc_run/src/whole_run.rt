@@ -5,8 +5,7 @@ ghost use Rattle.kc_word.specs.Shared.{values};
 ghost use Rattle.kc_share.specs.Sheet.{plan_of};
 ghost use Rattle.kc_share.specs.Share.{entry_total_in};
 ghost use Rattle.kc_booking.specs.Setup.{stripe_count, key_bits};
-ghost use Rattle.kc_booking.specs.Stripe.{reads_in};
-ghost use Rattle.kc_gather.specs.Gathering.{position_sum};
+ghost use Rattle.kc_booking.specs.Stripe.{reads_in, position_sum};
 ghost use Rattle.kc_run.specs.Runs.{HaveCounted, IsReady, IsGatheringFault, IsRunFault};
 
 use crate::crew::{joined, work_all, workers_of};

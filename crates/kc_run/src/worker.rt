@@ -2,7 +2,7 @@
 ghost use Rattle.std.specs.Prelude.{◌≡◌, ◌+◌, ◌<◌, ◌≤◌, ◌⊎◌, [], IfOk, IfErr, OnOk};
 ghost use Rattle.std.specs.Prelude.{length};
 ghost use Rattle.kc_tickets.specs.Tickets.{IsSeatOf, IsDone, answers_of};
-ghost use Rattle.kc_gather.specs.Gathering.{position_sum};
+ghost use Rattle.kc_booking.specs.Stripe.{position_sum};
 ghost use Rattle.kc_run.specs.Runs.{IsJob, IsReady, HasWorked, IsWorkerFault, but_last};
 
 use crate::gate::Gate;

@@ -4,7 +4,7 @@ ghost use Rattle.std.specs.FinMap.{empty};
 ghost use Rattle.kc_word.specs.Shared.{values};
 ghost use Rattle.kc_table.specs.QuotientTable.{counts_in};
 ghost use Rattle.kc_booking.specs.Setup.{stripe_count, key_bits};
-ghost use Rattle.kc_gather.specs.Gathering.{position_sum};
+ghost use Rattle.kc_booking.specs.Stripe.{position_sum};
 
 use crate::run_assertions::assert_same;
 use kc_fastx::SeqRead;

@@ -2,7 +2,7 @@
 ghost use Rattle.std.specs.Prelude.{◌≡◌, ◌≤◌, ◌^◌, IfOk, length};
 ghost use Rattle.kc_booking.specs.Setup.{stripe_count};
 ghost use Rattle.kc_word.specs.Shared.{values};
-ghost use Rattle.kc_gather.specs.Gathering.{position_sum};
+ghost use Rattle.kc_booking.specs.Stripe.{position_sum};
 
 use crate::sample_batches::{book_batch, made_setup, plain_stripes, read_of};
 use crate::stripe_assertions::{assert_items, assert_same};

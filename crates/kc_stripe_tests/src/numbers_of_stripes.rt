@@ -1,7 +1,7 @@
 //! Numbers that are gathered from the stripes of a count, without a row.
 ghost use Rattle.std.specs.Prelude.{◌≤◌, ◌^◌};
 ghost use Rattle.kc_word.specs.Shared.{values};
-ghost use Rattle.kc_gather.specs.Gathering.{position_sum};
+ghost use Rattle.kc_booking.specs.Stripe.{position_sum};
 
 use crate::gatherings::{batches_of, stripes_of};
 use crate::sample_batches::made_setup;

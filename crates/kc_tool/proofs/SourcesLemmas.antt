@@ -22,8 +22,7 @@ use Rattle.kc_word.specs.declared.batch.Batch.{Batch}
 use Rattle.kc_kmer.specs.Rule.{CountingRule, with_list}
 use Rattle.kc_kmer.specs.Occurrences.{is_usable}
 use Rattle.kc_tally.specs.Tally.{IsTallyOf, TallySeen}
-use Rattle.kc_booking.specs.Stripe.{reads_in}
-use Rattle.kc_gather.specs.Gathering.{position_sum}
+use Rattle.kc_booking.specs.Stripe.{reads_in, position_sum}
 use Rattle.kc_gather.proofs.LawLemmas.{cutting_tally}
 use Rattle.kc_report.specs.declared.origin.Origin.{Origin}
 use Rattle.kc_command.specs.Settings.{Settings, rule_of}

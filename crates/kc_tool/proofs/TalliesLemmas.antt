@@ -12,7 +12,7 @@ use Rattle.kc_hash.proofs.Generator.{length-seed_columns}
 use Rattle.kc_hash.proofs.Linear.{length-identity}
 use Rattle.kc_word.specs.Cutting.{batch_count, cutting, position_total}
 use Rattle.kc_word.proofs.Cuttings.{cutting-positions, length-cutting, position_total-le}
-use Rattle.kc_gather.specs.Gathering.{position_sum}
+use Rattle.kc_booking.specs.Stripe.{position_sum}
 
 -- The batches of a cutting have no more positions than the pieces have letters.
 pub small_cutting : (k size : ℕ) (pieces : List (List ℕ)) → 1 ≤ k → 1 ≤ size

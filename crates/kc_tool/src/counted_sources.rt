@@ -5,7 +5,7 @@ ghost use Rattle.std.specs.Prelude.{◌≡◌, ◌≤◌, ◌<◌, ◌+◌, ◌^
 ghost use Rattle.kc_fastx.specs.Parsing.{most_bytes};
 ghost use Rattle.kc_word.specs.Shared.{values};
 ghost use Rattle.kc_booking.specs.Setup.{stripe_count};
-ghost use Rattle.kc_gather.specs.Gathering.{position_sum};
+ghost use Rattle.kc_booking.specs.Stripe.{position_sum};
 ghost use Rattle.kc_tool.specs.CountedTallies.{KnowsOne};
 ghost use Rattle.kc_tool.specs.GivenSources.{Keeps, seen_in};
 ghost use Rattle.kc_report.specs.Table.{IsOrigin, MaySay};

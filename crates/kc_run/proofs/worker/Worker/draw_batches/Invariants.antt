@@ -1,6 +1,6 @@
 use Rattle.std.proofs.Common.{◌≡◌, ◌+◌, ◌-◌, ◌<◌, ◌⊎◌, length}
 use Rattle.kc_tickets.specs.Tickets.{IsSeatOf, IsDone, answers_of}
-use Rattle.kc_gather.specs.Gathering.{position_sum}
+use Rattle.kc_booking.specs.Stripe.{position_sum}
 use Rattle.kc_run.proofs.worker.Worker.draw_batches.Given as goal
 
 abbrev pub invariant-loop-taken : goal.invariant-loop-taken
