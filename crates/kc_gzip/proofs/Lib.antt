@@ -4,6 +4,7 @@ pub mod CodeLemmas
 pub mod CrcLemmas
 pub mod ElementLemmas
 pub mod FollowLemmas
+pub mod LookupLemmas
 pub mod SearchLemmas
 pub mod StageLemmas
 pub mod SteadyLemmas

@@ -22,6 +22,7 @@ mod elements;
 mod faults;
 mod gunzips;
 pub mod laws;
+mod lookups;
 mod members;
 mod stages;
 mod unzip;
