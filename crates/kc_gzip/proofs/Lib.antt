@@ -3,6 +3,13 @@ pub mod BlockLemmas
 pub mod CodeLemmas
 pub mod CrcLemmas
 pub mod ElementLemmas
+pub mod FollowLemmas
+pub mod LookupLemmas
 pub mod SearchLemmas
+pub mod StageLemmas
+pub mod SteadyLemmas
+pub mod SteadyMembers
+pub mod SteadyReadings
 pub mod StepLemmas
 pub mod TableLemmas
+pub mod WindowLemmas

@@ -6,4 +6,6 @@ pub mod Crc
 pub mod Elements
 pub mod Members
 pub mod Reading
+pub mod Following
 pub mod Search
+pub mod Unzipping

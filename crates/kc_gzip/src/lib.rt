@@ -20,9 +20,15 @@ mod completeness;
 mod dynamic_codes;
 mod elements;
 mod faults;
+mod gunzips;
 pub mod laws;
+mod lookups;
 mod members;
+mod stages;
+mod unzip;
 
 pub use checksum::crc32;
 pub use faults::GzipFault;
+pub use gunzips::Gunzip;
 pub use members::gunzip;
+pub use unzip::GunzipFault;
