@@ -1,3 +1,4 @@
+pub mod AllowedLemmas
 pub mod CrewLemmas
 pub mod EntryLemmas
 pub mod RoundLemmas

@@ -3,24 +3,34 @@
 use Rattle.std.specs.Prelude.{◌≡◌, ℕ, ◌+◌, ◌-◌, ◌<◌, ◌≤◌, ◌⊎◌, max, List, [], All, Option, Some, None, Result, Ok, Err}
 use Rattle.std.specs.Prelude.{IfOk, IfErr}
 use Rattle.std.specs.Prelude.{length, map, sum_by, slice_get, take}
+use Rattle.std.specs.declared.alloc.Global.{Global}
+use Rattle.std.specs.declared.sync.Arc.{Arc}
+use Rattle.kc_word.specs.Cutting.{NumberedPieces}
+use Rattle.kc_word.specs.Shared.{values}
+use Rattle.kc_word.specs.declared.batch.Batch.{Batch}
 use Rattle.kc_share.specs.declared.entry.Plan.{Plan}
 use Rattle.kc_share.specs.declared.entry.Booking.{Booking}
 use Rattle.kc_share.specs.Share.{ShareSeen, share_of, entry_total_in}
+use Rattle.kc_table.specs.Counts.{KeyCounts}
 use Rattle.kc_booking.specs.Setup.{StripeSetup, stripe_count}
 use Rattle.kc_booking.specs.Stripe.{StripeState}
 use Rattle.kc_booking.specs.declared.booking_fault.BookFault.{BookFault}
 use Rattle.kc_booking.specs.declared.booking_fault.BookFault.TheVariants as book
+use Rattle.kc_stripe.specs.Terms.{MayBeTooMany}
 use Rattle.kc_gather.specs.declared.gather_fault.GatherFault.{GatherFault}
 use Rattle.kc_gather.specs.declared.gather_fault.GatherFault.TheVariants as gather
 use Rattle.kc_tickets.specs.Tickets.{TicketsSeen, SeatSeen, IsSeatOf, IsDone, answers_of}
 use Rattle.kc_run.specs.declared.run_fault.RunFault.{RunFault}
 use Rattle.kc_run.specs.declared.run_fault.RunFault.TheVariants as run
 
--- what the workers share belongs together: as many numbers are drawn from the tickets as there are batches, and the
--- sheet of this plan is for the stripes of this setup
-pub record IsJob (tickets : TicketsSeen) (plan : Plan) (batches : ℕ) (setup : StripeSetup) : Type 0 where
-  pub limit : tickets.limit ≡ batches
+-- what the workers share belongs together: as many numbers are drawn from the tickets as there are batches, the sheet
+-- of this plan is for the stripes of this setup, and the batches may be booked, and not too many
+pub record IsJob (may_be_booked : NumberedPieces → Type 0) (tickets : TicketsSeen) (plan : Plan)
+    (batches : List (Arc Batch Global)) (setup : StripeSetup) : Type 0 where
+  pub limit : tickets.limit ≡ length batches
   pub stripes : plan.stripes ≡ stripe_count setup
+  pub allowed : All may_be_booked (values batches)
+  pub few_allowed : ¬ MayBeTooMany setup.rule.k may_be_booked
 
 -- the seat draws from these tickets, and has drawn nothing
 pub record IsFreshSeatOf (tickets : TicketsSeen) (seat : SeatSeen) : Type 0 where
@@ -80,13 +90,17 @@ IsOfGathering (gather.Foreign stripe) fault = fault ≡ run.Foreign stripe
 IsOfGathering (gather.Missing stripe batch) fault = ⊥
 IsOfGathering gather.Memory fault = fault ≡ run.Memory
 
+-- there are counts in which a table may be full for some key
+abbrev pub MayEverBeFull : (KeyCounts → ℕ → Type 0) → Type 0
+MayEverBeFull may_be_full = (counts : KeyCounts) × (key : ℕ) × may_be_full counts key
+
 -- a fault with which a worker may end, where there are so many stripes: memory was refused, or the fault names one of
--- the stripes
-abbrev pub IsWorkerFault : ℕ → RunFault → Type 0
-IsWorkerFault stripes run.Memory = Unit
-IsWorkerFault stripes (run.Foreign stripe) = stripe < stripes
-IsWorkerFault stripes (run.Full stripe) = stripe < stripes
-IsWorkerFault stripes (run.NoThread worker) = ⊥
+-- the stripes, as full only if one may be full
+abbrev pub IsWorkerFault : Type 0 → ℕ → RunFault → Type 0
+IsWorkerFault MayBeFull stripes run.Memory = Unit
+IsWorkerFault MayBeFull stripes (run.Foreign stripe) = stripe < stripes
+IsWorkerFault MayBeFull stripes (run.Full stripe) = (stripe < stripes) × MayBeFull
+IsWorkerFault MayBeFull stripes (run.NoThread worker) = ⊥
 
 -- the stripes of a count of so many batches, one for each number: where its number is that of a stripe, its journal has
 -- as many entries as there are batches
@@ -103,16 +117,17 @@ IsGatheringFault stripes (run.NoThread worker) = ⊥
 
 -- a fault with which a run may end, where there are so many workers and stripes: that of a worker, or that no thread
 -- could be started for one of the workers
-abbrev pub IsRunFault : ℕ → ℕ → RunFault → Type 0
-IsRunFault workers stripes fault =
-    IsWorkerFault stripes fault ⊎ ((worker : ℕ) × (worker < workers) × (fault ≡ run.NoThread worker))
+abbrev pub IsRunFault : Type 0 → ℕ → ℕ → RunFault → Type 0
+IsRunFault MayBeFull workers stripes fault =
+    IsWorkerFault MayBeFull stripes fault ⊎ ((worker : ℕ) × (worker < workers) × (fault ≡ run.NoThread worker))
 
 module _ {W : Type 0} where
   -- the answers of the threads of n workers over so many stripes: each that ended well is as it was promised, each
   -- fault is one that such a run may have, and where all ended well they are n
-  pub record AreEnds (HasEnded : W → Type 0) (n stripes : ℕ) (results : List (Result W RunFault)) : Type 0 where
+  pub record AreEnds (HasEnded : W → Type 0) (MayBeFull : Type 0) (n stripes : ℕ) (results : List (Result W RunFault))
+      : Type 0 where
     pub kept : All (λ result. IfOk result HasEnded) results
-    pub faults : All (λ result. IfErr result (IsRunFault n stripes)) results
+    pub faults : All (λ result. IfErr result (IsRunFault MayBeFull n stripes)) results
     pub all : (workers : List W) → map (λ worker. Ok worker) workers ≡ results → length workers ≡ n
 
   -- the worker of this index ended well

@@ -7,13 +7,13 @@ ghost use Rattle.kc_share.specs.Share.{share_of};
 ghost use Rattle.kc_run.specs.declared.run_fault.RunFault.TheVariants.{Memory, NoThread};
 ghost use Rattle.kc_tickets.specs.Tickets.{TicketsSeen};
 ghost use Rattle.kc_run.specs.Runs.{IsJob, IsFreshSeatOf, IsReady, HasWorked, HaveWorked, IsPromised, AreEnds};
-ghost use Rattle.kc_run.specs.Runs.{IsWorkerFault, IsRunFault, AllEndedWell, IsFirstFault};
+ghost use Rattle.kc_run.specs.Runs.{IsWorkerFault, IsRunFault, MayEverBeFull, AllEndedWell, IsFirstFault};
 
 use crate::gate::Gate;
 use crate::run_fault::RunFault;
 use crate::worker::{Job, Worker};
 use kc_share::{Books, Plan, Share};
-use kc_stripe::Stripes;
+use kc_stripe::{Stripes, Terms};
 use kc_table::Counts;
 use kc_tickets::{Seat, Tickets};
 use std::alloc::{AllocError, Global};
@@ -26,32 +26,32 @@ use std::thread::{Promise, PromisedHandle, Scope, Threads};
 type Ended<N> = Result<Worker<N>, RunFault>;
 
 /// What a worker's thread promises of its answer: a worker that ends well has worked with these tickets and a sheet of
-/// this plan; one that doesn't names one of the plan's stripes, or was refused memory.
+/// this plan; one that doesn't names one of the plan's stripes, as full only if one may be, or was refused memory.
 #[derive(Drop)]
 struct Working {
     tickets: Snapshot<Tickets>,
     plan: Plan,
 }
 
-impl<N: Books> Promise<Result<Worker<N>, RunFault>> for Working {
+impl<N: Terms> Promise<Result<Worker<N>, RunFault>> for Working {
     ghost use Rattle.std.specs.Prelude.{IfOk, IfErr};
-    ghost use Rattle.kc_run.specs.Runs.{HasWorked, IsWorkerFault};
+    ghost use Rattle.kc_run.specs.Runs.{HasWorked, IsWorkerFault, MayEverBeFull};
 
     ghost kept_by = { λ promise result. IfOk result (λ worker.
         HasWorked promise.tickets.value promise.plan worker.seat worker.share)
-        × IfErr result (IsWorkerFault promise.plan.stripes) };
+        × IfErr result (IsWorkerFault (MayEverBeFull N.may_be_full) promise.plan.stripes) };
 }
 
 /// The threads that were started, in the order of their workers, and the number of the first worker for which none
 /// could be started.
 #[derive(Drop)]
-struct Started<N: Books> {
+struct Started<N: Terms> {
     threads: Vec<PromisedHandle<Result<Worker<N>, RunFault>, Working>>,
     refused: Option<u32>,
 }
 
 /// A worker for each seat, each with one part of the share.
-pub(crate) fn workers_of<C: Counts, N: Books>(
+pub(crate) fn workers_of<C: Counts, N: Terms>(
     alloc: Global,
     stripes: &Stripes<C, N>,
     mut seats: Vec<Seat>,
@@ -83,7 +83,7 @@ pub(crate) fn workers_of<C: Counts, N: Books>(
 pub(crate) fn work_all<
     H: Threads + Wait + Sync,
     C: Counts + Send,
-    N: Books + Send + Sync,
+    N: Terms + Send + Sync,
     G: Gate + Sync,
 >(
     rt: &H,
@@ -91,24 +91,26 @@ pub(crate) fn work_all<
     job: &Job<C, N, G>,
     workers: Vec<Worker<N>>,
 ) -> Result<Vec<Worker<N>>, RunFault>
-    requires job { IsJob job.now.tickets.now job.now.plan (length job.now.batches.now) job.now.stripes.now.setup }
+    requires job { IsJob N.may_be_booked job.now.tickets.now job.now.plan job.now.batches.now job.now.stripes.now.setup }
     requires few { vec_len workers ≤ 64 }
     requires ready { All (λ worker. IsReady job.now.tickets.now job.now.plan worker.seat worker.share) workers.items }
     ensures len { IfOk result (λ ended. vec_len ended ≡ vec_len workers) }
     ensures worked { IfOk result (λ ended.
         All (λ worker. HasWorked job.now.tickets.now job.now.plan worker.seat worker.share) ended.items) }
-    ensures refused { IfErr result (IsRunFault (vec_len workers) job.now.plan.stripes) }
+    ensures refused { IfErr result
+        (IsRunFault (MayEverBeFull N.may_be_full) (vec_len workers) job.now.plan.stripes) }
 {
     let results = thread::scope(
         thread::scope_env(),
         rt,
         |scope| -> Result<Vec<Ended<N>>, AllocError>
-            requires { IsJob job.now.tickets.now job.now.plan (length job.now.batches.now) job.now.stripes.now.setup
+            requires { let Job = IsJob N.may_be_booked job.now.tickets.now job.now.plan in
+                Job job.now.batches.now job.now.stripes.now.setup
                 × (vec_len workers ≤ 64)
                 × All (λ worker. IsReady job.now.tickets.now job.now.plan worker.seat worker.share) workers.items }
             ensures { IfOk result (λ results. AreEnds
                 (λ worker. HasWorked job.entry.now.tickets.now job.entry.now.plan worker.seat worker.share)
-                (vec_len workers) job.entry.now.plan.stripes results.items) }
+                (MayEverBeFull N.may_be_full) (vec_len workers) job.entry.now.plan.stripes results.items) }
         {
             let started = start_all(scope, rt, alloc, job, workers)?;
             let results = join_all(rt, started)?;
@@ -125,7 +127,7 @@ fn start_all<
     E,
     H: Threads + Wait + Sync,
     C: Counts + Send,
-    N: Books + Send + Sync,
+    N: Terms + Send + Sync,
     G: Gate + Sync,
 >(
     scope: &Scope<'s, E>,
@@ -134,7 +136,7 @@ fn start_all<
     job: &'s Job<'s, C, N, G>,
     mut workers: Vec<Worker<N>>,
 ) -> Result<Started<N>, AllocError>
-    requires job { IsJob job.now.tickets.now job.now.plan (length job.now.batches.now) job.now.stripes.now.setup }
+    requires job { IsJob N.may_be_booked job.now.tickets.now job.now.plan job.now.batches.now job.now.stripes.now.setup }
     requires few { vec_len workers ≤ 64 }
     requires ready { All (λ worker. IsReady job.now.tickets.now job.now.plan worker.seat worker.share) workers.items }
     ensures all { IfOk result (λ started. started.refused ≡ None → vec_len started.threads ≡ vec_len workers) }
@@ -152,11 +154,12 @@ fn start_all<
             plan: job.plan,
         };
         let work = move || -> Result<Worker<N>, RunFault>
-            requires { IsJob job.now.tickets.now job.now.plan (length job.now.batches.now) job.now.stripes.now.setup
+            requires { let Job = IsJob N.may_be_booked job.now.tickets.now job.now.plan in
+                Job job.now.batches.now job.now.stripes.now.setup
                 × IsReady job.now.tickets.now job.now.plan worker.seat worker.share }
             ensures { IfOk result (λ ended.
                 HasWorked job.entry.now.tickets.now job.entry.now.plan ended.seat ended.share)
-                × IfErr result (IsWorkerFault job.entry.now.plan.stripes) }
+                × IfErr result (IsWorkerFault (MayEverBeFull N.may_be_full) job.entry.now.plan.stripes) }
         { worker.work(rt, alloc, job, number) };
         match scope.spawn_with(working, work) {
             Ok(thread) => threads.push(thread)?,
@@ -175,14 +178,15 @@ fn start_all<
 }
 
 // Waits for the threads. Their answers stand in the order of the workers, and last that one more was refused.
-fn join_all<R: Threads, N: Books>(rt: &R, started: Started<N>) -> Result<Vec<Ended<N>>, AllocError>
+fn join_all<R: Threads, N: Terms>(rt: &R, started: Started<N>) -> Result<Vec<Ended<N>>, AllocError>
     ensures kept { IfOk result (λ results. (tickets : TicketsSeen) (plan : Plan)
         → All (λ thread. IsPromised tickets plan thread.promise.tickets.value thread.promise.plan) started.threads.items
         → All (λ ended. IfOk ended (λ worker. HasWorked tickets plan worker.seat worker.share)) results.items) }
     ensures faults { IfOk result (λ results. (tickets : TicketsSeen) (plan : Plan) (workers : ℕ)
         → All (λ thread. IsPromised tickets plan thread.promise.tickets.value thread.promise.plan) started.threads.items
         → IfSome started.refused (λ number. number < workers)
-        → All (λ ended. IfErr ended (IsRunFault workers plan.stripes)) results.items) }
+        → All (λ ended. IfErr ended (IsRunFault (MayEverBeFull N.may_be_full) workers plan.stripes))
+        results.items) }
     ensures all { IfOk result (λ results. started.refused ≡ None → vec_len results ≡ vec_len started.threads) }
     ensures refused { IfOk result (λ results. (number : ℕ) → started.refused ≡ Some number
         → slice_get results.items (vec_len started.threads) ≡ Some (Err (NoThread number))) }
@@ -229,7 +233,7 @@ fn all_well<N: Books>(alloc: Global, results: Vec<Ended<N>>) -> Result<Vec<Worke
 }
 
 /// The seats of the workers, and their shares joined.
-pub(crate) fn joined<C: Counts, N: Books>(
+pub(crate) fn joined<C: Counts, N: Terms>(
     alloc: Global,
     stripes: &Stripes<C, N>,
     mut workers: Vec<Worker<N>>,

@@ -6,7 +6,8 @@ ghost use Rattle.kc_share.specs.Sheet.{plan_of};
 ghost use Rattle.kc_share.specs.Share.{entry_total_in};
 ghost use Rattle.kc_booking.specs.Setup.{stripe_count, key_bits};
 ghost use Rattle.kc_booking.specs.Stripe.{reads_in, position_sum};
-ghost use Rattle.kc_run.specs.Runs.{HaveCounted, IsReady, IsGatheringFault, IsRunFault};
+ghost use Rattle.kc_run.specs.Runs.{HaveCounted, IsReady, IsGatheringFault, IsRunFault, MayEverBeFull};
+ghost use Rattle.kc_stripe.specs.Terms.{IsFullOnlyWhere, MayBeTooMany, SomeTableMayBeFull};
 
 use crate::crew::{joined, work_all, workers_of};
 use crate::gate::Gate;
@@ -14,8 +15,8 @@ use crate::run_fault::RunFault;
 use crate::worker::{Job, Worker};
 use crate::worker_rounds::RoundLimits;
 use kc_gather::Summary;
-use kc_share::{Books, Plan, Sheet};
-use kc_stripe::{Setup, Stripe, Stripes};
+use kc_share::{Plan, Sheet};
+use kc_stripe::{Setup, Stripe, Stripes, Terms};
 use kc_table::Counts;
 use kc_tickets::Tickets;
 use kc_word::Batch;
@@ -27,7 +28,8 @@ use std::thread::Threads;
 /// Counts batches with so many workers over one table in locked stripes, and answers the summary that the caller wants:
 /// the tally of all batches or, with no row taken from a stripe, the numbers of that tally. The answer is the same
 /// whatever the workers, the stripes and the order in which threads are served. A refused run gives no summary; where
-/// its fault names a worker or a stripe, it is one of this run's.
+/// its fault names a worker or a stripe, it is one of this run's. A stripe is full only if one of the tables may be full
+/// in some counts for some key.
 ///
 /// Each worker, in a thread of its own, draws numbers until there is none left, and books the batch of each number into
 /// every stripe. It does so in rounds of some 4 million positions: it cuts up all batches of a round, and books them
@@ -35,12 +37,7 @@ use std::thread::Threads;
 ///
 /// Conditions: 1 to 64 workers; at most 2^40 batches, with together at most 2^62 positions; a table for each stripe,
 /// with nothing stored and keys of the setup's `key_bits`.
-pub fn run<
-    S: Summary,
-    H: Threads + Wait + Sync,
-    C: Counts + Drop + Send + Sync,
-    G: Gate + Sync,
->(
+pub fn run<S: Summary, H: Threads + Wait + Sync, C: Counts + Drop + Send + Sync, G: Gate + Sync>(
     rt: &H,
     alloc: Global,
     batches: &[Arc<Batch>],
@@ -55,7 +52,8 @@ pub fn run<
     requires one_each { length tables.items ≡ stripe_count setup.now }
     requires tables { All (λ table. (C.counts table ≡ empty) × (C.bits table ≡ key_bits setup.now)) tables.items }
     ensures summary { IfOk result (S.is_of setup.now.rule (reads_in (values batches.now))) }
-    ensures refused { IfErr result (IsRunFault workers (stripe_count setup.now)) }
+    ensures refused { let MayBeFull = MayEverBeFull (SomeTableMayBeFull C.may_be_full tables.items) in
+        IfErr result (IsRunFault MayBeFull workers (stripe_count setup.now)) }
 {
     let count = Count {
         batches,
@@ -78,12 +76,12 @@ struct Count<'a, G: Gate> {
 }
 
 // The stripes in which the workers booked all batches, with this sheet of shares. Every sheet has a type of its own, N,
-// so that no share of another gets in.
+// so that no share of another gets in, and with it what may be booked: these batches.
 fn counted<
     H: Threads + Wait + Sync,
     C: Counts + Drop + Send,
     G: Gate + Sync,
-    N: Books + Send + Sync,
+    N: Terms + Send + Sync,
 >(
     rt: &H,
     alloc: Global,
@@ -93,15 +91,19 @@ fn counted<
 ) -> Result<Vec<Stripe<C>>, RunFault>
     requires name { sheet.table ≡ N.table }
     requires plan { sheet.plan ≡ plan_of (stripe_count count.now.setup.now) count.now.workers }
+    requires allowed { All N.may_be_booked (values count.now.batches.now) }
+    requires few_allowed { ¬ MayBeTooMany count.now.setup.now.rule.k N.may_be_booked }
     requires workers { (1 ≤ count.now.workers) × (count.now.workers ≤ 64) }
     requires few { length count.now.batches.now ≤ 2 ^ 40 }
     requires small { position_sum count.now.setup.now.rule.k (values count.now.batches.now) ≤ 2 ^ 62 }
     requires one_each { length tables.items ≡ stripe_count count.now.setup.now }
     requires tables { All (λ table. (C.counts table ≡ empty) × (C.bits table ≡ key_bits count.now.setup.now))
         tables.items }
+    requires limits { All (λ table. IsFullOnlyWhere N.may_be_full (C.may_be_full table)) tables.items }
     ensures counted { IfOk result
         (λ stripes. HaveCounted count.now.setup.now (length count.now.batches.now) stripes.items) }
-    ensures refused { IfErr result (IsRunFault count.now.workers (stripe_count count.now.setup.now)) }
+    ensures refused { IfErr result
+        (IsRunFault (MayEverBeFull N.may_be_full) count.now.workers (stripe_count count.now.setup.now)) }
 {
     let Count {
         batches,

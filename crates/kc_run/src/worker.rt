@@ -1,15 +1,16 @@
 //! One worker of a run: it draws numbers, and books the batch of each number into every stripe.
-ghost use Rattle.std.specs.Prelude.{◌≡◌, ◌+◌, ◌<◌, ◌≤◌, ◌⊎◌, [], IfOk, IfErr, OnOk};
+ghost use Rattle.std.specs.Prelude.{◌≡◌, ◌+◌, ◌<◌, ◌≤◌, ◌⊎◌, [], All, IfOk, IfErr, OnOk};
 ghost use Rattle.std.specs.Prelude.{length};
+ghost use Rattle.kc_word.specs.Shared.{values};
 ghost use Rattle.kc_tickets.specs.Tickets.{IsSeatOf, IsDone, answers_of};
 ghost use Rattle.kc_booking.specs.Stripe.{position_sum};
-ghost use Rattle.kc_run.specs.Runs.{IsJob, IsReady, HasWorked, IsWorkerFault, but_last};
+ghost use Rattle.kc_run.specs.Runs.{IsJob, IsReady, HasWorked, IsWorkerFault, MayEverBeFull, but_last};
 
 use crate::gate::Gate;
 use crate::run_fault::RunFault;
 use crate::worker_rounds::{RoundBuffers, RoundLimits, book_range};
 use kc_share::{Books, Plan, Share};
-use kc_stripe::{Round, Stripes};
+use kc_stripe::{Round, Stripes, Terms};
 use kc_table::Counts;
 use kc_tickets::{Seat, Tickets};
 use kc_word::Batch;
@@ -18,7 +19,7 @@ use std::sync::{Arc, Wait};
 
 /// What all workers of a run use.
 #[derive(Drop)]
-pub(crate) struct Job<'a, C: Counts, N: Books, G: Gate> {
+pub(crate) struct Job<'a, C: Counts, N: Terms, G: Gate> {
     pub batches: &'a [Arc<Batch>],
     pub stripes: &'a Stripes<C, N>,
     /// The plan of the sheet of the shares.
@@ -38,7 +39,7 @@ pub(crate) struct Worker<N: Books> {
     pub share: Share<N>,
 }
 
-impl<N: Books> Worker<N> {
+impl<N: Terms> Worker<N> {
     /// Works round by round until no number is left: draws numbers, and books the batch of each into every stripe. The
     /// gate is told the worker's number.
     pub fn work<H: Wait, C: Counts, G: Gate>(
@@ -48,11 +49,12 @@ impl<N: Books> Worker<N> {
         job: &Job<C, N, G>,
         number: u32,
     ) -> Result<Worker<N>, RunFault>
-        requires job { IsJob job.now.tickets.now job.now.plan (length job.now.batches.now) job.now.stripes.now.setup }
+        requires job { let Job = IsJob N.may_be_booked job.now.tickets.now job.now.plan in
+            Job job.now.batches.now job.now.stripes.now.setup }
         requires ready { IsReady job.now.tickets.now job.now.plan self.seat self.share }
         ensures worked { IfOk result (λ worker.
             HasWorked job.now.tickets.now job.now.plan worker.seat worker.share) }
-        ensures refused { IfErr result (IsWorkerFault job.now.plan.stripes) }
+        ensures refused { IfErr result (IsWorkerFault (MayEverBeFull N.may_be_full) job.now.plan.stripes) }
     {
         let mut buffers = RoundBuffers::new(alloc, job.stripes.setup())?;
         self.work_in(rt, job, number, &mut buffers)?;
@@ -67,13 +69,14 @@ impl<N: Books> Worker<N> {
         number: u32,
         buffers: &mut RoundBuffers,
     ) -> Result<(), RunFault>
-        requires job { IsJob job.now.tickets.now job.now.plan (length job.now.batches.now) job.now.stripes.now.setup }
+        requires job { let Job = IsJob N.may_be_booked job.now.tickets.now job.now.plan in
+            Job job.now.batches.now job.now.stripes.now.setup }
         requires ready { IsReady job.now.tickets.now job.now.plan self.old.seat self.old.share }
         requires setup { buffers.old.round.setup ≡ job.now.stripes.now.setup }
         requires none { buffers.old.round.batches ≡ [] }
         ensures worked { OnOk result
             (HasWorked job.now.tickets.now job.now.plan self.new.seat self.new.share) }
-        ensures refused { IfErr result (IsWorkerFault job.now.plan.stripes) }
+        ensures refused { IfErr result (IsWorkerFault (MayEverBeFull N.may_be_full) job.now.plan.stripes) }
     {
         let stripes = job.stripes.setup().stripes();
         // The rounds of neighbouring workers begin some stripes apart.
@@ -109,12 +112,14 @@ impl<N: Books> Worker<N> {
         requires more { ¬ IsDone self.old.seat }
         requires limit { job.now.tickets.now.limit ≡ length job.now.batches.now }
         requires drawn { drawn < length job.now.batches.now }
+        requires allowed { All N.may_be_booked (values job.now.batches.now) }
         requires none { round.old.batches ≡ [] }
         ensures own { IsSeatOf job.now.tickets.now self.new.seat }
         ensures share { self.new.share ≡ self.old.share }
         ensures setup { round.new.setup ≡ round.old.setup }
         ensures answered { OnOk result (length (answers_of self.new.seat) + 1
             ≡ length (answers_of self.old.seat) + length round.new.batches) }
+        ensures allowed { OnOk result (All N.may_be_booked round.new.batches) }
         ensures some { OnOk result (1 ≤ length round.new.batches) }
         ensures few { OnOk result
             ((length round.new.batches ≡ 1) ⊎ (length round.new.batches ≤ job.now.limits.batches)) }

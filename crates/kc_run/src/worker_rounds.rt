@@ -1,12 +1,14 @@
 //! A round of a worker: batches that are cut up one by one, and then booked stripe by stripe, by one call each, so that
 //! the lines of a stripe that one batch has fetched are still near for the next.
-ghost use Rattle.std.specs.Prelude.{◌≡◌, ◌*◌, ◌/◌, ◌≤◌, ◌<◌, ◌⊎◌, [], max, IfOk, OnOk, IfErr, length};
+ghost use Rattle.std.specs.Prelude.{◌≡◌, ◌*◌, ◌/◌, ◌≤◌, ◌<◌, ◌⊎◌, [], max, All, IfOk, OnOk, IfErr};
+ghost use Rattle.std.specs.Prelude.{length};
 ghost use Rattle.kc_booking.specs.Setup.{stripe_count};
-ghost use Rattle.kc_run.specs.Runs.{HaveMoreIn, IsWorkerFault, least_positions};
+ghost use Rattle.kc_stripe.specs.Terms.{MayBeTooMany};
+ghost use Rattle.kc_run.specs.Runs.{HaveMoreIn, IsWorkerFault, MayEverBeFull, least_positions};
 
 use crate::run_fault::RunFault;
-use kc_share::{Books, Share};
-use kc_stripe::{Ordered, Round, Setup, Stripes};
+use kc_share::Share;
+use kc_stripe::{Ordered, Round, Setup, Stripes, Terms};
 use kc_table::Counts;
 use std::alloc::{AllocError, Global};
 use std::sync::Wait;
@@ -86,9 +88,10 @@ impl RoundLimits {
 
 /// Books the batches of a round into the stripes from one number to before another.
 ///
-/// The round was cut up for these stripes, and the numbers are some of theirs. It stays as it is. How many slots their
-/// hash tables have then is returned, for the size of the next round.
-pub(crate) fn book_range<H: Wait, C: Counts, N: Books>(
+/// The round was cut up for these stripes, and the numbers are some of theirs. Its batches may be booked, and all that
+/// may be are not too many. It stays as it is. How many slots their hash tables have then is returned, for the size of
+/// the next round.
+pub(crate) fn book_range<H: Wait, C: Counts, N: Terms>(
     rt: &H,
     stripes: &Stripes<C, N>,
     buffers: &mut RoundBuffers,
@@ -97,12 +100,14 @@ pub(crate) fn book_range<H: Wait, C: Counts, N: Books>(
     share: &mut Share<N>,
 ) -> Result<u64, RunFault>
     requires cut_up { buffers.old.round.setup ≡ stripes.now.setup }
+    requires allowed { All N.may_be_booked buffers.old.round.batches }
+    requires few { ¬ MayBeTooMany stripes.now.setup.rule.k N.may_be_booked }
     requires range { (from ≤ to) × (to ≤ stripe_count stripes.now.setup) }
     ensures round { buffers.new.round ≡ buffers.old.round }
     ensures kept { (share.new.parts ≡ share.old.parts) × (share.new.plan ≡ share.old.plan) }
     ensures booked { OnOk result (HaveMoreIn from to (length buffers.old.round.batches)
         share.old.booked share.new.booked) }
-    ensures refused { IfErr result (IsWorkerFault to) }
+    ensures refused { IfErr result (IsWorkerFault (MayEverBeFull N.may_be_full) to) }
 {
     let mut slots: u64 = 0;
     for stripe in from..to {

@@ -1,2 +1,3 @@
 pub mod LockedLemmas
 pub mod CutsLemmas
+pub mod TermsLemmas

@@ -1,3 +1,4 @@
 pub mod Locked
 pub mod Stripes
 pub mod Seen
+pub mod Terms

@@ -1,5 +1,5 @@
 -- A stripe behind its lock, and what its journal's entries are on the sheet of the shares. It is this project's own.
-use Rattle.std.specs.Prelude.{◌≡◌, ℕ, ◌≤◌, ◌^◌, List, [], ◌∷◌, ◌++◌, length, map}
+use Rattle.std.specs.Prelude.{◌≡◌, ℕ, ◌≤◌, ◌^◌, List, [], ◌∷◌, ◌++◌, length, map, All}
 use Rattle.kc_word.specs.Cutting.{NumberedPieces}
 use Rattle.kc_share.specs.declared.entry.Entry.{Entry}
 use Rattle.kc_share.specs.declared.entry.Booking.{Booking}
@@ -9,6 +9,8 @@ use Rattle.kc_share.specs.Share.{ShareSeen, word_total_in, entry_total_in, kept_
 use Rattle.kc_booking.specs.Setup.{StripeSetup}
 use Rattle.kc_booking.specs.Cut.{StripeCut, keys_of, cut_at}
 use Rattle.kc_booking.specs.Stripe.{StripeState}
+use Rattle.kc_table.specs.Counts.{KeyCounts}
+use Rattle.kc_stripe.specs.Terms.{IsFullOnlyWhere}
 
 -- the entry of a cut: its batch, and how many of the batch's words fall in its stripe
 abbrev pub cut_entry : StripeCut → Entry
@@ -33,6 +35,14 @@ pub record IsOnSheet {C : Type 0} (stripe : StripeState C) (kept : KeptStripe) :
   pub journal : kept.journal ≡ journal_entries stripe.setup stripe.number stripe.journal
   pub total : word_total kept.journal ≡ stripe.total
   pub total_at_most : stripe.total ≤ 2 ^ 62
+
+-- What stands behind a lock: a stripe as it is kept on the sheet, in which such batches alone were booked, with a table
+-- that may be full only where this is allowed.
+pub record IsLocked {C : Type 0} (may_be_booked : NumberedPieces → Type 0) (allowed : KeyCounts → ℕ → Type 0)
+    (may_be_full : C → KeyCounts → ℕ → Type 0) (stripe : StripeState C) (kept : KeptStripe) : Type 0 where
+  pub on_sheet : IsOnSheet stripe kept
+  pub journal : All may_be_booked stripe.journal
+  pub limits : IsFullOnlyWhere allowed (may_be_full stripe.table)
 
 -- What was booked into a stripe is all of it: the words are its total, the entries its journal's length, and the
 -- batches those of its journal, each as often.

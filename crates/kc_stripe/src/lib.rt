@@ -15,6 +15,7 @@
 mod locked;
 mod seen;
 mod stripes;
+mod terms;
 
 /// One stripe of a count, and what is booked into it.
 pub use kc_booking::{BookFault, Cut, Cuts, Ordered, Round, Setup, Stripe, cut_up};
@@ -22,3 +23,4 @@ pub use kc_booking::{BookFault, Cut, Cuts, Ordered, Round, Setup, Stripe, cut_up
 pub use kc_share::{Books, Share, Sheet};
 pub use seen::Seen;
 pub use stripes::Stripes;
+pub use terms::Terms;

@@ -1,5 +1,6 @@
 //! A stripe together with its keeper, as they lie behind the stripe's lock.
-ghost use Rattle.std.specs.Prelude.{◌≡◌, ◌+◌, ◌<◌, ◌≤◌, ◌^◌, ◌↔◌, ◌⊎◌, ◌++◌, ◌∷◌, [], length, IfOk, IsOk, OnOk, OnErr};
+ghost use Rattle.std.specs.Prelude.{◌≡◌, ◌+◌, ◌<◌, ◌≤◌, ◌^◌, ◌↔◌, ◌⊎◌, ◌++◌, ◌∷◌, [], length, All};
+ghost use Rattle.std.specs.Prelude.{IfOk, IsOk, OnOk, OnErr};
 ghost use Rattle.kc_share.specs.Share.{with_booking};
 ghost use Rattle.kc_booking.specs.Setup.{word_count};
 ghost use Rattle.kc_booking.specs.Cut.{keys_of};
@@ -8,10 +9,12 @@ ghost use Rattle.kc_booking.specs.Counted.{SomeMayBeFull, SomeMayBeFullInSomeOrd
 ghost use Rattle.kc_booking.specs.Stripe.{IsBooked, IsOwnCut, IsUnchanged, NumbersDiffer};
 ghost use Rattle.kc_stripe.specs.Locked.{cut_entry, with_bookings};
 ghost use Rattle.kc_stripe.specs.Seen.{form_stripe, AreNamed, IsStripeOf};
+ghost use Rattle.kc_stripe.specs.Terms.{MayBeTooMany, SomeKeyMayBeFull};
 
 use crate::seen::Seen;
+use crate::terms::Terms;
 use kc_booking::{BookFault, Cut, Cuts, Ordered, Setup, Stripe};
-use kc_share::{Books, Keeper, OpenSheet, Share, share_laws};
+use kc_share::{Keeper, OpenSheet, Share, share_laws};
 use kc_table::Counts;
 use kc_word::Word;
 use std::alloc::Global;
@@ -19,30 +22,31 @@ use std::marker::Model;
 
 /// A stripe, and its keeper on the sheet of the shares, whose journal is the stripe's.
 #[derive(Drop)]
-pub(crate) struct Locked<C: Counts, N: Books> {
+pub(crate) struct Locked<C: Counts, N: Terms> {
     pub(crate) stripe: Stripe<C>,
     pub(crate) keeper: Keeper<N>,
 }
 
-impl<C: Counts, N: Books> Model for Locked<C, N> {
+impl<C: Counts, N: Terms> Model for Locked<C, N> {
     ghost use Rattle.kc_booking.specs.Stripe.{StripeState};
-    ghost use Rattle.kc_stripe.specs.Locked.{IsOnSheet};
+    ghost use Rattle.kc_stripe.specs.Locked.{IsLocked};
 
     ghost Value = { StripeState C };
 
     ghost view = { λ l. l.stripe };
 
-    ghost invariant = { λ l. IsOnSheet l.stripe l.keeper };
+    ghost invariant = { λ l. IsLocked N.may_be_booked N.may_be_full C.may_be_full l.stripe l.keeper };
 }
 
-impl<C: Counts, N: Books> Locked<C, N> {
-    /// Books a batch into the stripe, and into a share. A refused booking leaves both as they were.
+impl<C: Counts, N: Terms> Locked<C, N> {
+    /// Books a batch that may be booked into the stripe, and into a share. A refused booking leaves both as they were.
     pub(crate) fn book(
         &mut self,
         sheet: &OpenSheet<N>,
         share: &mut Share<N>,
         cut: &Cut,
     ) -> Result<(), BookFault>
+        requires allowed { N.may_be_booked cut.now.batch }
         ensures share { OnOk result (share.new ≡ with_booking share.old cut.now.stripe (cut_entry cut.now)) }
         ensures journal { OnOk result (self.new.journal ≡ self.old.journal ++ cut.now.batch ∷ []) }
         ensures refused { OnErr result (share.new ≡ share.old) }
@@ -52,8 +56,12 @@ impl<C: Counts, N: Books> Locked<C, N> {
             ↔ (¬ IsBooked self.old.journal cut.now.batch.number × ¬ IsOwnCut self.old cut.now) }
         ensures full { result ≡ Err BookFault.Full → (2 ^ 62 < self.old.total + length (keys_of cut.now))
             ⊎ SomeMayBeFull (C.may_be_full self.old.table) (C.counts self.old.table) (keys_of cut.now) }
+        ensures terms { result ≡ Err BookFault.Full → MayBeTooMany cut.now.setup.rule.k N.may_be_booked
+            ⊎ SomeKeyMayBeFull N.may_be_full (keys_of cut.now) }
         ensures memory { result ≡ Err BookFault.Memory → self.old.total + length (keys_of cut.now) ≤ 2 ^ 62 }
     {
+        // For the proof: no number stands twice in the journal.
+        self.stripe.is_lawful();
         self.stripe.book(cut)?;
         sheet.note(
             share,
@@ -64,7 +72,7 @@ impl<C: Counts, N: Books> Locked<C, N> {
         Ok(())
     }
 
-    /// Books several batches into the stripe, and into a share, all or none. It returns how many slots the
+    /// Books several batches that may be booked into the stripe, and into a share, all or none. It returns how many slots the
     /// stripe's table has then. A refused booking leaves both as they were.
     pub(crate) fn book_all(
         &mut self,
@@ -73,6 +81,7 @@ impl<C: Counts, N: Books> Locked<C, N> {
         cuts: &Cuts,
         ordered: &mut Ordered,
     ) -> Result<u64, BookFault>
+        requires allowed { All N.may_be_booked cuts.now.batches }
         ensures share { OnOk result (share.new ≡ with_bookings share.old (cuts_in cuts.now)) }
         ensures slots { IfOk result (λ slots. slots ≡ C.slots self.new.table) }
         ensures journal { OnOk result (self.new.journal ≡ self.old.journal ++ cuts.now.batches) }
@@ -85,6 +94,8 @@ impl<C: Counts, N: Books> Locked<C, N> {
         ensures full { result ≡ Err BookFault.Full → (2 ^ 62 < self.old.total + length (all_keys_of cuts.now))
             ⊎ SomeMayBeFullInSomeOrder (C.may_be_full self.old.table) (C.counts self.old.table)
             (all_keys_of cuts.now) }
+        ensures terms { result ≡ Err BookFault.Full → MayBeTooMany cuts.now.setup.rule.k N.may_be_booked
+            ⊎ SomeKeyMayBeFull N.may_be_full (all_keys_of cuts.now) }
         ensures memory { result ≡ Err BookFault.Memory
             → self.old.total + length (all_keys_of cuts.now) ≤ 2 ^ 62 }
         ensures empty { cuts.now.batches ≡ [] → IsOk result }

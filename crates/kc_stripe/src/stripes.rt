@@ -1,17 +1,20 @@
 //! The stripes of a count, which threads share.
-ghost use Rattle.std.specs.Prelude.{◌≡◌, ◌<◌, ◌≤◌, [], All, IfOk, IsOk, OnOk, OnErr, vec_len};
+ghost use Rattle.std.specs.Prelude.{◌≡◌, ◌<◌, ◌≤◌, ◌⊎◌, [], All, IfOk, IsOk, OnOk, OnErr, vec_len};
 ghost use Rattle.std.specs.FinMap.{empty};
 ghost use Rattle.kc_share.specs.Share.{share_of, with_booking, with_one_part_less, new_share, joined_shares};
 ghost use Rattle.kc_booking.specs.Setup.{word_count, stripe_count, key_bits};
-ghost use Rattle.kc_booking.specs.Cuts.{cuts_in};
+ghost use Rattle.kc_booking.specs.Cut.{keys_of};
+ghost use Rattle.kc_booking.specs.Cuts.{cuts_in, all_keys_of};
 ghost use Rattle.kc_booking.specs.Stripe.{IsLawful};
 ghost use Rattle.kc_stripe.specs.Locked.{cut_entry, with_bookings, IsAllOf};
 ghost use Rattle.kc_stripe.specs.Seen.{form_stripe, AreNamed};
+ghost use Rattle.kc_stripe.specs.Terms.{IsFullOnlyWhere, MayBeTooMany, SomeKeyMayBeFull};
 
 use crate::locked::Locked;
 use crate::seen::Seen;
+use crate::terms::Terms;
 use kc_booking::{BookFault, Cut, Cuts, Ordered, Setup, Stripe};
-use kc_share::{Books, OpenSheet, Share, Sheet};
+use kc_share::{OpenSheet, Share, Sheet};
 use kc_table::Counts;
 use kc_word::Word;
 use std::alloc::{AllocError, Global};
@@ -19,16 +22,16 @@ use std::marker::Model;
 use std::sync::{Mutex, Wait};
 
 /// The stripes of a count, each behind a lock of its own. Threads share them by reference, and book with a share each.
-/// Whoever gets a lock finds a lawful stripe, whatever others did, and what was booked with the shares, taken together,
-/// is what the stripes' journals have.
+/// Whoever gets a lock finds a lawful stripe, whatever others did, in which only batches were booked that N allows; and
+/// what was booked with the shares, taken together, is what the stripes' journals have.
 #[derive(Drop)]
-pub struct Stripes<C: Counts, N: Books> {
+pub struct Stripes<C: Counts, N: Terms> {
     setup: Setup,
     sheet: OpenSheet<N>,
     locks: Vec<Mutex<Locked<C, N>>>,
 }
 
-impl<C: Counts, N: Books> Model for Stripes<C, N> {
+impl<C: Counts, N: Terms> Model for Stripes<C, N> {
     ghost use Rattle.std.specs.Prelude.{◌≡◌, vec_len};
     ghost use Rattle.kc_booking.specs.Setup.{stripe_count};
     ghost use Rattle.kc_stripe.specs.Stripes.{StripesSeen};
@@ -40,11 +43,11 @@ impl<C: Counts, N: Books> Model for Stripes<C, N> {
     ghost invariant = { λ s. vec_len s.locks ≡ stripe_count s.setup };
 }
 
-impl<C: Counts + Drop, N: Books> Stripes<C, N> {
+impl<C: Counts + Drop, N: Terms> Stripes<C, N> {
     /// Stripes in which nothing was booked, and the first share, which has all parts of the sheet.
     ///
     /// The sheet's name is N, and it is for as many stripes as the setup has. There is a table for each stripe, with
-    /// nothing stored and keys of the setup's `key_bits`.
+    /// nothing stored and keys of the setup's `key_bits`, which may be full only where N allows it.
     pub fn new(
         alloc: Global,
         setup: &Setup,
@@ -55,6 +58,7 @@ impl<C: Counts + Drop, N: Books> Stripes<C, N> {
         requires stripes { sheet.plan.stripes ≡ stripe_count setup.now }
         requires count { vec_len tables ≡ stripe_count setup.now }
         requires tables { All (λ table. (C.counts table ≡ empty) × (C.bits table ≡ key_bits setup.now)) tables.items }
+        requires limits { All (λ table. IsFullOnlyWhere N.may_be_full (C.may_be_full table)) tables.items }
         ensures setup { IfOk result (λ made. made.0.setup ≡ setup.now) }
         ensures share { IfOk result (λ made. made.1 ≡ share_of sheet.plan sheet.plan.parts []) }
     {
@@ -103,7 +107,7 @@ impl<C: Counts + Drop, N: Books> Stripes<C, N> {
     }
 }
 
-impl<C: Counts, N: Books> Stripes<C, N> {
+impl<C: Counts, N: Terms> Stripes<C, N> {
     /// How the words are divided.
     pub fn setup(&self) -> &Setup
         ensures { result.now ≡ self.now.setup }
@@ -131,11 +135,16 @@ impl<C: Counts, N: Books> Stripes<C, N> {
 
     /// Books a batch into the stripe of its cut, under that stripe's lock, and into a share.
     ///
-    /// The cut's stripe is one of these. A refused booking leaves the share as it was.
+    /// The cut's stripe is one of these, and its batch may be booked. A refused booking leaves the share as it was.
+    /// `Full` comes only where batches that may be booked have more than 2^62 positions, or a table may be full for one
+    /// of the keys.
     pub fn book<R: Wait>(&self, rt: &R, share: &mut Share<N>, cut: &Cut) -> Result<(), BookFault>
-        requires { cut.now.stripe < stripe_count self.now.setup }
+        requires stripe { cut.now.stripe < stripe_count self.now.setup }
+        requires allowed { N.may_be_booked cut.now.batch }
         ensures booked { OnOk result (share.new ≡ with_booking share.old cut.now.stripe (cut_entry cut.now)) }
         ensures refused { OnErr result (share.new ≡ share.old) }
+        ensures full { result ≡ Err BookFault.Full → MayBeTooMany cut.now.setup.rule.k N.may_be_booked
+            ⊎ SomeKeyMayBeFull N.may_be_full (keys_of cut.now) }
     {
         self.locks[cut.stripe() as usize]
             .lock(rt)
@@ -147,8 +156,9 @@ impl<C: Counts, N: Books> Stripes<C, N> {
     ///
     /// It returns how many slots the stripe's table has then: for speed alone, as no clause can say it behind a lock.
     ///
-    /// The stripe of the cuts is one of these. A refused booking leaves the share as it was. A round of no batches is
-    /// never refused.
+    /// The stripe of the cuts is one of these, and their batches may be booked. A refused booking leaves the share as it
+    /// was. A round of no batches is never refused. `Full` comes only where batches that may be booked have more than
+    /// 2^62 positions, or a table may be full for one of the keys.
     pub fn book_all<R: Wait>(
         &self,
         rt: &R,
@@ -156,10 +166,13 @@ impl<C: Counts, N: Books> Stripes<C, N> {
         cuts: &Cuts,
         ordered: &mut Ordered,
     ) -> Result<u64, BookFault>
-        requires { cuts.now.stripe < stripe_count self.now.setup }
+        requires stripe { cuts.now.stripe < stripe_count self.now.setup }
+        requires allowed { All N.may_be_booked cuts.now.batches }
         ensures booked { OnOk result (share.new ≡ with_bookings share.old (cuts_in cuts.now)) }
         ensures kept { (share.new.parts ≡ share.old.parts) × (share.new.plan ≡ share.old.plan) }
         ensures refused { OnErr result (share.new ≡ share.old) }
+        ensures full { result ≡ Err BookFault.Full → MayBeTooMany cuts.now.setup.rule.k N.may_be_booked
+            ⊎ SomeKeyMayBeFull N.may_be_full (all_keys_of cuts.now) }
         ensures empty { cuts.now.batches ≡ [] → IsOk result }
     {
         self.locks[cuts.stripe() as usize]

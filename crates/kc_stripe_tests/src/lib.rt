@@ -21,6 +21,8 @@ mod meetings;
 #[cfg(test)]
 mod numbers_of_stripes;
 #[cfg(test)]
+mod open_terms;
+#[cfg(test)]
 mod refusals;
 #[cfg(test)]
 mod rounds;

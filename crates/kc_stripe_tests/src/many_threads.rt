@@ -3,6 +3,7 @@ ghost use Rattle.std.specs.Prelude.{◌≡◌, IfOk};
 ghost use Rattle.kc_booking.specs.Setup.{stripe_count};
 
 use crate::gathered_tallies::{random_read, seeded_setup, slow_rows, sorted_rows};
+use crate::open_terms::Open;
 use crate::sample_batches::{batches_in, batches_of, made_setup};
 use crate::sharings::{Sums, book_all, book_batch, stripes_of, sums_of};
 use crate::stripe_assertions::{assert_items, assert_same};
@@ -23,10 +24,10 @@ use std::thread::{Threads, join, map_vec};
 // A share for each eight batches, split off the whole one.
 fn jobs_of<'a, N: Books>(
     alloc: Global,
-    stripes: &Stripes<PlainCounts, N>,
-    whole: &mut Share<N>,
+    stripes: &Stripes<PlainCounts, Open<N>>,
+    whole: &mut Share<Open<N>>,
     batches: &'a [Arc<Batch>],
-) -> Result<Vec<(Share<N>, &'a [Arc<Batch>])>, Fail>
+) -> Result<Vec<(Share<Open<N>>, &'a [Arc<Batch>])>, Fail>
     ensures { whole.new.plan ≡ whole.old.plan }
 {
     let mut jobs = Vec::new(alloc);
@@ -43,9 +44,9 @@ fn jobs_of<'a, N: Books>(
 fn book_parts<N: Books + Send + Sync, R: Threads + Wait + Sync>(
     rt: &R,
     alloc: Global,
-    stripes: &Stripes<PlainCounts, N>,
-    whole: &mut Share<N>,
-    jobs: Vec<(Share<N>, &[Arc<Batch>])>,
+    stripes: &Stripes<PlainCounts, Open<N>>,
+    whole: &mut Share<Open<N>>,
+    jobs: Vec<(Share<Open<N>>, &[Arc<Batch>])>,
 ) -> Result<(), Fail>
     ensures { whole.new.plan ≡ whole.old.plan }
 {
@@ -66,8 +67,8 @@ fn book_parts<N: Books + Send + Sync, R: Threads + Wait + Sync>(
 fn ended<N: Books>(
     alloc: Global,
     setup: &Setup,
-    stripes: Stripes<PlainCounts, N>,
-    share: Share<N>,
+    stripes: Stripes<PlainCounts, Open<N>>,
+    share: Share<Open<N>>,
 ) -> Result<(Vec<Sums>, Vec<(u64, u64)>), Fail>
     requires { share.plan.stripes ≡ stripe_count setup.now }
 {
@@ -96,8 +97,8 @@ fn count_by_many<N: Books + Send + Sync, R: Threads + Wait + Sync>(
 fn book_by_many<N: Books + Send + Sync, R: Threads + Wait + Sync>(
     rt: &R,
     alloc: Global,
-    stripes: &Stripes<PlainCounts, N>,
-    whole: &mut Share<N>,
+    stripes: &Stripes<PlainCounts, Open<N>>,
+    whole: &mut Share<Open<N>>,
     batches: &[Arc<Batch>],
 ) -> Result<(), Fail>
     ensures { whole.new.plan ≡ whole.old.plan }
@@ -156,10 +157,10 @@ fn assert_sums(rt: &impl Abort, sums: &[Sums]) {
 fn book_and_return<N: Books, R: Wait>(
     rt: &R,
     alloc: Global,
-    stripes: &Stripes<PlainCounts, N>,
-    mut share: Share<N>,
+    stripes: &Stripes<PlainCounts, Open<N>>,
+    mut share: Share<Open<N>>,
     batch: &Arc<Batch>,
-) -> (Share<N>, Result<(), BookFault>)
+) -> (Share<Open<N>>, Result<(), BookFault>)
     ensures { result.0.plan ≡ share.plan }
 {
     let booked = book_batch(rt, alloc, stripes, &mut share, batch);
@@ -170,10 +171,10 @@ fn book_and_return<N: Books, R: Wait>(
 fn book_apart<N: Books + Send + Sync, R: Threads + Wait + Sync>(
     rt: &R,
     alloc: Global,
-    stripes: &Stripes<PlainCounts, N>,
-    shares: (Share<N>, Share<N>),
+    stripes: &Stripes<PlainCounts, Open<N>>,
+    shares: (Share<Open<N>>, Share<Open<N>>),
     batches: (&Arc<Batch>, &Arc<Batch>),
-) -> Result<Share<N>, BookFault>
+) -> Result<Share<Open<N>>, BookFault>
     ensures { IfOk result (λ share. share.plan ≡ shares.1.plan) }
 {
     let (lost, kept) = shares;
@@ -181,7 +182,7 @@ fn book_apart<N: Books + Send + Sync, R: Threads + Wait + Sync>(
     let (alone, (kept, booked)) = join(
         rt,
         move || -> Result<(), BookFault> { book_and_return(rt, alloc, stripes, lost, first).1 },
-        move || -> (Share<N>, Result<(), BookFault>)
+        move || -> (Share<Open<N>>, Result<(), BookFault>)
             ensures { result.0.plan ≡ kept.plan }
         { book_and_return(rt, alloc, stripes, kept, second) },
     );
@@ -212,10 +213,10 @@ fn count_without_one<N: Books + Send + Sync, R: Threads + Wait + Sync>(
 fn book_without_one<N: Books + Send + Sync, R: Threads + Wait + Sync>(
     rt: &R,
     alloc: Global,
-    stripes: &Stripes<PlainCounts, N>,
-    mut kept: Share<N>,
+    stripes: &Stripes<PlainCounts, Open<N>>,
+    mut kept: Share<Open<N>>,
     batches: [&Arc<Batch>; 3],
-) -> Result<Share<N>, BookFault>
+) -> Result<Share<Open<N>>, BookFault>
     requires { kept.parts ≡ 2 }
     ensures { IfOk result (λ share. share.plan ≡ kept.plan) }
 {

@@ -3,6 +3,7 @@ ghost use Rattle.std.specs.Prelude.{◌≡◌, All, IfOk, vec_len};
 ghost use Rattle.std.specs.FinMap.{empty};
 ghost use Rattle.kc_booking.specs.Setup.{stripe_count, key_bits};
 
+use crate::open_terms::Open;
 use crate::rounds::made_round;
 use crate::sample_batches::{batches_in, cuts_in, made_setup};
 use kc_share::{Books, Share, Sheet};
@@ -105,8 +106,8 @@ impl Counts for MeetingCounts<'_> {
 // Books a cut with a share that is given up then.
 fn book_once<C: Counts, N: Books, R: Wait>(
     rt: &R,
-    stripes: &Stripes<C, N>,
-    mut share: Share<N>,
+    stripes: &Stripes<C, Open<N>>,
+    mut share: Share<Open<N>>,
     cut: &Cut,
 ) -> Result<(), BookFault> {
     if cut.stripe() >= stripes.setup().stripes() {
@@ -122,8 +123,8 @@ fn book_once<C: Counts, N: Books, R: Wait>(
 fn book_round_once<C: Counts, N: Books, R: Wait>(
     rt: &R,
     alloc: Global,
-    stripes: &Stripes<C, N>,
-    mut share: Share<N>,
+    stripes: &Stripes<C, Open<N>>,
+    mut share: Share<Open<N>>,
     cuts: &Cuts,
 ) -> Result<(), BookFault> {
     if cuts.stripe() >= stripes.setup().stripes() {
@@ -175,15 +176,15 @@ fn book_at_once<N: Books + Send + Sync, R: Threads + Wait + Sync>(
     requires plan { (sheet.plan.stripes ≡ 2) × (sheet.plan.parts ≡ 2) × (stripe_count setup.now ≡ 2) }
 {
     let tables = meeting_tables(alloc, setup, flags)?;
-    let (stripes, one) = Stripes::<MeetingCounts<'_>, N>::new(alloc, setup, tables, sheet)?;
+    let (stripes, one) = Stripes::<MeetingCounts<'_>, Open<N>>::new(alloc, setup, tables, sheet)?;
     Ok(book_by_two(rt, &stripes, one, cuts))
 }
 
 // Splits the share in two, and books each cut with one of them, by a thread of its own.
 fn book_by_two<N: Books + Send + Sync, R: Threads + Wait + Sync>(
     rt: &R,
-    stripes: &Stripes<MeetingCounts<'_>, N>,
-    mut one: Share<N>,
+    stripes: &Stripes<MeetingCounts<'_>, Open<N>>,
+    mut one: Share<Open<N>>,
     cuts: (&Cut, &Cut),
 ) -> [Result<(), BookFault>; 2]
     requires { one.parts ≡ 2 }
@@ -256,7 +257,7 @@ fn book_round_at_once<N: Books + Send + Sync, R: Threads + Wait + Sync>(
 {
     let setup = round.setup();
     let tables = meeting_tables(alloc, setup, flags)?;
-    let (stripes, one) = Stripes::<MeetingCounts<'_>, N>::new(alloc, setup, tables, sheet)?;
+    let (stripes, one) = Stripes::<MeetingCounts<'_>, Open<N>>::new(alloc, setup, tables, sheet)?;
     Ok(book_round_by_two(rt, alloc, &stripes, one, round))
 }
 
@@ -264,8 +265,8 @@ fn book_round_at_once<N: Books + Send + Sync, R: Threads + Wait + Sync>(
 fn book_round_by_two<N: Books + Send + Sync, R: Threads + Wait + Sync>(
     rt: &R,
     alloc: Global,
-    stripes: &Stripes<MeetingCounts<'_>, N>,
-    mut one: Share<N>,
+    stripes: &Stripes<MeetingCounts<'_>, Open<N>>,
+    mut one: Share<Open<N>>,
     round: &Round,
 ) -> [Result<(), BookFault>; 2]
     requires parts { one.parts ≡ 2 }

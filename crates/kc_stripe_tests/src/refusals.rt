@@ -4,6 +4,7 @@ ghost use Rattle.std.specs.Prelude.{◌≡◌, ◌<◌};
 ghost use Rattle.kc_booking.specs.Setup.{stripe_count, word_count};
 
 use crate::bookings::{Held, NOTHING, assert_held, map_stripe, quotient_stripe};
+use crate::open_terms::Open;
 use crate::rounds::{first_cuts, made_round, picked};
 use crate::sample_batches::{batches_in, cuts_of, cuts_of_three, made_setup};
 use crate::sharings::stripes_of;
@@ -132,7 +133,7 @@ fn a_refused_growth_leaves_the_stripe_of_a_round(rt: HostRuntime) -> Result<(), 
 }
 
 // What a share tells of stripe 0: words and entries; and its parts.
-fn told<N: Books>(share: &Share<N>) -> [u64; 3]
+fn told<N: Books>(share: &Share<Open<N>>) -> [u64; 3]
     requires { 0 < share.now.plan.stripes }
 {
     [share.words(0), share.entries(0), share.parts()]
@@ -141,8 +142,8 @@ fn told<N: Books>(share: &Share<N>) -> [u64; 3]
 // Books the cut with the share, again where memory is refused: the share is then as it was before.
 fn is_shared_again<N: Books, R: Wait + Abort>(
     rt: &R,
-    stripes: &Stripes<PlainCounts, N>,
-    share: &mut Share<N>,
+    stripes: &Stripes<PlainCounts, Open<N>>,
+    share: &mut Share<Open<N>>,
     cut: &Cut,
     before: [u64; 3],
 ) -> Result<(), Fail>
@@ -167,8 +168,8 @@ fn is_shared_again<N: Books, R: Wait + Abort>(
 fn is_seen_again<N: Books, R: Wait + Abort>(
     rt: &R,
     alloc: Global,
-    stripes: &Stripes<PlainCounts, N>,
-    share: &mut Share<N>,
+    stripes: &Stripes<PlainCounts, Open<N>>,
+    share: &mut Share<Open<N>>,
     word: Word,
 ) -> Result<u64, Fail>
     requires word { word.0 < word_count stripes.now.setup }
@@ -210,8 +211,8 @@ fn share_at_last<N: Books, R: Wait + Abort>(
 fn share_and_look<N: Books, R: Wait + Abort>(
     rt: &R,
     alloc: Global,
-    stripes: &Stripes<PlainCounts, N>,
-    share: &mut Share<N>,
+    stripes: &Stripes<PlainCounts, Open<N>>,
+    share: &mut Share<Open<N>>,
     forty: &Cut,
     one: &Cut,
 ) -> Result<u64, Fail>

@@ -3,6 +3,7 @@ ghost use Rattle.std.specs.Prelude.{◌≡◌, ◌<◌};
 ghost use Rattle.kc_booking.specs.Setup.{stripe_count};
 
 use crate::bookings::{Held, NOTHING, assert_held, limited_stripe, map_stripe, quotient_stripe};
+use crate::open_terms::Open;
 use crate::sample_batches::{batches_in, made_setup};
 use crate::sharings::stripes_of;
 use crate::stripe_assertions::{assert_items, assert_same};
@@ -242,8 +243,8 @@ fn share_twice<N: Books, R: Wait>(
 // Books the round twice in these stripes: what is answered, and what the share then tells of stripe 0.
 fn book_twice<N: Books, R: Wait>(
     rt: &R,
-    stripes: &Stripes<PlainCounts, N>,
-    share: &mut Share<N>,
+    stripes: &Stripes<PlainCounts, Open<N>>,
+    share: &mut Share<Open<N>>,
     cuts: &Cuts,
     ordered: &mut Ordered,
 ) -> Result<(Result<(), BookFault>, [u64; 2]), Fail>

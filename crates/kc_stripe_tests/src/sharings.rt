@@ -6,6 +6,7 @@ ghost use Rattle.kc_stripe.specs.Locked.{IsAllOf};
 ghost use Rattle.kc_share.specs.Share.{share_of};
 
 use crate::bookings::cuts_and_stranger;
+use crate::open_terms::Open;
 use crate::sample_batches::{batches_in, made_setup, setup_with};
 use crate::stripe_assertions::{assert_items, assert_same};
 use kc_share::{Books, Share, Sheet};
@@ -37,7 +38,7 @@ pub(crate) fn stripes_of<N: Books>(
     alloc: Global,
     setup: &Setup,
     sheet: Sheet,
-) -> Result<(Stripes<PlainCounts, N>, Share<N>), AllocError>
+) -> Result<(Stripes<PlainCounts, Open<N>>, Share<Open<N>>), AllocError>
     requires name { sheet.table ≡ N.table }
     requires stripes { sheet.plan.stripes ≡ stripe_count setup.now }
     ensures setup { IfOk result (λ made. made.0.setup ≡ setup.now) }
@@ -50,8 +51,8 @@ pub(crate) fn stripes_of<N: Books>(
 // Books a batch into the stripe of its cut.
 fn book_cut<N: Books, R: Wait>(
     rt: &R,
-    stripes: &Stripes<PlainCounts, N>,
-    share: &mut Share<N>,
+    stripes: &Stripes<PlainCounts, Open<N>>,
+    share: &mut Share<Open<N>>,
     cut: &Cut,
 ) -> Result<(), BookFault>
     requires { cut.now.stripe < stripe_count stripes.now.setup }
@@ -67,8 +68,8 @@ fn book_cut<N: Books, R: Wait>(
 pub(crate) fn book_batch<N: Books, R: Wait>(
     rt: &R,
     alloc: Global,
-    stripes: &Stripes<PlainCounts, N>,
-    share: &mut Share<N>,
+    stripes: &Stripes<PlainCounts, Open<N>>,
+    share: &mut Share<Open<N>>,
     batch: &Arc<Batch>,
 ) -> Result<(), BookFault>
     ensures { (share.new.parts ≡ share.old.parts) × (share.new.plan ≡ share.old.plan) }
@@ -85,10 +86,10 @@ pub(crate) fn book_batch<N: Books, R: Wait>(
 pub(crate) fn book_all<N: Books, R: Wait>(
     rt: &R,
     alloc: Global,
-    stripes: &Stripes<PlainCounts, N>,
-    mut share: Share<N>,
+    stripes: &Stripes<PlainCounts, Open<N>>,
+    mut share: Share<Open<N>>,
     batches: &[Arc<Batch>],
-) -> (Share<N>, Result<(), BookFault>)
+) -> (Share<Open<N>>, Result<(), BookFault>)
     ensures { (result.0.parts ≡ share.parts) × (result.0.plan ≡ share.plan) }
 {
     for batch in batches {
@@ -107,7 +108,7 @@ fn count_by_two<N: Books + Send + Sync, R: Threads + Wait + Sync>(
     setup: &Setup,
     sheet: Sheet,
     batches: &[Arc<Batch>],
-) -> Result<(Vec<Stripe<PlainCounts>>, Share<N>), BookFault>
+) -> Result<(Vec<Stripe<PlainCounts>>, Share<Open<N>>), BookFault>
     requires name { sheet.table ≡ N.table }
     requires stripes { sheet.plan.stripes ≡ stripe_count setup.now }
     requires parts { sheet.plan.parts ≡ 2 }
@@ -124,10 +125,10 @@ fn count_by_two<N: Books + Send + Sync, R: Threads + Wait + Sync>(
 fn book_by_two<N: Books + Send + Sync, R: Threads + Wait + Sync>(
     rt: &R,
     alloc: Global,
-    stripes: &Stripes<PlainCounts, N>,
-    mut one: Share<N>,
+    stripes: &Stripes<PlainCounts, Open<N>>,
+    mut one: Share<Open<N>>,
     batches: &[Arc<Batch>],
-) -> Result<Share<N>, BookFault>
+) -> Result<Share<Open<N>>, BookFault>
     requires { one.parts ≡ 2 }
     ensures { IfOk result (λ whole. (whole.parts ≡ 2) × (whole.plan ≡ one.plan)) }
 {
@@ -142,10 +143,10 @@ fn book_by_two<N: Books + Send + Sync, R: Threads + Wait + Sync>(
 fn book_halves<N: Books + Send + Sync, R: Threads + Wait + Sync>(
     rt: &R,
     alloc: Global,
-    stripes: &Stripes<PlainCounts, N>,
-    shares: (Share<N>, Share<N>),
+    stripes: &Stripes<PlainCounts, Open<N>>,
+    shares: (Share<Open<N>>, Share<Open<N>>),
     halves: (&[Arc<Batch>], &[Arc<Batch>]),
-) -> Result<(Share<N>, Share<N>), BookFault>
+) -> Result<(Share<Open<N>>, Share<Open<N>>), BookFault>
     ensures first { IfOk result (λ both. (both.0.parts ≡ shares.0.parts) × (both.0.plan ≡ shares.0.plan)) }
     ensures second { IfOk result (λ both. (both.1.parts ≡ shares.1.parts) × (both.1.plan ≡ shares.1.plan)) }
 {
@@ -153,10 +154,10 @@ fn book_halves<N: Books + Send + Sync, R: Threads + Wait + Sync>(
     let (first, second) = halves;
     let ((one, first), (other, second)) = join(
         rt,
-        move || -> (Share<N>, Result<(), BookFault>)
+        move || -> (Share<Open<N>>, Result<(), BookFault>)
             ensures { (result.0.parts ≡ one.parts) × (result.0.plan ≡ one.plan) }
         { book_all(rt, alloc, stripes, one, first) },
-        move || -> (Share<N>, Result<(), BookFault>)
+        move || -> (Share<Open<N>>, Result<(), BookFault>)
             ensures { (result.0.parts ≡ other.parts) × (result.0.plan ≡ other.plan) }
         { book_all(rt, alloc, stripes, other, second) },
     );
@@ -172,7 +173,7 @@ pub(crate) fn sums_of<N: Books>(
     alloc: Global,
     setup: &Setup,
     stripes: &[Stripe<PlainCounts>],
-    share: &Share<N>,
+    share: &Share<Open<N>>,
 ) -> Result<Vec<Sums>, AllocError>
     requires { share.now.plan.stripes ≡ stripe_count setup.now }
 {
@@ -230,8 +231,8 @@ fn sum_up<R: Threads + Wait + Abort + Sync>(
 // What the booking of a cut answers, where its stripe is one of these.
 fn booked<N: Books, R: Wait>(
     rt: &R,
-    stripes: &Stripes<PlainCounts, N>,
-    share: &mut Share<N>,
+    stripes: &Stripes<PlainCounts, Open<N>>,
+    share: &mut Share<Open<N>>,
     cut: &Cut,
 ) -> Option<Result<(), BookFault>>
     ensures { (share.new.parts ≡ share.old.parts) × (share.new.plan ≡ share.old.plan) }
@@ -246,8 +247,8 @@ fn booked<N: Books, R: Wait>(
 fn look_up<N: Books, R: Wait>(
     rt: &R,
     alloc: Global,
-    stripes: &Stripes<PlainCounts, N>,
-    share: &mut Share<N>,
+    stripes: &Stripes<PlainCounts, Open<N>>,
+    share: &mut Share<Open<N>>,
     word: u64,
 ) -> Result<(u64, usize), BookFault>
     ensures { share.new.plan ≡ share.old.plan }
@@ -266,8 +267,8 @@ const A_STRANGER: &Option<Result<(), BookFault>> = &Some(Err(BookFault::Stranger
 // The booking of a cut answers so.
 fn assert_booked<N: Books, R: Wait + Abort>(
     rt: &R,
-    stripes: &Stripes<PlainCounts, N>,
-    share: &mut Share<N>,
+    stripes: &Stripes<PlainCounts, Open<N>>,
+    share: &mut Share<Open<N>>,
     cut: &Cut,
     answer: &Option<Result<(), BookFault>>,
 )
@@ -281,8 +282,8 @@ fn assert_booked<N: Books, R: Wait + Abort>(
 fn assert_seen<N: Books, R: Wait + Abort>(
     rt: &R,
     alloc: Global,
-    stripes: &Stripes<PlainCounts, N>,
-    share: &mut Share<N>,
+    stripes: &Stripes<PlainCounts, Open<N>>,
+    share: &mut Share<Open<N>>,
 )
     ensures { share.new.plan ≡ share.old.plan }
 {
@@ -343,8 +344,8 @@ fn look_among_batches<R: Wait + Abort>(
 fn counts_of<N: Books, R: Wait>(
     rt: &R,
     alloc: Global,
-    stripes: &Stripes<PlainCounts, N>,
-    share: &mut Share<N>,
+    stripes: &Stripes<PlainCounts, Open<N>>,
+    share: &mut Share<Open<N>>,
     words: &[u64],
 ) -> Result<Vec<u64>, Fail> {
     let mut counts = Vec::new(alloc);
@@ -359,8 +360,8 @@ fn counts_of<N: Books, R: Wait>(
 fn looks_of<N: Books, R: Wait>(
     rt: &R,
     alloc: Global,
-    stripes: &Stripes<PlainCounts, N>,
-    share: &mut Share<N>,
+    stripes: &Stripes<PlainCounts, Open<N>>,
+    share: &mut Share<Open<N>>,
     words: &[u64],
 ) -> Result<Vec<Look>, AllocError> {
     let mut looks = Vec::new(alloc);
@@ -392,8 +393,8 @@ fn look_book_and_look<N: Books, R: Wait>(
 fn looks_around<N: Books, R: Wait>(
     rt: &R,
     alloc: Global,
-    stripes: &Stripes<PlainCounts, N>,
-    mut share: Share<N>,
+    stripes: &Stripes<PlainCounts, Open<N>>,
+    mut share: Share<Open<N>>,
     batches: &[Arc<Batch>],
     words: &[u64],
 ) -> Result<(Vec<Look>, Vec<Look>), BookFault> {
@@ -427,8 +428,8 @@ fn book_look_and_end<N: Books, R: Wait>(
 fn book_and_count<N: Books, R: Wait>(
     rt: &R,
     alloc: Global,
-    stripes: &Stripes<PlainCounts, N>,
-    share: &mut Share<N>,
+    stripes: &Stripes<PlainCounts, Open<N>>,
+    share: &mut Share<Open<N>>,
     batch: &Arc<Batch>,
     words: &[u64],
 ) -> Result<Vec<u64>, Fail> {
@@ -439,8 +440,8 @@ fn book_and_count<N: Books, R: Wait>(
 // The sharing ends: the numbers and the totals of the stripes, as they come.
 fn totals_at_end<N: Books>(
     alloc: Global,
-    stripes: Stripes<PlainCounts, N>,
-    share: Share<N>,
+    stripes: Stripes<PlainCounts, Open<N>>,
+    share: Share<Open<N>>,
 ) -> Result<Vec<(u32, u64)>, AllocError> {
     let (stripes, _) = stripes.into_stripes(alloc, share)?;
     totals_of(alloc, &stripes)

@@ -4,6 +4,7 @@ pub mod CommandsLemmas
 pub mod FaultLinesLemmas
 pub mod FileSystemLemmas
 pub mod FilesLemmas
+pub mod FullLemmas
 pub mod GivenLemmas
 pub mod InputsLemmas
 pub mod MergedReportsLemmas

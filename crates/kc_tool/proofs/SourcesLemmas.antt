@@ -38,7 +38,7 @@ use Rattle.kc_tool.specs.declared.tool_faults.ToolFault.{ToolFault}
 use Rattle.kc_tool.specs.declared.tool_faults.ToolFault.TheVariants.{Fastx, BadHeader, BadRow, BadEnd, TableTooLong, TableRead, Memory, BadOption, BadWord, Write, Run, OpenFailed, Unlike, TooLarge}
 
 -- A list changes neither the length of the words nor the pieces.
-k-kept : (list : Option (List ℕ)) (rule : CountingRule) → (kept_to list rule).k ≡ rule.k
+pub k-kept : (list : Option (List ℕ)) (rule : CountingRule) → (kept_to list rule).k ≡ rule.k
 k-kept None rule = refl
 k-kept (Some words) rule = refl
 

@@ -1,5 +1,5 @@
 -- The reads of all sources of one count, the words of its list, and their tally: source, our formats page.
-use Rattle.std.specs.Prelude.{◌≡◌, ◌≤◌, ◌<◌, ◌⊎◌, ◌+◌, ◌-◌, ◌^◌, Result, Ok, Err, ℕ, List, [], ◌∷◌, ◌++◌, length, map}
+use Rattle.std.specs.Prelude.{◌≡◌, ◌≤◌, ◌<◌, ◌⊎◌, ◌+◌, ◌-◌, ◌*◌, ◌^◌, Result, Ok, Err, ℕ, List, [], ◌∷◌, ◌++◌, length, map}
 use Rattle.std.specs.Prelude.{max, sum_by, ⊤, Bool, true, false, Option, Some, None, IfSome, is_some, option_map}
 use Rattle.std.specs.List.{concat}
 use Rattle.kc_io.specs.Sources.{Seen}
@@ -14,6 +14,7 @@ use Rattle.kc_word.specs.Only.{WordList, IsListOf}
 use Rattle.kc_kmer.specs.Rule.{CountingRule, with_list}
 use Rattle.kc_tally.specs.Tally.{TallySeen, IsTallyOf}
 use Rattle.kc_report.specs.declared.origin.Origin.{Origin}
+use Rattle.kc_table.specs.Sizes.{most_log}
 use Rattle.kc_run.specs.Runs.{IsRunFault}
 use Rattle.kc_run.specs.declared.run_fault.RunFault.{RunFault}
 use Rattle.kc_command.specs.Settings.{Settings, rule_of}
@@ -124,9 +125,14 @@ pub record FailsAt (old new : List Seen) (number : ℕ) (fault : FastxFault) : T
   pub earlier : GaveReads place.before place.given inputs reads
   pub fails : RefusesFor place.here place.left (most_bytes - length (concat inputs)) fault
 
--- a fault with which a run may end that counts by these settings: it names one of their threads or of their stripes
+-- there are more words than slots in the largest hash tables, one for each stripe
+abbrev pub TablesMayBeFull : Settings → Type 0
+TablesMayBeFull settings = 2 ^ most_log * settings.stripes < 4 ^ settings.k
+
+-- a fault with which a run may end that counts by these settings: it names one of their threads or of their stripes,
+-- and a full one only where tables may be full
 abbrev pub MayFail : Settings → RunFault → Type 0
-MayFail settings fault = IsRunFault settings.workers settings.stripes fault
+MayFail settings fault = IsRunFault (TablesMayBeFull settings) settings.workers settings.stripes fault
 
 -- why the sources were not counted: one has no reads; or all gave reads, and the run over them was refused. Of want of
 -- memory outside the readers nothing is said

@@ -4,9 +4,10 @@ use Rattle.std.proofs.lemmas.Result.{err_from_is_err_and}
 use Rattle.kc_share.specs.declared.entry.Plan.{Plan}
 use Rattle.kc_share.specs.Share.{ShareSeen}
 use Rattle.kc_share.specs.Sheet.{plan_of}
-use Rattle.kc_run.specs.Runs.{IsReady, IsRunFault}
+use Rattle.kc_run.specs.Runs.{IsReady, IsRunFault, MayEverBeFull}
 use Rattle.kc_run.specs.declared.worker.Worker.{Worker}
-use Rattle.kc_booking.specs.Setup.{stripe_count}
+use Rattle.kc_booking.specs.Setup.{StripeSetup, stripe_count}
+use Rattle.kc_stripe.specs.Terms.{MayBeTooMany}
 use Rattle.kc_run.proofs.CrewLemmas.{fresh_seats}
 use Rattle.kc_run.proofs.GatheringLemmas.{journals_counted}
 use Rattle.kc_run.proofs.whole_run.counted.Goals as goal
@@ -47,9 +48,22 @@ pub returns-in_err-ended-clause-refused : goal.returns-in_err-ended-clause-refus
 returns-in_err-ended-clause-refused g c =
     let count = c.args.count.now in
     let fault = c.in_err-ended.field-0.0 in
+    let full = MayEverBeFull g.N.Terms.may_be_full in
     let stripes : c.from.result ≡ stripe_count count.setup.now = search rules in
     let many : vec_len c.in_ok-ready.ready ≡ count.workers = search rules in
     let p = err_from_is_err_and c.from_residual-in_err-ended.result c.from_residual-in_err-ended.ensures.1 in
     rw (p.1, p.2)
-    (subst (λ n. IsRunFault n (stripe_count count.setup.now) fault) many
-    (subst (λ n. IsRunFault (vec_len c.in_ok-ready.ready) n fault) stripes c.in_err-ended.ensures.refused))
+    (subst (λ n. IsRunFault full n (stripe_count count.setup.now) fault) many
+    (subst (λ n. IsRunFault full (vec_len c.in_ok-ready.ready) n fault) stripes c.in_err-ended.ensures.refused))
+
+pub work_all-requires-clause-job : goal.work_all-requires-clause-job
+work_all-requires-clause-job g c κs within =
+    let setup = c.in_ok-stripes.stripes.setup in
+    let limit : c.in_ok-tickets.tickets.limit ≡ length c.args.count.now.batches.now = search rules in
+    let stripes : c.from.result ≡ stripe_count setup = search rules in
+    record {
+      limit = limit;
+      stripes = stripes;
+      allowed = c.requires.allowed;
+      few_allowed = subst (λ (setup : StripeSetup). ¬ MayBeTooMany setup.rule.k g.N.Terms.may_be_booked) (sym c.in_ok-stripes.ensures.setup) c.requires.few_allowed;
+    }

@@ -1,12 +1,13 @@
-use Rattle.std.proofs.Common.{◌≡◌, ◌∙◌, ◌+◌, ap, arith, length, subst, sym}
+use Rattle.std.proofs.Common.{◌≡◌, ◌∙◌, ◌+◌, All, Err, ap, arith, length, subst, sym}
 use Rattle.kc_share.specs.Share.{ShareSeen}
 use Rattle.kc_booking.specs.Round.{RoundState}
-use Rattle.kc_booking.specs.Setup.{stripe_count}
+use Rattle.kc_booking.specs.Setup.{StripeSetup, stripe_count}
 use Rattle.kc_booking.specs.Cuts.{RoundCut, cuts_in, round_at}
 use Rattle.kc_stripe.specs.Locked.{with_bookings}
-use Rattle.kc_run.specs.Runs.{HaveMoreIn, IsWorkerFault}
+use Rattle.kc_stripe.specs.Terms.{MayBeTooMany}
+use Rattle.kc_run.specs.Runs.{HaveMoreIn, IsWorkerFault, MayEverBeFull}
 use Rattle.kc_run.proofs.EntryLemmas.{HaveMoreIn-next}
-use Rattle.kc_run.proofs.FaultLemmas.{fault_of_booking}
+use Rattle.kc_run.proofs.FaultLemmas.{ever_full, fault_of_booking}
 use Rattle.kc_run.proofs.RoundLemmas.{all_booked}
 use Rattle.kc_run.proofs.worker_rounds.book_range.Goals as goal
 
@@ -16,9 +17,14 @@ cuts-cuts-requires g c =
     let own = ap stripe_count c.requires.cut_up in
     omega (arith, c.loop-stripe-test.true, c.requires.range, same, own)
 
-pub book_all-requires : goal.book_all-requires
-book_all-requires g c =
+pub book_all-requires-clause-stripe : goal.book_all-requires-clause-stripe
+book_all-requires-clause-stripe g c =
     omega (arith, ap (λ (cuts : RoundCut). cuts.stripe) c.cuts-cuts.ensures, c.loop-stripe-test.true, c.requires.range)
+
+pub book_all-requires-clause-allowed : goal.book_all-requires-clause-allowed
+book_all-requires-clause-allowed g c =
+    let batches = ap (λ (cuts : RoundCut). cuts.batches) c.cuts-cuts.ensures ∙ ap (λ (round : RoundState). round.batches) c.loop-stripe.invariant.round in
+    subst (All g.N.Terms.may_be_booked) (sym batches) c.requires.allowed
 
 pub loop-stripe-preserved : goal.loop-stripe-preserved
 loop-stripe-preserved g c =
@@ -44,5 +50,10 @@ loop-stripe-preserved g c =
 
 pub returns-in-Err-clause-refused : goal.returns-in-Err-clause-refused
 returns-in-Err-clause-refused g c =
-    subst (IsWorkerFault c.args.to) (sym c.of_booking.ensures)
-    (fault_of_booking c.args.to c.loop-stripe.stripe c.in-Err.fault c.loop-stripe-test.true)
+    let setup : c.cuts-cuts.result.setup ≡ c.args.stripes.now.setup =
+    ap (λ (cuts : RoundCut). cuts.setup) c.cuts-cuts.ensures ∙ ap (λ (round : RoundState). round.setup) c.loop-stripe.invariant.round ∙ c.requires.cut_up in
+    let few = subst (λ (setup : StripeSetup). ¬ MayBeTooMany setup.rule.k g.N.Terms.may_be_booked) (sym setup) c.requires.few in
+    let MayBeFull = MayEverBeFull g.N.Terms.may_be_full in
+    subst (IsWorkerFault MayBeFull c.args.to) (sym c.of_booking.ensures)
+    (fault_of_booking MayBeFull c.args.to c.loop-stripe.stripe c.in-Err.fault c.loop-stripe-test.true
+    (λ full. ever_full _ g.N.Terms.may_be_full _ few (c.in-Err.ensures.full (ap Err full))))

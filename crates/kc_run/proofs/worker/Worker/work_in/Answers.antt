@@ -8,7 +8,7 @@ use Rattle.kc_booking.specs.Round.{RoundState}
 use Rattle.kc_booking.specs.Setup.{stripe_count}
 use Rattle.kc_run.proofs.EntryLemmas.{HaveMoreIn-round, no_entries}
 use Rattle.kc_run.proofs.FaultLemmas.{fault_of_more}
-use Rattle.kc_run.specs.Runs.{HaveMoreIn, IsWorkerFault}
+use Rattle.kc_run.specs.Runs.{HaveMoreIn, IsWorkerFault, MayEverBeFull}
 use Rattle.kc_run.proofs.worker.Worker.work_in.Goals as goal
 
 pub loop-self-init : goal.loop-self-init
@@ -57,7 +57,7 @@ returns-in_err-behind-clause-refused g c =
     let p = err_from_is_err_and c.from_residual-in_err-behind.result c.from_residual-in_err-behind.ensures.1 in
     let stripes : c.stripes-stripes.result ≡ stripe_count c.args.job.now.stripes.now.setup = search rules in
     rw (p.1, p.2)
-    (subst (λ n. IsWorkerFault n c.in_err-behind.field-0.0) (stripes ∙ sym c.requires.job.stripes) c.in_err-behind.ensures.refused)
+    (subst (λ n. IsWorkerFault (MayEverBeFull g.N.Terms.may_be_full) n c.in_err-behind.field-0.0) (stripes ∙ sym c.requires.job.stripes) c.in_err-behind.ensures.refused)
 
 pub returns-in_err-before-clause-refused : goal.returns-in_err-before-clause-refused
 returns-in_err-before-clause-refused g c =
@@ -66,5 +66,5 @@ returns-in_err-before-clause-refused g c =
     let some : 0 < c.stripes-stripes.result = search rules in
     let less = mod-lt (c.args.number * c.args.job.now.stripes_apart % 2 ^ 32) some in
     rw (p.1, p.2)
-    (fault_of_more _ c.args.job.now.plan.stripes c.in_err-before.field-0.0
+    (fault_of_more (MayEverBeFull g.N.Terms.may_be_full) _ c.args.job.now.plan.stripes c.in_err-before.field-0.0
     (omega (arith, less, stripes, c.requires.job.stripes)) c.in_err-before.ensures.refused)

@@ -1,5 +1,6 @@
 use Rattle.std.proofs.Common.{◌≡◌, ◌∙◌, ◌+◌, ◌^◌, ◌<◌, ◌≤◌, ℕ, length, length-append, ap, get_or, subst, sym, take, arith}
 use Rattle.std.proofs.lemmas.List.{length-map, take_all}
+use Rattle.std.proofs.lemmas.Result.{err_from_is_err_and}
 use Rattle.std.specs.declared.sync.Arc.{Arc}
 use Rattle.std.specs.declared.alloc.Global.{Global}
 use Rattle.kc_word.specs.Cutting.{NumberedPieces}
@@ -11,6 +12,7 @@ use Rattle.kc_booking.specs.Cut.{StripeCut, cut_at}
 use Rattle.kc_booking.specs.Cuts.{cuts_in, all_keys_of}
 use Rattle.kc_stripe.specs.Locked.{cut_entry, with_bookings, with_entries, IsOnSheet}
 use Rattle.kc_stripe.proofs.CutsLemmas.{IsNoted, noted_at, cut_of, cut_is, cut_within, cuts-more, entry_is, noted_has_room, one_more_has_room, cuts_are_kept, all_on_sheet, with_bookings-push, with_entries-push}
+use Rattle.kc_stripe.proofs.TermsLemmas.{booked_locked, full_by_terms, unchanged_locked}
 use Rattle.kc_stripe.proofs.locked.Locked.book_all.Goals as goal
 
 -- at this turn a batch of the round is noted, with how many words it has in the stripe
@@ -24,7 +26,7 @@ noted g c =
 pub note-requires-clause-words : goal.note-requires-clause-words
 note-requires-clause-words g c =
     let room : word_total c.self.inside.keeper.journal + length (all_keys_of c.args.cuts.now) < 2 ^ 64 =
-    omega (arith, c.self.invariant.total, c.in_ok-book_all.ensures.total, c.in_ok-book_all.ensures.small.0) in
+    omega (arith, c.self.invariant.on_sheet.total, c.in_ok-book_all.ensures.total, c.in_ok-book_all.ensures.small.0) in
     omega (arith, noted_has_room (noted g c) c.self.inside.keeper room, ap (λ (it : KeptStripe). word_total it.journal) c.loop-i.invariant.keeper)
 
 pub note-requires-clause-entries : goal.note-requires-clause-entries
@@ -32,7 +34,7 @@ note-requires-clause-entries g c =
     let room : length c.self.inside.keeper.journal + length c.args.cuts.now.batches < 2 ^ 64 =
     omega (
       arith,
-      ap length c.self.invariant.journal,
+      ap length c.self.invariant.on_sheet.journal,
       length-map c.self.inside.stripe.journal (λ (batch : NumberedPieces). cut_entry (cut_at c.self.inside.stripe.setup batch c.self.inside.stripe.number)),
       ap length c.in_ok-book_all.ensures.journal,
       length-append c.self.inside.stripe.journal c.args.cuts.now.batches,
@@ -47,7 +49,7 @@ loop-i-preserved g c =
     let front = take c.loop-i.i (cuts_in c.args.cuts.now) in
     let cut : StripeCut = cut_of noted in
     let entry : entry_of c.deref.result.now words ≡ cut_entry cut = ap (λ (b : NumberedPieces). entry_of b words) c.deref.ensures ∙ entry_is noted in
-    let kept = cuts_are_kept c.self.inside.stripe c.self.inside.keeper c.self.invariant c.args.cuts.now c.in_ok-book_all.ensures.own in
+    let kept = cuts_are_kept c.self.inside.stripe c.self.inside.keeper c.self.invariant.on_sheet c.args.cuts.now c.in_ok-book_all.ensures.own in
     let stripe : c.loop-i.keeper.stripe ≡ cut.stripe =
     ap (λ (it : KeptStripe). it.stripe) c.loop-i.invariant.keeper
     ∙ sym (kept c.loop-i.i cut (cut_within noted)) ∙ ap (λ (cut : StripeCut). cut.stripe) (cut_is noted) in
@@ -72,12 +74,32 @@ invariant_of-self-2 g c =
       ap length c.batches-i-end.ensures,
       length-map c.batches-i-end.result.now value,
     ) in
+    let made = c.in_ok-book_all.ensures in
+    let on_sheet : IsOnSheet c.book_all.new.self c.loop-i.keeper =
     subst (IsOnSheet c.book_all.new.self) (sym (c.loop-i.invariant.keeper ∙ ap (with_entries c.self.inside.keeper) (take_all c.loop-i.i cuts many)))
-    (all_on_sheet c.self.inside.stripe c.self.inside.keeper c.self.invariant c.args.cuts.now c.book_all.new.self (record {
-      own = c.in_ok-book_all.ensures.own;
-      same_setup = c.in_ok-book_all.ensures.setup;
-      same_number = c.in_ok-book_all.ensures.number;
-      journal = c.in_ok-book_all.ensures.journal;
-      total = c.in_ok-book_all.ensures.total;
-      at_most = c.in_ok-book_all.ensures.small.0;
-    }))
+    (all_on_sheet c.self.inside.stripe c.self.inside.keeper c.self.invariant.on_sheet c.args.cuts.now c.book_all.new.self (record {
+      own = made.own;
+      same_setup = made.setup;
+      same_number = made.number;
+      journal = made.journal;
+      total = made.total;
+      at_most = made.small.0;
+    })) in
+    booked_locked g.N.Terms.may_be_booked g.N.Terms.may_be_full g.C.Counts.may_be_full c.self.inside.stripe c.self.inside.keeper c.self.invariant
+    c.book_all.new.self c.loop-i.keeper c.args.cuts.now.batches on_sheet made.journal c.requires.allowed made.limits.same_limits
+
+pub invariant_of-self : goal.invariant_of-self
+invariant_of-self g c =
+    let refused = c.in_err-book_all.ensures in
+    unchanged_locked g.N.Terms.may_be_booked g.N.Terms.may_be_full g.C.Counts.may_be_full c.self.inside.stripe c.self.inside.keeper c.self.invariant
+    g.C.Counts.counts c.book_all.new.self refused.setup refused.number refused.unchanged refused.limits.same_limits
+
+pub returns-in_err-book_all-clause-terms : goal.returns-in_err-book_all-clause-terms
+returns-in_err-book_all-clause-terms g c is =
+    let p = err_from_is_err_and c.from_residual.result c.from_residual.ensures.1 in
+    let refused = c.in_err-book_all.ensures in
+    full_by_terms g.N.Terms.may_be_booked g.N.Terms.may_be_full g.C.Counts.may_be_full c.self.inside.stripe c.self.inside.keeper c.self.invariant
+    c.args.cuts.now (g.C.Counts.counts c.self.inside.stripe.table) c.requires.allowed (λ none. let never = refused.empty none in absurd (cc))
+    (λ again. let was = refused.twice.1 again in absurd (cc))
+    (λ strange. let was = refused.stranger.1 strange in absurd (cc))
+    (refused.full cc)

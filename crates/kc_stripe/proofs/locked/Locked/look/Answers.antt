@@ -23,7 +23,7 @@ returns-clause-setup g c = c.in_ok-seen.ensures.setup ∙ (is-stripe g c).0
 pub returns-clause-named : goal.returns-clause-named
 returns-clause-named g c =
     let stripe = c.self.inside.stripe in
-    let named : AreNamed stripe.number c.args.share.now.booked stripe.journal = named-from_among stripe c.self.inside.keeper c.self.invariant c.among_is_there.ensures c.args.share.now.booked c.look.ensures.among in
+    let named : AreNamed stripe.number c.args.share.now.booked stripe.journal = named-from_among stripe c.self.inside.keeper c.self.invariant.on_sheet c.among_is_there.ensures c.args.share.now.booked c.look.ensures.among in
     let journal : stripe.journal ≡ c.in_ok-seen.seen.batches = sym c.in_ok-seen.ensures.batches in
     subst (λ (n : ℕ). AreNamed n c.args.share.now.booked c.in_ok-seen.seen.batches) (is-stripe g c).1
     (subst (AreNamed stripe.number c.args.share.now.booked) journal named)

@@ -24,6 +24,6 @@ loop-lock-preserved g c =
       whole = λ all. All-same (λ stripe. IsAllOf c.args.share.booked stripe) c.push.new.self.items _ items
           (All-push (λ stripe. IsAllOf c.args.share.booked stripe) c.loop-lock.stripes.items c.stripe.inside.stripe (i.whole all)
           (subst booked i.same
-          (all_of c.stripe.inside.stripe c.stripe.inside.keeper c.stripe.invariant c.loop-lock.share.booked
+          (all_of c.stripe.inside.stripe c.stripe.inside.keeper c.stripe.invariant.on_sheet c.loop-lock.share.booked
           (c.look.ensures.whole (subst (λ (share : ShareSeen). share.parts ≡ share.plan.parts) (sym i.same) all)))));
     }

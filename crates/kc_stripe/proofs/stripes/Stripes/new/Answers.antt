@@ -1,9 +1,12 @@
-use Rattle.std.proofs.Common.{◌≡◌, ◌≤◌, ◌∙◌, ap, length, vec_len, rules, sym, subst, arith}
+use Rattle.std.proofs.Common.{◌≡◌, ◌≤◌, ◌∙◌, All, ap, length, vec_len, rules, sym, subst, arith}
 use Rattle.std.specs.FinMap.{empty}
 use Rattle.std.proofs.lemmas.Iterator.Adapters.{YieldsList-from_vec}
 use Rattle.std.proofs.lemmas.Iterator.Consumers.{YieldsList-turn, YieldsList-end}
 use Rattle.kc_booking.specs.Setup.{stripe_count, key_bits}
+use Rattle.std.proofs.lemmas.List.Elements.{All-nil}
 use Rattle.kc_share.specs.Sheet.{OpeningSeen}
+use Rattle.kc_stripe.specs.Locked.{IsOnSheet}
+use Rattle.kc_stripe.specs.Terms.{IsFullOnlyWhere}
 use Rattle.kc_stripe.proofs.stripes.Stripes.new.Goals as goal
 
 pub next_keeper-keeper-requires : goal.next_keeper-keeper-requires
@@ -55,3 +58,14 @@ new-requires-clause-key_bits g c =
     let turn = YieldsList-turn (YieldsList-from_vec {s = c.into_iter-table-iterator.result} c.args.tables.items (search rules) (search rules)) c.loop-table.yielded c.loop-table.table-iterator c.loop-table.yielded_by c.next.result c.next.new.self c.in-Some.table c.in-Some.is c.next.ensures.steps in
     let here = subst (λ table. (g.C.Counts.counts table ≡ empty) × (g.C.Counts.bits table ≡ key_bits c.args.setup.now)) (sym turn.1) (c.requires.tables (length c.loop-table.yielded) c.in-Some.table turn.0) in
     here.1
+
+pub invariant_of-new : goal.invariant_of-new
+invariant_of-new g c =
+    let turn = YieldsList-turn (YieldsList-from_vec {s = c.into_iter-table-iterator.result} c.args.tables.items (search rules) (search rules)) c.loop-table.yielded c.loop-table.table-iterator c.loop-table.yielded_by c.next.result c.next.new.self c.in-Some.table c.in-Some.is c.next.ensures.steps in
+    let made = c.in_ok-stripe.ensures in
+    let on_sheet : IsOnSheet c.in_ok-stripe.stripe c.next_keeper-keeper.result = search rules in
+    record {
+      on_sheet = on_sheet;
+      journal = subst (All g.N.Terms.may_be_booked) (sym made.journal) (All-nil g.N.Terms.may_be_booked);
+      limits = subst (λ table. IsFullOnlyWhere g.N.Terms.may_be_full (g.C.Counts.may_be_full table)) (sym turn.1 ∙ sym made.table) (c.requires.limits (length c.loop-table.yielded) c.in-Some.table turn.0);
+    }
