@@ -91,7 +91,8 @@ pub(crate) fn work_all<
     job: &Job<C, N, G>,
     workers: Vec<Worker<N>>,
 ) -> Result<Vec<Worker<N>>, RunFault>
-    requires job { IsJob N.may_be_booked job.now.tickets.now job.now.plan job.now.batches.now job.now.stripes.now.setup }
+    requires job { let Job = IsJob N.may_be_booked job.now.tickets.now job.now.plan in
+        Job job.now.batches.now job.now.stripes.now.setup }
     requires few { vec_len workers ≤ 64 }
     requires ready { All (λ worker. IsReady job.now.tickets.now job.now.plan worker.seat worker.share) workers.items }
     ensures len { IfOk result (λ ended. vec_len ended ≡ vec_len workers) }
@@ -136,7 +137,8 @@ fn start_all<
     job: &'s Job<'s, C, N, G>,
     mut workers: Vec<Worker<N>>,
 ) -> Result<Started<N>, AllocError>
-    requires job { IsJob N.may_be_booked job.now.tickets.now job.now.plan job.now.batches.now job.now.stripes.now.setup }
+    requires job { let Job = IsJob N.may_be_booked job.now.tickets.now job.now.plan in
+        Job job.now.batches.now job.now.stripes.now.setup }
     requires few { vec_len workers ≤ 64 }
     requires ready { All (λ worker. IsReady job.now.tickets.now job.now.plan worker.seat worker.share) workers.items }
     ensures all { IfOk result (λ started. started.refused ≡ None → vec_len started.threads ≡ vec_len workers) }

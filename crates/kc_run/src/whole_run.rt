@@ -28,8 +28,8 @@ use std::thread::Threads;
 /// Counts batches with so many workers over one table in locked stripes, and answers the summary that the caller wants:
 /// the tally of all batches or, with no row taken from a stripe, the numbers of that tally. The answer is the same
 /// whatever the workers, the stripes and the order in which threads are served. A refused run gives no summary; where
-/// its fault names a worker or a stripe, it is one of this run's. A stripe is full only if one of the tables may be full
-/// in some counts for some key.
+/// its fault names a worker or a stripe, it is one of this run's. A stripe is full only if one of the tables may be
+/// full in some counts for some key.
 ///
 /// Each worker, in a thread of its own, draws numbers until there is none left, and books the batch of each number into
 /// every stripe. It does so in rounds of some 4 million positions: it cuts up all batches of a round, and books them

@@ -72,8 +72,8 @@ impl<C: Counts, N: Terms> Locked<C, N> {
         Ok(())
     }
 
-    /// Books several batches that may be booked into the stripe, and into a share, all or none. It returns how many slots the
-    /// stripe's table has then. A refused booking leaves both as they were.
+    /// Books several batches that may be booked into the stripe, and into a share, all or none. It returns how many
+    /// slots the stripe's table has then. A refused booking leaves both as they were.
     pub(crate) fn book_all(
         &mut self,
         sheet: &OpenSheet<N>,

@@ -156,9 +156,9 @@ impl<C: Counts, N: Terms> Stripes<C, N> {
     ///
     /// It returns how many slots the stripe's table has then: for speed alone, as no clause can say it behind a lock.
     ///
-    /// The stripe of the cuts is one of these, and their batches may be booked. A refused booking leaves the share as it
-    /// was. A round of no batches is never refused. `Full` comes only where batches that may be booked have more than
-    /// 2^62 positions, or a table may be full for one of the keys.
+    /// The stripe of the cuts is one of these, and their batches may be booked. A refused booking leaves the share as
+    /// it was. A round of no batches is never refused. `Full` comes only where batches that may be booked have more
+    /// than 2^62 positions, or a table may be full for one of the keys.
     pub fn book_all<R: Wait>(
         &self,
         rt: &R,

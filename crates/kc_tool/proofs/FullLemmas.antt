@@ -11,7 +11,7 @@ use Rattle.kc_stripe.specs.Terms.{SomeTableMayBeFull}
 use Rattle.kc_command.specs.Settings.{Settings}
 use Rattle.kc_run.specs.declared.run_fault.RunFault.{RunFault}
 use Rattle.kc_run.specs.declared.run_fault.RunFault.TheVariants as run
-use Rattle.kc_run.specs.Runs.{IsRunFault, IsWorkerFault, MayEverBeFull}
+use Rattle.kc_run.specs.Runs.{IsRunFault, MayEverBeFull}
 use Rattle.kc_tool.specs.Tallies.{MayFail}
 
 -- A table that can't have a slot for each key of a stripe is smaller than the stripe's words are many.

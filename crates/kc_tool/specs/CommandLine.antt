@@ -1,5 +1,5 @@
 -- How the program ends, for each command line: source, the README ("The exit status") and our formats page.
-use Rattle.std.specs.Prelude.{◌≡◌, ◌≢◌, ◌⊎◌, ℕ, Bool, true, List, [], ◌++◌, None, Some, Result, Ok, Err, codes}
+use Rattle.std.specs.Prelude.{◌≡◌, ◌≢◌, ◌⊎◌, ℕ, Bool, true, List, [], ◌++◌, Some, Result, Ok, Err, codes}
 use Rattle.std.specs.Prelude.{string_bytes}
 use Rattle.clap.specs.Faults.{fault_of}
 use Rattle.clap.specs.Kinds.{IsAmong}

@@ -1,6 +1,6 @@
 -- The reads of all sources of one count, the words of its list, and their tally: source, our formats page.
-use Rattle.std.specs.Prelude.{◌≡◌, ◌≤◌, ◌<◌, ◌⊎◌, ◌+◌, ◌-◌, ◌*◌, ◌^◌, Result, Ok, Err, ℕ, List, [], ◌∷◌, ◌++◌, length, map}
-use Rattle.std.specs.Prelude.{max, sum_by, ⊤, Bool, true, false, Option, Some, None, IfSome, is_some, option_map}
+use Rattle.std.specs.Prelude.{◌≡◌, ◌≤◌, ◌<◌, ◌⊎◌, ◌+◌, ◌-◌, ◌*◌, ◌^◌, Result, Ok, Err, ℕ, List, [], ◌∷◌, ◌++◌, length}
+use Rattle.std.specs.Prelude.{map, max, sum_by, ⊤, Bool, true, false, Option, Some, None, IfSome, is_some, option_map}
 use Rattle.std.specs.List.{concat}
 use Rattle.kc_io.specs.Sources.{Seen}
 use Rattle.kc_io.specs.Intakes.{TakesAll}

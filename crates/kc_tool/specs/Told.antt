@@ -1,5 +1,5 @@
 -- What there is to say of a command that ended well: source, our formats page ("The closing line").
-use Rattle.std.specs.Prelude.{ℕ, ◌/◌, ◌%◌, nat_lt, zero, suc, true, List, [], ◌++◌, length, Option, Some, None}
+use Rattle.std.specs.Prelude.{ℕ, ◌/◌, ◌%◌, nat_lt, zero, suc, true, [], ◌++◌, length, Option, Some, None}
 use Rattle.std.specs.Prelude.{codes, decimal, if◌then◌else◌, option_map, ◌≡◌, ◌==◌}
 use Rattle.clap.specs.Words.{Text}
 use Rattle.kc_report.specs.declared.origin.Origin.{Origin}

@@ -16,7 +16,7 @@ loop-batch-preserved c =
     let is_below = λ (batch : NumberedPieces). ltb batch.number c.args.number in
     let same : ltb (get_or journal i there).number c.args.number ≡ ltb c.number.result c.args.number = ap (λ (batch : NumberedPieces). ltb batch.number c.args.number) (sym item.1) ∙ ap (λ n. ltb n c.args.number) (sym c.number.ensures) in
     elim c.if-number.branch [
-      then-number w ↦ w.below-is ∙ ap (λ n. n + 1) c.loop-batch.invariant
+      | then-number w ↦ w.below-is ∙ ap (λ n. n + 1) c.loop-batch.invariant
           ∙ sym (count_by_more_yes is_below journal i there item.0 (same ∙ lt-ltb c.number.result c.args.number w.if-number.true))
       | else-number w ↦ w.below-is ∙ c.loop-batch.invariant
           ∙ sym (count_by_more_no is_below journal i there item.0 (same ∙ le-ltb c.number.result c.args.number w.if-number.false))

@@ -1,5 +1,5 @@
 use Rattle.std.proofs.Common.{◌∙◌, sym}
-use Rattle.kc_tool.proofs.CommandLineLemmas.{says, told}
+use Rattle.kc_tool.proofs.CommandLineLemmas.{told}
 use Rattle.kc_tool.proofs.command_line.write_told.Goals as goal
 
 pub returns-in-Some : goal.returns-in-Some

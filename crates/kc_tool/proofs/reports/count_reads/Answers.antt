@@ -1,4 +1,4 @@
-use Rattle.std.proofs.Common.{◌∙◌, [], Err, None, ap, inr, map, refl, subst}
+use Rattle.std.proofs.Common.{◌∙◌, [], Err, ap, inr, map, refl, subst}
 use Rattle.std.proofs.lemmas.Result.{err_from_is_err_and}
 use Rattle.std.specs.Prelude.{option_map}
 use Rattle.kc_tool.specs.NamedSources.{seen_of}

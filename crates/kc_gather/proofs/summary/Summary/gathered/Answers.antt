@@ -18,9 +18,11 @@ returns-in_err-parts-clause-refused g c =
 
 pub of_parts-requires-clause-parts : goal.of_parts-requires-clause-parts
 of_parts-requires-clause-parts g c =
-    let many : vec_len c.args.stripes ≡ length c.args.stripes.items = search rules in
-    (values c.args.batches.now, all-parts _ c.args.stripes.items c.in_ok-parts.parts.items c.requires.one_each c.requires.few
-    (whole-told c.deref.result.now c.args.stripes.items c.len.result c.deref.ensures.value (omega (arith, c.len.ensures, many)) c.in_ok-check_by.ensures.whole) c.in_ok-parts.ensures)
+    let many : vec_len c.args.stripes ≡ length c.args.stripes.items = search rules in (
+      values c.args.batches.now,
+      all-parts _ c.args.stripes.items c.in_ok-parts.parts.items c.requires.one_each c.requires.few
+          (whole-told c.deref.result.now c.args.stripes.items c.len.result c.deref.ensures.value (omega (arith, c.len.ensures, many)) c.in_ok-check_by.ensures.whole) c.in_ok-parts.ensures,
+    )
 
 pub returns-in_err-summary-clause-refused : goal.returns-in_err-summary-clause-refused
 returns-in_err-summary-clause-refused g c =
