@@ -1,5 +1,9 @@
 //! Files that gzip's and zlib's own writers made, and what becomes of them when they are cut or changed.
-use kc_gzip::{GzipFault, crc32, gunzip};
+use kc_gzip::{Gunzip, GunzipFault, GzipFault, crc32, gunzip};
+use kc_io::{Failed, FromRead, Source};
+use std::alloc::Global;
+use std::io;
+use std::io::Read;
 use std::test::Fail;
 
 // what a file holds, its bytes, and its text
@@ -85,5 +89,252 @@ fn fronts_are_cut_short(rt: HostRuntime) -> Result<(), Fail> {
             assert!(rt; fault == Some(GzipFault::Short), "{name}, {end}");
         }
     }
+    Ok(())
+}
+
+// Reads of four seeds, as zlib at level 9 writes them.
+static SAMPLE: &[u8] =
+    b"\x1f\x8b\x08\x00\x00\x00\x00\x00\x00\xffU\x919\x12\xc30\x08E{]\x8324Y**3\xcc\x88\x0bp\x12\
+        \xdf\xbf\xc8\xff\xc8K\x82eY,\xc3\xfb\xc2\xdb\xfe\x1cU\x15Q\xe1\x95\xe1\x8e\xb3\xc3\x82.\
+        \xc2Y\xce\x83gF\x22\x8cC\x1dY\x98G\x8e\xc7\x984\xeb}\xaaN\x99*\xf0\x8dk\xde9\xfd\xa9\xa2\
+        \xa7\xed\x8cm\x7f\x8d\xa0\xa1\x1b;{\x06pT\x82\x10\x1c\x88\xc9\x96\x14P\xd0Ij\xccCKF\xf3\
+        \x09\x5c]\x8d\xaf\x9dXSEJ\xe4\xc0\xab\xae\x84\xac#\xca\x0c\xfc\xf7\xe0\xe5\x93\x12\x92x'\
+        \x1d\x97\xcbv\xc1H\x0f*h-`R\x18\xab\xf0]|\xeb\xdbvG\xa0\xf4\xba\xb3\x9c\xac)\xd6a;]a\xb1\
+        \xa2X\xc0\xff\x0c\xf4\xa1\x00l\x1c6\x17\x9as\xc0\xd4\x11\x9c\x86\xf7,8\xf7\xa0\xa0`E\xef\
+        \x05>\xda\x1c\xcf\xbf\xf1\x0f\xc85sY\xecI\xfa]3\xbe\xbe\xce\xc3\xdd\x00\x02\x00\x00";
+
+static SAMPLE_TEXT: &[u8] =
+    b"@r1\x0aTTTCCTCATGCAATTCAAAACCATGTCCGTAATGTAGGCGAAATAGTAAACCATTTTACG\x0a+\x0aFFFFF:FFFFFF,,F#\
+        F,#FF::F::FFFFFFF:FFFF,FFFF:FFFFFFFF,F,F:FFF\x0a@r2\x0aCCCCCTTATAAAAGCTGTTGCACCTAGCCAAGTTC\
+        AACGGCAGCTGCAATGGAAATAGGC\x0a+\x0aFF,#FFFFFF,F:F,F::FFFFFF:F:,,,#F##FFF,FFF,,FFFFFF#FF,,FF\
+        :FF:\x0a@r3\x0aCCTCGCCCTGAAGCATTGCTTTGTGAAGAGGGACTTCAGCCAATAGACCTGCATACCGGC\x0a+\x0a:FF::F\
+        ,,FF:##F,FFFFFF:FF#FFFF#FF,F#:F,FFF:FF#FF,F##,,FF,##F#\x0a@r4\x0aCGGTCGCGTCTAATAATATACATTT\
+        GCTTCGTTGACTAGCAACCCAGGGCTATAGCTATT\x0a+\x0a#F#F#F#F#FFFFFFFFFFFFFFF:F::#FF:FFFFFF#F#FF,FF\
+        F##,FFFFFFFFFF\x0a";
+
+// What zlib says of the sample with one bit turned, byte by byte, the least bit first: `o`, it is the same text; `b`,
+// it is broken; `s`, it is cut short.
+static TURNED: &[u8] =
+    b"bbbbbbbbbbbbbbbbbbbbbbbbobsbbbbboooooooooooooooooooooooooooooooooooooooooooooooobbbbbbbbbbbb\
+        bbbbbbbbbbbbbbbbbbbbbbbbbbbbbbbbbbbbbbbbbbbbbbbbbbbbbbbbbbbbbbbbbbbbbbbbbbbbbbbbbbbbbbbbbb\
+        bbbbbbbbbbbbbbbbbbbbbbbbbbbbbbbbbbbbbbbbbbbbbbbbbbbbbbbbbbbbbbbbbbbbbbbbbbbbbbbbbbbbbbbbbb\
+        bbbbbbbbbbbbbbbbbbbbbbbbbbbbbbbbbbbbbbbbbbbbbbbbbbbbbbbbbbbbbbbbbbbbbbbbbbbbbbbbbbbbbbbbbb\
+        bbbbbbbbbbbbbbbbbbbbbbbbbbbbbbbbbbbbbbbbbbbbbbbbbbbbbbbbbbbbbbbbbbbbbbbbbbbbbbbbbbbbbbbbbb\
+        bbbbbbbbbbbbbbbbbbbbbbbbbbbbbbbbbbbbbbbbbbbbbbbbbbbbbbbbbbbbbbbbbbbbbbbbbbbbbobbbbbbbbbbbb\
+        bbbbbbbbbbbbbbbbbbbbbbbbbbbbbbbbbbbbbbbbbbbbbbbbbbbbbbbbbbbbbbbbbbbbbbbbbbbbbbbbbbbbbbbbbb\
+        bbbbbbbbbbbbbbbbbbbbbbbbbbbbbbbbbbbbbbbbbbbbbbbbbbbbbbbbbbbbbbbbbbbbbbbbbbbbbbbbbbbbbbbbbb\
+        bbbbbbbbbbbbbbbbbbbbbbbbbbbbbbbbbbbbbbbbbbbbbbbbbbbbbbbbbbbbbbbbbbbbbbbbbbbbbbbbbbbbbbbbbb\
+        bbbbbbbbbbbbbbbbbbbbbbbbbbbbbbbbbbbbbbbbbbbbbbbbbbbbbbbbbbbbbbbbbbbbbbbbbbbbbbbbbbbbbbbbbb\
+        bbbbbbbbbbbbbbbbbbbbbbbbbbbbbbbbbbbbbbbbbbbbbbbbbbbbbbbbbbbbbbbbbbbbbbbbbbbbbbbbbbbbbbbbbb\
+        bbbbbbbbbbbbbbbbbbbbbbbbbbbbbbbbbbbbbbbbbbbbbbbbbbbbbbbbbbbbbbbbbbbbbbbbbbbbbbbbbbbbbbbbbb\
+        bbbbbbbbbbbbbbbbbbbbbbbbbbbbbbbbbbbbbbbbbbbbbbbbbbbbbbbbbbbbbbbbbbbbbbbbbbbbbbbbbbbbbbbbbb\
+        bbbbbbbbbbbbbbbbbbbbbbbbbobbbbbbbbbbbbbbbbbbbbbbbbbbbbbbbbbbbbbbbbbbbbbbbbbbbbbbbbbbbbbbbb\
+        bbbbbbbbbbbbbbbbbbbbbbbbbbbbbbbbbbbbbbbbbbbbbbbbbbbbbbbbbbbbbbbbbbbbbbbbbbbbbbbbbbbbbbbbbb\
+        bbbbbbbbbbbbbbbbbbbbbbbbbbbbbbbbbbbbbbbbbbbbbbbbbbbbbbbbbbbbbbbbbbbbbbbbbbbbbbbbbbbbbbbbbb\
+        bbbbbbbbbbbbbbbbbbbbbbbbbbbbbbbbbbbbbbbbbbbbbbbbbbbbbbbbbbbbbbbbbbbbbbbbbbbbbbbbbbbbbbbbbb\
+        bbbbbbbbbbbbbbbbbbbbbbbbbbbbbbbbbbbbbbbbbbbbbbbbbbbbbbbbbbbbbbbbbbbbbbbbbbbbbbbbbbbbbbbbbb\
+        bbbbbbbbbbbbbbbbbbbbbbbbbbbbbbbbbbbbbbbbbbbbbbbbbbbbbbbbbbbbbbbbbbbbbbbbbbbbbbbbbbbbbbbbbb\
+        bbbbbbbbbbbbbbbbbbbbbbbbbbbbbbbbbbbbbbbbbbbbbbbbbbbbbbbbbbbbbbbbbbbbbbbbbbsbbbbbbbbbbbssss\
+        bbsssbbbobssssbbssssssbbbbbbbbbbbbbbbbbbbbbbbbbbbbbbbbbbbbbbbbbbbbbbbbbbbbbbbbbbbbbbbb";
+
+// C, 32,767 times A, and three bytes from 32,768 back; and the same with one A less, where nothing stands so far back.
+static FARTHEST: &[u8] =
+    b"\x1f\x8b\x08\x00\x00\x00\x00\x00\x00\xffsv\x1c\x05\xa3`\x14\x8c\x82Q0\x0aF\xc1(\x18\x05\xa3`\
+        \x14\x8c\x82Q0\x0aF\xc1(\x18\x05\xa3`\x14\x8c\x82Q0\x0aF\xc1(\x18\x05\xa3`\x14\x8c\x82Q0\
+        \x0aF\xc1(\x18\x05\xa3`\x14\x8c\x82Q0\x0aF\xc1(\x18\x05\xa3`\x14\x8c\x82Q0\x0aF\xc1(\x18\
+        \x05\xa3`\x14\x8c\x82Q0\x0aF\xc1(\x18\x05\xa3`\x14\x8c\x82Q0\x0aF\xc1(\x18\x05\xa3`\x14\
+        \x8c\x82Q0\x0aF\xc1(\x18\x05\xa3`\x14\x8c\x82Q0\x0aF\xc1(\x18\x05\xa3`\x14\x8c\x82Q0\x0aF\
+        \xc1(\x18\x05\xa3`\x14\x8c\x82Q0\x0aF\xc1(\x18\x05\xa3`\x14\x8c\x82Q0\x0aF\xc1(\x18\x05\
+        \xa3`\x14\x8c\x82Q0\x0aF\xc1(\x18\x05\xa3`\x14\x8c\x82Q0\x0aF\xc1(\x18\x05\xa3`\x14\x8c\
+        \x82Q0\x0aF\x01\xf0\xfe\x7f\x006\xfd\x1b\xfe\x03\x80\x00\x00";
+
+static TOO_FAR: &[u8] =
+    b"\x1f\x8b\x08\x00\x00\x00\x00\x00\x00\xffsv\x1c\x05\xa3`\x14\x8c\x82Q0\x0aF\xc1(\x18\x05\xa3`\
+        \x14\x8c\x82Q0\x0aF\xc1(\x18\x05\xa3`\x14\x8c\x82Q0\x0aF\xc1(\x18\x05\xa3`\x14\x8c\x82Q0\
+        \x0aF\xc1(\x18\x05\xa3`\x14\x8c\x82Q0\x0aF\xc1(\x18\x05\xa3`\x14\x8c\x82Q0\x0aF\xc1(\x18\
+        \x05\xa3`\x14\x8c\x82Q0\x0aF\xc1(\x18\x05\xa3`\x14\x8c\x82Q0\x0aF\xc1(\x18\x05\xa3`\x14\
+        \x8c\x82Q0\x0aF\xc1(\x18\x05\xa3`\x14\x8c\x82Q0\x0aF\xc1(\x18\x05\xa3`\x14\x8c\x82Q0\x0aF\
+        \xc1(\x18\x05\xa3`\x14\x8c\x82Q0\x0aF\xc1(\x18\x05\xa3`\x14\x8c\x82Q0\x0aF\xc1(\x18\x05\
+        \xa3`\x14\x8c\x82Q0\x0aF\xc1(\x18\x05\xa3`\x14\x8c\x82Q0\x0aF\xc1(\x18\x05\xa3`\x14\x8c\
+        \x82Q0\x0a\x1c\x1d\x1d\x1d\x1d\x1d\x1d\x1d\x1d\x1d\x1d\x1d\x1d\x1d\x1d\x1d\x1d\x1d\x1d\x1d\
+        \x1d\x1d\x1d\x1d\x1d\x1d\x1d\x1d\x1d\x1d\x1d\x1d\x1d\x1d\x1d\x1d\x1d\x1d\x1d\x1d\x1d\x1d\
+        \x1d\x1d\x1d\x1d\x1d\x1d\x1d\x1d\x1d\x1d\x1d\x1d\x1d\x1d\x1d\x1d\x1d\x1d\x1d\x1d\x1d\x1d\
+        \x1d\x1d\x1d\x1d\x1d\x1d\x1d\x1d\x1d\x1d\x1d\x1d\x1d\x1d\x1d\x1d\x1d\x1d\x1d\x1d\x1d\x1d\
+        \x1d\x1d\x1d\x1d\x1d\x1d\x1d\x1d\x1d\x1d\x1d\x1d\x1d\x1d\x1d\x1d\x1d\x1d\x1d\x1d\x1d\x1d\
+        \x1d\x1d\x1d\x1d\x1d\x1d\x1d\x1d\x1d\x1d\x1d\x1d\x1d\x1d\x1d\x1d\x1d\x1d\x1d\x1d\x1d\x1d\
+        \x1d\x1d\x1d\x1d\x1d\x1d\x1d\x1d\x1d\x1d\x1d\x1d\x1d\x1d\x1d\x1d\x1d\x1d\x1d\x1d\x1d\x1d\
+        \x1d\x1d\x1d\x1d\x1d\x1d\x1d\x1d\x1d\x1d\x1d\x1d\x1d\x1d\x1d\x1d\x1d\x1d\x1d\x1d\x1d\x1d\
+        \x1d\x1d\x1d\x1d\x1d\x1d\x1d\x1d\x1d\x1d\x1d\x1d\x1d\x1d\x1d\x1d\x1d\x1d\x1d\x1d\x1d\x1d\
+        \x1d\x1d\x1d\x1d\x1d\x1d\x1d\x1d\x1d\x1d\x1d\x1d\x1d\x1d\x1d\x1d\x1d\x1d\x1d\x1d\x1d\x1d\
+        \x1d\x1d\x1d\x1d\x1d\x1d\x1d\x1d\x1d\x1d\x1d\x1d\x1d\x1d\x1d\x1d\x1d\x1d\x1d\x1d\x1d\x1d\
+        \x1d\x1d\x1d\x1d\x1d\x1d\x1d\x1d\x1d\x1d\x1d\x1d\x1d\x1d\x1d\x1d\x1d\x81\xf7\xff\x03\x00d\
+        \x1f\xd4\xaa\x02\x80\x00\x00";
+
+// A reader that gives so many bytes at a time, and fails where this many are left.
+#[derive(Drop)]
+struct Drops<'a> {
+    left: &'a [u8],
+    most: usize,
+    fails_with: usize,
+}
+
+impl Read for Drops<'_> {
+    fn read(&mut self, buf: &mut [u8]) -> io::Result<usize> {
+        if self.left.len() == self.fails_with {
+            return Err(io::Error::from(io::ErrorKind::Other));
+        }
+        let count = self.left.len().min(self.most).min(buf.len());
+        let (front, rest) = self.left.split_at(count);
+        buf[..count].copy_from_slice(front);
+        self.left = rest;
+        Ok(count)
+    }
+}
+
+// What the source of such a reader tells by reads of 1,000 bytes, and why it fails.
+fn told(alloc: Global, drops: Drops) -> Result<(Vec<u8>, Option<GunzipFault>), Fail> {
+    let mut source = Gunzip::new(alloc, FromRead::new(drops))?;
+    let mut text = Vec::new(alloc);
+    let mut buffer = [0; 1_000];
+    for _ in 0..100_000 {
+        match source.read(&mut buffer) {
+            Ok(0) => return Ok((text, None)),
+            Ok(count) => text.extend_from_slice(&buffer[..count])?,
+            Err(Failed) => return Ok((text, source.fault())),
+        }
+    }
+    Ok((text, source.fault()))
+}
+
+// The same of these bytes, so many at a time.
+fn told_of(
+    alloc: Global,
+    bytes: &[u8],
+    most: usize,
+) -> Result<(Vec<u8>, Option<GunzipFault>), Fail> {
+    told(
+        alloc,
+        Drops {
+            left: bytes,
+            most,
+            fails_with: usize::MAX,
+        },
+    )
+}
+
+// `o`, this is the text; `x`, it is another; else why there is none.
+fn verdict(text: &[u8], fault: Option<GzipFault>) -> u8 {
+    match fault {
+        None if text == SAMPLE_TEXT => b'o',
+        None => b'x',
+        Some(GzipFault::Broken) => b'b',
+        Some(GzipFault::Short) => b's',
+        Some(GzipFault::Memory) => b'm',
+    }
+}
+
+// The sample with one bit turned.
+fn turned(alloc: Global, place: usize, bit: u32) -> Result<Vec<u8>, Fail> {
+    let mut bytes = Vec::from_slice(alloc, SAMPLE)?;
+    if let Some(byte) = bytes.get_mut(place) {
+        *byte ^= 1u8.wrapping_shl(bit);
+    }
+    Ok(bytes)
+}
+
+#[test]
+fn sources_tell_their_texts_in_parts_of_any_size(rt: HostRuntime) -> Result<(), Fail> {
+    for (name, bytes, text) in FILES.iter() {
+        for most in [1, 2, 3, 50, 1_000] {
+            let (found, fault) = told_of(rt.alloc(), bytes, most)?;
+            assert!(rt; fault.is_none(), "{name}");
+            assert!(rt; found.as_slice() == *text, "{name}");
+        }
+    }
+    Ok(())
+}
+
+#[test]
+fn a_source_that_is_no_gzip_is_handed_through(rt: HostRuntime) -> Result<(), Fail> {
+    let sources: [&[u8]; 6] = [
+        b"",
+        b"\x1f",
+        b"\x8b\x1f",
+        b"\x1f\x1f\x8b",
+        b"A\n",
+        SAMPLE_TEXT,
+    ];
+    for bytes in sources {
+        for most in [1, 1_000] {
+            let (found, fault) = told_of(rt.alloc(), bytes, most)?;
+            assert!(rt; fault.is_none());
+            assert!(rt; found.as_slice() == bytes);
+        }
+    }
+    Ok(())
+}
+
+#[test]
+fn each_turned_bit_is_seen_as_zlib_sees_it(rt: HostRuntime) -> Result<(), Fail> {
+    for (index, expected) in TURNED.iter().enumerate() {
+        let bytes = turned(rt.alloc(), index / 8, (index % 8) as u32)?;
+        let found = match gunzip(rt.alloc(), &bytes) {
+            Ok(text) => verdict(&text, None),
+            Err(fault) => verdict(b"", Some(fault)),
+        };
+        assert!(rt; found == *expected, "bit {index}");
+    }
+    Ok(())
+}
+
+#[test]
+fn a_source_sees_turned_bits_too(rt: HostRuntime) -> Result<(), Fail> {
+    for (index, expected) in TURNED.iter().enumerate() {
+        // without its first two bytes it is no gzip
+        if index < 16 || index % 5 > 0 {
+            continue;
+        }
+        let bytes = turned(rt.alloc(), index / 8, (index % 8) as u32)?;
+        let found = match told_of(rt.alloc(), &bytes, 70)? {
+            (text, None) => verdict(&text, None),
+            (_, Some(GunzipFault::Gzip(fault))) => verdict(b"", Some(fault)),
+            (_, Some(_)) => b'?',
+        };
+        assert!(rt; found == *expected, "bit {index}");
+    }
+    Ok(())
+}
+
+#[test]
+fn a_source_that_ends_early_is_cut_short(rt: HostRuntime) -> Result<(), Fail> {
+    for end in 2..SAMPLE.len() {
+        let (_, fault) = told_of(rt.alloc(), &SAMPLE[..end], 100)?;
+        assert!(rt; fault == Some(GunzipFault::Gzip(GzipFault::Short)), "{end}");
+    }
+    Ok(())
+}
+
+#[test]
+fn a_read_that_fails_is_told(rt: HostRuntime) -> Result<(), Fail> {
+    for fails_with in 0..SAMPLE.len() + 1 {
+        let drops = Drops {
+            left: SAMPLE,
+            most: 1,
+            fails_with,
+        };
+        let (_, fault) = told(rt.alloc(), drops)?;
+        assert!(rt; fault == Some(GunzipFault::Read), "{fails_with}");
+    }
+    Ok(())
+}
+
+#[test]
+fn copies_reach_back_as_far_as_the_window(rt: HostRuntime) -> Result<(), Fail> {
+    let (text, fault) = told_of(rt.alloc(), FARTHEST, 100)?;
+    assert!(rt; fault.is_none());
+    assert_eq!(rt; text.len(), 32_771);
+    assert_eq!(rt; crc32(&text), 4_263_247_158);
+    let (_, fault) = told_of(rt.alloc(), TOO_FAR, 100)?;
+    assert!(rt; fault == Some(GunzipFault::Gzip(GzipFault::Broken)));
     Ok(())
 }
