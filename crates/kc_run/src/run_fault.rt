@@ -21,7 +21,7 @@ pub enum RunFault {
     /// Refusal 34: memory was refused.
     #[error("no memory")]
     Memory,
-    /// Refusal 35: the stripe of this number has no place for a key, or its total would pass 2^62.
+    /// Refusal 35: the hash table of the stripe of this number has no place for a key.
     #[error("stripe {0} is full")]
     Full(u32),
 }
