@@ -21,6 +21,8 @@ pub struct Recorded<S> {
     asked: Asked,
     // how many more calls in a row may be interrupted before one is a failure
     tries: u64,
+    // of what kind the last error was that is no interruption
+    last_error: Option<ErrorKind>,
 }
 
 impl<S> Recorded<S> {
@@ -36,7 +38,13 @@ impl<S> Recorded<S> {
             heard: Heard::nothing(),
             asked: Asked::nothing(),
             tries: u64::MAX,
+            last_error: None,
         }
+    }
+
+    /// Of what kind the last error of the stream's was that is no interruption; None where there was none.
+    pub fn last_error(&self) -> Option<ErrorKind> {
+        self.last_error
     }
 
     /// The stream, for good.
@@ -48,6 +56,7 @@ impl<S> Recorded<S> {
             heard: _,
             asked: _,
             tries: _,
+            last_error: _,
         } = self;
         stream
     }
@@ -64,7 +73,12 @@ impl<R: Read> Recorded<R> {
         ensures hears { Hears self.old.asked.calls self.old.tries self.new.asked.calls self.new.tries result }
     {
         let answer = self.stream.read(buffer);
-        let Some(answer) = settle(&mut self.asked, &mut self.tries, answer) else {
+        let Some(answer) = settle(
+            &mut self.asked,
+            &mut self.tries,
+            &mut self.last_error,
+            answer,
+        ) else {
             return None;
         };
         self.heard = self.heard.and(&answer, buffer);
@@ -85,7 +99,12 @@ impl<W: Write> Recorded<W> {
         ensures hears { Hears self.old.asked.calls self.old.tries self.new.asked.calls self.new.tries result }
     {
         let answer = self.stream.write(bytes);
-        let Some(answer) = settle(&mut self.asked, &mut self.tries, answer) else {
+        let Some(answer) = settle(
+            &mut self.asked,
+            &mut self.tries,
+            &mut self.last_error,
+            answer,
+        ) else {
             return None;
         };
         let answer = match answer {
@@ -105,7 +124,12 @@ impl<W: Write> Recorded<W> {
         ensures hears { Hears self.old.asked.calls self.old.tries self.new.asked.calls self.new.tries result }
     {
         let answer = self.stream.flush();
-        let Some(answer) = settle(&mut self.asked, &mut self.tries, answer) else {
+        let Some(answer) = settle(
+            &mut self.asked,
+            &mut self.tries,
+            &mut self.last_error,
+            answer,
+        ) else {
             return None;
         };
         self.heard = self.heard.and_flush(&answer);
@@ -113,8 +137,14 @@ impl<W: Write> Recorded<W> {
     }
 }
 
-// Settles one answer of std, and counts it: None where it is an interruption and `tries` allows one more.
-fn settle<T>(asked: &mut Asked, tries: &mut u64, answer: io::Result<T>) -> Option<Result<T, Failed>>
+// Settles one answer of std, and counts it: None where it is an interruption and `tries` allows one more. `last_error`
+// keeps of what kind any other error is.
+fn settle<T>(
+    asked: &mut Asked,
+    tries: &mut u64,
+    last_error: &mut Option<ErrorKind>,
+    answer: io::Result<T>,
+) -> Option<Result<T, Failed>>
     ensures settled { result ≡ settled answer tries.old }
     ensures counted { asked.new.calls ≡ after_call asked.old.calls answer }
     ensures hears { Hears asked.old.calls tries.old asked.new.calls tries.new result }
@@ -136,7 +166,8 @@ fn settle<T>(asked: &mut Asked, tries: &mut u64, answer: io::Result<T>) -> Optio
                 *asked = asked.and_interruption();
                 Some(Err(Failed))
             }
-            _ => {
+            kind => {
+                *last_error = Some(kind);
                 *asked = asked.and_answer();
                 Some(Err(Failed))
             }

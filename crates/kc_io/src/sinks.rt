@@ -8,7 +8,7 @@ ghost use Rattle.kc_io.specs.Answers.{no_calls, Settles};
 use crate::failures::Failed;
 use crate::histories::Heard;
 use crate::recorded_calls::Recorded;
-use std::io::Write;
+use std::io::{ErrorKind, Write};
 use std::marker::Model;
 
 /// Whatever takes bytes. Proofs see the bytes written to it, where it tells them, and the history of its calls.
@@ -141,6 +141,11 @@ impl<W: Write> ToWrite<W> {
         ToWrite {
             recorded: Recorded::new(writer),
         }
+    }
+
+    /// Of what kind the last error of the writer's was that is no interruption; None where there was none.
+    pub fn last_error(&self) -> Option<ErrorKind> {
+        self.recorded.last_error()
     }
 
     /// The writer.

@@ -1,5 +1,5 @@
 //! Why the system refuses a file, or what is written.
-use std::io::{Error, ErrorKind};
+use std::io::ErrorKind;
 
 /// Why a file can't be opened, made or renamed, or a text not be written, as far as that shows what to do.
 #[derive(Clone, Copy, Debug, PartialEq, Eq)]
@@ -24,9 +24,9 @@ pub enum Refusal {
     Other,
 }
 
-/// The refusal that this error of std is.
-pub(crate) fn refusal_of(error: &Error) -> Refusal {
-    match error.kind() {
+/// The refusal that an error of std of this kind is.
+pub(crate) fn refusal_of(error: ErrorKind) -> Refusal {
+    match error {
         ErrorKind::NotFound => Refusal::Missing,
         ErrorKind::PermissionDenied => Refusal::Denied,
         ErrorKind::IsADirectory => Refusal::IsFolder,

@@ -16,7 +16,6 @@ use crate::file_acts::FileAct;
 use crate::file_refusals::{Refusal, refusal_of};
 use crate::looks::{Look, Looks};
 use crate::named_sources::NamedSource;
-use crate::noted_writers::NotedWriter;
 use crate::process::StreamNotes;
 use crate::tool_faults::ToolFault;
 use kc_io::{Failed, FromRead, Heard, Sink, Source, ToWrite};
@@ -104,7 +103,7 @@ pub(crate) enum NotMade {
 /// A file that is written.
 #[derive(Drop)]
 pub(crate) struct FileSink<F: Write> {
-    stream: ToWrite<NotedWriter<F, Option<Refusal>>>,
+    stream: ToWrite<F>,
     heard: Heard,
 }
 
@@ -257,7 +256,7 @@ impl<'a, H: Files> NamedFiles<'a, H> {
                 Some(NamedSource { name, source })
             }
             Err(error) => {
-                self.refusal = Some(refusal_of(&error));
+                self.refusal = Some(refusal_of(error.kind()));
                 self.log = self.log.and_act(FileAct::NotOpened, name);
                 None
             }
@@ -285,7 +284,7 @@ impl<'a, H: Files> NamedFiles<'a, H> {
                 Ok(OpenedSink { file, permissions })
             }
             Err(error) => {
-                self.refusal = Some(refusal_of(&error));
+                self.refusal = Some(refusal_of(error.kind()));
                 self.log = self.log.and_act(FileAct::NotCreated, name.as_str());
                 Err(name)
             }
@@ -306,7 +305,7 @@ impl<'a, H: Files> NamedFiles<'a, H> {
                 Some(path)
             }
             Err(error) => {
-                self.refusal = Some(refusal_of(&error));
+                self.refusal = Some(refusal_of(error.kind()));
                 self.log = self.log.and_act(FileAct::NotFollowed, name);
                 None
             }
@@ -334,7 +333,7 @@ impl<'a, H: Files> NamedFiles<'a, H> {
                 Err(NotMade::Taken)
             }
             Err(error) => {
-                self.refusal = Some(refusal_of(&error));
+                self.refusal = Some(refusal_of(error.kind()));
                 self.log = self.log.and_act(FileAct::NotMade, name.as_str());
                 Err(NotMade::Refused)
             }
@@ -349,7 +348,7 @@ impl<'a, H: Files> NamedFiles<'a, H> {
         let (act, done) = match fs::rename(self.rt, name, path) {
             Ok(()) => (FileAct::Renamed, true),
             Err(error) => {
-                self.refusal = Some(refusal_of(&error));
+                self.refusal = Some(refusal_of(error.kind()));
                 (FileAct::NotRenamed, false)
             }
         };
@@ -389,8 +388,8 @@ impl<'a, H: Files> NamedFiles<'a, H> {
         let NamedSink { name, sink } = file;
         let heard = &sink.heard;
         self.log = self.log.and(&FileAct::Wrote, name.as_bytes(), b"", heard);
-        if let Some(refusal) = sink.stream.into_inner().note {
-            self.refusal = Some(refusal);
+        if let Some(error) = sink.stream.last_error() {
+            self.refusal = Some(refusal_of(error));
         }
         name
     }
@@ -402,7 +401,7 @@ impl<F: Write> NamedSink<F> {
         ensures named { string_bytes result.name ≡ string_bytes name }
         ensures fresh { result.sink.history ≡ no_history }
     {
-        let stream = ToWrite::new(NotedWriter::new(file, None));
+        let stream = ToWrite::new(file);
         let heard = Heard::nothing();
         NamedSink {
             name,

@@ -7,7 +7,7 @@ use crate::count_progress::NoProgress;
 use crate::files::NamedFiles;
 use crate::input_source::InputSource;
 use crate::looks::InputLook;
-use crate::noted_writers::{NotedWriter, SharedNote};
+use crate::output_sink::{OutputSink, RefusalNote};
 use kc_io::ToWrite;
 use std::alloc::Global;
 use std::io;
@@ -19,7 +19,7 @@ use std::thread::Threads;
 #[derive(Drop)]
 pub struct StreamNotes {
     pub(crate) look: InputLook,
-    pub(crate) refusal: SharedNote,
+    pub(crate) refusal: RefusalNote,
 }
 
 impl StreamNotes {
@@ -27,7 +27,7 @@ impl StreamNotes {
     pub fn none() -> StreamNotes {
         StreamNotes {
             look: InputLook::nothing(),
-            refusal: SharedNote::nothing(),
+            refusal: RefusalNote::nothing(),
         }
     }
 
@@ -39,10 +39,10 @@ impl StreamNotes {
     }
 
     /// A sink over standard output. Why the last write failed that did is remembered.
-    pub fn sink_over<W: io::Write>(&self, output: W) -> ToWrite<NotedWriter<W, &SharedNote>>
-        ensures { result.seen ≡ unwritten (W.contents output) }
+    pub fn sink_over<W: io::Write>(&self, output: W) -> OutputSink<'_, W>
+        ensures { result ≡ unwritten (W.contents output) }
     {
-        ToWrite::new(NotedWriter::new(output, &self.refusal))
+        OutputSink::new(output, &self.refusal)
     }
 }
 
