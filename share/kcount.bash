@@ -19,13 +19,13 @@ _kcount() {
             mapfile -t COMPREPLY < <(compgen -W 'count dump histo stats query merge select help' -- "$word")
             return
             ;;
-        select) options='--min-count --min-share --min-qual-char --invert --stats -o --output --explain -h --help' ;;
+        select) options='--min-count --max-count --min-share --min-qual-char --invert --stats -o --output --explain -h --help' ;;
     esac
     case $before in
         --print) mapfile -t COMPREPLY < <(compgen -W 'table dump histo stats' -- "$word") ;;
         --stripes) mapfile -t COMPREPLY < <(compgen -W '1 2 4 8 16 32 64' -- "$word") ;;
         -m | --mer-len | -s | --size | --threads | --min-qual-char | --batch | -L | --lower-count | -U | --upper-count | --high \
-            | --min-count | --min-share) ;;
+            | --min-count | --max-count | --min-share) ;;
         *)
             if [[ $command$before != count-t ]]; then
                 case $word in

@@ -50,6 +50,7 @@ complete -c kcount -n '__fish_seen_subcommand_from merge' -s o -l output -r -d '
 complete -c kcount -n '__fish_seen_subcommand_from merge' -l explain -d 'Explain a fault in a second line'
 
 complete -c kcount -n '__fish_seen_subcommand_from select' -l min-count -x -d 'Least count of a solid k-mer'
+complete -c kcount -n '__fish_seen_subcommand_from select' -l max-count -x -d 'Greatest count of a solid k-mer'
 complete -c kcount -n '__fish_seen_subcommand_from select' -l min-share -x -d 'Least percentage of solid k-mers'
 complete -c kcount -n '__fish_seen_subcommand_from select' -l min-qual-char -x -d 'Least quality character that counts'
 complete -c kcount -n '__fish_seen_subcommand_from select' -l invert -d 'Write the other reads instead'

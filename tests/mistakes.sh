@@ -151,6 +151,7 @@ explains 2 "$bad --lower-count" '--lower-count is x, and has to be a number from
 explains 2 "$bad --upper-count" '--upper-count is x, and has to be a number from 0 to 2^62' dump -U x three.kct
 explains 2 "$bad --high" '--high is 0, and has to be a number from 1 to 10000000' histo --high 0 three.kct
 explains 2 "$bad --min-count" '--min-count is x, and has to be a number from 0 to 2^62' select --min-count x three.kct reads.fq
+explains 2 "$bad --max-count" '--max-count is 1e6, and has to be a number from 0 to 2^62' select --max-count 1e6 three.kct reads.fq
 explains 2 "$bad --min-share" '--min-share is 0.8, and has to be a percentage, a whole number from 0 to 100' select --min-share 0.8 three.kct reads.fq
 
 # files that can't be opened or written

@@ -210,6 +210,7 @@ ranges dump lower-count '0 to 2^62' "$dump" ''
 ranges dump upper-count '0 to 2^62' '' "$dump"
 ranges histo high '1 to 10000000' "$histo" "$histo"
 ranges select min-count '0 to 2^62' "$reads" ''
+ranges select max-count '0 to 2^62' '' ''
 ranges select min-share '0 to 100' "$reads" ''
 ranges select min-qual-char '33 to 126' '' ''
 for stripes in 2 4 8 16 32; do wants 0 "$one" '' "$reads" kcount count -m 3 --stripes "$stripes"; done
@@ -237,6 +238,7 @@ defaults lower-count 0 'lower = 0' 0
 defaults upper-count 2^62 'upper = 2 \^ 62' '\(2 \^ 62\)'
 defaults high 10000 'high = 10000' 10000
 defaults min-count 2 '' 2 select
+defaults max-count 2^62 '' '\(2 \^ 62\)' select
 defaults min-share 100 '' 100 select
 
 # Without an option the output is as with its default, and another value gives another output.
@@ -265,6 +267,7 @@ for high in 9999 10001; do
     usual "$frequent" high 10000 $'9999 1\n10000 1\n10001 2\n' "$high" "$another" histo
 done
 usual "$reads" min-count 2 '' 1 "$reads" select two.kct
+usual $'>r\nACG\n' max-count 4611686018427387904 $'>r\nACG\n' 1 '' select two.kct
 usual "$reads" min-share 100 '' 66 "$reads" select two.kct
 usual $'@q\nACGTA\n+\nIIII!\n' min-qual-char '!' '' '"' $'@q\nACGTA\n+\nIIII!\n' select two.kct
 
@@ -396,6 +399,11 @@ selects() {
 some=$'>a one two\nACG\n>b\nAAA\n>c>c\nac\ngt\n'
 selects $'>a one two\nACG\n>c>c\nacgt\n' "$some"
 selects $'>b\nAAA\n' "$some" --invert
+# by a greatest count: k-mers that occur twice are not solid, and with a least count of 0 those that never occur are
+selects $'>b\nGTA\n' $'>a\nACG\n>b\nGTA\n>c\nAAA\n>d\nGTACG\n' --min-count 1 --max-count 1
+selects $'>b\nGTA\n>c\nAAA\n' $'>a\nACG\n>b\nGTA\n>c\nAAA\n>d\nGTACG\n' --min-count 0 --max-count 1
+selects $'>c\nAAA\n' $'>a\nACG\n>b\nGTA\n>c\nAAA\n>d\nGTACG\n' --min-count 0 --max-count 0
+selects '' $'>a\nACG\n>b\nGTA\n>c\nAAA\n' --min-count 2 --max-count 1
 selects "$reads" "$reads" --min-share 66
 selects '' "$reads" --min-share 67
 selects '' "$reads" --min-share 66 --invert
@@ -441,6 +449,7 @@ wants 1 '' $'kcount: 2: bad base, source 1, line 4\n' '' kcount select -o out tw
 same "the file out" '' out "a selection with a fault"
 # no option stands for several of its values
 fault 2 '51: bad option --min-count' "$reads" kcount select --min-share 101 --min-count x missing
+fault 2 '51: bad option --max-count' "$reads" kcount select --min-share 101 --max-count x missing
 fault 2 '51: bad option --min-share' "$reads" kcount select --min-qual-char 10 --min-share 1k missing
 fault 2 '51: bad option --min-qual-char' "$reads" kcount select --min-qual-char= missing
 

@@ -54,6 +54,10 @@ as_stripes number = if is_stripe_count number then Some number else None
 abbrev pub min_count_of : List Row → Option ℕ
 min_count_of rows = or_default 2 (number_between 0 (2 ^ 62)) (first_of (codes "min-count") rows)
 
+-- `--max-count`, the greatest count of a word that is solid, 0 to 2^62; 2^62
+abbrev pub max_count_of : List Row → Option ℕ
+max_count_of rows = or_default (2 ^ 62) (number_between 0 (2 ^ 62)) (first_of (codes "max-count") rows)
+
 -- `--min-share`, how many of a hundred words of a read have to be solid, 0 to 100; 100
 abbrev pub min_share_of : List Row → Option ℕ
 min_share_of rows = or_default 100 (number_between 0 100) (first_of (codes "min-share") rows)
@@ -158,6 +162,7 @@ first_bad_of_histo rows = first_of_bad (judged option.High (high_of rows) ∷ []
 -- of `select`
 abbrev pub first_bad_of_select : List Row → Option OptionName
 first_bad_of_select rows = first_of_bad (judged option.MinCount (min_count_of rows)
+    ∷ judged option.MaxCount (max_count_of rows)
     ∷ judged option.MinShare (min_share_of rows)
     ∷ judged option.MinQualChar (floor_of rows)
     ∷ [])
@@ -180,6 +185,7 @@ pub record AsksForDump (rows : List Row) (dump : Dump) : Type 0 where
 -- the options of a selection ask for this rule
 pub record AsksForSelection (rows : List Row) (rule : SelectionRule) : Type 0 where
   pub min_count : min_count_of rows ≡ Some rule.least
+  pub max_count : max_count_of rows ≡ Some rule.most
   pub min_share : min_share_of rows ≡ Some rule.share
   pub min_qual_char : floor_of rows ≡ Some rule.floor
   pub invert : IsFlag rows (codes "invert") rule.inverted

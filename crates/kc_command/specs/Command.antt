@@ -94,6 +94,10 @@ only_option = value_option (codes "only")
 abbrev pub min_count_option : Rule
 min_count_option = value_option (codes "min-count")
 
+-- `--max-count`
+abbrev pub max_count_option : Rule
+max_count_option = value_option (codes "max-count")
+
 -- `--min-share`
 abbrev pub min_share_option : Rule
 min_share_option = value_option (codes "min-share")
@@ -200,6 +204,7 @@ merge_shape = record (new_shape (codes "merge")) {
 abbrev pub select_shape : Shape
 select_shape = record (new_shape (codes "select")) {
   rules = min_count_option
+      ∷ max_count_option
       ∷ min_share_option
       ∷ min_qual_char_option
       ∷ invert_option

@@ -23,6 +23,7 @@ use Rattle.kc_command.specs.Arguments.{
   high_of,
   lower_of,
   mer_len_of,
+  max_count_of,
   min_count_of,
   min_share_of,
   only_of,
@@ -223,10 +224,12 @@ pub record MergesTables : Type 0 where
 abbrev pub select_with : List Text → List Text
 select_with options = codes "kcount" ∷ codes "select" ∷ options
 
--- `kcount select --min-count 3 --min-share=66 --invert t.kct a.fq b.fq`
+-- `kcount select --min-count 3 --max-count 90 --min-share=66 --invert t.kct a.fq b.fq`
 abbrev pub inverted_selection : List Text
 inverted_selection = select_with (codes "--min-count"
     ∷ codes "3"
+    ∷ codes "--max-count"
+    ∷ codes "90"
     ∷ codes "--min-share=66"
     ∷ codes "--invert"
     ∷ codes "t.kct"
@@ -239,12 +242,14 @@ pub record SelectsReads : Type 0 where
   pub taken : fault_of kcount_app inverted_selection ≡ []
   pub good : first_bad_of_select (options_of inverted_selection) ≡ None
   pub least : min_count_of (options_of inverted_selection) ≡ Some 3
+  pub most : max_count_of (options_of inverted_selection) ≡ Some 90
   pub share : min_share_of (options_of inverted_selection) ≡ Some 66
   pub inverted : one_of (codes "invert") (options_of inverted_selection) ≡ Some (codes "true")
   pub table : first_of (codes "table") (options_of inverted_selection) ≡ Some (codes "t.kct")
   pub files : all_of (codes "file") (options_of inverted_selection) ≡ Some (codes "a.fq" ∷ codes "b.fq" ∷ [])
   pub alone : fault_of kcount_app (select_with (codes "t.kct" ∷ [])) ≡ []
   pub usual_least : min_count_of (options_of (select_with (codes "t.kct" ∷ []))) ≡ Some 2
+  pub usual_most : max_count_of (options_of (select_with (codes "t.kct" ∷ []))) ≡ Some (2 ^ 62)
   pub usual_share : min_share_of (options_of (select_with (codes "t.kct" ∷ []))) ≡ Some 100
   pub told : one_of (codes "stats") (options_of (select_with (codes "--stats" ∷ codes "t.kct" ∷ [])))
       ≡ Some (codes "true")
@@ -254,6 +259,8 @@ pub record SelectsReads : Type 0 where
       ≡ Some option.MinShare
   pub first_of_two : first_bad_of_select (options_of (select_with (codes "--min-share=101"
       ∷ codes "--min-count=x" ∷ codes "t.kct" ∷ []))) ≡ Some option.MinCount
+  pub second_of_two : first_bad_of_select (options_of (select_with (codes "--min-share=101"
+      ∷ codes "--max-count=x" ∷ codes "t.kct" ∷ []))) ≡ Some option.MaxCount
 
 -- these are no command lines, or ask for help
 pub record Refuses : Type 0 where

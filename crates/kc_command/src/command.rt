@@ -15,8 +15,8 @@ ghost use Rattle.kc_command.specs.Command.{
 
 use crate::command_arguments::{
     batch, canonical, column, counted, explain, file, files, first, high, invert, lower_count,
-    mer_len, min_count, min_qual_char, min_share, only, output, print, second, size, stats,
-    stripes, tab, table, threads, upper_count, with_short, words,
+    max_count, mer_len, min_count, min_qual_char, min_share, only, output, print, second, size,
+    stats, stripes, tab, table, threads, upper_count, with_short, words,
 };
 use crate::help;
 use clap::Command;
@@ -156,6 +156,7 @@ fn select_command<'a>(alloc: Global) -> Result<Command<'a>, AllocError>
 {
     let arguments = vec![in alloc;
         min_count(alloc),
+        max_count(alloc),
         min_share(alloc),
         min_qual_char(alloc),
         invert(alloc),

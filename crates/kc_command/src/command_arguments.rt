@@ -15,6 +15,7 @@ ghost use Rattle.kc_command.specs.Command.{
   invert_option,
   lower_count_option,
   mer_len_option,
+  max_count_option,
   min_count_option,
   min_qual_char_option,
   min_share_option,
@@ -45,7 +46,7 @@ pub(crate) fn mer_len<'a>(alloc: Global) -> Arg<'a>
     ensures rule { rule_of result ≡ mer_len_option }
     ensures own { result.global ≡ false }
 {
-    let help = "Length of the k-mers, 1 to 31; it has to be given";
+    let help = "Length of the k-mers, 1 to 31 (required)";
     with_short(value_option(alloc, "mer-len", "K", help), 'm')
 }
 
@@ -54,8 +55,8 @@ pub(crate) fn size<'a>(alloc: Global) -> Arg<'a>
     ensures rule { rule_of result ≡ size_option }
     ensures own { result.global ≡ false }
 {
-    let help = "Slots that the hash tables begin with, one for each{n}\
-        different k-mer, 1 to 2^40, as 500, 20k or 2G{n}\
+    let help = "Initial slots of the hash tables, one for each{n}\
+        distinct k-mer, 1 to 2^40, as 500, 20k or 2G{n}\
         [default: 1M]";
     with_short(value_option(alloc, "size", "N", help), 's')
 }
@@ -74,8 +75,8 @@ pub(crate) fn canonical<'a>(alloc: Global) -> Arg<'a>
     ensures rule { rule_of result ≡ canonical_option }
     ensures own { result.global ≡ false }
 {
-    let help = "Count both strands: a k-mer under the lesser of it{n}\
-        and its reverse complement";
+    let help = "Count canonical k-mers: the lesser of a k-mer and its{n}\
+        reverse complement";
     with_short(flag_option(alloc, "canonical", help), 'C')
 }
 
@@ -84,7 +85,7 @@ pub(crate) fn output<'a>(alloc: Global) -> Arg<'a>
     ensures rule { rule_of result ≡ output_option }
     ensures own { result.global ≡ false }
 {
-    let help = "Write to this file and not to standard output";
+    let help = "Write to this file instead of standard output";
     with_short(value_option(alloc, "output", "FILE", help), 'o')
 }
 
@@ -134,7 +135,7 @@ pub(crate) fn column<'a>(alloc: Global) -> Arg<'a>
     ensures rule { rule_of result ≡ column_option }
     ensures own { result.global ≡ false }
 {
-    let help = "Dump a k-mer and its count in one line, `KMER COUNT`";
+    let help = "Dump a k-mer and its count on one line, `KMER COUNT`";
     flag_option(alloc, "column", help)
 }
 
@@ -183,19 +184,28 @@ pub(crate) fn only<'a>(alloc: Global) -> Arg<'a>
     ensures rule { rule_of result ≡ only_option }
     ensures own { result.global ≡ false }
 {
-    let help = "Count only k-mers that are in this FASTA or FASTQ{n}\
+    let help = "Count only k-mers that occur in this FASTA or FASTQ{n}\
         file [default: all k-mers]";
     value_option(alloc, "only", "FILE", help)
 }
 
-/// `--min-count`: from which count on a k-mer is solid.
+/// `--min-count`: the least count of a solid k-mer.
 pub(crate) fn min_count<'a>(alloc: Global) -> Arg<'a>
     ensures rule { rule_of result ≡ min_count_option }
     ensures own { result.global ≡ false }
 {
-    let help = "Least count of a k-mer that is solid, 0 to 2^62{n}\
-        [default: 2]";
+    let help = "Least count of a solid k-mer, 0 to 2^62 [default: 2]";
     value_option(alloc, "min-count", "N", help)
+}
+
+/// `--max-count`: the greatest count of a solid k-mer.
+pub(crate) fn max_count<'a>(alloc: Global) -> Arg<'a>
+    ensures rule { rule_of result ≡ max_count_option }
+    ensures own { result.global ≡ false }
+{
+    let help = "Greatest count of a solid k-mer, 0 to 2^62{n}\
+        [default: 2^62]";
+    value_option(alloc, "max-count", "N", help)
 }
 
 /// `--min-share`: how many percent of a read's k-mers have to be solid.
@@ -203,8 +213,8 @@ pub(crate) fn min_share<'a>(alloc: Global) -> Arg<'a>
     ensures rule { rule_of result ≡ min_share_option }
     ensures own { result.global ≡ false }
 {
-    let help = "Least percentage of the k-mers of a read that have to{n}\
-        be solid, 0 to 100 [default: 100]";
+    let help = "Least percentage of a read's k-mers that must be{n}\
+        solid, 0 to 100 [default: 100]";
     value_option(alloc, "min-share", "P", help)
 }
 
@@ -222,7 +232,7 @@ pub(crate) fn stats<'a>(alloc: Global) -> Arg<'a>
     ensures rule { rule_of result ≡ stats_option }
     ensures own { result.global ≡ false }
 {
-    let help = "Tell on standard error how many reads and k-mers{n}\
+    let help = "Print on standard error how many reads and k-mers{n}\
         there were";
     flag_option(alloc, "stats", help)
 }
@@ -232,7 +242,7 @@ pub(crate) fn explain<'a>(alloc: Global) -> Arg<'a>
     ensures rule { rule_of result ≡ explain_option }
     ensures own { result.global ≡ false }
 {
-    let help = "Explain a fault in a second line, as on a terminal";
+    let help = "Explain an error in a second line, as on a terminal";
     flag_option(alloc, "explain", help)
 }
 

@@ -6,8 +6,8 @@ Counts the k-mers (words of length k) in sequence reads. Each count is proved.";
 
 /// At the end of the help of `kcount`.
 pub(crate) const AFTER_KCOUNT: &str = "\
-`kcount COMMAND --help` says more of a command. Exit status: 0; 1 for a fault,
-whose line goes to standard error; 2 for a command line that is refused.
+`kcount COMMAND --help` describes a command. Exit status: 0 on success, 1 on an
+error, 2 for an invalid command line. Errors are printed on standard error.
 
 Examples:
   kcount count -m 21 -C -o reads.kct reads_1.fq reads_2.fq
@@ -22,16 +22,16 @@ Counts the k-mers of FASTA or FASTQ files, into a table or a report.";
 
 /// At the end of the help of `count`.
 pub(crate) const AFTER_COUNT: &str = "\
-Each file is FASTA or Sanger FASTQ, as its first line says; lines may be
+Each file is FASTA or Sanger FASTQ: its first line decides. Sequences may be
 wrapped. Letters other than ACGT and acgt, and bases below --min-qual-char,
-break k-mers. K-mers are written in rising order, and none before all files have
-been read and counted. Compressed files are read through zcat.
+break k-mers. K-mers are written in ascending order, after all files have been
+read and counted. Compressed files are read through zcat.
 
-The k-mers of the --only file are those of its sequences, by the same --mer-len,
---canonical and --min-qual-char as those of the other files.
+The k-mers of the --only file are those of its sequences, with the same
+--mer-len, --canonical and --min-qual-char as those of the other files.
 
-Exit status: 0; 1 for a fault, whose line goes to standard error; 2 for a
-command line that is refused.
+Exit status: 0 on success, 1 on an error, 2 for an invalid command line. Errors
+are printed on standard error.
 
 Examples:
   kcount count -m 21 -C -t 4 -s 100M -o reads.kct reads_1.fq reads_2.fq
@@ -41,15 +41,14 @@ Examples:
 
 /// At the top of the help of `dump`.
 pub(crate) const DUMP: &str = "\
-Writes the k-mers of a table with their counts, in rising order.";
+Writes the k-mers of a table with their counts, in ascending order.";
 
 /// At the end of the help of `dump`.
 pub(crate) const AFTER_DUMP: &str = "\
-A k-mer is written as `>COUNT` and `KMER`, each on a line, or with --column on
-one.
+A k-mer is written as two lines, `>COUNT` and `KMER`, or with --column as one.
 
-Exit status: 0; 1 for a fault, whose line goes to standard error; 2 for a
-command line that is refused.
+Exit status: 0 on success, 1 on an error, 2 for an invalid command line. Errors
+are printed on standard error.
 
 Examples:
   kcount dump -c -L 2 reads.kct
@@ -57,15 +56,15 @@ Examples:
 
 /// At the top of the help of `histo`.
 pub(crate) const HISTO: &str = "\
-Writes how many k-mers of a table have which count.";
+Writes how many k-mers of a table have each count.";
 
 /// At the end of the help of `histo`.
 pub(crate) const AFTER_HISTO: &str = "\
-The lines are `COUNT NUMBER`, in rising order. Counts that no k-mer has are left
-out. All k-mers with a count above --high share one line, that of --high + 1.
+The lines are `COUNT NUMBER`, in ascending order. Counts that no k-mer has are
+left out. All k-mers with a count above --high share the line of --high + 1.
 
-Exit status: 0; 1 for a fault, whose line goes to standard error; 2 for a
-command line that is refused.
+Exit status: 0 on success, 1 on an error, 2 for an invalid command line. Errors
+are printed on standard error.
 
 Examples:
   kcount histo -o reads.histo reads.kct
@@ -77,11 +76,11 @@ Writes four numbers about the k-mers of a table.";
 
 /// At the end of the help of `stats`.
 pub(crate) const AFTER_STATS: &str = "\
-Unique says how many have a count of 1, Distinct how many different ones there
-are, Total the sum of their counts, and Max_count the greatest one.
+Unique is the number of k-mers with a count of 1, Distinct the number of
+distinct k-mers, Total the sum of all counts, and Max_count the greatest count.
 
-Exit status: 0; 1 for a fault, whose line goes to standard error; 2 for a
-command line that is refused.
+Exit status: 0 on success, 1 on an error, 2 for an invalid command line. Errors
+are printed on standard error.
 
 Examples:
   kcount stats reads.kct
@@ -93,13 +92,13 @@ Writes the counts of k-mers that are looked up in a table.";
 
 /// At the end of the help of `query`.
 pub(crate) const AFTER_QUERY: &str = "\
-For each WORD, in the order asked, a line `KMER COUNT`; 0 for one that the table
-lacks. In a table of both strands a k-mer counts under the lesser of it and its
-reverse complement, which is what is written. Nothing is written where a WORD is
-no k-mer of the table's length.
+Writes a line `KMER COUNT` for each WORD, in the given order. The count of a
+k-mer that the table lacks is 0. With a table of canonical k-mers, KMER is the
+lesser of the WORD and its reverse complement. Nothing is written if a WORD is
+not a k-mer of the table's length.
 
-Exit status: 0; 1 for a fault, whose line goes to standard error; 2 for a
-command line that is refused.
+Exit status: 0 on success, 1 on an error, 2 for an invalid command line. Errors
+are printed on standard error.
 
 Examples:
   zcat reads.fq.gz | kcount count -m 5 -C -o reads.kct
@@ -111,13 +110,13 @@ Writes the sum of two tables.";
 
 /// At the end of the help of `merge`.
 pub(crate) const AFTER_MERGE: &str = "\
-The sum is a table with each k-mer of FIRST or SECOND, and its counts in both
-added. Both have to be counted with the same --mer-len, --canonical and
---min-qual-char, and without --only. A table that begins with `KCT 1` does not
-tell the last two, so they are not compared, and the sum does not tell them.
+The sum has each k-mer of FIRST or SECOND, and its counts in both added. Both
+tables must be counted with the same --mer-len, --canonical and --min-qual-char,
+and without --only. A table that begins with `KCT 1` does not record the last
+two: they are not compared, and the sum does not record them either.
 
-Exit status: 0; 1 for a fault, whose line goes to standard error; 2 for a
-command line that is refused.
+Exit status: 0 on success, 1 on an error, 2 for an invalid command line. Errors
+are printed on standard error.
 
 Examples:
   kcount count -m 21 -C -o first.kct reads_1.fq
@@ -130,16 +129,16 @@ Writes the reads whose k-mers a table counts often enough.";
 
 /// At the end of the help of `select`.
 pub(crate) const AFTER_SELECT: &str = "\
-A k-mer is solid where the table counts it at least --min-count times. A read is
-written where at least --min-share percent of its k-mers are solid, and where it
-has no k-mer. Reads are written whole and in order, FASTA as FASTA and FASTQ as
-FASTQ, with sequence and quality in one line each. Those before a fault are
-written too, but not to a file of -o. --stats tells how many reads there were
-and how many were written, and how many k-mers there were and how many of these
-are solid.
+A k-mer is solid if its count is at least --min-count and at most --max-count. A
+k-mer that is not in the table has a count of 0. A read is written if at least
+--min-share percent of its k-mers are solid, or if it has no k-mer. Reads are
+written whole and in order, FASTA as FASTA and FASTQ as FASTQ, with sequence and
+quality on one line each. The reads before an error are written too, but not to
+a file given by -o. --stats prints the number of reads, of reads written, of
+k-mers, and of solid k-mers.
 
-Exit status: 0; 1 for a fault, whose line goes to standard error; 2 for a
-command line that is refused.
+Exit status: 0 on success, 1 on an error, 2 for an invalid command line. Errors
+are printed on standard error.
 
 Examples:
   kcount count -m 21 -C -o reads.kct reads.fq

@@ -13,6 +13,8 @@ pub enum OptionName {
     Threads,
     /// `--min-count`
     MinCount,
+    /// `--max-count`
+    MaxCount,
     /// `--min-share`
     MinShare,
     /// `--min-qual-char`
@@ -41,6 +43,7 @@ impl OptionName {
             OptionName::Size => "--size",
             OptionName::Threads => "--threads",
             OptionName::MinCount => "--min-count",
+            OptionName::MaxCount => "--max-count",
             OptionName::MinShare => "--min-share",
             OptionName::MinQualChar => "--min-qual-char",
             OptionName::Stripes => "--stripes",

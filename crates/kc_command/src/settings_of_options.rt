@@ -17,6 +17,7 @@ ghost use Rattle.kc_command.specs.Arguments.{
   floor_of,
   high_of,
   lower_of,
+  max_count_of,
   mer_len_of,
   min_count_of,
   min_share_of,
@@ -90,17 +91,19 @@ pub fn dump_options(matches: &ArgMatches<'_>) -> Result<Dump, OptionName>
 /// What the options of `select` ask for. It takes no memory.
 ///
 /// # Errors
-/// The first of `--min-count`, `--min-share` and `--min-qual-char` whose value is outside its limits.
+/// The first of `--min-count`, `--max-count`, `--min-share` and `--min-qual-char` whose value is outside its limits.
 pub fn select_options(matches: &ArgMatches<'_>) -> Result<Selection, OptionName>
     ensures first_bad { MatchResult result (λ s. first_bad_of_select (rows_of (found_of matches.now)) ≡ None)
         (λ name. first_bad_of_select (rows_of (found_of matches.now)) ≡ Some name) }
     ensures asked { IfOk result (AsksForSelection (rows_of (found_of matches.now))) }
 {
     let least = min_count(matches)?;
+    let most = max_count(matches)?;
     let share = min_share(matches)?;
     let floor = min_qual_char(matches)?;
     Ok(
         Selection::new(least, share)
+            .with_most(most)
             .with_floor(floor)
             .with_inverted(has_flag(matches, "invert")),
     )
@@ -219,6 +222,14 @@ fn min_count(matches: &ArgMatches<'_>) -> Result<u64, OptionName>
 {
     let least = number_of(matches, "min-count", USUAL_LEAST, 0, GREATEST_COUNT);
     least.ok_or(OptionName::MinCount)
+}
+
+// The greatest count of a solid word.
+fn max_count(matches: &ArgMatches<'_>) -> Result<u64, OptionName>
+    ensures { IsValueOf OptionName.MaxCount (max_count_of (rows_of (found_of matches.now))) result }
+{
+    let most = number_of(matches, "max-count", GREATEST_COUNT, 0, GREATEST_COUNT);
+    most.ok_or(OptionName::MaxCount)
 }
 
 // How many of a hundred words have to be solid.

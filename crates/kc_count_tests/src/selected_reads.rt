@@ -104,6 +104,34 @@ fn solid_reads(rt: HostRuntime) -> Result<(), Fail> {
     Ok(())
 }
 
+// The bases of a read, the least and the greatest count of a solid word, and whether each of its words is solid.
+const SOLID_UP_TO: &[(&[u8], u64, u64, bool)] = &[
+    (b"ACG", 2, 2, true),
+    (b"ACG", 1, 1, false),
+    (b"GTA", 1, 1, true),
+    (b"ACGTA", 1, 2, true),
+    (b"ACGTA", 1, 1, false),
+    // a word that isn't in the table has the count 0
+    (b"AAA", 0, 0, true),
+    (b"AAA", 0, 1, true),
+    (b"AAA", 1, 9, false),
+    (b"GTA", 0, 0, false),
+    (b"GTA", 0, 1, true),
+    (b"ACG", 0, 1, false),
+    // no count is between a greater bound and a smaller one
+    (b"ACG", 3, 1, false),
+    (b"AAA", 1, 0, false),
+];
+
+#[test]
+fn reads_solid_up_to_a_count(rt: HostRuntime) -> Result<(), Fail> {
+    for (bases, least, most, want) in SOLID_UP_TO {
+        let selection = made_selection(*least, 100, b'!')?.with_most(*most);
+        assert_read(&rt, TABLE, selection, *bases, *want)?;
+    }
+    Ok(())
+}
+
 // Asserts whether a read of these bases is solid by the table that this text is.
 fn assert_read<H: Abort + AllocGlobal>(
     rt: &H,
@@ -194,6 +222,8 @@ fn a_selection_is_what_it_was_made_of(rt: HostRuntime) -> Result<(), Fail> {
     let usual = Selection::new(7, 100);
     assert_same(&rt, "floor", &usual.floor(), &33);
     assert_same(&rt, "inverted", &usual.is_inverted(), &false);
+    assert_same(&rt, "most", &usual.most(), &u64::MAX);
+    assert_same(&rt, "most", &usual.with_most(9).most(), &9);
     let selection = usual.with_floor(126).with_inverted(true);
     assert_same(&rt, "least", &selection.least(), &7);
     assert_same(&rt, "share", &selection.share(), &100);

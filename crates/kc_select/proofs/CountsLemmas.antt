@@ -61,7 +61,7 @@ solid_fewer tally rule [] = omega arith
 solid_fewer tally rule (read ∷ reads) =
     omega (
       arith,
-      count_by-le-length (λ word. is_solid_word tally rule.least word) (words_for tally rule read),
+      count_by-le-length (λ word. is_solid_word tally rule word) (words_for tally rule read),
       solid_fewer tally rule reads,
       sum_by-cons (λ (r : Read). length (words_for tally rule r)) read reads,
       sum_by-cons (λ (r : Read). solid_in tally rule r) read reads,

@@ -1,15 +1,16 @@
 -- Which reads of a file are selected by their words and a table of counts.
 -- Source: this project's own; the words of a read and the forms under which they count are those of the counter.
-use Rattle.std.specs.Prelude.{ℕ, ◌*◌, Bool, not, nat_le, List, length, count_by, if◌then◌else◌}
+use Rattle.std.specs.Prelude.{ℕ, ◌*◌, Bool, not, nat_le, ◌&&◌, List, length, count_by, if◌then◌else◌}
 use Rattle.kc_fastx.specs.Reads.{Read}
 use Rattle.kc_kmer.specs.Rule.{CountingRule, unlisted_rule}
 use Rattle.kc_kmer.specs.Occurrences.{words_in}
 use Rattle.kc_tally.specs.Tally.{TallySeen, count_of}
 
--- what a selection is told: from which count on a word is solid, how many of a hundred words of a read have to be, the
--- least quality byte of a usable base, and whether the reads that are not solid are selected instead
+-- the rule of a selection: the least and the greatest count of a solid word, how many of a hundred words of a read have
+-- to be solid, the least quality byte of a usable base, and whether the reads that are not solid are selected instead
 pub record SelectionRule : Type 0 where
   pub least : ℕ
+  pub most : ℕ
   pub share : ℕ
   pub floor : ℕ
   pub inverted : Bool
@@ -23,17 +24,21 @@ rule_for tally rule = unlisted_rule tally.k tally.both rule.floor
 abbrev pub words_for : TallySeen → SelectionRule → Read → List ℕ
 words_for tally rule read = words_in (rule_for tally rule) read
 
--- a word is solid where the table counts it at least so often
-abbrev pub is_solid_word : TallySeen → ℕ → ℕ → Bool
-is_solid_word tally least word = nat_le least (count_of tally.rows word)
+-- a word with this count is solid: the count is between the two bounds of the rule, or is one of them
+abbrev pub is_solid_count : SelectionRule → ℕ → Bool
+is_solid_count rule count = nat_le rule.least count && nat_le count rule.most
+
+-- a word is solid where its count in the table is; a word that the table lacks has a count of 0
+abbrev pub is_solid_word : TallySeen → SelectionRule → ℕ → Bool
+is_solid_word tally rule word = is_solid_count rule (count_of tally.rows word)
 
 -- how many of the words are solid
-abbrev pub solid_count : TallySeen → ℕ → List ℕ → ℕ
-solid_count tally least words = count_by (λ word. is_solid_word tally least word) words
+abbrev pub solid_count : TallySeen → SelectionRule → List ℕ → ℕ
+solid_count tally rule words = count_by (λ word. is_solid_word tally rule word) words
 
 -- how many words of a read are
 abbrev pub solid_in : TallySeen → SelectionRule → Read → ℕ
-solid_in tally rule read = solid_count tally rule.least (words_for tally rule read)
+solid_in tally rule read = solid_count tally rule (words_for tally rule read)
 
 -- of so many words so many are solid, and that is at least the share that the rule asks for
 abbrev pub has_share : SelectionRule → ℕ → ℕ → Bool
@@ -50,7 +55,7 @@ keeps rule solid = if rule.inverted then not solid else solid
 abbrev pub is_selected : TallySeen → SelectionRule → Read → Bool
 is_selected tally rule read = keeps rule (is_solid tally rule read)
 
--- a table, and what is told of a selection by it
+-- a table, and the rule of a selection by it
 pub record SelectorSeen : Type 0 where
   pub tally : TallySeen
   pub rule : SelectionRule

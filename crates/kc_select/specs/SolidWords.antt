@@ -1,16 +1,20 @@
--- The solid words of a table as a list, in which a word is looked up.
+-- The words of a table whose counts decide otherwise than a count of 0, as a list in which a word is looked up.
 -- Source: this project's own.
-use Rattle.std.specs.Prelude.{◌≡◌, ℕ, ◌≤◌, List, Some}
+use Rattle.std.specs.Prelude.{◌≡◌, ℕ, Bool, not, List, Some, if◌then◌else◌}
 use Rattle.kc_kmer.specs.Rule.{is_listed}
-use Rattle.kc_tally.specs.Tally.{TallySeen}
+use Rattle.kc_tally.specs.Tally.{TallySeen, count_of}
 use Rattle.kc_word.specs.Only.{WordList}
-use Rattle.kc_select.specs.Solid.{is_solid_word}
+use Rattle.kc_select.specs.Solid.{SelectionRule, is_solid_count}
 
--- the listed words are the solid ones of the table, where not every word is solid
-abbrev pub AreSolid : TallySeen → ℕ → List ℕ → Type 0
-AreSolid tally least words = 1 ≤ least → (word : ℕ) → is_listed (Some words) word ≡ is_solid_word tally least word
+-- a word with this count is solid where a word that the table lacks is not, or is not where such a word is
+abbrev pub is_exception : SelectionRule → ℕ → Bool
+is_exception rule count = if is_solid_count rule 0 then not (is_solid_count rule count) else is_solid_count rule count
+
+-- the listed words are those whose counts are exceptions
+abbrev pub AreExceptions : TallySeen → SelectionRule → List ℕ → Type 0
+AreExceptions tally rule words = (word : ℕ) → is_listed (Some words) word ≡ is_exception rule (count_of tally.rows word)
 
 -- so they are in a list of words of the table's length
-pub record TellsSolid (tally : TallySeen) (least : ℕ) (list : WordList) : Type 0 where
+pub record ListsExceptions (tally : TallySeen) (rule : SelectionRule) (list : WordList) : Type 0 where
   pub k : list.k ≡ tally.k
-  pub tells : AreSolid tally least list.words
+  pub words : AreExceptions tally rule list.words

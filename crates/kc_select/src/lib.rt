@@ -1,9 +1,9 @@
 //! Reads selected by their k-mers (words of length k) and a table of counts.
 //!
-//! A word is solid where the table counts it at least so often, and a read is solid where at least so many of a hundred
-//! of its words are. A `Selector` has a table and what is told of a selection: `is_solid` judges a read, and
-//! `is_selected` says whether the selection keeps it. `select` writes the reads of a source that a selector keeps, with
-//! their titles, and counts them.
+//! A word is solid where its count in the table is between two bounds, and a read is solid where at least a given share
+//! of its words is. A `Selector` has a table and the rule of a selection, a `Selection`: `is_solid` judges a read, and
+//! `is_selected` answers whether the selection keeps it. `select` writes the reads of a source that a selector keeps,
+//! with their titles, and counts them.
 //!
 //! ```ignore
 //! let selection = Selection::new(2, 100).with_floor(b'#');

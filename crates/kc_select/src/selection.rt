@@ -1,17 +1,20 @@
-//! What a selection of reads is told.
-ghost use Rattle.std.specs.Prelude.{◌≡◌, ◌≤◌, false};
+//! The rule of a selection of reads.
+ghost use Rattle.std.specs.Prelude.{◌≡◌, ◌≤◌, ◌^◌, ◌-◌, false};
+ghost use Rattle.kc_select.specs.Solid.{is_solid_count};
+ghost use Rattle.kc_select.specs.SolidWords.{is_exception};
 
 use std::marker::Model;
 
 // The least quality byte, which every quality passes.
 const EVERY_QUALITY: u8 = 33;
 
-/// What a selection of reads is told: from which count on a word is solid, how many of a hundred words of a read have
-/// to be, at most 100, the least quality byte of a usable base, from 33 to 126, and whether the reads that are not
-/// solid are selected instead.
+/// The rule of a selection of reads: the least and the greatest count of a solid word, how many of a hundred words of a
+/// read have to be solid, at most 100, the least quality byte of a usable base, from 33 to 126, and whether the reads
+/// that are not solid are selected instead.
 #[derive(Clone, Copy, PartialEq, Eq, Debug)]
 pub struct Selection {
     least: u64,
+    most: u64,
     share: u64,
     floor: u8,
     inverted: bool,
@@ -23,26 +26,47 @@ impl Model for Selection {
 
     ghost Value = { SelectionRule };
 
-    ghost view = { λ s. record { least = s.least; share = s.share; floor = s.floor; inverted = s.inverted } };
+    ghost view = { λ s. record {
+      least = s.least;
+      most = s.most;
+      share = s.share;
+      floor = s.floor;
+      inverted = s.inverted;
+    } };
 
     ghost invariant = { λ s. (s.share ≤ 100) × (33 ≤ s.floor) × (s.floor ≤ 126) };
 
-    ghost inverse = { λ v. record { least = v.least; share = v.share; floor = v.floor; inverted = v.inverted } };
+    ghost inverse = { λ v. record {
+      least = v.least;
+      most = v.most;
+      share = v.share;
+      floor = v.floor;
+      inverted = v.inverted;
+    } };
 }
 
 impl Selection {
-    /// The selection of solid reads, with this least count and this share, of bases of every quality. Condition: the
-    /// share is at most 100.
+    /// The selection of solid reads, with this least count and this share, of bases of every quality. There is no
+    /// greatest count. Condition: the share is at most 100.
     pub fn new(least: u64, share: u64) -> Selection
         requires { share ≤ 100 }
-        ensures { result ≡ record { least = least; share = share; floor = 33; inverted = false } }
+        ensures { result ≡ record { least = least; most = 2 ^ 64 - 1; share = share; floor = 33; inverted = false } }
     {
         Selection {
             least,
+            most: u64::MAX,
             share,
             floor: EVERY_QUALITY,
             inverted: false,
         }
+    }
+
+    /// This selection, where no word with a count above `most` is solid.
+    pub fn with_most(self, most: u64) -> Selection
+        ensures { result ≡ record self { most = most } }
+    {
+        let selection = self;
+        Selection { most, ..selection }
     }
 
     /// This selection, by words of bases whose quality byte is at least `floor`. Condition: it is 33 to 126.
@@ -66,11 +90,18 @@ impl Selection {
         }
     }
 
-    /// From which count on a word is solid.
+    /// The least count of a solid word.
     pub fn least(self) -> u64
         ensures { result ≡ self.least }
     {
         self.least
+    }
+
+    /// The greatest count of a solid word.
+    pub fn most(self) -> u64
+        ensures { result ≡ self.most }
+    {
+        self.most
     }
 
     /// How many of a hundred words of a read have to be solid.
@@ -95,5 +126,20 @@ impl Selection {
         ensures { result ≡ self.inverted }
     {
         self.inverted
+    }
+
+    // Whether a word with this count is solid.
+    #[inline(always)]
+    pub(crate) fn is_solid(self, count: u64) -> bool
+        ensures { result ≡ is_solid_count self count }
+    {
+        count >= self.least && count <= self.most
+    }
+
+    // Whether a word with this count is solid where a word that the table lacks is not, or the other way round.
+    pub(crate) fn is_exception(self, count: u64) -> bool
+        ensures { result ≡ is_exception self count }
+    {
+        self.is_solid(count) != self.is_solid(0)
     }
 }

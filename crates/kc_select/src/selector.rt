@@ -2,7 +2,7 @@
 ghost use Rattle.std.specs.Prelude.{◌≡◌, ◌<◌, ◌^◌, IfOk, length};
 ghost use Rattle.kc_word.specs.Only.{AreListed};
 ghost use Rattle.kc_select.specs.Solid.{words_for, is_solid_word, solid_in, is_solid, is_selected};
-ghost use Rattle.kc_select.specs.SolidWords.{AreSolid};
+ghost use Rattle.kc_select.specs.SolidWords.{AreExceptions};
 
 use crate::base_walk::BaseWalk;
 use crate::selection::Selection;
@@ -14,25 +14,26 @@ use kc_word::Only;
 use std::alloc::{AllocError, Global};
 use std::marker::Model;
 
-/// A table and what is told of a selection by it, ready to judge reads: the table's solid words are listed, so that a
-/// word is looked up in one or two places of memory. A solid word has at most 12 bytes.
+/// A table and the rule of a selection by it, ready to judge reads. The table's solid words are listed, or those that
+/// are not solid where a word that the table lacks is. So a word is looked up in one or two places of memory. A listed
+/// word takes at most 12 bytes.
 #[derive(Drop)]
 pub struct Selector<'a> {
     tally: &'a Tally,
     selection: Selection,
-    // the solid words of the table; where the least count is 0, words that the table lacks are solid too
-    words: Only,
+    // the words of the table that are solid where a word that it lacks is not, or are not where such a word is
+    exceptions: Only,
 }
 
 impl<'a> Model for Selector<'a> {
     ghost use Rattle.kc_select.specs.Solid.{SelectorSeen};
-    ghost use Rattle.kc_select.specs.SolidWords.{TellsSolid};
+    ghost use Rattle.kc_select.specs.SolidWords.{ListsExceptions};
 
     ghost Value = { SelectorSeen };
 
     ghost view = { λ s. record { tally = s.tally.now; rule = s.selection } };
 
-    ghost invariant = { λ s. TellsSolid s.tally.now s.selection.least s.words };
+    ghost invariant = { λ s. ListsExceptions s.tally.now s.selection s.exceptions };
 }
 
 impl<'a> Selector<'a> {
@@ -44,12 +45,12 @@ impl<'a> Selector<'a> {
     ) -> Result<Selector<'a>, AllocError>
         ensures { IfOk result (λ selector. selector ≡ record { tally = tally.now; rule = selection }) }
     {
-        let words = solid_words(alloc, tally, selection.least())?;
-        let words = Only::of_words(alloc, tally.k(), tally.both(), words)?;
+        let words = exceptions(alloc, tally, selection)?;
+        let exceptions = Only::of_words(alloc, tally.k(), tally.both(), words)?;
         Ok(Selector {
             tally,
             selection,
-            words,
+            exceptions,
         })
     }
 
@@ -60,7 +61,7 @@ impl<'a> Selector<'a> {
         self.tally.k()
     }
 
-    // What the selection is told.
+    // The rule of the selection.
     pub(crate) fn selection(&self) -> Selection
         ensures { result ≡ self.now.rule }
     {
@@ -100,24 +101,25 @@ impl<'a> Selector<'a> {
         counted
     }
 
-    // Whether the table counts the word often enough. Condition: it is below 4^k.
+    // Whether the word is solid. Condition: it is below 4^k.
     #[inline(always)]
     fn is_solid_word(&self, word: Word) -> bool
         requires { word.0 < 4 ^ self.now.tally.k }
-        ensures { result ≡ is_solid_word self.now.tally self.now.rule.least word.0 }
+        ensures { result ≡ is_solid_word self.now.tally self.now.rule word.0 }
     {
-        self.selection.least() == 0 || self.words.holds(word)
+        self.exceptions.holds(word) != self.selection.is_solid(0)
     }
 }
 
-// The words that the table counts at least so often, in rising order.
-fn solid_words(alloc: Global, tally: &Tally, least: u64) -> Result<Vec<u64>, AllocError>
-    ensures solid { IfOk result (λ words. AreSolid tally.now least words.items) }
+// The words of the table that are solid where a word that it lacks is not, or are not where such a word is, in rising
+// order.
+fn exceptions(alloc: Global, tally: &Tally, selection: Selection) -> Result<Vec<u64>, AllocError>
+    ensures are { IfOk result (λ words. AreExceptions tally.now selection words.items) }
     ensures listed { IfOk result (λ words. AreListed tally.now.k words.items) }
 {
     let mut words = Vec::new(alloc);
     for row in tally.rows() {
-        if row.count >= least {
+        if selection.is_exception(row.count) {
             words.push(row.word)?;
         }
     }

@@ -13,7 +13,7 @@ pub(crate) struct WordCounts {
 }
 
 impl WordCounts {
-    // Whether at least so many of a hundred words are solid as the selection asks for.
+    // Whether at least as many of a hundred words are solid as the selection asks for.
     pub(crate) fn has_share(self, selection: Selection) -> bool
         ensures { result ≡ has_share selection self.words self.solid }
     {

@@ -471,6 +471,7 @@ const OPTION_FAULTS: &[(OptionName, &str)] = &[
     (OptionName::Size, "kcount: 51: bad option --size\n"),
     (OptionName::Threads, "kcount: 51: bad option --threads\n"),
     (OptionName::MinCount, "kcount: 51: bad option --min-count\n"),
+    (OptionName::MaxCount, "kcount: 51: bad option --max-count\n"),
     (OptionName::MinShare, "kcount: 51: bad option --min-share\n"),
     (
         OptionName::MinQualChar,

@@ -66,7 +66,8 @@ pub fn high_of(matches: &ArgMatches<'_>) -> Result<u64, ToolFault>
 /// What the options of `select` ask for. It takes no memory.
 ///
 /// # Errors
-/// `BadOption` with the first of `--min-count`, `--min-share` and `--min-qual-char` whose value is outside its limits.
+/// `BadOption` with the first of `--min-count`, `--max-count`, `--min-share` and `--min-qual-char` whose value is
+/// outside its limits.
 pub fn select_options(matches: &ArgMatches<'_>) -> Result<Selection, ToolFault>
     ensures first_bad { MatchResult result (λ s. first_bad_of_select (rows_of (found_of matches.now)) ≡ None)
         (λ fault. (name : OptionName) × (first_bad_of_select (rows_of (found_of matches.now)) ≡ Some name)

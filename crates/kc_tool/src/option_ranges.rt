@@ -8,6 +8,7 @@ pub(crate) fn range_of(name: OptionName) -> &'static str {
         OptionName::Size => "a number from 1 to 2^40, as 500, 20k or 2G",
         OptionName::Threads => "a number from 1 to 64",
         OptionName::MinCount => "a number from 0 to 2^62",
+        OptionName::MaxCount => "a number from 0 to 2^62",
         OptionName::MinShare => "a percentage, a whole number from 0 to 100",
         OptionName::MinQualChar =>
             "one character from ! to ~, ASCII 33 to 126, as 5 for a quality of 20",

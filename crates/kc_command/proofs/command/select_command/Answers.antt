@@ -13,30 +13,34 @@ returns c =
       c.min_count.ensures.own,
       c.min_count.ensures.rule,
       (
-        c.min_share.ensures.own,
-        c.min_share.ensures.rule,
+        c.max_count.ensures.own,
+        c.max_count.ensures.rule,
         (
-          c.min_qual_char.ensures.own,
-          c.min_qual_char.ensures.rule,
+          c.min_share.ensures.own,
+          c.min_share.ensures.rule,
           (
-            c.invert.ensures.own,
-            c.invert.ensures.rule,
+            c.min_qual_char.ensures.own,
+            c.min_qual_char.ensures.rule,
             (
-              c.stats.ensures.own,
-              c.stats.ensures.rule,
+              c.invert.ensures.own,
+              c.invert.ensures.rule,
               (
-                c.output.ensures.own,
-                c.output.ensures.rule,
+                c.stats.ensures.own,
+                c.stats.ensures.rule,
                 (
-                  c.explain.ensures.own,
-                  c.explain.ensures.rule,
+                  c.output.ensures.own,
+                  c.output.ensures.rule,
                   (
-                    c.counted.ensures.own,
-                    c.counted.ensures.rule,
+                    c.explain.ensures.own,
+                    c.explain.ensures.rule,
                     (
-                      c.files.ensures.own,
-                      c.files.ensures.rule,
-                      tt,
+                      c.counted.ensures.own,
+                      c.counted.ensures.rule,
+                      (
+                        c.files.ensures.own,
+                        c.files.ensures.rule,
+                        tt,
+                      ),
                     ),
                   ),
                 ),

@@ -85,18 +85,21 @@ selects_reads = record {
   taken = refl;
   good = refl;
   least = refl;
+  most = refl;
   share = refl;
   inverted = refl;
   table = refl;
   files = refl;
   alone = refl;
   usual_least = refl;
+  usual_most = refl;
   usual_share = refl;
   told = refl;
   no_file = refl;
   no_table = refl;
   share_above = refl;
   first_of_two = refl;
+  second_of_two = refl;
 }
 
 refuses : Refuses

@@ -1,23 +1,25 @@
 use Rattle.std.proofs.Common.{◌∙◌, ◌++◌, ap, sym, subst, append-nil}
 use Rattle.kc_word.specs.Only.{AreListed}
-use Rattle.kc_select.specs.SolidWords.{AreSolid}
-use Rattle.kc_select.proofs.SolidWordsLemmas.{solid_words, solid_listed, solid_all}
-use Rattle.kc_select.proofs.selector.solid_words.Goals as goal
+use Rattle.kc_select.specs.SolidWords.{AreExceptions, is_exception}
+use Rattle.kc_select.proofs.SolidWordsLemmas.{exceptions_are, words_where, where_listed}
+use Rattle.kc_select.proofs.selector.exceptions.Goals as goal
 
-pub returns-clause-solid : goal.returns-clause-solid
-returns-clause-solid c =
+pub returns-clause-are : goal.returns-clause-are
+returns-clause-are c =
     let tally = c.args.tally.now in
     let done = c.in-None.ensures.steps.0 in
     let all = c.shrink_to_fit.ensures.items ∙ sym (append-nil c.loop-row.words.items)
-    ∙ ap (λ rows. c.loop-row.words.items ++ solid_words c.args.least rows) (sym done) ∙ c.loop-row.invariant.words in
-    subst (λ words. AreSolid tally c.args.least words) (sym all)
-    (solid_all tally.k c.args.least tally.both tally.rows c.rows-row-items.ensures.lawful)
+    ∙ ap (λ rows. c.loop-row.words.items ++ words_where (is_exception c.args.selection) rows) (sym done)
+    ∙ c.loop-row.invariant.words in
+    subst (λ words. AreExceptions tally c.args.selection words) (sym all)
+    (exceptions_are tally.k tally.both c.args.selection tally.rows c.rows-row-items.ensures.lawful)
 
 pub returns-clause-listed : goal.returns-clause-listed
 returns-clause-listed c =
     let tally = c.args.tally.now in
     let done = c.in-None.ensures.steps.0 in
     let all = c.shrink_to_fit.ensures.items ∙ sym (append-nil c.loop-row.words.items)
-    ∙ ap (λ rows. c.loop-row.words.items ++ solid_words c.args.least rows) (sym done) ∙ c.loop-row.invariant.words in
+    ∙ ap (λ rows. c.loop-row.words.items ++ words_where (is_exception c.args.selection) rows) (sym done)
+    ∙ c.loop-row.invariant.words in
     subst (λ words. AreListed tally.k words) (sym all)
-    (solid_listed tally.k c.args.least tally.both tally.rows c.rows-row-items.ensures.lawful)
+    (where_listed tally.k tally.both (is_exception c.args.selection) tally.rows c.rows-row-items.ensures.lawful)

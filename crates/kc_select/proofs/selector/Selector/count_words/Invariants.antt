@@ -9,7 +9,7 @@ invariant-words l =
     let rule = l.fn.self.rule in
     record {
       words : l.counted.words + length (words_left l.walk) ≡ length (words_for tally rule l.fn.read);
-      solid : l.counted.solid + solid_count tally rule.least (words_left l.walk) ≡ solid_in tally rule l.fn.read;
+      solid : l.counted.solid + solid_count tally rule (words_left l.walk) ≡ solid_in tally rule l.fn.read;
       fewer : l.counted.solid ≤ l.counted.words;
       few : l.counted.words + length (words_left l.walk) < 2 ^ 64;
       k : l.walk.rule.k ≡ tally.k;
