@@ -3,8 +3,12 @@ pub mod BlockLemmas
 pub mod CodeLemmas
 pub mod CrcLemmas
 pub mod ElementLemmas
+pub mod FieldLemmas
 pub mod FollowLemmas
+pub mod FrontLemmas
 pub mod LookupLemmas
+pub mod PartLemmas
+pub mod PortionLemmas
 pub mod SearchLemmas
 pub mod StageLemmas
 pub mod SteadyLemmas

@@ -4,7 +4,10 @@ pub mod Buffer
 pub mod Codes
 pub mod Crc
 pub mod Elements
+pub mod Fields
+pub mod Heads
 pub mod Members
+pub mod Partly
 pub mod Reading
 pub mod Following
 pub mod Search

@@ -45,7 +45,7 @@ static TABLE: [u32; 256] = [
 
 /// The register after one byte more.
 #[inline(always)]
-fn after_byte(register: u32, byte: u8) -> u32
+pub fn after_byte(register: u32, byte: u8) -> u32
     ensures { result ≡ register_after_byte register byte }
 {
     TABLE[((register ^ byte as u32) & 0xff) as usize] ^ (register >> 8)

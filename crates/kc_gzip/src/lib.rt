@@ -21,9 +21,11 @@ mod dynamic_codes;
 mod elements;
 mod faults;
 mod gunzips;
+mod headers;
 pub mod laws;
 mod lookups;
 mod members;
+mod portions;
 mod stages;
 mod unzip;
 
