@@ -5,4 +5,5 @@ set xrange [0:ARG3]
 set logscale y
 set xlabel "times that a k-mer occurs"
 set ylabel "different k-mers"
-plot ARG1 with boxes notitle
+# (the line at 1 is drawn where there are no k-mers, too: gnuplot refuses a picture without a point)
+plot ARG1 with boxes notitle, 1 notitle
