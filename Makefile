@@ -6,8 +6,8 @@ ARCHIVE ?=
 # The crates of tests that tests/memory.sh runs with each growth refused.
 TESTS_OF_MEMORY = kc_count_tests kc_stripe_tests kc_run_tests
 
-.PHONY: demo build dist verify check edits bodies memory files mistakes options program examples documents workflow workflow-slurm
-.PHONY: test bench figures install clean help
+.PHONY: demo build dist deb verify check edits bodies memory files mistakes options program examples package documents
+.PHONY: workflow workflow-slurm test bench figures install clean help
 
 demo: ## shows the program at work within two minutes: its source with checks, not yet proved
 	@tools/demo.sh
@@ -17,6 +17,9 @@ build: ## proves the program and everything below it, and builds it as bin/kcoun
 
 dist: build ## packs program, man page, completions and licence into dist/, with the SHA-256
 	@tools/dist.sh dist
+
+deb: build ## packs what install installs as a Debian package into dist/, with the SHA-256
+	@tools/deb.sh dist
 
 verify: build ## compares an archive with what is proved and built here: make verify ARCHIVE=FILE
 	@tools/verify.sh "$(ARCHIVE)"
@@ -49,6 +52,9 @@ program: build ## compares the program's texts, streams and statuses as a whole,
 examples: build ## runs the examples of README.md, docs/USING.md and docs/TUTORIAL.md as they are written
 	tests/examples.sh
 
+package: build ## packs the Debian package, installs it into an empty root, runs the program there and removes it
+	tests/package.sh
+
 workflow: build ## runs the Snakemake workflow over the examples, also killed and with a part that is refused
 	tests/workflow.sh
 
@@ -58,7 +64,7 @@ workflow-slurm: build ## the same on a SLURM of one node, as root; no part of th
 documents: ## compares what the documents name with what is there
 	tests/documents.py
 
-test: ## everything: all proofs from nothing, the tests, the stored run, the edits that must fail; then memory, files, mistakes, options, program, examples, workflow, documents
+test: ## everything: proofs from nothing, tests, the stored run, edits that must fail, and each test but workflow-slurm
 	tests/full.sh
 
 bench: build ## runs the benchmarks and prints the tables of docs/BENCHMARKS.md

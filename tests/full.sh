@@ -1,10 +1,12 @@
 #!/bin/bash
 # The full test: `rt ci`, the toolchain's own, and what that can't do, over the libraries, the program and the tests that it has built:
 #   tests/full.sh
-# What the documents name is there. All other edits have to be refused, each by the function that it names: they are tried beside `rt ci`, each
-# crate's once that is done with the crate. Then each growth of memory is refused, files are missing or directories, the man page and the
-# completions are compared with the help, the program's texts, streams and statuses with what they should be, and the examples of the documents
-# and the workflow over them are run. Where all of it passed, the last line is `N passed, 0 failed`, N counting proofs and edits.
+# What the documents name is there. All other edits have to be refused, each by the function that it names: they are
+# tried beside `rt ci`, each crate's once that is done with the crate. Then each growth of memory is refused, files are
+# missing or directories, the man page and the completions are compared with the help, the program's texts, streams and
+# statuses with what they should be, the examples of the documents and the workflow over them are run, and the Debian
+# package is installed and removed. Where all of it passed, the last line is `N passed, 0 failed`, N counting proofs and
+# edits.
 set -euo pipefail
 cd "$(dirname "$0")/.."
 work=$(mktemp -d)
@@ -60,7 +62,7 @@ TMPDIR=$work/tmp rt ci | tee "$work/ci"
 kill "$linking"
 minutes "proofs, tests and the wrong bodies in must-fail"
 install -D crates/kcount/out/kcount bin/kcount
-side_by_side edits memory files mistakes options program examples workflow
+side_by_side edits memory files mistakes options program examples package workflow
 wait "$edits" || { cat "$work/edits"; exit 1; }
 cat "$work/edits"
 kill "$costs"
