@@ -4,7 +4,8 @@
 Each name of docs/DEFINITIONS.md is declared in that file of the crate's specs/; the tables of docs/ARCHITECTURE.md and docs/PROVED.md have the
 crates of crates.txt in its order, and those that are gone stand nowhere; each file that a document names is there. The example at the front
 of each library is a part of a test, and no two source files but the libraries' fronts have one name. No line of the code, of the definitions
-or of a document's prose is too long. Where something isn't so, it is printed and the status is 1.
+or of a document's prose is too long. tests/README.md has each script of tests/ and each module of a crate of tests, and docs/STATUS.md the minutes that README.md gives. Where something isn't so, it is
+printed and the status is 1.
 """
 
 import glob
@@ -26,7 +27,8 @@ def text_of(path):
 
 def documents():
     """Returns the paths of the documents, from the top."""
-    return [os.path.relpath(it, TOP) for it in sorted([*glob.glob(f"{TOP}/*.md"), *glob.glob(f"{TOP}/docs/*.md")])]
+    folders = ("", "docs/", "tests/", "workflow/")
+    return [os.path.relpath(it, TOP) for folder in folders for it in sorted(glob.glob(f"{TOP}/{folder}*.md"))]
 
 
 def listed_crates():
@@ -123,6 +125,21 @@ def files_of_one_name(listed):
     return [f"{path}: another file has this name" for path, name in zip(paths, names) if names.count(name) > 1]
 
 
+def unlisted_tests(listed):
+    """Returns the scripts and the modules of tests that tests/README.md doesn't have."""
+    scripts = [os.path.basename(it) for it in sorted(glob.glob(f"{TOP}/tests/*.*")) if not it.endswith(".md")]
+    modules = [os.path.basename(it)[:-3] for it in sources(it for it in listed if it.endswith("_tests"))]
+    named = set(re.findall(r"`([\w.]+)`", text_of("tests/README.md")))
+    return [f"tests/README.md: it lacks {it}" for it in [*scripts, *modules] if it not in named | {"lib"}]
+
+
+def lost_minutes():
+    """Returns the minutes that README.md gives and docs/STATUS.md doesn't."""
+    pairs = re.findall(r"(?<!\d)(\d+)(?: to (\d+))?\s+minutes", text_of("README.md"))
+    measured = set(re.findall(r"(?<!\d)(\d+)(?=\s+minutes| and \d+\s+minutes| to \d+\s+minutes)", text_of("docs/STATUS.md")))
+    return [f"README.md: docs/STATUS.md has no {it} minutes" for pair in pairs for it in pair if it and it not in measured]
+
+
 def prose(text):
     """Returns the lines of a document with nothing in place of those of tables and of blocks of code."""
     return re.sub(r"(?m)^\|.*$", "", re.sub(r"(?ms)^```.*?^```$", lambda it: "\n" * it[0].count("\n"), text))
@@ -139,7 +156,7 @@ def long_lines(listed):
 def main():
     listed = listed_crates()
     wrong = [*lost_definitions(), *wrong_tables(listed), *lost_crates(listed), *lost_files()]
-    wrong += [*untested_examples(listed), *files_of_one_name(listed), *long_lines(listed)]
+    wrong += [*untested_examples(listed), *files_of_one_name(listed), *unlisted_tests(listed), *lost_minutes(), *long_lines(listed)]
     print("\n".join(wrong) if wrong else "documents: each name that they have is there, each example is a part of a test, and no line is too long")
     return 1 if wrong else 0
 
