@@ -19,7 +19,13 @@ done
 [ -x "$program" ] || { echo "no bin/kcount: run make build first"; exit 1; }
 work=$(mktemp -d)
 running=
-trap '[ -z "$running" ] || kill -KILL -- "-$running" 2> /dev/null || true; rm -rf "$work"' EXIT
+# ends what still runs of a run in a session of its own, and waits for it
+kill_run() {
+    kill -KILL -- "-$running" 2> /dev/null || true
+    wait "$running" 2> /dev/null || true
+    running=
+}
+trap '[ -z "$running" ] || kill_run; rm -rf "$work"' EXIT
 mkdir "$work/reads" "$work/programs"
 cd "$work"
 cp "$here/../examples/reads.fa" "$here/../examples/shotgun.fq" reads
@@ -96,34 +102,32 @@ is_right plain "a run"
 flow plain "$program" || fails "a second run failed"
 grep -q 'Nothing to be done' log || fails "a second run does something"
 
-# killed_at COMMAND NUMBER: begins a run, or goes on with one, and kills it when so many calls of a command were made
+# killed_at COMMAND NUMBER: begins a run, or goes on with one, and kills it when it has made so many calls of a command
 killed_at() {
-    local tries
+    local tries before
+    before=$(calls "$1")
     setsid bash -c "$(declare -f called flow); here=$here; flow killed '$work/programs/slow' --rerun-incomplete" &
     running=$!
     for tries in $(seq 1 600); do
-        [ "$(calls "$1")" -lt "$2" ] || break
+        [ "$(calls "$1")" -lt $((before + $2)) ] || break
         sleep 0.1
     done
     kill -0 "$running" 2> /dev/null || fails "a run ended before it was killed"
-    kill -KILL -- "-$running"
-    wait "$running" 2> /dev/null || true
-    running=
-    [ "$(calls "$1")" -ge "$2" ] || fails "a run made too few calls of $1 within a minute"
+    kill_run
+    [ "$(calls "$1")" -ge $((before + $2)) ] || fails "a run made too few calls of $1 within a minute"
     [ ! -e killed/table.kct ] || fails "a run had its table before it was killed"
     flow killed "$work/programs/slow" --unlock || fails "a killed run can't be unlocked"
 }
-# A run that is killed while it counts, and again while it merges, goes on where it was: no part is counted again but
-# the two that were in work.
+# A run that is killed while it counts, and again while it merges, goes on where it was: nothing is done again but the
+# two steps that were in work when it was killed, both times.
 : > calls
 killed_at count 20
 killed_at merge 10
 flow killed "$work/programs/slow" --rerun-incomplete || fails "a killed run did not go on"
 is_right killed "a killed run"
-[ "$(calls count)" -ge $parts ] && [ "$(calls count)" -le $((parts + 2)) ] \
-    || fails "$(calls count) counts of $parts parts"
-[ "$(calls merge)" -ge $((parts - 1)) ] && [ "$(calls merge)" -le $((parts + 1)) ] \
-    || fails "$(calls merge) merges of $parts parts"
+steps=$(($(calls count) + $(calls merge)))
+[ "$(calls count)" -ge $parts ] && [ "$(calls merge)" -ge $((parts - 1)) ] && [ $steps -le $((2 * parts - 1 + 4)) ] \
+    || fails "$(calls count) counts of $parts parts, and $(calls merge) merges of their tables"
 
 # A file that is newer than its list has to be cut again: the run says so, and goes on when the list is gone.
 mended() {
