@@ -1,11 +1,13 @@
 -- The check sum by bytes: eight steps of a bit each are one look into the table.
-use Rattle.std.proofs.Common.{◌≡◌, ℕ, zero, suc, ◌+◌, ◌*◌, ◌/◌, ◌%◌, ◌^◌, ◌<◌, Bool, true, false, List, [], ◌∷◌, length, cond, eqb, fold, refl, sym, ap, ◌∙◌, arith}
+use Rattle.std.proofs.Common.{◌≡◌, ℕ, zero, suc, ◌+◌, ◌*◌, ◌/◌, ◌%◌, ◌^◌, ◌<◌, Bool, true, false, List, [], ◌∷◌, ◌++◌, length, cond, eqb, fold, replicate, map, get_or, ◌≤◌, ◌-◌, refl, sym, ap, ◌∙◌, arith}
 use Rattle.std.specs.Int.Bits.{bit_xor, xor_assoc, xor_zero_r}
 use Rattle.std.proofs.lemmas.Nat.{xor_shr, xor_mod, xor_comm, xor_block}
 use Rattle.std.proofs.lemmas.Grind.{pow_more}
 use Rattle.std.specs.List.{range_with_len}
-use Rattle.kc_gzip.specs.Bits.{bit, byte_bits, number_of}
-use Rattle.kc_gzip.specs.Crc.{generator, times_x, register_after_bit, register_after_byte}
+use Rattle.kc_gzip.specs.Bits.{bit, byte_bits, number_of, stream_of}
+use Rattle.kc_gzip.specs.Crc.{generator, times_x, register_after_bit, register_after_byte, register_after}
+use Rattle.std.specs.Int.{w64, from_le_bytes}
+use Rattle.kc_gzip.proofs.BitLemmas.{length-stream_of}
 use Rattle.kc_gzip.proofs.TableLemmas.{table_at}
 
 -- n steps for bits that are 0
@@ -91,6 +93,14 @@ fold-steps r (b ∷ bits) =
 pub number_of-byte_bits : (byte : ℕ) → byte < 256 → number_of (byte_bits byte) ≡ byte
 number_of-byte_bits byte h = sym (table_at (λ n. number_of (byte_bits n)) (range_with_len 0 256) 256 refl byte h) ∙ table_at (λ n. n) (range_with_len 0 256) 256 refl byte h
 
+-- a low byte has no bit in common with the others
+block-parts : (a low : ℕ) → low < 256 → bit_xor (a * 256) low ≡ a * 256 + low
+block-parts a low h =
+    let first : a * 256 ≡ a * 256 + 0 = omega arith in
+    let second : low ≡ 0 * 256 + low = omega arith in
+    ap (λ y. bit_xor y low) first ∙ ap (bit_xor (a * 256 + 0)) second ∙ xor_block 8 a 0 0 low (omega arith) h
+    ∙ ap (λ y. y * 256 + low) (xor_zero_r a)
+
 -- what the table has to hold gives the register after a byte
 pub by_table : (r byte entry : ℕ) → byte < 256 → entry ≡ steps 8 (bit_xor r byte % 256) → bit_xor entry (r / 256) ≡ register_after_byte r byte
 unfolding register_after_byte
@@ -98,7 +108,7 @@ by_table r byte entry h e =
     let x = bit_xor r byte in
     let whole : x ≡ x / 256 * 256 + x % 256 = omega arith in
     let low : x % 256 < 256 = omega arith in
-    let parts : bit_xor (x / 256 * 256) (x % 256) ≡ x = xor_block_parts (x / 256) (x % 256) low ∙ sym whole in
+    let parts : bit_xor (x / 256 * 256) (x % 256) ≡ x = block-parts (x / 256) (x % 256) low ∙ sym whole in
     let small : byte / 256 ≡ 0 = omega (arith, h) in
     let high : x / 256 ≡ r / 256 = xor_shr r byte 8 ∙ ap (bit_xor (r / 256)) small ∙ xor_zero_r (r / 256) in
     ap (λ y. bit_xor y (r / 256)) e
@@ -108,10 +118,156 @@ by_table r byte entry h e =
     ∙ ap (steps 8) parts
     ∙ ap (λ y. steps 8 (bit_xor r y)) (sym (number_of-byte_bits byte h))
     ∙ sym (fold-steps r (byte_bits byte))
+
+-- ---- eight bytes at once
+
+steps-add : (m n r : ℕ) → steps (m + n) r ≡ steps n (steps m r)
+steps-add zero n r =
+    let none : 0 + n ≡ n = omega arith in
+    ap (λ k. steps k r) none
+steps-add (suc m) n r =
+    let one : suc m + n ≡ suc (m + n) = omega arith in
+    ap (λ k. steps k r) one ∙ steps-add m n (times_x r)
+
+after-zero : (q : ℕ) → register_after_byte q 0 ≡ steps 8 q
+unfolding register_after_byte
+after-zero q = fold-steps q (byte_bits 0) ∙ ap (steps 8) (xor_zero_r q)
+
+-- bytes of zeros are steps alone
+pub after-zeros : (count r : ℕ) → register_after r (replicate count 0) ≡ steps (8 * count) r
+after-zeros zero r = refl
+after-zeros (suc count) r =
+    let one : 8 * suc count ≡ 8 + 8 * count = omega arith in
+    after-zeros count (register_after_byte r 0) ∙ ap (steps (8 * count)) (after-zero r)
+    ∙ sym (steps-add 8 (8 * count) r) ∙ ap (λ k. steps k r) (sym one)
+
+-- the low byte moves on by itself, and the others are a byte less behind
+split-low : (k x : ℕ) → steps (8 + k) x ≡ bit_xor (steps (8 + k) (x % 256)) (steps k (x / 256))
+split-low k x =
+    let whole : x ≡ x / 256 * 256 + x % 256 = omega arith in
+    let low : x % 256 < 256 = omega arith in
+    ap (steps (8 + k)) (whole ∙ sym (block-parts (x / 256) (x % 256) low) ∙ xor_comm (x / 256 * 256) (x % 256))
+    ∙ steps-xor (8 + k) (x % 256) (x / 256 * 256)
+    ∙ ap (bit_xor (steps (8 + k) (x % 256))) (steps-add 8 k (x / 256 * 256) ∙ ap (steps k) (steps-shift 8 (x / 256)))
+
+-- so far the bytes below were added, and these are left
+more-low : (sum k x : ℕ) → bit_xor sum (steps (8 + k) x) ≡ bit_xor (bit_xor sum (steps (8 + k) (x % 256))) (steps k (x / 256))
+more-low sum k x = ap (bit_xor sum) (split-low k x) ∙ sym (xor_assoc sum (steps (8 + k) (x % 256)) (steps k (x / 256)))
+
+fold-bits : (r : ℕ) (bytes : List ℕ) → register_after r bytes ≡ fold register_after_bit r (stream_of bytes)
+unfolding register_after_byte
+fold-bits r [] = refl
+fold-bits r (byte ∷ bytes) =
+    fold-bits (register_after_byte r byte) bytes ∙ sym (fold-behind r (byte_bits byte) (stream_of bytes))
   where
-    xor_block_parts : (a low : ℕ) → low < 256 → bit_xor (a * 256) low ≡ a * 256 + low
-    xor_block_parts a low h =
-        let first : a * 256 ≡ a * 256 + 0 = omega arith in
-        let second : low ≡ 0 * 256 + low = omega arith in
-        ap (λ y. bit_xor y low) first ∙ ap (bit_xor (a * 256 + 0)) second ∙ xor_block 8 a 0 0 low (omega arith) h
-        ∙ ap (λ y. y * 256 + low) (xor_zero_r a)
+    fold-behind : (q : ℕ) (xs ys : List Bool) → fold register_after_bit q (xs ++ ys) ≡ fold register_after_bit (fold register_after_bit q xs) ys
+    fold-behind q [] ys = refl
+    fold-behind q (x ∷ xs) ys = fold-behind (register_after_bit q x) xs ys
+
+number_of-behind : (byte : ℕ) (bits : List Bool) → byte < 256 → number_of (byte_bits byte ++ bits) ≡ byte + 256 * number_of bits
+number_of-behind byte bits h = (let e : number_of (byte_bits byte) ≡ byte = number_of-byte_bits byte h in omega (arith, e))
+
+-- the number that bytes say, the least first
+abbrev number_at_once : List ℕ → ℕ
+number_at_once [] = 0
+number_at_once (byte ∷ bytes) = byte + 256 * number_at_once bytes
+
+number_of-stream : (bytes : List ℕ) → ((i : ℕ) → get_or bytes i 0 < 256) → number_of (stream_of bytes) ≡ number_at_once bytes
+number_of-stream [] small = refl
+number_of-stream (byte ∷ bytes) small =
+    number_of-behind byte (stream_of bytes) (small 0) ∙ ap (λ n. byte + 256 * n) (number_of-stream bytes (λ i. small (suc i)))
+
+number-of-eight : (bytes : List ℕ) → length bytes ≡ 8 → from_le_bytes w64 bytes ≡ number_at_once bytes
+number-of-eight [] e = absurd (omega (arith, e))
+number-of-eight (a ∷ []) e = absurd (omega (arith, e))
+number-of-eight (a ∷ b ∷ []) e = absurd (omega (arith, e))
+number-of-eight (a ∷ b ∷ c ∷ []) e = absurd (omega (arith, e))
+number-of-eight (a ∷ b ∷ c ∷ d ∷ []) e = absurd (omega (arith, e))
+number-of-eight (a ∷ b ∷ c ∷ d ∷ f ∷ []) e = absurd (omega (arith, e))
+number-of-eight (a ∷ b ∷ c ∷ d ∷ f ∷ g ∷ []) e = absurd (omega (arith, e))
+number-of-eight (a ∷ b ∷ c ∷ d ∷ f ∷ g ∷ h ∷ []) e = absurd (omega (arith, e))
+number-of-eight (a ∷ b ∷ c ∷ d ∷ f ∷ g ∷ h ∷ i ∷ []) e =
+    let sum : from_le_bytes w64 (a ∷ b ∷ c ∷ d ∷ f ∷ g ∷ h ∷ i ∷ [])
+    ≡ a + b * 0x100 + c * 0x1_0000 + d * 0x100_0000 + f * 0x1_0000_0000 + g * 0x100_0000_0000 + h * 0x1_0000_0000_0000 + i * 0x100_0000_0000_0000 = refl in
+    omega (arith, sum)
+number-of-eight (a ∷ b ∷ c ∷ d ∷ f ∷ g ∷ h ∷ i ∷ j ∷ more) e = absurd (omega (arith, e))
+
+-- what the register becomes of a low byte, so many bytes of zeros later
+abbrev pub behind : ℕ → ℕ → ℕ
+behind count number = register_after (number % 256) (replicate count 0)
+
+next-byte : (sum count x rest : ℕ) → rest ≡ x / 256
+    → bit_xor sum (steps (8 * suc count) x) ≡ bit_xor (bit_xor sum (behind (suc count) x)) (steps (8 * count) rest)
+next-byte sum count x rest is =
+    let more : 8 * suc count ≡ 8 + 8 * count = omega arith in
+    ap (λ k. bit_xor sum (steps k x)) more
+    ∙ more-low sum (8 * count) x
+    ∙ ap (λ k. bit_xor (bit_xor sum (steps k (x % 256))) (steps (8 * count) (x / 256))) (sym more)
+    ∙ ap (λ y. bit_xor (bit_xor sum y) (steps (8 * count) (x / 256))) (sym (after-zeros (suc count) (x % 256)))
+    ∙ ap (λ y. bit_xor (bit_xor sum (behind (suc count) x)) (steps (8 * count) y)) (sym is)
+
+-- eight bytes: each moves on by those behind it
+pub eight-at-once : (r number : ℕ) (bytes : List ℕ) → length bytes ≡ 8 → ((i : ℕ) → get_or bytes i 0 < 256) → number ≡ from_le_bytes w64 bytes
+    → (x : ℕ) → x ≡ bit_xor r number → x < 2 ^ 64
+    → bit_xor (bit_xor (bit_xor (bit_xor (bit_xor (bit_xor (bit_xor (behind 8 x) (behind 7 (x / 2 ^ 8))) (behind 6 (x / 2 ^ 16))) (behind 5 (x / 2 ^ 24))) (behind 4 (x / 2 ^ 32))) (behind 3 (x / 2 ^ 40))) (behind 2 (x / 2 ^ 48))) (behind 1 (x / 2 ^ 56))
+    ≡ register_after r bytes
+eight-at-once r number bytes long small is x mixed below = sym (whole ∙ parts)
+  where
+    whole : register_after r bytes ≡ steps 64 x
+    whole =
+        let many : length (stream_of bytes) ≡ 64 = omega (arith, length-stream_of bytes, long) in
+        fold-bits r bytes ∙ fold-steps r (stream_of bytes) ∙ ap (λ k. steps k (bit_xor r (number_of (stream_of bytes)))) many
+        ∙ ap (λ n. steps 64 (bit_xor r n)) (number_of-stream bytes small ∙ sym (number-of-eight bytes long) ∙ sym is) ∙ ap (steps 64) (sym mixed)
+
+    zero-first : (y : ℕ) → bit_xor 0 y ≡ y
+    zero-first y = xor_comm 0 y ∙ xor_zero_r y
+
+    parts : steps 64 x
+        ≡ bit_xor (bit_xor (bit_xor (bit_xor (bit_xor (bit_xor (bit_xor (behind 8 x) (behind 7 (x / 2 ^ 8))) (behind 6 (x / 2 ^ 16))) (behind 5 (x / 2 ^ 24))) (behind 4 (x / 2 ^ 32))) (behind 3 (x / 2 ^ 40))) (behind 2 (x / 2 ^ 48))) (behind 1 (x / 2 ^ 56))
+    parts =
+        sym (zero-first (steps 64 x))
+        ∙ next-byte 0 7 x (x / 2 ^ 8) (omega arith)
+        ∙ ap (λ y. bit_xor y (steps 56 (x / 2 ^ 8))) (zero-first (behind 8 x))
+        ∙ next-byte _ 6 (x / 2 ^ 8) (x / 2 ^ 16) (omega arith)
+        ∙ next-byte _ 5 (x / 2 ^ 16) (x / 2 ^ 24) (omega arith)
+        ∙ next-byte _ 4 (x / 2 ^ 24) (x / 2 ^ 32) (omega arith)
+        ∙ next-byte _ 3 (x / 2 ^ 32) (x / 2 ^ 40) (omega arith)
+        ∙ next-byte _ 2 (x / 2 ^ 40) (x / 2 ^ 48) (omega arith)
+        ∙ next-byte _ 1 (x / 2 ^ 48) (x / 2 ^ 56) (omega arith)
+        ∙ next-byte _ 0 (x / 2 ^ 56) 0 (omega (arith, below))
+        ∙ xor_zero_r _
+
+-- the same of eight numbers that are these
+pub eight-sums : (r number : ℕ) (bytes : List ℕ) → length bytes ≡ 8 → ((i : ℕ) → get_or bytes i 0 < 256) → number ≡ from_le_bytes w64 bytes
+    → (x : ℕ) → x ≡ bit_xor r number → x < 2 ^ 64 → (a b c d f g h i : ℕ) → a ≡ behind 8 x → b ≡ behind 7 (x / 2 ^ 8) → c ≡ behind 6 (x / 2 ^ 16) → d ≡ behind 5 (x / 2 ^ 24)
+    → f ≡ behind 4 (x / 2 ^ 32) → g ≡ behind 3 (x / 2 ^ 40) → h ≡ behind 2 (x / 2 ^ 48) → i ≡ behind 1 (x / 2 ^ 56)
+    → bit_xor (bit_xor (bit_xor (bit_xor (bit_xor (bit_xor (bit_xor a b) c) d) f) g) h) i ≡ register_after r bytes
+eight-sums r number bytes long small is x mixed below a b c d f g h i ea eb ec ed ef eg eh ei =
+    both (both (both (both (both (both (both ea eb) ec) ed) ef) eg) eh) ei ∙ eight-at-once r number bytes long small is x mixed below
+  where
+    both : {p q s t : ℕ} → p ≡ q → s ≡ t → bit_xor p s ≡ bit_xor q t
+    both {p} {q} {s} {t} first second = ap (λ y. bit_xor y s) first ∙ ap (bit_xor q) second
+
+-- ---- the tables
+
+-- so many bytes of zeros later, table by table
+abbrev pub tables : List ℕ
+tables = map (λ n. steps (8 * (n / 256 + 1)) (n % 256)) (range_with_len 0 2048)
+
+pub table-entry : (i : ℕ) → i < 2048 → get_or tables i 0 ≡ steps (8 * (i / 256 + 1)) (i % 256)
+table-entry i h = table_at (λ n. steps (8 * (n / 256 + 1)) (n % 256)) tables 2048 refl i h
+
+pub first-table : (i : ℕ) → i < 256 → get_or tables i 0 ≡ steps 8 i
+first-table i h =
+    let none : i / 256 ≡ 0 = omega (arith, h) in
+    let same : i % 256 ≡ i = omega (arith, h) in
+    table-entry i (omega (arith, h)) ∙ ap (λ k. steps (8 * (k + 1)) (i % 256)) none ∙ ap (steps 8) same
+
+pub entry-behind : (count number place : ℕ) → 0 < count → count ≤ 8 → place ≡ 256 * (count - 1) + number % 256
+    → get_or tables place 0 ≡ register_after (number % 256) (replicate count 0)
+entry-behind count number place some few is =
+    let low : number % 256 < 256 = omega arith in
+    let which : place / 256 + 1 ≡ count = omega (arith, is, some, low) in
+    let byte : place % 256 ≡ number % 256 = omega (arith, is, low) in
+    table-entry place (omega (arith, is, few, some, low))
+    ∙ ap (λ k. steps (8 * k) (place % 256)) which ∙ ap (steps (8 * count)) byte ∙ sym (after-zeros count (number % 256))

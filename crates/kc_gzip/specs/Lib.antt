@@ -10,5 +10,7 @@ pub mod Members
 pub mod Partly
 pub mod Reading
 pub mod Following
+pub mod Intakes
 pub mod Search
+pub mod Since
 pub mod Unzipping

@@ -27,10 +27,13 @@ mod lookups;
 mod members;
 mod portions;
 mod stages;
+mod unpacked_intakes;
+mod unpacking;
 mod unzip;
 
 pub use checksum::crc32;
 pub use faults::GzipFault;
 pub use gunzips::Gunzip;
 pub use members::gunzip;
+pub use unpacked_intakes::{Intake, TakeFault};
 pub use unzip::GunzipFault;

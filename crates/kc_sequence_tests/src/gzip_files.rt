@@ -1,5 +1,5 @@
 //! Files that gzip's and zlib's own writers made, and what becomes of them when they are cut or changed.
-use kc_gzip::{Gunzip, GunzipFault, GzipFault, crc32, gunzip};
+use kc_gzip::{Gunzip, GunzipFault, GzipFault, Intake, TakeFault, crc32, gunzip};
 use kc_io::{Failed, FromRead, Source};
 use std::alloc::Global;
 use std::io;
@@ -336,5 +336,158 @@ fn copies_reach_back_as_far_as_the_window(rt: HostRuntime) -> Result<(), Fail> {
     assert_eq!(rt; crc32(&text), 4_263_247_158);
     let (_, fault) = told_of(rt.alloc(), TOO_FAR, 100)?;
     assert!(rt; fault == Some(GunzipFault::Gzip(GzipFault::Broken)));
+    Ok(())
+}
+
+// A reader of all these bytes, so many at a time.
+fn reader_of(bytes: &[u8], most: usize) -> Drops<'_> {
+    Drops {
+        left: bytes,
+        most,
+        fails_with: usize::MAX,
+    }
+}
+
+// What an intake takes of such a reader, filling by filling, and why it stops before the end.
+fn taken(alloc: Global, drops: Drops, limit: u64) -> Result<(Vec<u8>, Option<TakeFault>), Fail> {
+    let mut source = FromRead::new(drops);
+    let mut intake = Intake::new(alloc, limit)?;
+    let mut text = Vec::new(alloc);
+    for _ in 0..100_000 {
+        match intake.fill(&mut source) {
+            Ok(true) => {
+                text.extend_from_slice(intake.as_slice())?;
+                let count = intake.as_slice().len();
+                intake.use_up(count);
+            }
+            Ok(false) => return Ok((text, None)),
+            Err(fault) => return Ok((text, Some(fault))),
+        }
+    }
+    Ok((text, Some(TakeFault::Memory)))
+}
+
+// How many bytes such a reader says, or why not all come.
+fn skipped(alloc: Global, drops: Drops, limit: u64) -> Result<Result<u64, TakeFault>, Fail> {
+    let mut source = FromRead::new(drops);
+    let intake = Intake::new(alloc, limit)?;
+    Ok(intake.skip_rest(&mut source))
+}
+
+#[test]
+fn an_intake_takes_what_the_bytes_say(rt: HostRuntime) -> Result<(), Fail> {
+    let alloc = rt.alloc();
+    for (name, bytes, text) in FILES.iter() {
+        for most in [1, 3, 1_000] {
+            let (found, fault) = taken(alloc, reader_of(bytes, most), 1_000)?;
+            assert!(rt; fault.is_none(), "{name}");
+            assert!(rt; found.as_slice() == *text, "{name}");
+            let count = skipped(alloc, reader_of(bytes, most), 1_000)?;
+            assert!(rt; count == Ok(text.len() as u64), "{name}");
+        }
+    }
+    Ok(())
+}
+
+#[test]
+fn an_intake_takes_other_bytes_as_they_are(rt: HostRuntime) -> Result<(), Fail> {
+    let alloc = rt.alloc();
+    let sources: [&[u8]; 5] = [b"", b"\x1f", b"\x8b\x1f", b"A\n", SAMPLE_TEXT];
+    for bytes in sources {
+        for most in [1, 1_000] {
+            let (found, fault) = taken(alloc, reader_of(bytes, most), 1_000)?;
+            assert!(rt; fault.is_none());
+            assert!(rt; found.as_slice() == bytes);
+            let count = skipped(alloc, reader_of(bytes, most), 1_000)?;
+            assert!(rt; count == Ok(bytes.len() as u64));
+        }
+    }
+    Ok(())
+}
+
+#[test]
+fn an_intake_takes_as_many_bytes_as_its_limit(rt: HostRuntime) -> Result<(), Fail> {
+    let alloc = rt.alloc();
+    for bytes in [SAMPLE, SAMPLE_TEXT] {
+        for most in [1, 1_000] {
+            let (found, fault) = taken(alloc, reader_of(bytes, most), 512)?;
+            assert!(rt; fault.is_none() && found.as_slice() == SAMPLE_TEXT);
+            let (_, fault) = taken(alloc, reader_of(bytes, most), 511)?;
+            assert!(rt; fault == Some(TakeFault::TooLong));
+            assert!(rt; skipped(alloc, reader_of(bytes, most), 512)? == Ok(512));
+            assert!(rt; skipped(alloc, reader_of(bytes, most), 511)? == Err(TakeFault::TooLong));
+        }
+    }
+    Ok(())
+}
+
+#[test]
+fn bytes_that_are_not_used_stay_in_front(rt: HostRuntime) -> Result<(), Fail> {
+    let mut source = FromRead::new(reader_of(b">r1\nACGT\n", 3));
+    let mut intake = Intake::new(rt.alloc(), 9)?;
+    assert!(rt; intake.fill(&mut source) == Ok(true));
+    assert_eq!(rt; intake.as_slice(), b">r1".as_slice());
+    intake.use_up(1);
+    assert!(rt; intake.fill(&mut source) == Ok(true));
+    assert_eq!(rt; intake.as_slice(), b"r1\nAC".as_slice());
+    intake.use_up(3);
+    assert!(rt; intake.skip_rest(&mut source) == Ok(3));
+    Ok(())
+}
+
+#[test]
+fn an_intake_fails_where_a_read_does_and_stays_so(rt: HostRuntime) -> Result<(), Fail> {
+    let alloc = rt.alloc();
+    for fails_with in [0, 1, 100, SAMPLE.len()] {
+        let mut source = FromRead::new(Drops {
+            left: SAMPLE,
+            most: 1,
+            fails_with,
+        });
+        let mut intake = Intake::new(alloc, 1_000)?;
+        let mut fault = None;
+        for _ in 0..1_000 {
+            match intake.fill(&mut source) {
+                Ok(true) => {}
+                Ok(false) => break,
+                Err(why) => {
+                    fault = Some(why);
+                    break;
+                }
+            }
+        }
+        assert!(rt; fault == Some(TakeFault::Read), "{fails_with}");
+        let front = intake.as_slice();
+        assert!(rt; SAMPLE_TEXT.starts_with(front), "{fails_with}");
+        assert!(rt;
+            intake.fill(&mut source) == Err(TakeFault::Read),
+            "{fails_with}"
+        );
+        assert!(rt;
+            intake.skip_rest(&mut source) == Err(TakeFault::Read),
+            "{fails_with}"
+        );
+    }
+    Ok(())
+}
+
+#[test]
+fn an_intake_sees_that_gzip_is_cut_short_or_broken(rt: HostRuntime) -> Result<(), Fail> {
+    let alloc = rt.alloc();
+    for end in [2, 100, SAMPLE.len() - 1] {
+        let cut = &SAMPLE[..end];
+        let (_, fault) = taken(alloc, reader_of(cut, 1), 1_000)?;
+        assert!(rt; fault == Some(TakeFault::Short), "{end}");
+        assert!(rt;
+            skipped(alloc, reader_of(cut, 50), 1_000)? == Err(TakeFault::Short),
+            "{end}"
+        );
+    }
+    // the text is all there; its check sum is wrong
+    let bytes = turned(alloc, SAMPLE.len() - 5, 0)?;
+    let (found, fault) = taken(alloc, reader_of(&bytes, 1), 1_000)?;
+    assert!(rt; fault == Some(TakeFault::Broken));
+    assert!(rt; found.as_slice() == SAMPLE_TEXT);
+    assert!(rt; skipped(alloc, reader_of(&bytes, 50), 1_000)? == Err(TakeFault::Broken));
     Ok(())
 }

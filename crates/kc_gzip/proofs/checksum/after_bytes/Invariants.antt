@@ -1,6 +1,9 @@
-use Rattle.std.proofs.Common.{◌≡◌, take}
+use Rattle.std.proofs.Common.{◌≡◌, length}
 use Rattle.kc_gzip.specs.Crc.{register_after}
 use Rattle.kc_gzip.proofs.checksum.after_bytes.Given as goal
 
-abbrev pub invariant-loop-byte : goal.invariant-loop-byte
-invariant-loop-byte l = l.current ≡ register_after l.fn.register (take l.byte-index l.bytes)
+abbrev pub invariant-loop-eight : goal.invariant-loop-eight
+invariant-loop-eight l = register_after l.current l.rest ≡ register_after l.fn.register l.fn.bytes
+
+abbrev pub decreases-loop-eight : goal.decreases-loop-eight
+decreases-loop-eight l = length l.rest
