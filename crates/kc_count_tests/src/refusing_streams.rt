@@ -3,7 +3,8 @@ use crate::count_assertions::{assert_items, assert_same};
 use crate::report_rows::{strings_of, table_of};
 use kc_io::{FromRead, ToWrite};
 use kc_report::{
-    Dump, ReportFault, query, read_table, write_dump, write_histo, write_stats, write_table,
+    Dump, ReportFault, TableReading, query, read_table, write_dump, write_histo, write_stats,
+    write_table,
 };
 use kc_tally::Tally;
 use std::alloc::{AllocError, Global};
@@ -236,6 +237,61 @@ fn every_failed_read(rt: HostRuntime) -> Result<(), ReportFault> {
     }
     let tally = read_slowly(rt.alloc(), TABLE, TABLE.len() + 1, 100)?;
     assert_same(&rt, "total", &tally.total(), &3);
+    Ok(())
+}
+
+// How many rows a text gives by single bytes, of which so many reads succeed, and the fault behind them.
+fn rows_slowly(
+    alloc: Global,
+    text: &[u8],
+    reads: usize,
+    limit: u64,
+) -> Result<(u64, Option<ReportFault>), ReportFault> {
+    let mut source = FromRead::new(ByteByByte { left: text, reads });
+    let mut reading = TableReading::open(alloc, &mut source, limit)?;
+    let mut rows = 0u64;
+    for _ in 0..9 {
+        match reading.next_row(&mut source) {
+            Ok(Some(_)) => rows = rows.saturating_add(1),
+            Ok(None) => return Ok((rows, None)),
+            Err(fault) => {
+                let again = reading.next_row(&mut source).err();
+                return Ok((rows, again.filter(|it| *it == fault)));
+            }
+        }
+    }
+    Ok((rows, None))
+}
+
+// A row is given as soon as its line is there.
+#[test]
+fn rows_byte_by_byte(rt: HostRuntime) -> Result<(), ReportFault> {
+    for count in 0..=TABLE.len() {
+        let rows = match count {
+            0..16 => 0,
+            16..22 => 1,
+            _ => 2,
+        };
+        let failed = Some(ReportFault::TableRead);
+        let too_long = Some(ReportFault::TableTooLong);
+        if count < 10 {
+            assert_same(
+                &rt,
+                count,
+                &rows_slowly(rt.alloc(), TABLE, count, 100).err(),
+                &failed,
+            );
+            continue;
+        }
+        let got = rows_slowly(rt.alloc(), TABLE, count, 100)?;
+        assert_same(&rt, count, &got, &(rows, failed));
+        if count < TABLE.len() {
+            let got = rows_slowly(rt.alloc(), TABLE, usize::MAX, count as u64)?;
+            assert_same(&rt, count, &got, &(rows, too_long));
+        }
+    }
+    let got = rows_slowly(rt.alloc(), TABLE, TABLE.len() + 1, 100)?;
+    assert_same(&rt, "rows", &got, &(2, None));
     Ok(())
 }
 

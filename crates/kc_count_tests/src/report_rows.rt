@@ -6,8 +6,8 @@ use crate::merged_tables::text_of;
 use kc_io::{FromBytes, ToVec};
 use kc_kmer::K;
 use kc_report::{
-    Dump, GREATEST_HIGH, ReportFault, query, read_table, write_dump, write_histo, write_stats,
-    write_stats_of,
+    Dump, GREATEST_HIGH, Origin, ReportFault, TableReading, query, read_table, write_dump,
+    write_histo, write_stats, write_stats_of,
 };
 use kc_tally::{Row, Statistics, Tally};
 use std::alloc::{AllocError, Global};
@@ -259,6 +259,147 @@ fn fronts_of_a_table(rt: HostRuntime) {
     let more = b"KCT 1 3 c\nACG 2\nGTA 1\nEND 2 3\n ";
     assert_refused(&rt, more, 100, ReportFault::BadEnd);
     assert_refused(&rt, TABLE, 29, ReportFault::TableTooLong);
+}
+
+#[test]
+fn rows_of_a_table_one_by_one(rt: HostRuntime) -> Result<(), ReportFault> {
+    let mut source = FromBytes::new(ORIGIN);
+    let mut reading = TableReading::open(rt.alloc(), &mut source, 100)?;
+    let origin = Origin {
+        floor: 33,
+        reads: 1,
+        listed: false,
+    };
+    assert_same(&rt, "k", &reading.k().get(), &3);
+    assert_same(&rt, "both", &reading.both(), &true);
+    assert_same(&rt, "origin", &reading.origin(), &Some(origin));
+    let mut total = 0u64;
+    for _ in 0..9 {
+        if let Some(row) = reading.next_row(&mut source)? {
+            total = total.saturating_add(row.count);
+        }
+    }
+    assert_same(&rt, "total", &total, &3);
+    Ok(())
+}
+
+const NO_ORIGIN: &[u8] = b"KCT 1 3 s\nEND 0 0\n";
+
+#[test]
+fn headers_of_version_1(rt: HostRuntime) -> Result<(), ReportFault> {
+    let mut source = FromBytes::new(NO_ORIGIN);
+    let reading = TableReading::open(rt.alloc(), &mut source, 100)?;
+    assert_same(&rt, "k", &reading.k().get(), &3);
+    assert_same(&rt, "both", &reading.both(), &false);
+    assert_same(&rt, "origin", &reading.origin(), &None);
+    Ok(())
+}
+
+const ACG: Row = Row { word: 6, count: 2 };
+
+const GTA: Row = Row { word: 44, count: 1 };
+
+// Texts with a header, the rows that come before their end or their fault, and how they end.
+const TEXTS_OF_ROWS: &[(&[u8], &[Row], Result<Option<Row>, ReportFault>)] = &[
+    (NO_ORIGIN, &[], Ok(None)),
+    (TABLE, &[ACG, GTA], Ok(None)),
+    (ORIGIN, &[ACG, GTA], Ok(None)),
+    (
+        b"KCT 1 3 c\nACG 2\nAAC 1\nEND 2 3\n",
+        &[ACG],
+        Err(ReportFault::BadRow(3)),
+    ),
+    (
+        b"KCT 1 3 c\nACG 2\nACG 2\nEND 2 4\n",
+        &[ACG],
+        Err(ReportFault::BadRow(3)),
+    ),
+    (
+        b"KCT 1 3 s\nACG 2\nGTA 01\n",
+        &[ACG],
+        Err(ReportFault::BadRow(3)),
+    ),
+    (
+        b"KCT 1 3 s\nACG 2\nGTA 4611686018427387903\n",
+        &[ACG],
+        Err(ReportFault::BadRow(3)),
+    ),
+    (
+        b"KCT 1 3 c\nACG 2\nGTA 1\nEND 2",
+        &[ACG, GTA],
+        Err(ReportFault::BadEnd),
+    ),
+    (
+        b"KCT 1 3 c\nACG 2\nGTA 1\n",
+        &[ACG, GTA],
+        Err(ReportFault::BadEnd),
+    ),
+    (
+        b"KCT 1 3 c\nACG 2\nGTA 1\nEND 3 3\n",
+        &[ACG, GTA],
+        Err(ReportFault::BadEnd),
+    ),
+    (
+        b"KCT 1 3 c\nACG 2\nGTA 1\nEND 2 4\n",
+        &[ACG, GTA],
+        Err(ReportFault::BadEnd),
+    ),
+    (
+        b"KCT 1 3 c\nACG 2\nEND 1 2\nGTA 1\n",
+        &[ACG],
+        Err(ReportFault::BadEnd),
+    ),
+];
+
+// Asserts that a text gives these rows and then ends so, however often it is asked, and that all of it was taken.
+fn assert_rows<H: Abort + AllocGlobal>(
+    rt: &H,
+    text: &[u8],
+    rows: &[Row],
+    end: &Result<Option<Row>, ReportFault>,
+) -> Result<(), ReportFault> {
+    let mut source = FromBytes::new(text);
+    let mut reading = TableReading::open(rt.alloc(), &mut source, 100)?;
+    for row in rows {
+        let next = reading.next_row(&mut source);
+        assert_same(rt, text.len(), &next, &Ok(Some(*row)));
+    }
+    for _ in 0..3 {
+        let last = reading.next_row(&mut source);
+        assert_same(rt, text.len(), &last, end);
+    }
+    assert_same(rt, text.len(), &source.as_slice().len(), &0);
+    Ok(())
+}
+
+#[test]
+fn rows_and_then_the_end_or_a_fault(rt: HostRuntime) -> Result<(), ReportFault> {
+    for (text, rows, end) in TEXTS_OF_ROWS {
+        assert_rows(&rt, *text, *rows, end)?;
+    }
+    Ok(())
+}
+
+// Asserts that the header of a text of at most so many bytes is refused so.
+fn assert_header_refused<H: Abort + AllocGlobal>(
+    rt: &H,
+    text: &[u8],
+    limit: u64,
+    want: ReportFault,
+) {
+    let fault = TableReading::open(rt.alloc(), &mut FromBytes::new(text), limit).err();
+    assert_same(rt, text.len(), &fault, &Some(want));
+}
+
+#[test]
+fn headers_that_begin_no_rows(rt: HostRuntime) {
+    for line in NO_HEADERS {
+        assert_header_refused(&rt, *line, 100, ReportFault::BadHeader);
+    }
+    for count in 0..10 {
+        assert_header_refused(&rt, &TABLE[..count], 100, ReportFault::BadHeader);
+    }
+    assert_header_refused(&rt, b"KCT 3 3 s\n", 9, ReportFault::TableTooLong);
 }
 
 // These words, as a query takes them.

@@ -13,6 +13,7 @@ pub mod FormLemmas
 pub mod HeaderLemmas
 pub mod NextRowLemmas
 pub mod TableReadingLemmas
+pub mod RowByRowLemmas
 pub mod QueryLemmas
 pub mod HistoLemmas
 pub mod MergingLemmas

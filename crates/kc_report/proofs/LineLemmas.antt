@@ -1,16 +1,17 @@
 -- The first line of some bytes, of which a front was searched before.
 use Rattle.std.proofs.Common.{◌≡◌, ℕ, zero, suc, ◌+◌, ◌<◌, ◌≤◌, true, false, Bool, eqb, ◌-◌, List, [], ◌∷◌, ◌++◌}
-use Rattle.std.proofs.Common.{length, get_or, take, drop, refl, sym, subst, ◌∙◌, ap, arith, append_assoc, eq-eqb}
+use Rattle.std.proofs.Common.{inl, inr, length, get_or, take, drop, refl, sym, subst, ◌∙◌, ap, arith, append_assoc, eq-eqb}
 use Rattle.std.specs.Prelude.{IsTrue, Ok}
 use Rattle.std.proofs.Math.Seq.{take-add}
 use Rattle.std.proofs.lemmas.Bool.{eqb-true}
 use Rattle.std.proofs.lemmas.List.{take_more, take-append-drop, take-append-le, length-append, length-drop, take_all}
+use Rattle.kc_lemmas.proofs.Lists.{drop-append}
 use Rattle.kc_io.specs.Sources.{Seen}
 use Rattle.kc_io.specs.Intakes.{TakesAll}
 use Rattle.kc_io.specs.Intakes.{Unread, Filled, Fills}
 use Rattle.kc_io.proofs.IntakesLemmas.{filled_both, filled_end}
 use Rattle.kc_report.specs.Bytes.{line_feed}
-use Rattle.kc_report.specs.Lines.{Without, IsLine}
+use Rattle.kc_report.specs.Lines.{Without, IsLine, EndsWithBlock, CameForLine}
 use Rattle.kc_report.specs.Table.{ended}
 use Rattle.kc_report.specs.TableReading.{HasLine}
 use Rattle.kc_report.proofs.TableLines.{Without-append}
@@ -105,3 +106,72 @@ others_left bytes more count long is whole others told = (
   λ none. let rest = ap length none in let parts = length-append (drop count bytes) more in let dropped =
       length-drop count bytes in absurd (others (omega (arith, rest, parts, dropped, whole))),
 )
+
+-- ---- how many bytes were taken for a line
+
+-- no line was there before
+pub none_before : {old now : Seen} (before after : Unread) → CameForLine old now before after → ¬ HasLine after.bytes
+    → ¬ HasLine before.bytes
+none_before before after (inl same) none = subst (λ (u : Unread). ¬ HasLine u.bytes) same.1 none
+none_before before after (inr came) none = came.0
+
+-- one block more came, behind bytes that were searched in vain
+pub came_more : {old mid new : Seen} {first before after : Unread} (came : Bool) → CameForLine old mid first before
+    → Without line_feed before.bytes → came ≡ true → Fills mid new before after (Ok came)
+    → length after.bytes ≤ length before.bytes + 65536 → CameForLine old new first after
+came_more {first = first} {before = before} {after = after} true so_far none is fills most =
+    let long = ap length fills.0.behind in
+    let parts = length-append before.bytes fills.0.more in
+    inr (
+      none_before first before so_far (no_line before.bytes none),
+      record {
+        front = before.bytes;
+        block = fills.0.more;
+        split = fills.0.behind;
+        no_line = no_line before.bytes none;
+        few = omega (arith, long, parts, most);
+      },
+    )
+came_more false so_far none is fills most = absurd (let wrong : false ≡ true = is in cc)
+
+line_of_drop : (bytes : List ℕ) (n : ℕ) → HasLine (drop n bytes) → HasLine bytes
+line_of_drop bytes zero has = has
+line_of_drop [] (suc n) has = has
+line_of_drop (b ∷ bytes) (suc n) has =
+    let more = line_of_drop bytes n has in
+    (b ∷ more.0, (more.1.0, ap (λ (l : List ℕ). b ∷ l) more.1.1))
+
+no_line_of_none : ¬ HasLine []
+no_line_of_none has = no_line [] tt has
+
+-- bytes without a line, or no more than a block, stay so where their front is used
+pub ends_used : (n : ℕ) (bytes : List ℕ) → EndsWithBlock bytes → EndsWithBlock (drop n bytes)
+ends_used n bytes e = record {
+  front = drop n e.front;
+  block = drop (n - length e.front) e.block;
+  split = ap (drop n) e.split ∙ drop-append n e.front e.block;
+  no_line = λ has. e.no_line (line_of_drop e.front n has);
+  few = let few = e.few in omega (arith, few, length-drop (n - length e.front) e.block);
+}
+
+-- no bytes
+pub ends_empty : (bytes : List ℕ) → bytes ≡ [] → EndsWithBlock bytes
+ends_empty bytes none = record {
+  front = [];
+  block = [];
+  split = none;
+  no_line = no_line_of_none;
+  few = omega arith;
+}
+
+-- what is there once a line was searched
+pub ends_found : {old new : Seen} (before after : Unread) → CameForLine old new before after
+    → EndsWithBlock before.bytes → EndsWithBlock after.bytes
+ends_found before after (inl same) ends = subst (λ (u : Unread). EndsWithBlock u.bytes) (sym same.1) ends
+ends_found before after (inr came) ends = came.1
+
+-- nothing was taken where a line was there
+pub none_taken : {old new : Seen} (before after : Unread) → CameForLine old new before after → HasLine before.bytes
+    → new ≡ old
+none_taken before after (inl same) has = same.0
+none_taken before after (inr came) has = absurd (came.0 has)

@@ -1,12 +1,11 @@
 -- A table text, line by line, as it is taken of a source.
-use Rattle.std.proofs.Common.{◌≡◌, ℕ, zero, suc, ◌+◌, ◌-◌, ◌<◌, ◌≤◌, Bool, true, false, eqb, List, [], ◌∷◌, ◌++◌}
+use Rattle.std.proofs.Common.{◌≡◌, ℕ, ◌+◌, ◌≤◌, Bool, true, false, eqb, List, [], ◌∷◌, ◌++◌}
 use Rattle.std.proofs.Common.{length, get_or, drop, take, refl, sym, ◌∙◌, ap, subst, append_assoc, append-nil, length-append, arith}
 use Rattle.std.proofs.Common.{inl, inr, ◌⊎◌}
 use Rattle.std.specs.Prelude.{codes, IsTrue, Option}
 use Rattle.std.specs.Cmp.Lexicographic.{pointwise}
 use Rattle.std.proofs.lemmas.Bool.Decides.{Decides-eqb}
-use Rattle.std.proofs.Math.Seq.{take-add}
-use Rattle.std.proofs.lemmas.List.{take-append-drop, length-take-le, length-drop, take-take, take_all}
+use Rattle.std.proofs.lemmas.List.{take-append-drop, length-take-le, take-take}
 use Rattle.std.proofs.lemmas.Slice.Eq.{starts_is}
 use Rattle.kc_io.specs.declared.intakes.TakeFault.{TakeFault}
 use Rattle.kc_io.specs.declared.intakes.TakeFault.TheVariants as taking
@@ -15,23 +14,23 @@ use Rattle.kc_io.specs.Intakes.{TakesAll, TakingFails}
 use Rattle.kc_io.specs.Intakes.{Unread, Filled}
 use Rattle.kc_io.proofs.IntakesLemmas.{Used, used_none, used_filled, used_up, used_all, used_fails, used_in_vain}
 use Rattle.kc_tally.specs.declared.row.Row.{Row}
-use Rattle.kc_tally.specs.Tally.{AreRows, TallySeen, total_of}
+use Rattle.kc_tally.specs.Tally.{TallySeen, total_of}
 use Rattle.kc_report.specs.declared.report_faults.ReportFault.TheVariants.{BadHeader, BadRow, BadEnd, Memory}
 use Rattle.kc_report.specs.Bytes.{line_feed}
 use Rattle.kc_report.specs.Dumping.{row_in_columns}
 use Rattle.kc_report.specs.Faults.{taking_fault}
 use Rattle.kc_report.specs.Lines.{Without, IsLine}
 use Rattle.kc_report.specs.declared.origin.Origin.{Origin}
-use Rattle.kc_report.specs.Table.{header_line, MaySay, end_line, ended, rows_text, front_text, end_text}
+use Rattle.kc_report.specs.Table.{header_line, MaySay, end_line, ended, front_text, end_text}
 use Rattle.kc_report.specs.TableReading.{BeginsWith, HasLine, IsTable, ReadsTo, MayFollow}
 use Rattle.kc_report.specs.TableReading.{GivesTable, RefusesTable}
-use Rattle.kc_report.specs.TableRows.{TakesRows}
+use Rattle.kc_report.specs.RowByRow.{RefusesHeader, RefusesRow}
 use Rattle.kc_report.proofs.FieldLemmas.{never}
 use Rattle.kc_report.proofs.NextRowLemmas.{follower_fits}
 use Rattle.kc_report.proofs.TableAnswers.{end_has_line}
 use Rattle.kc_report.proofs.TableFronts.{AreRows-none, length-le_total}
 use Rattle.kc_report.proofs.TableLines.{row_line, first_line, Without-row, Without-header, Without-end}
-use Rattle.kc_report.proofs.TableSearch.{rows_push, front_more}
+use Rattle.kc_report.proofs.TableSearch.{front_push}
 
 -- ---- one line of the bytes
 
@@ -120,21 +119,6 @@ reads_to : {old mid : Seen} {limit : ℕ} {front : TallySeen} {origin : Option O
 reads_to {front = front} {origin = origin} {unread = unread} more r =
     record { lawful = r.lawful; split = append_assoc (front_of front origin) unread.bytes more }
 
--- with the first bytes used, fewer are to come or unread
-pub less_to_come : {old new : Seen} {before after : Unread} (start : Unread) (taken size : ℕ)
-    → before ≡ record start { bytes = drop taken start.bytes } → Filled old new before after → 1 ≤ size
-    → size ≤ length after.bytes
-    → after.room + length (drop size after.bytes) < start.room + length start.bytes
-less_to_come {before = before} {after = after} start taken size left f some within =
-    let room = f.room in
-    let room_left = ap (λ (u : Unread). u.room) left in
-    let kept = ap (λ (u : Unread). length u.bytes) left in
-    let whole = ap length f.behind in
-    let parts = length-append before.bytes f.more in
-    let fewer = length-drop taken start.bytes in
-    let rest = length-drop size after.bytes in
-    omega (arith, room, room_left, kept, whole, parts, fewer, rest, some, within)
-
 -- ---- the header
 
 -- some bytes were taken, and none was used
@@ -145,7 +129,7 @@ begun {old} {now} {limit} {start} {unread} new filled =
 
 -- there was no line
 pub header_missing : {old new : Seen} {limit : ℕ} (more : List ℕ) → TakesAll old new limit more → ¬ HasLine more
-    → RefusesTable old new limit BadHeader
+    → RefusesHeader old new limit BadHeader
 header_missing more all none = (more, all, λ k both origin some most said at. none (header_line k both origin, at))
 
 -- the first line is no header
@@ -153,7 +137,7 @@ pub header_refused : {old mid new : Seen} {limit count : ℕ} {unread : Unread} 
     → Used old mid limit [] unread → TakesAll mid new unread.room more → InFront unread count line
     → ((k : ℕ) (both : Bool) (origin : Option Origin) → 1 ≤ k → k ≤ 31 → MaySay origin
     → line ≡ ended (header_line k both origin) → ⊥)
-    → RefusesTable old new limit BadHeader
+    → RefusesHeader old new limit BadHeader
 header_refused {unread = unread} {more = more} used all f none = (
   unread.bytes ++ more,
   used_all used all,
@@ -183,76 +167,21 @@ header_used {old} {now} {limit} {count} {unread} {line} k both origin used f may
 
 -- ---- rows
 
--- no row of the bytes was taken yet
-pub takes_none : (front : TallySeen) (bytes : List ℕ) → TakesRows front front bytes 0
-takes_none front bytes = record {
-  more = [];
-  within = omega arith;
-  lawful = λ rows. rows;
-  pushed = ap (λ rows. record front { rows = rows }) (sym (append-nil front.rows));
-  text = refl;
-}
-
--- the bytes behind those that were taken
-pub still_left : (bytes : List ℕ) (taken : ℕ) → take (length bytes - taken) (drop taken bytes) ≡ drop taken bytes
-still_left bytes taken =
-    let left = length-drop taken bytes in take_all (length bytes - taken) (drop taken bytes) (omega (arith, left))
-
--- one more was
-pub takes_more : {front before : TallySeen} {bytes rest : List ℕ} {taken : ℕ} (size : ℕ) (row : Row)
-    → TakesRows front before bytes taken → rest ≡ drop taken bytes → MayFollow before row → size ≤ length rest
-    → take size rest ≡ row_in_columns before.k false row
-    → TakesRows front (record before { rows = before.rows ++ row ∷ [] }) bytes (taken + size)
-takes_more {front} {before} {bytes} {rest} {taken} size row t behind follows shorter said =
-    let within : size ≤ length (drop taken bytes) = subst (λ v. size ≤ length v) behind shorter in
-    let e : take size (drop taken bytes) ≡ row_in_columns before.k false row =
-    subst (λ v. take size v ≡ row_in_columns before.k false row) behind said in
-    let same : before.k ≡ front.k = ap (λ (s : TallySeen). s.k) t.pushed in
+-- the row in front of the unread bytes was used
+pub row_passed : {old now : Seen} {limit : ℕ} {front : TallySeen} {origin : Option Origin} {unread : Unread}
+    (size : ℕ) (row : Row) → Reached old now limit front origin unread
+    → take size unread.bytes ≡ row_in_columns front.k false row → MayFollow front row
+    → Reached old now limit (record front { rows = front.rows ++ row ∷ [] }) origin
+    (record unread { bytes = drop size unread.bytes })
+row_passed {old} {now} {limit} {front} {origin} {unread} size row r said follows =
+    let after : TallySeen = record front { rows = front.rows ++ row ∷ [] } in
+    let text : front_of front origin ++ take size unread.bytes ≡ front_of after origin =
+    ap (λ v. front_of front origin ++ v) said ∙ front_push front origin row in
     record {
-      more = t.more ++ row ∷ [];
-      within = let left = length-drop taken bytes in let inside = t.within in omega (arith, within, left, inside);
-      lawful = λ _. follows;
-      pushed = ap (λ (s : TallySeen). record s { rows = s.rows ++ row ∷ [] }) t.pushed
-          ∙ ap (λ rows. record front { rows = rows }) (append_assoc front.rows t.more (row ∷ []));
-      text = take-add taken size bytes ∙ ap (λ v. v ++ take size (drop taken bytes)) t.text
-          ∙ ap (λ v. rows_text front.k t.more ++ v) (e ∙ ap (λ k. row_in_columns k false row) same)
-          ∙ rows_push front.k t.more row;
+      lawful = record { some = r.lawful.some; most = r.lawful.most; rows = follows; said = r.lawful.said };
+      used = subst (λ v. Used old now limit v (record unread { bytes = drop size unread.bytes })) text
+          (used_up size r.used);
     }
-
--- a row has bytes
-pub some_size : (bytes : List ℕ) (k size : ℕ) (row : Row) → take size bytes ≡ row_in_columns k false row → 1 ≤ size
-some_size bytes k zero row e =
-    let long = ap length e in
-    let parts = length-append (row_line k row) (line_feed ∷ []) in
-    omega (arith, long, parts)
-some_size bytes k (suc size) row e = omega arith
-
--- the rows in front of the unread bytes were taken
-pub rows_used : {old now : Seen} {limit : ℕ} {front next : TallySeen} {origin : Option Origin} {unread left : Unread} {bytes : List ℕ} (taken : ℕ)
-    → Reached old now limit front origin unread → bytes ≡ unread.bytes → TakesRows front next bytes taken
-    → left ≡ record unread { bytes = drop taken unread.bytes } → Reached old now limit next origin left
-rows_used {old} {now} {limit} {front} {next} {origin} {unread} {left} {bytes} taken r same takes is =
-    let t = subst (λ v. TakesRows front next v taken) same takes in
-    let after : TallySeen = record front { rows = front.rows ++ t.more } in
-    let lawful : AreRows after.k after.both after.rows = subst (λ (s : TallySeen). AreRows s.k s.both s.rows) t.pushed
-    (t.lawful r.lawful.rows) in
-    let text : front_of front origin ++ take taken unread.bytes ≡ front_of after origin =
-    ap (λ v. front_of front origin ++ v) t.text ∙ front_more front origin t.more in
-    let reached : Reached old now limit after origin left = record {
-      lawful = record { some = r.lawful.some; most = r.lawful.most; rows = lawful; said = r.lawful.said };
-      used = subst (λ u. Used old now limit (front_of after origin) u) (sym is)
-          (subst (λ v. Used old now limit v (record unread { bytes = drop taken unread.bytes })) text
-          (used_up taken r.used));
-    } in
-    subst (λ (s : TallySeen). Reached old now limit s origin left) (sym t.pushed) reached
-
--- what stands in the line stands in the unread bytes
-pub within_line : {line : List ℕ} {count : ℕ} (bytes : List ℕ) (size : ℕ) → line ≡ take count bytes → count ≤ length bytes
-    → size ≤ length line → size ≤ length bytes
-within_line {line} {count} bytes size cut inside within =
-    let short = length-take-le count bytes inside in
-    let long = ap length cut in
-    omega (arith, short, long, inside, within)
 
 -- the line begins with a row that may come next
 pub row_used : {old now : Seen} {limit count : ℕ} {front : TallySeen} {origin : Option Origin} {unread : Unread} {line : List ℕ} (size : ℕ)
@@ -265,14 +194,7 @@ row_used {old} {now} {limit} {count} {front} {origin} {unread} {line} size row r
     let long = ap length cut in
     let same : take size unread.bytes ≡ take size line =
     sym (ap (take size) cut ∙ take-take size count unread.bytes (omega (arith, short, long, within))) in
-    let takes : TakesRows front (record front { rows = front.rows ++ row ∷ [] }) unread.bytes size = record {
-      more = row ∷ [];
-      within = within_line unread.bytes size cut inside within;
-      lawful = λ _. follows;
-      pushed = refl;
-      text = same ∙ e ∙ sym (append-nil (row_in_columns front.k false row));
-    } in
-    rows_used size r refl takes refl
+    row_passed size row r (same ∙ e) follows
 
 -- the line is no such row
 pub row_refused : {old mid new : Seen} {limit count : ℕ} {front : TallySeen} {origin : Option Origin} {unread : Unread}
@@ -280,25 +202,28 @@ pub row_refused : {old mid new : Seen} {limit count : ℕ} {front : TallySeen} {
     → Reached old mid limit front origin unread → TakesAll mid new unread.room more → InFront unread count line
     → BeginsAsEnd line is × (is ≡ false)
     → ((row : Row) → MayFollow front row → BeginsWith line (row_in_columns front.k false row) → ⊥)
-    → number ≡ length front.rows + 2 → RefusesTable old new limit (BadRow number)
+    → number ≡ length front.rows + 2 → RefusesRow old new limit front (BadRow number)
 row_refused {front = front} {origin = origin} {unread = unread} {more = more} is number r all f told none counted = (
   (front_of front origin ++ unread.bytes) ++ more,
   used_all r.used all,
-  record {
-    front = front;
-    origin = origin;
-    rest = unread.bytes ++ more;
-    reads = reads_to more r;
-    line = has_line (splits more f);
-    no_end = no_end is (splits more f) told.0 told.1;
-    no_row = λ row follows at. none row follows (
-      [],
-      line_is (row_line front.k row) at.0 (splits more f)
-          (Without-row front.k row (follower_fits front row follows).count) at.1
-          ∙ sym (append-nil (row_in_columns front.k false row)),
-    );
-    counted = counted;
-  },
+  (
+    record {
+      front = front;
+      origin = origin;
+      rest = unread.bytes ++ more;
+      reads = reads_to more r;
+      line = has_line (splits more f);
+      no_end = no_end is (splits more f) told.0 told.1;
+      no_row = λ row follows at. none row follows (
+        [],
+        line_is (row_line front.k row) at.0 (splits more f)
+            (Without-row front.k row (follower_fits front row follows).count) at.1
+            ∙ sym (append-nil (row_in_columns front.k false row)),
+      );
+      counted = counted;
+    },
+    refl,
+  ),
 )
 
 -- ---- the end
@@ -306,19 +231,22 @@ row_refused {front = front} {origin = origin} {unread = unread} {more = more} is
 -- no line is left
 pub end_missing : {old mid new : Seen} {limit : ℕ} {front : TallySeen} {origin : Option Origin} {unread : Unread} {more : List ℕ}
     → Reached old mid limit front origin unread → TakesAll mid new unread.room more → ¬ HasLine (unread.bytes ++ more)
-    → RefusesTable old new limit BadEnd
+    → RefusesRow old new limit front BadEnd
 end_missing {front = front} {origin = origin} {unread = unread} {more = more} r all none = (
   (front_of front origin ++ unread.bytes) ++ more,
   used_all r.used all,
-  record {
-    front = front;
-    origin = origin;
-    rest = unread.bytes ++ more;
-    reads = reads_to more r;
-    ends = inl none;
-    wrong =
-        λ e. none (end_has_line front.rows (unread.bytes ++ more) e);
-  },
+  (
+    record {
+      front = front;
+      origin = origin;
+      rest = unread.bytes ++ more;
+      reads = reads_to more r;
+      ends = inl none;
+      wrong =
+          λ e. none (end_has_line front.rows (unread.bytes ++ more) e);
+    },
+    refl,
+  ),
 )
 
 -- the end line of the rows is a line
@@ -353,18 +281,21 @@ pub end_refused : {old mid new : Seen} {limit count : ℕ} {front : TallySeen} {
     {line more : List ℕ} (is : Bool)
     → Reached old mid limit front origin unread → TakesAll mid new unread.room more → InFront unread count line
     → BeginsAsEnd line is × (is ≡ true) → (line ≡ end_text front.rows → drop count unread.bytes ++ more ≡ [] → ⊥)
-    → RefusesTable old new limit BadEnd
+    → RefusesRow old new limit front BadEnd
 end_refused {front = front} {origin = origin} {unread = unread} {more = more} is r all f told wrong = (
   (front_of front origin ++ unread.bytes) ++ more,
   used_all r.used all,
-  record {
-    front = front;
-    origin = origin;
-    rest = unread.bytes ++ more;
-    reads = reads_to more r;
-    ends = inr (begins_with_end is (splits more f) told.0 told.1);
-    wrong = λ e. let only = only_end r.lawful (splits more f) e in wrong only.0 only.1;
-  },
+  (
+    record {
+      front = front;
+      origin = origin;
+      rest = unread.bytes ++ more;
+      reads = reads_to more r;
+      ends = inr (begins_with_end is (splits more f) told.0 told.1);
+      wrong = λ e. let only = only_end r.lawful (splits more f) e in wrong only.0 only.1;
+    },
+    refl,
+  ),
 )
 
 -- the line is the end, and nothing comes behind it
@@ -387,24 +318,31 @@ table_given {front = front} {origin = origin} {unread = unread} {line = line} {m
 
 -- ---- sources
 
--- a source whose bytes could not be taken gave no table for that reason
-refuses-taking : (old new : Seen) (limit : ℕ) (why : TakeFault) → TakingFails old new limit why
-    → RefusesTable old new limit (taking_fault why)
-refuses-taking old new limit taking.TooLong h = h
-refuses-taking old new limit taking.Read h = h
-refuses-taking old new limit taking.Memory h = inl h
+-- a source whose bytes could not be taken gave no header, and no row, for that reason
+refuses-header : (old new : Seen) (limit : ℕ) (why : TakeFault) → TakingFails old new limit why
+    → RefusesHeader old new limit (taking_fault why)
+refuses-header old new limit taking.TooLong h = h
+refuses-header old new limit taking.Read h = h
+refuses-header old new limit taking.Memory h = h
+
+refuses-row : (old new : Seen) (limit : ℕ) (front : TallySeen) (why : TakeFault) → TakingFails old new limit why
+    → RefusesRow old new limit front (taking_fault why)
+refuses-row old new limit front taking.TooLong h = h
+refuses-row old new limit front taking.Read h = h
+refuses-row old new limit front taking.Memory h = h
 
 pub taking_refused : {old mid : Seen} {limit : ℕ} {used : List ℕ} {unread : Unread} (new : Seen) (why : TakeFault)
     → Used old mid limit used unread → TakingFails mid new unread.room why
-    → RefusesTable old new limit (taking_fault why)
-taking_refused {old} {mid} {limit} new why used fails = refuses-taking old new limit why (used_fails new why used fails)
+    → RefusesHeader old new limit (taking_fault why)
+taking_refused {old} {mid} {limit} new why used fails =
+    refuses-header old new limit why (used_fails new why used fails)
+
+pub row_taking_refused : {old mid : Seen} {limit : ℕ} {used : List ℕ} {unread : Unread} (front : TallySeen)
+    (new : Seen) (why : TakeFault) → Used old mid limit used unread → TakingFails mid new unread.room why
+    → RefusesRow old new limit front (taking_fault why)
+row_taking_refused {old} {mid} {limit} front new why used fails =
+    refuses-row old new limit front why (used_fails new why used fails)
 
 pub memory_refused : {old now : Seen} {limit : ℕ} {used : List ℕ} {unread : Unread} → Used old now limit used unread
     → RefusesTable old now limit Memory
 memory_refused used = inl (used_in_vain used)
-
--- all was taken, and then a growth was refused
-pub all_in_vain : {old mid new : Seen} {limit : ℕ} {front : TallySeen} {origin : Option Origin} {unread : Unread} {more : List ℕ}
-    → Reached old mid limit front origin unread → TakesAll mid new unread.room more → RefusesTable old new limit Memory
-all_in_vain {front = front} {origin = origin} {unread = unread} {more = more} r all =
-    inr ((front_of front origin ++ unread.bytes) ++ more, used_all r.used all)

@@ -184,21 +184,6 @@ front_push front origin row =
     let header = ended (header_line front.k front.both origin) in
     append_assoc header (rows_text front.k front.rows) (row_in_columns front.k false row) ∙ ap (λ v. header ++ v) (rows_push front.k front.rows row)
 
--- and more of them
-rows_more : (k : ℕ) (rows more : List Row) → rows_text k rows ++ rows_text k more ≡ rows_text k (rows ++ more)
-rows_more k [] more = refl
-rows_more k (first ∷ rows) more =
-    append_assoc (row_in_columns k false first) (rows_text k rows) (rows_text k more)
-    ∙ ap (λ v. row_in_columns k false first ++ v) (rows_more k rows more)
-
-pub front_more : (front : TallySeen) (origin : Option Origin) (more : List Row)
-    → front_text front.k front.both origin front.rows ++ rows_text front.k more
-    ≡ front_text front.k front.both origin (front.rows ++ more)
-front_more front origin more =
-    let header = ended (header_line front.k front.both origin) in
-    append_assoc header (rows_text front.k front.rows) (rows_text front.k more)
-    ∙ ap (λ v. header ++ v) (rows_more front.k front.rows more)
-
 -- the reading with one row more
 one_more : (bytes : List ℕ) (front : TallySeen) (origin : Option Origin) (row : Row) (rest more : List ℕ) → ReadsTo bytes front origin rest → MayFollow front row
     → rest ≡ row_in_columns front.k false row ++ more → ReadsTo bytes (record front { rows = front.rows ++ row ∷ [] }) origin more

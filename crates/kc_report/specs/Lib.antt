@@ -6,6 +6,7 @@ pub mod TableReading
 pub mod Faults
 pub mod Lines
 pub mod TableRows
+pub mod RowByRow
 pub mod Querying
 pub mod Histo
 pub mod Statistics

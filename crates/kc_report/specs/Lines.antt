@@ -1,5 +1,6 @@
 -- Lines that line feeds end, and the finding of one in what a source gives.
-use Rattle.std.specs.Prelude.{◌≡◌, ◌≢◌, ℕ, ◌≤◌, List, [], ◌∷◌, ◌++◌, length, take, Result, Ok, Err, Option, Some, None}
+use Rattle.std.specs.Prelude.{◌≡◌, ◌≢◌, ◌⊎◌, ℕ, ◌≤◌, List, [], ◌∷◌, ◌++◌, length, take, Result, Ok, Err}
+use Rattle.std.specs.Prelude.{Option, Some, None}
 use Rattle.kc_io.specs.declared.intakes.TakeFault.{TakeFault}
 use Rattle.kc_io.specs.Sources.{Seen}
 use Rattle.kc_io.specs.Intakes.{TakesAll, TakingFails}
@@ -19,11 +20,28 @@ pub record IsLine (line : List ℕ) : Type 0 where
   pub whole : line ≡ ended bytes
   pub one : Without line_feed bytes
 
+-- how many bytes a block has
+abbrev pub block_size : ℕ
+block_size = 65536
+
+-- but for at most a block at their end, the bytes have no whole line
+pub record EndsWithBlock (bytes : List ℕ) : Type 0 where
+  pub front : List ℕ
+  pub block : List ℕ
+  pub split : bytes ≡ front ++ block
+  pub no_line : ¬ HasLine front
+  pub few : length block ≤ block_size
+
+-- Bytes were taken only where no whole line was there, block by block up to one.
+abbrev pub CameForLine : Seen → Seen → Unread → Unread → Type 0
+CameForLine old new before after =
+    ((new ≡ old) × (after ≡ before)) ⊎ ((¬ HasLine before.bytes) × EndsWithBlock after.bytes)
+
 -- The search for a line in the unread bytes, for which more may have been taken: Ok(Some(n)), the first n of them are
--- one; Ok(None), the source told its end, and there is none; else why no more could be taken.
+-- one; Ok(None), the source told its end, and there is none; else why no more could be taken, where no line was there.
 abbrev pub FindsLine : Seen → Seen → Unread → Unread → Result (Option ℕ) TakeFault → Type 0
-FindsLine old new before after (Ok (Some n)) =
-    Filled old new before after × (n ≤ length after.bytes) × IsLine (take n after.bytes)
+FindsLine old new before after (Ok (Some n)) = Filled old new before after × (n ≤ length after.bytes)
+    × IsLine (take n after.bytes) × CameForLine old new before after
 FindsLine old new before after (Ok None) =
     (more : List ℕ) × TakesAll old new before.room more × (¬ HasLine (before.bytes ++ more))
-FindsLine old new before after (Err why) = TakingFails old new before.room why
+FindsLine old new before after (Err why) = TakingFails old new before.room why × (¬ HasLine before.bytes)

@@ -1,18 +1,11 @@
 -- The rows of a table text as they are read: source, our formats page ("Table text").
 use Rattle.std.specs.Prelude.{◌≡◌, ℕ, ◌+◌, ◌*◌, ◌/◌, ◌%◌, ◌^◌, ◌<◌, ◌≤◌, List, [], ◌∷◌, ◌++◌, length, take, decimal}
-use Rattle.std.specs.Prelude.{slice_index, slice_index_or, if◌then◌else◌, true}
+use Rattle.std.specs.Prelude.{slice_index, if◌then◌else◌, true}
 use Rattle.std.specs.Str.Parse.{AllDigits, digits_value}
 use Rattle.std.specs.Char.{digit_value}
 use Rattle.kc_kmer.specs.Letter.{is_base, are_bases, code, base}
 use Rattle.kc_kmer.specs.Word.{number}
-use Rattle.kc_tally.specs.declared.row.Row.{Row}
-use Rattle.kc_tally.specs.Tally.{AreRows, TallySeen}
 use Rattle.kc_report.specs.Bytes.{line_feed, space}
-use Rattle.kc_report.specs.Table.{rows_text}
-
--- the word comes behind that of the last row, where there is one
-abbrev pub RisesTo : List Row → ℕ → Type 0
-RisesTo rows word = (i : ℕ) (d : Row) → i + 1 ≡ length rows → (slice_index_or rows i d).word < word
 
 -- the code of a capital letter of a base, and 4 of any other byte
 abbrev pub capital_code : ℕ → ℕ
@@ -39,11 +32,3 @@ pub record HasDigits (bytes : List ℕ) (number many : ℕ) : Type 0 where
   pub digits : AllDigits 10 (take many bytes)
   pub value : number ≡ digits_value 10 (take many bytes) % 2 ^ 64
   pub last : many < length bytes → 10 ≤ digit_value (slice_index bytes many)
-
--- rows that may come next were put behind the others, and the first `taken` of the bytes are their text
-pub record TakesRows (before after : TallySeen) (bytes : List ℕ) (taken : ℕ) : Type 0 where
-  pub more : List Row
-  pub within : taken ≤ length bytes
-  pub lawful : AreRows before.k before.both before.rows → AreRows after.k after.both after.rows
-  pub pushed : after ≡ record before { rows = before.rows ++ more }
-  pub text : take taken bytes ≡ rows_text before.k more

@@ -3,9 +3,9 @@
 //! `write_dump` writes the k-mers (words of length k) with their counts, laid out as a `Dump` says; `write_histo` how
 //! many words have which count; `write_stats` four numbers about all of them. Each is a function of the rows of the
 //! `Tally`. `write_table` writes the table text, from which `read_table` makes the same tally again, and `query` the
-//! counts of asked words; `table_laws` says what holds of table texts. `merge` puts two tables together, and
-//! `merging_laws` says what holds of that. The `Block` of `kc_io` gathers the bytes of a
-//! text, so that the writer gets blocks of 64 KB.
+//! counts of asked words; `table_laws` says what holds of table texts. `TableReading` gives the rows of a table text
+//! one by one, and keeps none of them. `merge` puts two tables together, and `merging_laws` says what holds of that.
+//! The `Block` of `kc_io` gathers the bytes of a text, so that the writer gets blocks of 64 KB.
 //!
 //! `write_dump_in_parallel` and `write_table_in_parallel` write the same texts, which several threads make: each that
 //! of pieces of 8,192 rows, and the writer gets the text of one piece at a time.
@@ -30,9 +30,11 @@ mod report_faults;
 mod row_pieces;
 mod statistics;
 mod table;
+mod table_header;
 pub mod table_laws;
 mod table_lines;
 mod table_reader;
+mod table_reading;
 mod table_rows;
 mod table_sum;
 
@@ -45,4 +47,5 @@ pub use report_faults::ReportFault;
 pub use statistics::{write_stats, write_stats_of};
 pub use table::{write_table, write_table_in_parallel};
 pub use table_reader::read_table;
+pub use table_reading::TableReading;
 pub use table_sum::merge;

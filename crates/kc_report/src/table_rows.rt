@@ -1,12 +1,12 @@
-//! The header and the rows of a table text, as far as they were read.
-ghost use Rattle.std.specs.Prelude.{◌≡◌, ◌↔◌, ◌+◌, ◌<◌, ◌≤◌, ◌^◌, ◌++◌, [], ◌∷◌, true, false, length, take};
-ghost use Rattle.std.specs.Prelude.{IsTrue, IfSome, IfNone, IfOk, OnOk};
+//! What is kept of the header and the rows of a table text, as far as they were read, and the row that comes next.
+ghost use Rattle.std.specs.Prelude.{◌≡◌, ◌↔◌, ◌+◌, ◌<◌, ◌≤◌, ◌^◌, true, false, length, take, None};
+ghost use Rattle.std.specs.Prelude.{IsTrue, IfSome, IfNone};
 ghost use Rattle.kc_tally.specs.declared.row.Row.{Row};
 ghost use Rattle.kc_kmer.specs.Word.{text, form};
 ghost use Rattle.kc_report.specs.Dumping.{row_in_columns};
-ghost use Rattle.kc_report.specs.Table.{end_text};
-ghost use Rattle.kc_report.specs.TableReading.{BeginsWith, MayFollow};
-ghost use Rattle.kc_report.specs.TableRows.{RisesTo};
+ghost use Rattle.kc_report.specs.RowByRow.{ComesNext, with_row};
+ghost use Rattle.kc_report.specs.Table.{end_line, ended};
+ghost use Rattle.kc_report.specs.TableReading.{BeginsWith};
 
 use crate::dump::GREATEST_COUNT;
 use crate::fields::{count_of, word_of};
@@ -14,48 +14,64 @@ use crate::letters::turned_four;
 use crate::table::push_end;
 use kc_io::Block;
 use kc_kmer::{K, Word, canonical};
-use kc_tally::{GrowingRows, Row, Tally};
-use std::alloc::{AllocError, Global};
+use kc_tally::Row;
 use std::marker::Model;
 
-// Seen as the tally of the rows so far.
+// What is kept of the header and the rows: numbers alone.
 #[derive(Drop)]
 pub(crate) struct TableRows {
     k: K,
     both: bool,
-    rows: GrowingRows,
+    last: Option<u64>,
+    count: u64,
     total: u64,
 }
 
 impl Model for TableRows {
-    ghost use Rattle.std.specs.Prelude.{◌≡◌};
-    ghost use Rattle.kc_tally.specs.Tally.{TallySeen, AreRows, total_of};
+    ghost use Rattle.std.specs.Prelude.{◌≡◌, ◌≤◌, ◌^◌};
+    ghost use Rattle.kc_report.specs.RowByRow.{RowsRead};
 
-    ghost Value = { TallySeen };
+    ghost Value = { RowsRead };
 
-    ghost view = { λ t. record { k = t.k; both = t.both; rows = t.rows } };
+    ghost view = { λ t. record { k = t.k; both = t.both; last = t.last; count = t.count; total = t.total } };
 
-    ghost invariant = { λ t. AreRows t.k t.both t.rows × (t.total ≡ total_of t.rows) };
+    // each row counts something
+    ghost invariant = { λ t. (t.count ≤ t.total) × (t.total ≤ 2 ^ 62) };
 }
 
 impl TableRows {
     // No rows yet.
-    pub(crate) fn new(alloc: Global, k: K, both: bool) -> TableRows
-        ensures { result ≡ record { k = k; both = both; rows = [] } }
+    pub(crate) fn new(k: K, both: bool) -> TableRows
+        ensures { result ≡ record { k = k; both = both; last = None; count = 0; total = 0 } }
     {
         TableRows {
             k,
             both,
-            rows: GrowingRows::new(alloc),
+            last: None,
+            count: 0,
             total: 0,
         }
     }
 
+    // The length of the words.
+    pub(crate) fn k(&self) -> K
+        ensures { result ≡ self.now.k }
+    {
+        self.k
+    }
+
+    // Whether both strands were counted.
+    pub(crate) fn both(&self) -> bool
+        ensures { result ≡ self.now.both }
+    {
+        self.both
+    }
+
     // The number of the line that comes next: the header is line 1.
     pub(crate) fn next_line_number(&self) -> u64
-        ensures { result ≡ length self.now.rows + 2 }
+        ensures { result ≡ self.now.count + 2 }
     {
-        self.rows.len() + 2
+        self.count + 2
     }
 
     // The row in front of the bytes, where it may come next, and how many bytes it has.
@@ -63,8 +79,8 @@ impl TableRows {
     pub(crate) fn next_row(&self, bytes: &[u8]) -> Option<(Row, usize)>
         ensures within { IfSome result (λ found. found.1 ≤ length bytes.now) }
         ensures some { IfSome result (λ found. take found.1 bytes.now ≡ row_in_columns self.now.k false found.0) }
-        ensures follows { IfSome result (λ found. MayFollow self.now found.0) }
-        ensures none { IfNone result ((row : Row) → MayFollow self.now row
+        ensures follows { IfSome result (λ found. ComesNext self.now found.0) }
+        ensures none { IfNone result ((row : Row) → ComesNext self.now row
             → ¬ BeginsWith bytes.now (row_in_columns self.now.k false row)) }
     {
         let Some((row, size)) = row_of(bytes, self.k) else {
@@ -79,7 +95,7 @@ impl TableRows {
     // Whether the row may come next.
     fn may_follow(&self, row: Row) -> bool
         requires below { row.word < 4 ^ self.now.k }
-        ensures { IsTrue result ↔ MayFollow self.now row }
+        ensures { IsTrue result ↔ ComesNext self.now row }
     {
         if !self.rises_to(row.word) {
             return false;
@@ -92,40 +108,32 @@ impl TableRows {
 
     // Whether the word comes behind that of the last row.
     fn rises_to(&self, word: u64) -> bool
-        ensures { IsTrue result ↔ RisesTo self.now.rows word }
+        ensures { IsTrue result ↔ IfSome self.now.last (λ last. last < word) }
     {
-        match self.rows.last() {
-            Some(last) => last.word < word,
+        match self.last {
+            Some(last) => last < word,
             None => true,
         }
     }
 
     // Puts the row behind the others. Condition: it may come next.
-    pub(crate) fn push(&mut self, row: Row) -> Result<(), AllocError>
-        requires { MayFollow self.old row }
-        ensures { OnOk result (self.new ≡ record self.old { rows = self.old.rows ++ row ∷ [] }) }
+    #[inline(always)]
+    pub(crate) fn push(&mut self, row: Row)
+        requires { ComesNext self.old row }
+        ensures { self.new ≡ with_row self.old row }
     {
-        // words of k bases are below 2^62
-        let _bases = self.k.get();
-        self.rows.push(row)?;
+        self.last = Some(row.word);
+        self.count += 1;
         self.total += row.count;
-        Ok(())
     }
 
-    // Whether the bytes are the end of a table of these rows.
-    pub(crate) fn is_end(&self, scratch: &mut Block, bytes: &[u8]) -> bool
-        ensures { IsTrue result ↔ (bytes.now ≡ end_text self.now.rows) }
+    // Whether the bytes are the end line of these rows.
+    pub(crate) fn is_end(&self, bytes: &[u8]) -> bool
+        ensures { IsTrue result ↔ (bytes.now ≡ ended (end_line self.now.count self.now.total)) }
     {
-        scratch.clear();
-        push_end(scratch, self.rows.len(), self.total);
-        is_same(scratch, bytes)
-    }
-
-    // The tally of the rows.
-    pub(crate) fn into_tally(self) -> Result<Tally, AllocError>
-        ensures { IfOk result (λ tally. tally ≡ self) }
-    {
-        self.rows.into_tally(self.k, self.both)
+        let mut block = Block::new();
+        push_end(&mut block, self.count, self.total);
+        is_same(&block, bytes)
     }
 }
 

@@ -8,11 +8,5 @@ returns-then-not-rises_to c = no_rise c.args.self.now c.args.row c.rises_to.resu
 pub returns : goal.returns
 returns c =
     may_come c.self.view_is
-    (record {
-      rows = c.self.invariant.0;
-      sum = c.self.invariant.1;
-      to = c.is_form.ensures.0;
-      from =
-          c.is_form.ensures.1;
-    })
+    (record { small = c.self.invariant.1; to = c.is_form.ensures.0; from = c.is_form.ensures.1 })
     c.requires.below (c.rises_to.ensures.0 c.if-not-rises_to.false) c.if-row-lt1.false c.if-row-self.false

@@ -1,6 +1,6 @@
 use Rattle.std.proofs.Common.{refl, ap, length}
 use Rattle.kc_report.proofs.LineLemmas.{others_left}
-use Rattle.kc_report.proofs.table_reader.is_last.Goals as goal
+use Rattle.kc_report.proofs.table_reading.is_last.Goals as goal
 
 pub returns-else-behind-eq0-clause-last : goal.returns-else-behind-eq0-clause-last
 returns-else-behind-eq0-clause-last g c =

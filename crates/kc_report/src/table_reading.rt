@@ -1,0 +1,253 @@
+//! A table text that is read row by row, of which the reader keeps a block and a line.
+ghost use Rattle.std.specs.Prelude.{◌≡◌, ◌≢◌, ◌↔◌, ℕ, List, [], ◌++◌, ◌≤◌, length, drop, None, Some, Ok, Err};
+ghost use Rattle.std.specs.Prelude.{IsTrue, IfSome, IfNone, IfOk, IfErr};
+ghost use Rattle.kc_io.specs.declared.intakes.TakeFault.TheVariants as taking;
+ghost use Rattle.kc_io.specs.Sources.{Seen};
+ghost use Rattle.kc_io.specs.Intakes.{TakesAll, TakingFails};
+ghost use Rattle.kc_tally.specs.declared.row.Row.{Row};
+ghost use Rattle.kc_report.specs.declared.report_faults.ReportFault.TheVariants.{Memory};
+ghost use Rattle.kc_report.specs.Lines.{EndsWithBlock};
+ghost use Rattle.kc_report.specs.TableReading.{HasLine, RefusesTable};
+ghost use Rattle.kc_report.specs.RowByRow.{HasGivenRows, KeepsFew, HasSameHeader, RefusesHeader, GivesRow, UsesRow};
+ghost use Rattle.kc_report.specs.RowByRow.{Stays};
+
+use crate::origin::Origin;
+use crate::report_faults::ReportFault;
+use crate::table_header::header_of;
+use crate::table_lines::first_line;
+use crate::table_rows::TableRows;
+use kc_io::{Block, Intake, Source, TakeFault};
+use kc_kmer::K;
+use kc_tally::Row;
+use std::alloc::Global;
+use std::marker::Model;
+
+/// A reader of a table text, which gives its rows one after another and leaves the source with its caller. It keeps a
+/// block of the bytes and one line, and of the rows numbers alone.
+///
+/// Contracts speak of the rows that were given so far: `HasGivenRows` with none of them holds behind `open`, `next_row`
+/// adds the row that it gives, and where it answers `None` the bytes of the source are the table text of these rows.
+/// Each call is handed the same source, of which nobody else takes bytes meanwhile.
+///
+/// ```ignore
+/// let mut reading = TableReading::open(alloc, &mut source, limit)?;
+/// while let Some(row) = reading.next_row(&mut source)? {
+///     total += row.count;
+/// }
+/// ```
+#[derive(Drop)]
+pub struct TableReading {
+    rows: TableRows,
+    origin: Option<Origin>,
+    // None once the table has ended, or a fault was met
+    intake: Option<Intake>,
+    failed: Option<ReportFault>,
+}
+
+impl Model for TableReading {
+    ghost use Rattle.std.specs.Prelude.{◌≡◌, None, IfSome};
+    ghost use Rattle.kc_report.specs.Lines.{EndsWithBlock};
+    ghost use Rattle.kc_report.specs.RowByRow.{TableStand};
+
+    ghost Value = { TableStand };
+
+    ghost view = { λ r. record { read = r.rows; origin = r.origin; unread = r.intake; failed = r.failed } };
+
+    ghost invariant = { λ r. IfSome r.intake (λ unread. EndsWithBlock unread.bytes)
+        × IfSome r.failed (λ fault. r.intake ≡ None) };
+}
+
+impl TableReading {
+    /// Takes the header of a table text. At most `limit` bytes are taken of the source, here and for the rows.
+    ///
+    /// # Errors
+    /// `BadHeader` where the first line is no header; then all bytes were taken. `TableTooLong` where the source gave
+    /// more than `limit` bytes, and `TableRead` where it failed, whichever the reading met first; these before
+    /// `BadHeader`. `Memory` where a growth was refused.
+    pub fn open<S: Source>(
+        alloc: Global,
+        source: &mut S,
+        limit: u64,
+    ) -> Result<TableReading, ReportFault>
+        ensures given { IfOk result (HasGivenRows (S.seen source.old) (S.seen source.new) limit []) }
+        ensures few { IfOk result KeepsFew }
+        ensures refused { IfErr result (RefusesHeader (S.seen source.old) (S.seen source.new) limit) }
+        ensures fault { IfErr result (RefusesTable (S.seen source.old) (S.seen source.new) limit) }
+    {
+        let mut scratch = Block::new();
+        let mut intake = Intake::new(alloc, limit)?;
+        let Some(count) = first_line(source, &mut intake)? else {
+            return Err(ReportFault::BadHeader);
+        };
+        let Some((k, both, origin)) = header_of(&mut scratch, &intake.as_slice()[..count]) else {
+            intake.skip_rest(source)?;
+            return Err(ReportFault::BadHeader);
+        };
+        intake.use_up(count);
+        Ok(TableReading {
+            rows: TableRows::new(k, both),
+            origin,
+            intake: Some(intake),
+            failed: None,
+        })
+    }
+
+    /// The length of the words.
+    pub fn k(&self) -> K
+        ensures { result ≡ self.now.read.k }
+    {
+        self.rows.k()
+    }
+
+    /// Whether both strands were counted.
+    pub fn both(&self) -> bool
+        ensures { result ≡ self.now.read.both }
+    {
+        self.rows.both()
+    }
+
+    /// What the table was counted from, where its header says that.
+    pub fn origin(&self) -> Option<Origin>
+        ensures { result ≡ self.now.origin }
+    {
+        self.origin
+    }
+
+    /// The next row, or none where the text has ended: all bytes of the source were taken, and they are the table text
+    /// of the rows that were given. From then on the answer is none, and nothing more is taken.
+    ///
+    /// # Errors
+    /// `TableTooLong` where the source gave more bytes than the limit, and `TableRead` where it failed, whichever the
+    /// reading met first; these before any fault of the text, behind which the source is read to its end. Else the
+    /// first fault of the bytes: `BadRow` with its line, or `BadEnd`. `Memory` where a growth was refused. The fault is
+    /// kept: from then on the answer is the same, nothing is taken of the source, and the reader stays as it is.
+    #[inline(always)]
+    pub fn next_row<S: Source>(&mut self, source: &mut S) -> Result<Option<Row>, ReportFault>
+        ensures given { (start : Seen) (limit : ℕ) (rows : List Row)
+            → HasGivenRows start (S.seen source.old) limit rows self.old
+            → GivesRow start (S.seen source.new) limit rows self.new result }
+        ensures fault { (start : Seen) (limit : ℕ) (rows : List Row)
+            → HasGivenRows start (S.seen source.old) limit rows self.old
+            → IfErr result (RefusesTable start (S.seen source.new) limit) }
+        ensures header { HasSameHeader self.old self.new }
+        ensures few { KeepsFew self.new }
+        ensures at_hand { IfOk result (λ next. IfSome next (λ row. IfSome self.old.unread (λ unread.
+            HasLine unread.bytes → S.seen source.new ≡ S.seen source.old))) }
+        ensures memory { result ≡ Err Memory → self.old.failed ≡ None
+            → IfSome self.old.unread (λ unread. ¬ HasLine unread.bytes) }
+        ensures over { IfOk result (λ next. IfNone next ((self.new.unread ≡ None) × (self.new.failed ≡ None))) }
+        ensures kept { IfErr result (λ fault. (self.new.unread ≡ None) × (self.new.failed ≡ Some fault)) }
+        ensures ended { self.old.unread ≡ None → self.old.failed ≡ None → result ≡ Ok None }
+        ensures again { IfSome self.old.failed (λ fault. result ≡ Err fault) }
+        ensures unchanged { self.old.unread ≡ None → self.new ≡ self.old }
+        ensures untaken { self.old.unread ≡ None → S.seen source.new ≡ S.seen source.old }
+    {
+        match self.row_at_hand() {
+            Some(row) => Ok(Some(row)),
+            None => self.row_of_source(source),
+        }
+    }
+
+    // The row in front of the bytes that are there, where it may come next.
+    #[inline(always)]
+    fn row_at_hand(&mut self) -> Option<Row>
+        ensures some { IfSome result (UsesRow self.old self.new) }
+        ensures none { IfNone result (self.new ≡ self.old) }
+        ensures few { KeepsFew self.new }
+    {
+        let Some(intake) = &mut self.intake else {
+            return None;
+        };
+        let Some((row, size)) = self.rows.next_row(intake.as_slice()) else {
+            return None;
+        };
+        intake.use_up(size);
+        self.rows.push(row);
+        Some(row)
+    }
+
+    // The next row, for which a line is taken; a fault is kept.
+    fn row_of_source<S: Source>(&mut self, source: &mut S) -> Result<Option<Row>, ReportFault>
+        ensures given { (start : Seen) (limit : ℕ) (rows : List Row)
+            → HasGivenRows start (S.seen source.old) limit rows self.old
+            → GivesRow start (S.seen source.new) limit rows self.new result }
+        ensures header { HasSameHeader self.old self.new }
+        ensures few { KeepsFew self.new }
+        ensures at_hand { IfOk result (λ next. IfSome next (λ row. IfSome self.old.unread (λ unread.
+            HasLine unread.bytes → S.seen source.new ≡ S.seen source.old))) }
+        ensures memory { result ≡ Err Memory → self.old.failed ≡ None
+            → IfSome self.old.unread (λ unread. ¬ HasLine unread.bytes) }
+        ensures over { IfOk result (λ next. IfNone next ((self.new.unread ≡ None) × (self.new.failed ≡ None))) }
+        ensures kept { IfErr result (λ fault. (self.new.unread ≡ None) × (self.new.failed ≡ Some fault)) }
+        ensures ended { self.old.unread ≡ None → self.old.failed ≡ None → result ≡ Ok None }
+        ensures again { IfSome self.old.failed (λ fault. result ≡ Err fault) }
+        ensures unchanged { self.old.unread ≡ None → self.new ≡ self.old }
+        ensures untaken { self.old.unread ≡ None → S.seen source.new ≡ S.seen source.old }
+    {
+        if let Some(fault) = self.failed {
+            return Err(fault);
+        }
+        let Some(intake) = self.intake.take() else {
+            return Ok(None);
+        };
+        match self.row_of_line(source, intake) {
+            Ok(next) => Ok(next),
+            Err(fault) => {
+                self.failed = Some(fault);
+                Err(fault)
+            }
+        }
+    }
+
+    // The next row, which the first line of the bytes has to be, or none where that is the end line.
+    fn row_of_line<S: Source>(
+        &mut self,
+        source: &mut S,
+        mut unread: Intake,
+    ) -> Result<Option<Row>, ReportFault>
+        requires few { EndsWithBlock unread.bytes }
+        requires out { self.old.unread ≡ None }
+        requires unfailed { self.old.failed ≡ None }
+        ensures given { (start : Seen) (limit : ℕ) (rows : List Row)
+            → HasGivenRows start (S.seen source.old) limit rows (record self.old { unread = Some unread })
+            → GivesRow start (S.seen source.new) limit rows self.new result }
+        ensures stays { Stays self.old self.new result }
+        ensures at_hand { IfOk result (λ next. IfSome next (λ row.
+            HasLine unread.bytes → S.seen source.new ≡ S.seen source.old)) }
+        ensures memory { result ≡ Err Memory → ¬ HasLine unread.bytes }
+    {
+        let Some(count) = first_line(source, &mut unread)? else {
+            return Err(ReportFault::BadEnd);
+        };
+        let line = &unread.as_slice()[..count];
+        if line.starts_with(b"END") {
+            let is_end = self.rows.is_end(line);
+            if !is_last(source, unread, count)? || !is_end {
+                return Err(ReportFault::BadEnd);
+            }
+            return Ok(None);
+        }
+        let Some((row, size)) = self.rows.next_row(line) else {
+            unread.skip_rest(source)?;
+            return Err(ReportFault::BadRow(self.rows.next_line_number()));
+        };
+        unread.use_up(size);
+        self.rows.push(row);
+        self.intake = Some(unread);
+        Ok(Some(row))
+    }
+}
+
+// Takes all that comes of the source, and answers whether the first `count` unread bytes are the last of all.
+fn is_last<R: Source>(reader: &mut R, intake: Intake, count: usize) -> Result<bool, TakeFault>
+    requires { count ≤ length intake.bytes }
+    ensures last { IfOk result (λ last. (more : List ℕ)
+        × TakesAll (R.seen reader.old) (R.seen reader.new) intake.room more
+        × (IsTrue last ↔ (drop count intake.bytes ++ more ≡ []))) }
+    ensures fault { IfErr result (TakingFails (R.seen reader.old) (R.seen reader.new) intake.room) }
+    ensures no_memory { IfErr result (λ fault. fault ≢ taking.Memory) }
+{
+    let behind = intake.as_slice().len() - count;
+    let more = intake.skip_rest(reader)?;
+    Ok(behind == 0 && more == 0)
+}
