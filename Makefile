@@ -15,7 +15,7 @@ demo: ## shows the program at work within two minutes: its source with checks, n
 build: ## proves the program and everything below it, and builds it as bin/kcount
 	@tools/build.py
 
-dist: build ## packs program, man page, completions and licence into dist/, with the SHA-256
+dist: build ## packs program, man page, completions and licences into dist/, with the SHA-256
 	@tools/dist.sh dist
 
 deb: build ## packs what install installs as a Debian package into dist/, with the SHA-256
@@ -28,6 +28,7 @@ check: ## proves one crate over what earlier runs kept: make check CRATE=kc_word
 	$(if $(CRATE),cd crates/$(CRATE) && rt check,rt all check)
 
 edits: ## tries the edits that the prover must refuse, many at once: make edits CRATE=kc_word (none: all)
+	@tests/judging.py
 	@tools/edits.py $(CRATE)
 
 bodies: ## tries the wrong bodies of must-fail one by one: make bodies CRATE=kc_word (none: all)
