@@ -1,8 +1,9 @@
 #!/bin/bash
-# Packs what `make install` installs as a Debian package, with the licence and the changelog, and its SHA-256 beside it:
+# Packs what `make install` installs as a Debian package, with licences and changelog, and its SHA-256 beside it:
 #   tools/deb.sh FOLDER
 # The version is the program's, and all files have the date that CHANGELOG.md gives for it. So the same files give the
-# same bytes by the same tools, whoever packs them and when. It needs bin/kcount, and Debian's dpkg-dev and binutils.
+# same bytes by the same tools, whoever packs them and when. It needs bin/kcount, the toolchain, and Debian's dpkg-dev
+# and binutils.
 set -euo pipefail
 umask 022
 top=$(cd "$(dirname "$0")/.." && pwd)
@@ -37,16 +38,7 @@ mkdir "$share/zsh/vendor-completions"
 mv "$share/zsh/site-functions/_kcount" "$share/zsh/vendor-completions/_kcount"
 rmdir "$share/zsh/site-functions"
 
-# Debian calls the MIT licence Expat. Below the field a line begins with a blank, and an empty one is a dot.
-{
-    echo 'Format: https://www.debian.org/doc/packaging-manuals/copyright-format/1.0/'
-    echo 'Upstream-Name: kcount'
-    echo
-    echo 'Files: *'
-    sed -n 's/^Copyright (c) /Copyright: /p' "$top/LICENSE"
-    echo 'License: Expat'
-    sed -n '/^Permission/,$ { s/^$/./; s/^/ /; p }' "$top/LICENSE"
-} > "$share/doc/kcount/copyright"
+"$top/tools/licences.py" --debian > "$share/doc/kcount/copyright"
 gzip -9n < "$top/CHANGELOG.md" > "$share/doc/kcount/changelog.gz"
 gzip -9n > "$share/doc/kcount/changelog.Debian.gz" <<CHANGELOG
 kcount ($revision) unstable; urgency=medium

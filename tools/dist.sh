@@ -1,7 +1,8 @@
 #!/bin/bash
 # Packs the program, its man page, its completions and the licence into one archive, with its SHA-256 beside it:
 #   tools/dist.sh FOLDER
-# The same files give the same bytes, whoever packs them and when. It needs bin/kcount.
+# Its file THIRD-PARTY has the licences of the toolchain's libraries that the program is linked with. The same files give
+# the same bytes, whoever packs them and when. It needs bin/kcount and the toolchain.
 set -euo pipefail
 top=$(cd "$(dirname "$0")/.." && pwd)
 [ -x "$top/bin/kcount" ] || { echo "no bin/kcount: run make build first"; exit 1; }
@@ -10,6 +11,7 @@ work=$(mktemp -d)
 trap 'rm -rf "$work"' EXIT
 install -D "$top/bin/kcount" "$work/$name/bin/kcount"
 install -D -m 644 "$top/LICENSE" "$work/$name/LICENSE"
+"$top/tools/licences.py" > "$work/$name/THIRD-PARTY"
 install -D -m 644 "$top/share/kcount.1" "$work/$name/share/man/man1/kcount.1"
 install -D -m 644 "$top/share/kcount.bash" "$work/$name/share/bash-completion/completions/kcount"
 install -D -m 644 "$top/share/_kcount" "$work/$name/share/zsh/site-functions/_kcount"
