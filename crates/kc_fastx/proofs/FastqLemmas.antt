@@ -6,6 +6,7 @@ use Rattle.std.proofs.lemmas.List.{append_assoc, length-append, take-append-le, 
 use Rattle.std.proofs.lemmas.List.Folds.{concat-append, list_all-append}
 use Rattle.kc_fastx.specs.declared.read_faults.FastxFault.{FastxFault}
 use Rattle.kc_fastx.specs.declared.read_faults.FastxFault.TheVariants.{BadStart, BadBase, BadQuality, LongQuality, Truncated, TooLong, Read as ReadFailed, Memory}
+use Rattle.kc_fastx.specs.declared.read_faults.FastxFault.TheVariants.{BrokenGzip, ShortGzip}
 use Rattle.kc_fastx.specs.Lines.{Line, Cursor, begins_with, line_count, skip_blanks, ends_or_begins_with}
 use Rattle.kc_fastx.specs.Reads.{Read, is_quality_byte, read_of}
 use Rattle.kc_fastx.specs.Records.{Records, BeginsWithSequence, SequenceFails, FirstFault}
@@ -136,6 +137,8 @@ quality_behind need start now quals before (BadStart number) h = absurd h
 quality_behind need start now quals before (BadBase number) h = absurd h
 quality_behind need start now quals before TooLong h = absurd h
 quality_behind need start now quals before ReadFailed h = absurd h
+quality_behind need start now quals before BrokenGzip h = absurd h
+quality_behind need start now quals before ShortGzip h = absurd h
 quality_behind need start now quals before Memory h = absurd h
 
 -- behind quality that is still too short the lines end, or the next one is bad, or too long
@@ -183,6 +186,8 @@ unless_memory P Q f (LongQuality number) p = f (LongQuality number) p
 unless_memory P Q f (Truncated number) p = f (Truncated number) p
 unless_memory P Q f TooLong p = f TooLong p
 unless_memory P Q f ReadFailed p = f ReadFailed p
+unless_memory P Q f BrokenGzip p = f BrokenGzip p
+unless_memory P Q f ShortGzip p = f ShortGzip p
 
 -- the sequence, and the line with `+` where it ends
 pub has_plus : (start middle after : Cursor) (bases : List ℕ) (plus : Line) → BeginsWithSequence plus_sign start.left bases middle.left
@@ -206,6 +211,8 @@ body_fails-sequence count body (LongQuality number) h = absurd h
 body_fails-sequence count body (Truncated number) h = absurd h
 body_fails-sequence count body TooLong h = h
 body_fails-sequence count body ReadFailed h = h
+body_fails-sequence count body BrokenGzip h = h
+body_fails-sequence count body ShortGzip h = h
 body_fails-sequence count body Memory h = h
 
 -- so does a quality
@@ -218,6 +225,8 @@ body_fails-quality count body bases after front (LongQuality number) h = (bases,
 body_fails-quality count body bases after front (Truncated number) h = inr (bases, after, front, h)
 body_fails-quality count body bases after front TooLong h = h
 body_fails-quality count body bases after front ReadFailed h = h
+body_fails-quality count body bases after front BrokenGzip h = h
+body_fails-quality count body bases after front ShortGzip h = h
 body_fails-quality count body bases after front Memory h = h
 
 -- the lines end behind the sequence
@@ -289,6 +298,8 @@ fastq_fails-body count ls body title (LongQuality number) h = (body, title, h)
 fastq_fails-body count ls body title (Truncated number) h = (body, title, h)
 fastq_fails-body count ls body title TooLong h = (body, title, h)
 fastq_fails-body count ls body title ReadFailed h = (body, title, h)
+fastq_fails-body count ls body title BrokenGzip h = (body, title, h)
+fastq_fails-body count ls body title ShortGzip h = (body, title, h)
 fastq_fails-body count ls body title Memory h = (body, title, h)
 
 -- a record that fails behind its title

@@ -8,6 +8,7 @@ use Rattle.std.proofs.lemmas.List.{length-append, append_assoc, append-nil}
 use Rattle.std.proofs.lemmas.List.Folds.{list_all-append}
 use Rattle.kc_fastx.specs.declared.read_faults.FastxFault.{FastxFault}
 use Rattle.kc_fastx.specs.declared.read_faults.FastxFault.TheVariants.{BadStart, BadBase, BadQuality, LongQuality, Truncated, TooLong, Read as ReadFailed, Memory}
+use Rattle.kc_fastx.specs.declared.read_faults.FastxFault.TheVariants.{BrokenGzip, ShortGzip}
 use Rattle.kc_fastx.specs.Reads.{Read, read_of, is_sequence_byte, is_quality_byte}
 use Rattle.kc_fastx.specs.Lines.{Line, lines, begins_with, next_begins_with, skip_blanks, ends_or_begins_with}
 use Rattle.kc_fastx.specs.Records.{Records, BeginsWithSequence, HasBadSequence, SequenceFails, FirstFault}
@@ -162,6 +163,8 @@ fasta_of-fails count fuel ls body (LongQuality number) title e h = absurd h
 fasta_of-fails count fuel ls body (Truncated number) title e h = absurd h
 fasta_of-fails count fuel ls body TooLong title e h = absurd h
 fasta_of-fails count fuel ls body ReadFailed title e h = absurd h
+fasta_of-fails count fuel ls body BrokenGzip title e h = absurd h
+fasta_of-fails count fuel ls body ShortGzip title e h = absurd h
 fasta_of-fails count fuel ls body Memory title e h = absurd h
 
 fasta_of-err : (count fuel : ℕ) (ls : List Line) (fault : FastxFault) → length ls ≤ fuel → FirstFault IsFastaRecord (FastaFails count) ls fault
@@ -258,6 +261,8 @@ quality_of-err count need ls (BadStart number) h = absurd h
 quality_of-err count need ls (BadBase number) h = absurd h
 quality_of-err count need ls TooLong h = absurd h
 quality_of-err count need ls ReadFailed h = absurd h
+quality_of-err count need ls BrokenGzip h = absurd h
+quality_of-err count need ls ShortGzip h = absurd h
 quality_of-err count need ls Memory h = absurd h
 
 -- one FASTQ record
@@ -300,6 +305,8 @@ body_of-err count body (Truncated number) h =
 body_of-err count body (BadStart number) h = absurd h
 body_of-err count body TooLong h = absurd h
 body_of-err count body ReadFailed h = absurd h
+body_of-err count body BrokenGzip h = absurd h
+body_of-err count body ShortGzip h = absurd h
 body_of-err count body Memory h = absurd h
 
 -- FASTQ
@@ -355,6 +362,8 @@ fastq_of-fails count zero ls (LongQuality number) fits h = absurd (omega (arith,
 fastq_of-fails count zero ls (Truncated number) fits h = absurd (omega (arith, some_left ls h.1.title h.0 h.1.whole))
 fastq_of-fails count zero ls TooLong fits h = absurd (omega (arith, some_left ls h.1.title h.0 h.1.whole))
 fastq_of-fails count zero ls ReadFailed fits h = absurd (omega (arith, some_left ls h.1.title h.0 h.1.whole))
+fastq_of-fails count zero ls BrokenGzip fits h = absurd (omega (arith, some_left ls h.1.title h.0 h.1.whole))
+fastq_of-fails count zero ls ShortGzip fits h = absurd (omega (arith, some_left ls h.1.title h.0 h.1.whole))
 fastq_of-fails count zero ls Memory fits h = absurd (omega (arith, some_left ls h.1.title h.0 h.1.whole))
 fastq_of-fails count (suc fuel) ls (BadStart number) fits h =
     fastq_of-bad_start count fuel ls h.1.line h.0 h.1.whole h.1.no_title ∙ ap (λ n. Err (BadStart n)) (number_is count number h.0 h.2)
@@ -364,6 +373,8 @@ fastq_of-fails count (suc fuel) ls (LongQuality number) fits h = fastq_of-body c
 fastq_of-fails count (suc fuel) ls (Truncated number) fits h = fastq_of-body count fuel ls (Truncated number) h
 fastq_of-fails count (suc fuel) ls TooLong fits h = fastq_of-body count fuel ls TooLong h
 fastq_of-fails count (suc fuel) ls ReadFailed fits h = fastq_of-body count fuel ls ReadFailed h
+fastq_of-fails count (suc fuel) ls BrokenGzip fits h = fastq_of-body count fuel ls BrokenGzip h
+fastq_of-fails count (suc fuel) ls ShortGzip fits h = fastq_of-body count fuel ls ShortGzip h
 fastq_of-fails count (suc fuel) ls Memory fits h = fastq_of-body count fuel ls Memory h
 
 fastq_of-err : (count fuel : ℕ) (ls : List Line) (fault : FastxFault) → length ls ≤ fuel → FirstFault IsFastqRecord (FastqFails count) ls fault

@@ -5,9 +5,9 @@ use Rattle.kc_fastx.specs.Lines.{Cursor, lines, line_count, next_begins_with}
 use Rattle.kc_fastx.specs.Records.{FirstFault}
 use Rattle.kc_fastx.specs.Fastq.{IsFastqRecord, FastqFails}
 use Rattle.kc_io.specs.Sources.{Seen}
-use Rattle.kc_io.specs.Intakes.{TakingFails}
-use Rattle.kc_io.specs.declared.intakes.TakeFault.{TakeFault}
-use Rattle.kc_io.specs.declared.intakes.TakeFault.TheVariants as taking
+use Rattle.kc_gzip.specs.Intakes.{TakingFails}
+use Rattle.kc_gzip.specs.declared.unpacked_intakes.TakeFault.{TakeFault}
+use Rattle.kc_gzip.specs.declared.unpacked_intakes.TakeFault.TheVariants as taking
 use Rattle.kc_fastx.specs.Parsing.{text_lines, HasFault, RefusesFor}
 use Rattle.kc_fastx.specs.Faults.{taking_fault}
 use Rattle.kc_fastx.specs.Fasta.{IsFastaRecord, FastaFails, greater_than}
@@ -40,4 +40,6 @@ fault-fastq bytes start e counted is fault h =
 pub RefusesFor-taking : (old new : Seen) (limit : ℕ) (why : TakeFault) → TakingFails old new limit why → RefusesFor old new limit (taking_fault why)
 RefusesFor-taking old new limit taking.TooLong h = h
 RefusesFor-taking old new limit taking.Read h = h
+RefusesFor-taking old new limit taking.Broken h = h
+RefusesFor-taking old new limit taking.Short h = h
 RefusesFor-taking old new limit taking.Memory h = inl h

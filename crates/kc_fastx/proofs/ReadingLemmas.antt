@@ -1,13 +1,14 @@
 -- The reads that were given so far, and one more, the end, or a fault behind them.
 use Rattle.std.proofs.Common.{◌≡◌, ◌≢◌, ℕ, ◌+◌, ◌-◌, ◌<◌, ◌≤◌, Bool, true, false, List, [], ◌∷◌, ◌++◌, length, take}
 use Rattle.std.proofs.Common.{drop, refl, sym, ap, ◌∙◌, subst, arith, append_assoc, append-nil, length-append, inl}
-use Rattle.std.proofs.Common.{inr, ◌⊎◌, ⊎_elim, Some, None, Err, MatchBool, Option}
+use Rattle.std.proofs.Common.{inr, ◌⊎◌, ⊎_elim, Some, None, Ok, Err, MatchBool, Option}
 use Rattle.std.proofs.lemmas.List.{take-append-drop, length-take-le}
 use Rattle.kc_io.specs.Sources.{Seen}
-use Rattle.kc_io.specs.Intakes.{TakenSoFar, TakesAll, TakingFails}
+use Rattle.kc_gzip.specs.Intakes.{Ended, Filled, FillingFails, Skips, TakenSoFar, TakesAll, TakingFails, Unread}
 use Rattle.kc_fastx.specs.declared.read_faults.FastxFault.{FastxFault}
 use Rattle.kc_fastx.specs.declared.read_faults.FastxFault.TheVariants.{BadStart, BadBase, BadQuality, LongQuality}
 use Rattle.kc_fastx.specs.declared.read_faults.FastxFault.TheVariants.{Truncated, TooLong, Read as ReadFailed, Memory}
+use Rattle.kc_fastx.specs.declared.read_faults.FastxFault.TheVariants.{BrokenGzip, ShortGzip}
 use Rattle.kc_fastx.specs.Reads.{Read, base_count}
 use Rattle.kc_fastx.specs.Lines.{Line, Cursor, IsBehind, Passes, HasWhole, lines, line_count, begins_with}
 use Rattle.kc_fastx.specs.Lines.{next_begins_with, ends_or_begins_with, skip_blanks}
@@ -16,13 +17,12 @@ use Rattle.kc_fastx.specs.Fasta.{IsFastaRecord, FastaFails, greater_than}
 use Rattle.kc_fastx.specs.Fastq.{IsFastqRecord, FastqFails}
 use Rattle.kc_fastx.specs.Parsing.{text_lines, IsFastq, HasReads, HasFault, HasFaultBehind, GivesReads, RefusesFor}
 use Rattle.kc_fastx.specs.Faults.{UnlessMemory, is_of_lines, taking_fault}
-use Rattle.kc_io.specs.Intakes.{Unread, Filled}
-use Rattle.kc_io.specs.declared.intakes.TakeFault.{TakeFault}
-use Rattle.kc_io.specs.declared.intakes.TakeFault.TheVariants as taking
-use Rattle.kc_io.proofs.IntakesLemmas.{taken_none, taken_in_vain, taken_then_taken, taken_then_all, taken_then_fails}
-use Rattle.kc_io.proofs.IntakesLemmas.{filled_none, filled_both, filled_end}
+use Rattle.kc_gzip.specs.declared.unpacked_intakes.TakeFault.{TakeFault}
+use Rattle.kc_gzip.specs.declared.unpacked_intakes.TakeFault.TheVariants as taking
+use Rattle.kc_gzip.proofs.IntakesLemmas.{taken_none, taken_in_vain, taken_filled, taken_ended, taken_fails, taken_skips}
+use Rattle.kc_gzip.proofs.IntakesLemmas.{filled_none, filled_both}
 use Rattle.kc_fastx.specs.Reading.{HasGrown, first_stand, Stand, SaysFasta, SaysFastq, Says, MayCome, AreSaid}
-use Rattle.kc_fastx.specs.Reading.{HasGiven, HasMet, MeetsFault, ComesBehind, is_fasta_next, IsNext, NextFails}
+use Rattle.kc_fastx.specs.Reading.{HasGiven, HasMet, HasTaken, MeetsFault, ComesBehind, is_fasta_next, IsNext, NextFails}
 use Rattle.kc_fastx.specs.Reading.{IsSure}
 use Rattle.kc_fastx.specs.Reading.{UsesFront}
 use Rattle.kc_fastx.proofs.RecordsLemmas.{Records-push, passes_both}
@@ -314,6 +314,12 @@ no_next-too_long was count ls = no_fault-either (is_fasta_next was ls) _ _ (λ h
 no_next-read : (was : Bool) (count : ℕ) (ls : List Line) → NextFails was count ls ReadFailed → ⊥
 no_next-read was count ls = no_fault-either (is_fasta_next was ls) _ _ (λ h. h.2) (λ h. h.2)
 
+no_next-broken : (was : Bool) (count : ℕ) (ls : List Line) → NextFails was count ls BrokenGzip → ⊥
+no_next-broken was count ls = no_fault-either (is_fasta_next was ls) _ _ (λ h. h.2) (λ h. h.2)
+
+no_next-short : (was : Bool) (count : ℕ) (ls : List Line) → NextFails was count ls ShortGzip → ⊥
+no_next-short was count ls = no_fault-either (is_fasta_next was ls) _ _ (λ h. h.2) (λ h. h.2)
+
 -- ---- bytes
 
 -- the unused bytes and what may still come are the whole lines, and then others
@@ -359,7 +365,7 @@ left_behind stand whole h after r count is =
 -- where a reader stands when it has used so many bytes more, up to this line, and read a record of this format
 abbrev pub stand_behind : Stand → ℕ → ℕ → Bool → Stand
 stand_behind stand count lines_used q = record {
-  unread = record { bytes = drop count stand.unread.bytes; room = stand.unread.room };
+  unread = record stand.unread { bytes = drop count stand.unread.bytes };
   used = stand.used + count;
   lines_used = lines_used;
   is_fastq = q;
@@ -436,8 +442,13 @@ module _ {stand : Stand} {whole : List ℕ} {after : Cursor} {next : Read × Boo
       record {
         used = used ++ take count bytes;
         taken = record {
-          taken = subst (λ v. MatchBool stand.ended (TakesAll start now limit v)
-              (TakenSoFar start now limit v)) all given.taken.taken;
+          taken = let taken = given.taken.taken in record {
+            answered = taken.answered;
+            come = taken.come;
+            are = sym all ∙ taken.are;
+            within = subst (λ v. length v ≤ limit) all taken.within;
+          };
+          whole = λ ended. let whole = given.taken.whole ended in whole;
           room = ap (λ v. length v + stand.unread.room) (sym all) ∙ given.taken.room;
         };
         counted = omega (arith, counted, length-append used (take count bytes), length-take-le count bytes left.0);
@@ -457,11 +468,9 @@ module _ {stand : Stand} {whole : List ℕ} {after : Cursor} {next : Read × Boo
         counted = ap (λ n. stand.used + n) (sym (length-take-le count bytes left.0));
       }
 
-all_taken : (ended : Bool) (start now : Seen) (limit : ℕ) (bytes : List ℕ) → ended ≡ true
-    → MatchBool ended (TakesAll start now limit bytes) (TakenSoFar start now limit bytes)
-    → TakesAll start now limit bytes
-all_taken true start now limit bytes e taken = taken
-all_taken false start now limit bytes e taken = absurd (let no : false ≡ true = e in cc)
+pub all_taken : {start now : Seen} {limit : ℕ} {stand : Stand} {bytes : List ℕ} → stand.ended ≡ true
+    → HasTaken start now limit stand bytes → TakesAll start now limit bytes
+all_taken ended has = taken_ended has.taken (has.whole ended)
 
 -- all bytes were taken, and all lines that are left are blank
 pub record IsOver (stand : Stand) (whole : List ℕ) : Type 0 where
@@ -485,17 +494,10 @@ given_all start now limit reads stand whole given over =
     (ap skip_blanks here ∙ over.blank)) in
     record {
       bytes = given.used ++ bytes;
-      taken = all_taken stand.ended start now limit (given.used ++ bytes) over.ended given.taken.taken;
+      taken = all_taken over.ended given.taken;
       has_reads = says;
       counted = omega (arith, counted, length-append given.used bytes);
     }
-
--- the bytes that were taken are those that the source gave
-pub given_bytes : (ended : Bool) (old new : Seen) (limit : ℕ) (bytes : List ℕ)
-    → MatchBool ended (TakesAll old new limit bytes) (TakenSoFar old new limit bytes)
-    → new.history.bytes ≡ old.history.bytes ++ bytes
-given_bytes true old new limit bytes t = t.taken.given
-given_bytes false old new limit bytes t = t.given
 
 -- the next record of the whole lines fails, whatever may still come
 record IsFaulty (stand : Stand) (whole : List ℕ) (fault : FastxFault) : Type 0 where
@@ -531,13 +533,9 @@ module _ {start now : Seen} {limit : ℕ} {reads : List Read} {stand : Stand} (g
         fault_behind ((given.used ++ stand.unread.bytes) ++ more) reads fault (comes_behind more none);
   }
 
-  behind : (bytes : List ℕ) × (now.history.bytes ≡ start.history.bytes ++ bytes)
-      × ((more : List ℕ) → MayCome stand.ended more → HasFaultBehind (bytes ++ more) reads fault)
-  behind = (
-    given.used ++ stand.unread.bytes,
-    given_bytes stand.ended start now limit (given.used ++ stand.unread.bytes) given.taken.taken,
-    comes_behind,
-  )
+  behind : (more : List ℕ) → MayCome stand.ended more → HasFaultBehind (stand.unread.came ++ more) reads fault
+  behind = subst (λ v. (more : List ℕ) → MayCome stand.ended more → HasFaultBehind (v ++ more) reads fault)
+      given.taken.taken.are comes_behind
 
 -- the next record of the whole lines fails by a fault that is sure
 faulty_sure : {stand : Stand} {whole : List ℕ} (left : List Line) (fault : FastxFault)
@@ -559,12 +557,14 @@ faulty_sure {stand = stand} {whole = whole} left TooLong h fails sure = absurd
 faulty_sure {stand = stand} {whole = whole} left ReadFailed h fails sure = absurd
     (no_next-read stand.is_fastq (stand.lines_used + length (lines whole)) (skip_blanks (lines whole)) fails)
 faulty_sure left Memory h fails sure = record { has_whole = h; fails = fails; remains = λ more none. tt }
+faulty_sure {stand = stand} {whole = whole} left BrokenGzip h fails sure = absurd
+    (no_next-broken stand.is_fastq (stand.lines_used + length (lines whole)) (skip_blanks (lines whole)) fails)
+faulty_sure {stand = stand} {whole = whole} left ShortGzip h fails sure = absurd
+    (no_next-short stand.is_fastq (stand.lines_used + length (lines whole)) (skip_blanks (lines whole)) fails)
 
-memory_refused : (ended : Bool) (start now : Seen) (limit : ℕ) (bytes : List ℕ)
-    → MatchBool ended (TakesAll start now limit bytes) (TakenSoFar start now limit bytes)
-    → RefusesFor start now limit Memory
-memory_refused true start now limit bytes taken = inr (bytes, taken)
-memory_refused false start now limit bytes taken = inl (taken_in_vain taken)
+memory_refused : {start now : Seen} {limit : ℕ} {stand : Stand} {bytes : List ℕ}
+    → HasTaken start now limit stand bytes → RefusesFor start now limit Memory
+memory_refused has = inl (taken_in_vain has.taken)
 
 -- no read is given
 pub given_fault : {start now : Seen} {limit : ℕ} {reads : List Read} {stand : Stand}
@@ -588,7 +588,11 @@ given_fault {stand = stand} given whole left TooLong h fails sure = absurd
 given_fault {stand = stand} given whole left ReadFailed h fails sure = absurd
     (no_next-read stand.is_fastq (stand.lines_used + length (lines whole)) (skip_blanks (lines whole)) fails)
 given_fault {start = start} {now = now} {limit = limit} {stand = stand} given whole left Memory h fails sure =
-    memory_refused stand.ended start now limit (given.used ++ stand.unread.bytes) given.taken.taken
+    memory_refused given.taken
+given_fault {stand = stand} given whole left BrokenGzip h fails sure = absurd
+    (no_next-broken stand.is_fastq (stand.lines_used + length (lines whole)) (skip_blanks (lines whole)) fails)
+given_fault {stand = stand} given whole left ShortGzip h fails sure = absurd
+    (no_next-short stand.is_fastq (stand.lines_used + length (lines whole)) (skip_blanks (lines whole)) fails)
 
 -- where that is a fault of the lines, it is behind the records that were given
 pub fault_comes : {start now : Seen} {limit : ℕ} {reads : List Read} {stand : Stand}
@@ -596,7 +600,7 @@ pub fault_comes : {start now : Seen} {limit : ℕ} {reads : List Read} {stand : 
     → HasWhole stand.ended stand.unread.bytes whole
     → UnlessMemory (NextFails stand.is_fastq (stand.lines_used + length (lines whole)) (skip_blanks
     (lines whole))) fault
-    → (stand.ended ≡ true) ⊎ IsSure (Err fault) left → ComesBehind start now reads stand fault
+    → (stand.ended ≡ true) ⊎ IsSure (Err fault) left → ComesBehind reads stand fault
 fault_comes given whole left (BadStart number) h fails sure =
     behind given whole (BadStart number) (faulty_sure left (BadStart number) h fails sure)
 fault_comes given whole left (BadBase number) h fails sure =
@@ -610,6 +614,8 @@ fault_comes given whole left (Truncated number) h fails sure =
 fault_comes given whole left TooLong h fails sure = tt
 fault_comes given whole left ReadFailed h fails sure = tt
 fault_comes given whole left Memory h fails sure = tt
+fault_comes given whole left BrokenGzip h fails sure = tt
+fault_comes given whole left ShortGzip h fails sure = tt
 
 -- ---- kept faults
 
@@ -621,7 +627,7 @@ met_kept : {start now : Seen} {limit : ℕ} {stand : Stand} {fault : FastxFault}
     → HasMet start now limit stand fault → HasMet start now limit (with_failed stand failed) fault
 met_kept failed met = record {
   bytes = met.bytes;
-  taken = record { taken = met.taken.taken; room = met.taken.room };
+  taken = record { taken = met.taken.taken; whole = met.taken.whole; room = met.taken.room };
   met = met.met;
 }
 
@@ -636,25 +642,30 @@ meets_kept start now limit stand (Truncated number) failed m = met_kept failed m
 meets_kept start now limit stand TooLong failed m = m
 meets_kept start now limit stand ReadFailed failed m = m
 meets_kept start now limit stand Memory failed m = m
+meets_kept start now limit stand BrokenGzip failed m = m
+meets_kept start now limit stand ShortGzip failed m = m
 
 -- nor does what it says of the record that it comes with
-pub comes_kept : (start now : Seen) (reads : List Read) (stand : Stand) (fault : FastxFault) (failed : Option FastxFault)
-    → ComesBehind start now reads stand fault → ComesBehind start now reads (with_failed stand failed) fault
-comes_kept start now reads stand (BadStart number) failed m = m
-comes_kept start now reads stand (BadBase number) failed m = m
-comes_kept start now reads stand (BadQuality number) failed m = m
-comes_kept start now reads stand (LongQuality number) failed m = m
-comes_kept start now reads stand (Truncated number) failed m = m
-comes_kept start now reads stand TooLong failed m = m
-comes_kept start now reads stand ReadFailed failed m = m
-comes_kept start now reads stand Memory failed m = m
+pub comes_kept : (reads : List Read) (stand : Stand) (fault : FastxFault) (failed : Option FastxFault)
+    → ComesBehind reads stand fault → ComesBehind reads (with_failed stand failed) fault
+comes_kept reads stand (BadStart number) failed m = m
+comes_kept reads stand (BadBase number) failed m = m
+comes_kept reads stand (BadQuality number) failed m = m
+comes_kept reads stand (LongQuality number) failed m = m
+comes_kept reads stand (Truncated number) failed m = m
+comes_kept reads stand TooLong failed m = m
+comes_kept reads stand ReadFailed failed m = m
+comes_kept reads stand Memory failed m = m
+comes_kept reads stand BrokenGzip failed m = m
+comes_kept reads stand ShortGzip failed m = m
 
 -- why no bytes could be taken is of no record
-pub comes_taking : (start now : Seen) (reads : List Read) (stand : Stand) (why : TakeFault)
-    → ComesBehind start now reads stand (taking_fault why)
-comes_taking start now reads stand taking.TooLong = tt
-comes_taking start now reads stand taking.Read = tt
-comes_taking start now reads stand taking.Memory = tt
+pub comes_taking : (reads : List Read) (stand : Stand) (why : TakeFault) → ComesBehind reads stand (taking_fault why)
+comes_taking reads stand taking.TooLong = tt
+comes_taking reads stand taking.Read = tt
+comes_taking reads stand taking.Broken = tt
+comes_taking reads stand taking.Short = tt
+comes_taking reads stand taking.Memory = tt
 
 -- a reader that keeps no fault gave the same reads still
 pub given_kept : {start now : Seen} {limit : ℕ} {reads : List Read} {stand : Stand} (failed : Option FastxFault)
@@ -662,7 +673,7 @@ pub given_kept : {start now : Seen} {limit : ℕ} {reads : List Read} {stand : S
     → HasGiven start now limit reads (with_failed stand failed)
 given_kept failed given none = record {
   used = given.used;
-  taken = record { taken = given.taken.taken; room = given.taken.room };
+  taken = record { taken = given.taken.taken; whole = given.taken.whole; room = given.taken.room };
   counted = given.counted;
   unfailed = none;
   said = λ more may_come.
@@ -674,28 +685,15 @@ given_kept failed given none = record {
 pub given_none : (start : Seen) (limit : ℕ) → HasGiven start start limit [] (first_stand limit)
 given_none start limit = record {
   used = [];
-  taken = record { taken = taken_none start limit; room = omega arith };
+  taken = record {
+    taken = taken_none start limit;
+    whole = λ ended. absurd (let no : false ≡ true = ended in cc);
+    room = omega arith;
+  };
   counted = refl;
   unfailed = refl;
   said = λ more none. record { counted = omega arith; says = inl (refl, refl) };
 }
-
--- these bytes were taken, and so many more may be
-record HasRoom (start old : Seen) (limit room : ℕ) (bytes : List ℕ) : Type 0 where
-  taken : TakenSoFar start old limit bytes
-  fits : length bytes + room ≡ limit
-
-grown_taken : (ended : Bool) {start old : Seen} {limit room : ℕ} {bytes : List ℕ} → HasRoom start old limit room bytes
-    → (new : Seen) (more : List ℕ) → MatchBool ended (TakesAll old new room more) (TakenSoFar old new room more)
-    → MatchBool ended (TakesAll start new limit (bytes ++ more)) (TakenSoFar start new limit (bytes ++ more))
-grown_taken true before new more taken = taken_then_all before.taken taken before.fits
-grown_taken false before new more taken = taken_then_taken before.taken taken before.fits
-
-so_far : (ended : Bool) (start now : Seen) (limit : ℕ) (bytes : List ℕ) → ended ≡ false
-    → MatchBool ended (TakesAll start now limit bytes) (TakenSoFar start now limit bytes)
-    → TakenSoFar start now limit bytes
-so_far true start now limit bytes e taken = absurd (let no : true ≡ false = e in cc)
-so_far false start now limit bytes e taken = taken
 
 -- more may come
 pub record IsOpen (start now : Seen) (limit : ℕ) (reads : List Read) (stand : Stand) : Type 0 where
@@ -703,44 +701,38 @@ pub record IsOpen (start now : Seen) (limit : ℕ) (reads : List Read) (stand : 
   pub unended : stand.ended ≡ false
 
 module _ {start now : Seen} {limit : ℕ} {reads : List Read} {stand : Stand} (before : IsOpen start now limit reads stand) where
-  has_room : HasRoom start now limit stand.unread.room (before.given.used ++ stand.unread.bytes)
-  has_room = record {
-    taken = so_far stand.ended start now limit (before.given.used ++ stand.unread.bytes) before.unended
-        before.given.taken.taken;
-    fits = before.given.taken.room;
-  }
-
   pub given_grown : (new : Seen) (after : Stand) → HasGrown now new stand after → HasGiven start new limit reads after
   given_grown new after grown =
       let given = before.given in
       let used = given.used in
       let first = stand.unread.bytes in
-      let behind = grown.behind in
-      let all : (used ++ first) ++ grown.more ≡ used ++ after.unread.bytes = append_assoc used first grown.more
+      let come = grown.filled.more in
+      let behind = grown.filled.behind in
+      let all : (used ++ first) ++ come ≡ used ++ after.unread.bytes = append_assoc used first come
       ∙ ap (λ v. used ++ v) (sym behind) in
       let room = given.taken.room in
-      let less = grown.room in
+      let less = grown.filled.room in
       let long = ap length all in
-      let parts = length-append (used ++ first) grown.more in
-      let taken = grown_taken after.ended has_room new grown.more grown.taken in
+      let parts = length-append (used ++ first) come in
+      let taken = taken_filled given.taken.taken grown.filled room in
       record {
         used = used;
         taken = record {
-          taken = subst (λ v. MatchBool after.ended (TakesAll start new limit v)
-              (TakenSoFar start new limit v)) all taken;
+          taken = subst (λ v. TakenSoFar start new limit after.unread v) all taken;
+          whole = grown.whole;
           room = omega (arith, room, less, long, parts);
         };
         counted = grown.used ∙ given.counted;
         unfailed = grown.unfailed;
         said = λ more none.
-            let said = given.said (grown.more ++ more) (λ ended. absurd (let no : true ≡ false = sym ended
+            let said = given.said (come ++ more) (λ ended. absurd (let no : true ≡ false = sym ended
             ∙ before.unended in cc)) in
-            let whole : (used ++ first) ++ (grown.more ++ more) ≡ (used ++ after.unread.bytes) ++ more =
-            sym (append_assoc (used ++ first) grown.more more) ∙ ap (λ v. v ++ more) all in
-            let rest : first ++ (grown.more ++ more) ≡ after.unread.bytes ++ more = sym
-            (append_assoc first grown.more more) ∙ ap (λ v. v ++ more) (sym behind) in
+            let whole : (used ++ first) ++ (come ++ more) ≡ (used ++ after.unread.bytes) ++ more =
+            sym (append_assoc (used ++ first) come more) ∙ ap (λ v. v ++ more) all in
+            let rest : first ++ (come ++ more) ≡ after.unread.bytes ++ more = sym
+            (append_assoc first come more) ∙ ap (λ v. v ++ more) (sym behind) in
             let counted = subst (λ v. length (lines v) ≡ stand.lines_used + length (lines (first ++
-            (grown.more ++ more)))) whole said.counted in
+            (come ++ more)))) whole said.counted in
             let long_rest = ap (λ v. length (lines v)) rest in
             let same_lines = grown.lines_used in
             record {
@@ -749,18 +741,20 @@ module _ {start now : Seen} {limit : ℕ} {reads : List Read} {stand : Stand} (b
                   (after.unread.bytes ++ more))) (sym grown.is_fastq)
                   (subst (λ v. Says stand.is_fastq (lines ((used ++ after.unread.bytes) ++ more)) reads (lines v)) rest
                   (subst (λ v. Says stand.is_fastq (lines v) reads (lines (first ++
-                  (grown.more ++ more)))) whole said.says));
+                  (come ++ more)))) whole said.says));
             };
       }
 
-  pub given_refused : (new : Seen) (after : Stand) (why : TakeFault) → TakingFails now new stand.unread.room why
+  refused : (new : Seen) (why : TakeFault) → FillingFails now new stand.unread why → TakingFails start new limit why
+  refused new why fails = taken_fails new why before.given.taken.taken fails before.given.taken.room
+
+  pub given_refused : (new : Seen) (after : Stand) (why : TakeFault) → FillingFails now new stand.unread why
       → MeetsFault start new limit after (taking_fault why)
-  given_refused new after taking.TooLong fails =
-      taken_then_fails new stand.unread.room taking.TooLong has_room.taken fails has_room.fits
-  given_refused new after taking.Read fails =
-      taken_then_fails new stand.unread.room taking.Read has_room.taken fails has_room.fits
-  given_refused new after taking.Memory fails =
-      inl (taken_then_fails new stand.unread.room taking.Memory has_room.taken fails has_room.fits)
+  given_refused new after taking.TooLong fails = refused new taking.TooLong fails
+  given_refused new after taking.Read fails = refused new taking.Read fails
+  given_refused new after taking.Broken fails = refused new taking.Broken fails
+  given_refused new after taking.Short fails = refused new taking.Short fails
+  given_refused new after taking.Memory fails = inl (refused new taking.Memory fails)
 
 -- ---- the steps of the reader
 
@@ -834,9 +828,10 @@ filling_none s stand ended failed =
     }
 
 -- where bytes came behind others that had come, some came in all
-pub some_came : {old mid new : Seen} {u v w : Unread} (whole : Filled old new u w) (front : Filled old mid u v) → length v.bytes < length w.bytes → 0 < length whole.more
-some_came {u = u} whole front more =
-    omega (arith, more, ap (λ bytes. length bytes) whole.behind, ap (λ bytes. length bytes) front.behind, length-append u.bytes whole.more, length-append u.bytes front.more)
+pub some_came : {old mid new : Seen} {u v w : Unread} (whole : Filled old new u w) (front : Filled old mid u v) (more : Filled mid new v w)
+    → 0 < length more.more → 0 < length whole.more
+some_came {u = u} {v} whole front more some =
+    omega (arith, some, ap (λ bytes. length bytes) whole.behind, ap (λ bytes. length bytes) front.behind, ap (λ bytes. length bytes) more.behind, length-append u.bytes whole.more, length-append u.bytes front.more, length-append v.bytes more.more)
 
 -- a stand with other unused bytes
 abbrev pub with_unread : Stand → Unread → Bool → Option FastxFault → Stand
@@ -877,10 +872,8 @@ module _ {old mid : Seen} {before now : Stand} (f : Filling old mid before now) 
         length-append before.unread.bytes f.filled.more,
       ) in
       record {
-        more = all.more;
-        taken = at_false now.ended _ _ f.unended all.taken;
-        behind = all.behind;
-        room = all.room;
+        filled = all;
+        whole = λ ended. absurd (let no : true ≡ false = sym ended ∙ f.unended in cc);
         some = at_false now.ended _ _ f.unended some;
         used = f.used;
         lines_used = f.lines_used;
@@ -888,13 +881,11 @@ module _ {old mid : Seen} {before now : Stand} (f : Filling old mid before now) 
         unfailed = f.unfailed;
       }
 
-  pub grown_all : (new : Seen) (after : Unread) → TakesAll mid new now.unread.room [] → after ≡ now.unread
+  pub grown_all : (new : Seen) (after : Unread) → Filled mid new now.unread after → Ended after
       → HasGrown old new before (with_unread now after true now.failed)
-  grown_all new after all same = record {
-    more = f.filled.more;
-    taken = filled_end f.filled all;
-    behind = ap (λ u. u.bytes) same ∙ f.filled.behind;
-    room = let room = f.filled.room in let same_room = ap (λ u. u.room) same in omega (arith, room, same_room);
+  grown_all new after more all = record {
+    filled = filled_both f.filled more;
+    whole = λ ended. all;
     some = tt;
     used = f.used;
     lines_used = f.lines_used;
@@ -915,6 +906,8 @@ met_lines start now limit stand (Truncated number) is m = m
 met_lines start now limit stand TooLong is m = absurd (let no : false ≡ true = is in cc)
 met_lines start now limit stand ReadFailed is m = absurd (let no : false ≡ true = is in cc)
 met_lines start now limit stand Memory is m = absurd (let no : false ≡ true = is in cc)
+met_lines start now limit stand BrokenGzip is m = absurd (let no : false ≡ true = is in cc)
+met_lines start now limit stand ShortGzip is m = absurd (let no : false ≡ true = is in cc)
 
 refused_lines : (start now : Seen) (limit : ℕ) (fault : FastxFault) → is_of_lines fault ≡ true → (bytes : List ℕ)
     → TakesAll start now limit bytes
@@ -927,12 +920,14 @@ refused_lines start now limit (Truncated number) is bytes all has = (bytes, all,
 refused_lines start now limit TooLong is bytes all has = absurd (let no : false ≡ true = is in cc)
 refused_lines start now limit ReadFailed is bytes all has = absurd (let no : false ≡ true = is in cc)
 refused_lines start now limit Memory is bytes all has = absurd (let no : false ≡ true = is in cc)
+refused_lines start now limit BrokenGzip is bytes all has = absurd (let no : false ≡ true = is in cc)
+refused_lines start now limit ShortGzip is bytes all has = absurd (let no : false ≡ true = is in cc)
 
 refused_ended : (start now : Seen) (limit : ℕ) (stand : Stand) (fault : FastxFault) → is_of_lines fault ≡ true
     → stand.ended ≡ true
     → HasMet start now limit stand fault → RefusesFor start now limit fault
 refused_ended start now limit stand fault is e m =
-    refused_lines start now limit fault is m.bytes (all_taken stand.ended start now limit m.bytes e m.taken.taken)
+    refused_lines start now limit fault is m.bytes (all_taken e m.taken)
     (subst (λ v. HasFault v fault) (append-nil m.bytes) (m.met [] (λ ended. refl)))
 
 base_count-either : (b : Bool) (bytes : List ℕ) (reads : List Read)
@@ -951,23 +946,18 @@ module _ {start now : Seen} {limit : ℕ} {stand : Stand} {fault : FastxFault} (
   fault_met : HasMet start now limit stand fault
   fault_met = met_lines start now limit stand fault early.of_lines early.meets
 
-  bytes_before : TakenSoFar start now limit fault_met.bytes
-  bytes_before = so_far stand.ended start now limit fault_met.bytes early.unended fault_met.taken.taken
-
   -- the other bytes were taken
-  pub settled : (new : Seen) (more : List ℕ) → TakesAll now new stand.unread.room more
-      → RefusesFor start new limit fault
-  settled new more all =
-      let none : MayCome stand.ended more = λ ended. absurd (let no : true ≡ false = sym ended ∙ early.unended in cc) in
-      refused_lines start new limit fault early.of_lines (fault_met.bytes ++ more)
-      (taken_then_all bytes_before all fault_met.taken.room) (fault_met.met more none)
+  pub settled : (new : Seen) (count : ℕ) → Skips now new stand.unread (Ok count) → RefusesFor start new limit fault
+  settled new count skips =
+      let rest = taken_skips new count fault_met.taken.taken skips fault_met.taken.room in
+      let none : MayCome stand.ended rest.0 = λ ended. absurd (let no : true ≡ false = sym ended ∙ early.unended in cc) in
+      refused_lines start new limit fault early.of_lines (fault_met.bytes ++ rest.0) rest.2 (fault_met.met rest.0 none)
 
   -- they could not be taken
-  pub settled_refused : (new : Seen) (why : TakeFault) → TakingFails now new stand.unread.room why
+  pub settled_refused : (new : Seen) (why : TakeFault) → FillingFails now new stand.unread why
       → RefusesFor start new limit (taking_fault why)
   settled_refused new why fails =
-      RefusesFor-taking start new limit why
-      (taken_then_fails new stand.unread.room why bytes_before fails fault_met.taken.room)
+      RefusesFor-taking start new limit why (taken_fails new why fault_met.taken.taken fails fault_met.taken.room)
 
 -- all bytes were taken when the fault was met
 pub settled_ended : (start now : Seen) (limit : ℕ) (stand : Stand) (fault : FastxFault) → stand.ended ≡ true
@@ -984,6 +974,8 @@ settled_ended start now limit stand (Truncated number) e m = refused_ended start
 settled_ended start now limit stand TooLong e m = m
 settled_ended start now limit stand ReadFailed e m = m
 settled_ended start now limit stand Memory e m = m
+settled_ended start now limit stand BrokenGzip e m = m
+settled_ended start now limit stand ShortGzip e m = m
 
 -- the fault is none of the lines
 pub settled_other : (start now : Seen) (limit : ℕ) (stand : Stand) (fault : FastxFault) → is_of_lines fault ≡ false
@@ -996,12 +988,13 @@ settled_other start now limit stand (Truncated number) e m = absurd (let no : tr
 settled_other start now limit stand TooLong e m = m
 settled_other start now limit stand ReadFailed e m = m
 settled_other start now limit stand Memory e m = m
+settled_other start now limit stand BrokenGzip e m = m
+settled_other start now limit stand ShortGzip e m = m
 
 -- a growth for the reads was refused
 pub given_in_vain : (start now : Seen) (limit : ℕ) (reads : List Read) (stand : Stand)
     → HasGiven start now limit reads stand → RefusesFor start now limit Memory
-given_in_vain start now limit reads stand given = memory_refused stand.ended start now limit
-    (given.used ++ stand.unread.bytes) given.taken.taken
+given_in_vain start now limit reads stand given = memory_refused given.taken
 
 -- they have no more bases together than the source gave bytes
 pub base_count-gives : (start now : Seen) (limit : ℕ) (reads : List Read) (count : ℕ)

@@ -5,6 +5,7 @@ use Rattle.std.specs.Prelude.{⊤}
 use Rattle.kc_fastx.specs.declared.read_faults.FastxFault.{FastxFault}
 use Rattle.kc_fastx.specs.declared.read_faults.FastxFault.TheVariants.{BadStart, BadBase, BadQuality, LongQuality}
 use Rattle.kc_fastx.specs.declared.read_faults.FastxFault.TheVariants.{Truncated, TooLong, Read as ReadFailed, Memory}
+use Rattle.kc_fastx.specs.declared.read_faults.FastxFault.TheVariants.{BrokenGzip, ShortGzip}
 use Rattle.kc_fastx.specs.Reads.{Read}
 use Rattle.kc_fastx.proofs.RecordsLemmas.{Records-push, TakesLine}
 use Rattle.kc_fastx.proofs.FastqLemmas.{FastqSoFar}
@@ -146,6 +147,8 @@ sequence_fails_tail count stop ls tail (LongQuality number) h = h
 sequence_fails_tail count stop ls tail (Truncated number) h = h
 sequence_fails_tail count stop ls tail TooLong h = h
 sequence_fails_tail count stop ls tail ReadFailed h = h
+sequence_fails_tail count stop ls tail BrokenGzip h = h
+sequence_fails_tail count stop ls tail ShortGzip h = h
 sequence_fails_tail count stop ls tail Memory h = h
 
 pub fasta_fails_tail : (count : ℕ) (ls tail : List Line) (fault : FastxFault) → FastaFails count ls fault
@@ -184,6 +187,8 @@ quality_fails_tail count need ls tail (BadStart number) same q = absurd q
 quality_fails_tail count need ls tail (BadBase number) same q = absurd q
 quality_fails_tail count need ls tail TooLong same q = absurd q
 quality_fails_tail count need ls tail ReadFailed same q = absurd q
+quality_fails_tail count need ls tail BrokenGzip same q = absurd q
+quality_fails_tail count need ls tail ShortGzip same q = absurd q
 quality_fails_tail count need ls tail Memory same q = absurd q
 
 behind_plus_tail : (count : ℕ) (body tail : List Line) (fault : FastxFault) → Remains fault tail → FailsBehindPlus count body fault
@@ -218,6 +223,8 @@ fastq_fails_tail count ls tail (Truncated number) same h =
     (Truncated number)) all h)
 fastq_fails_tail count ls tail TooLong same h = absurd h.2
 fastq_fails_tail count ls tail ReadFailed same h = absurd h.2
+fastq_fails_tail count ls tail BrokenGzip same h = absurd h.2
+fastq_fails_tail count ls tail ShortGzip same h = absurd h.2
 fastq_fails_tail count ls tail Memory same h = absurd h.2
 
 -- a record that fails has a line that isn't blank
@@ -230,6 +237,8 @@ fails_some count ls (LongQuality number) h = (h.1.title, h.0, h.1.whole)
 fails_some count ls (Truncated number) h = (h.1.title, h.0, h.1.whole)
 fails_some count ls TooLong h = absurd h.2
 fails_some count ls ReadFailed h = absurd h.2
+fails_some count ls BrokenGzip h = absurd h.2
+fails_some count ls ShortGzip h = absurd h.2
 fails_some count ls Memory h = absurd h.2
 
 -- ---- FASTQ records see no blank lines in front
@@ -260,6 +269,8 @@ fastq_fails_from count ls (LongQuality number) h = (h.0, title_from ls h.0 h.1, 
 fastq_fails_from count ls (Truncated number) h = (h.0, title_from ls h.0 h.1, h.2)
 fastq_fails_from count ls TooLong h = absurd h.2
 fastq_fails_from count ls ReadFailed h = absurd h.2
+fastq_fails_from count ls BrokenGzip h = absurd h.2
+fastq_fails_from count ls ShortGzip h = absurd h.2
 fastq_fails_from count ls Memory h = absurd h.2
 
 -- ---- the next FASTQ record

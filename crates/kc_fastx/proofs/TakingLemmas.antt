@@ -6,6 +6,7 @@ use Rattle.std.proofs.lemmas.List.{length-take-le}
 use Rattle.kc_fastx.specs.declared.read_faults.FastxFault.{FastxFault}
 use Rattle.kc_fastx.specs.declared.read_faults.FastxFault.TheVariants.{BadStart, BadBase, BadQuality, LongQuality}
 use Rattle.kc_fastx.specs.declared.read_faults.FastxFault.TheVariants.{Truncated, TooLong, Read as ReadFailed, Memory}
+use Rattle.kc_fastx.specs.declared.read_faults.FastxFault.TheVariants.{BrokenGzip, ShortGzip}
 use Rattle.kc_fastx.specs.Reads.{Read}
 use Rattle.kc_fastx.specs.Lines.{Line, HasLongestWhole, line_feed, next_begins_with, skip_blanks}
 use Rattle.kc_fastx.specs.Faults.{UnlessMemory}
@@ -54,6 +55,8 @@ unsure_ends is_fastq count ls left (Err (LongQuality line)) ok err none = absurd
 unsure_ends is_fastq count ls left (Err TooLong) ok err none = absurd none
 unsure_ends is_fastq count ls left (Err ReadFailed) ok err none = absurd none
 unsure_ends is_fastq count ls left (Err Memory) ok err none = absurd none
+unsure_ends is_fastq count ls left (Err BrokenGzip) ok err none = absurd none
+unsure_ends is_fastq count ls left (Err ShortGzip) ok err none = absurd none
 
 -- ---- a refusal of memory
 

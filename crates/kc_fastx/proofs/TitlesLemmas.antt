@@ -17,7 +17,8 @@ use Rattle.kc_fastx.proofs.ParsingLemmas.{at_true, at_false}
 use Rattle.kc_fastx.proofs.ClosedLemmas.{lines_behind}
 use Rattle.kc_fastx.proofs.TailLemmas.{skip_blanks-again, skip_blanks-append, fasta_tail, fastq_tail}
 use Rattle.kc_fastx.proofs.ReadingLemmas.{StaysBehind, FastaComes, ends_tail, begins_tail, lines_here, left_behind, stays}
-use Rattle.kc_fastx.proofs.ReadingLemmas.{IsRead, given_none, given_bytes, with_failed}
+use Rattle.kc_fastx.proofs.ReadingLemmas.{IsRead, all_taken, given_none, with_failed}
+use Rattle.kc_gzip.proofs.IntakesLemmas.{taken_once}
 use Rattle.kc_fastx.specs.declared.read_faults.FastxFault.{FastxFault}
 use Rattle.kc_fastx.specs.Lines.{Cursor}
 
@@ -117,65 +118,57 @@ AreRecords-push ls (first ∷ others) middle this rest before one =
 pub records_none : (start : Seen) (limit : ℕ) → HasGivenRecords start start limit [] (first_stand limit)
 records_none start limit = record {
   given = given_none start limit;
-  bytes = [];
-  taken = sym (append-nil start.history.bytes);
   said = λ more none. refl;
 }
 
 -- more bytes may stand behind those that were unused
-pub record IsLonger (old now : Seen) (before stand : Stand) : Type 0 where
+pub record IsLonger (before stand : Stand) : Type 0 where
   pub more : List ℕ
-  pub taken : now.history.bytes ≡ old.history.bytes ++ more
+  pub came : stand.unread.came ≡ before.unread.came ++ more
   pub behind : stand.unread.bytes ≡ before.unread.bytes ++ more
   pub ended : before.ended ≡ true → (stand.ended ≡ true) × (more ≡ [])
 
-pub longer_none : (now : Seen) (stand : Stand) → IsLonger now now stand stand
-longer_none now stand = record {
+pub longer_none : (stand : Stand) → IsLonger stand stand
+longer_none stand = record {
   more = [];
-  taken = sym (append-nil now.history.bytes);
+  came = sym (append-nil stand.unread.came);
   behind = sym (append-nil stand.unread.bytes);
   ended = λ e. (e, refl);
 }
 
-pub longer_grown : {old mid : Seen} {before stand : Stand} → IsLonger old mid before stand → stand.ended ≡ false
-    → (new : Seen) (after : Stand) → HasGrown mid new stand after → IsLonger old new before after
-longer_grown {old = old} {mid = mid} {before = before} {stand = stand} l unended new after grown = record {
-  more = l.more ++ grown.more;
-  taken = given_bytes after.ended mid new stand.unread.room grown.more grown.taken
-      ∙ ap (λ v. v ++ grown.more) l.taken ∙ append_assoc old.history.bytes l.more grown.more;
-  behind = grown.behind ∙ ap (λ v. v ++ grown.more) l.behind
-      ∙ append_assoc before.unread.bytes l.more grown.more;
+pub longer_grown : {before stand : Stand} → IsLonger before stand → stand.ended ≡ false
+    → (mid new : Seen) (after : Stand) → HasGrown mid new stand after → IsLonger before after
+longer_grown {before = before} {stand = stand} l unended mid new after grown = record {
+  more = l.more ++ grown.filled.more;
+  came = grown.filled.came ∙ ap (λ v. v ++ grown.filled.more) l.came
+      ∙ append_assoc before.unread.came l.more grown.filled.more;
+  behind = grown.filled.behind ∙ ap (λ v. v ++ grown.filled.more) l.behind
+      ∙ append_assoc before.unread.bytes l.more grown.filled.more;
   ended = λ e. absurd (let no : true ≡ false = sym (l.ended e).0 ∙ unended in cc);
 }
 
 -- what is kept of a fault changes no bytes
-pub longer_kept : {old now : Seen} {before stand : Stand} (failed : Option FastxFault) → IsLonger old now before stand
-    → IsLonger old now before (with_failed stand failed)
-longer_kept failed l = record { more = l.more; taken = l.taken; behind = l.behind; ended = l.ended }
+pub longer_kept : {before stand : Stand} (failed : Option FastxFault) → IsLonger before stand
+    → IsLonger before (with_failed stand failed)
+longer_kept failed l = record { more = l.more; came = l.came; behind = l.behind; ended = l.ended }
 
 -- the same records, with what may still come behind more unused bytes
-said_longer : {start old now : Seen} {limit : ℕ} {records : List Record} {before stand : Stand}
-    (h : HasGivenRecords start old limit records before) (l : IsLonger old now before stand) (more : List ℕ)
+said_longer : {start old : Seen} {limit : ℕ} {records : List Record} {before stand : Stand}
+    (h : HasGivenRecords start old limit records before) (l : IsLonger before stand) (more : List ℕ)
     → MayCome stand.ended more
-    → AreRecords (lines ((h.bytes ++ l.more) ++ more)) records (lines (stand.unread.bytes ++ more))
+    → AreRecords (lines (stand.unread.came ++ more)) records (lines (stand.unread.bytes ++ more))
 said_longer {records = records} {before = before} {stand = stand} h l more none =
     let come : MayCome before.ended (l.more ++ more) =
     λ e. let p = l.ended e in ap (λ v. v ++ more) p.1 ∙ none p.0 in
-    let all = append_assoc h.bytes l.more more in
+    let all = ap (λ v. v ++ more) l.came ∙ append_assoc before.unread.came l.more more in
     let rest = ap (λ v. v ++ more) l.behind ∙ append_assoc before.unread.bytes l.more more in
     subst (λ v. AreRecords (lines v) records (lines (stand.unread.bytes ++ more))) (sym all)
-    (subst (λ v. AreRecords (lines (h.bytes ++ (l.more ++ more))) records (lines v)) (sym rest)
+    (subst (λ v. AreRecords (lines (before.unread.came ++ (l.more ++ more))) records (lines v)) (sym rest)
     (h.said (l.more ++ more) come))
-
-taken_longer : {start old now : Seen} {limit : ℕ} {records : List Record} {before stand : Stand}
-    (h : HasGivenRecords start old limit records before) (l : IsLonger old now before stand)
-    → now.history.bytes ≡ start.history.bytes ++ (h.bytes ++ l.more)
-taken_longer {start = start} h l =
-    l.taken ∙ ap (λ v. v ++ l.more) h.taken ∙ append_assoc start.history.bytes h.bytes l.more
 
 -- one record more
 pub records_more : {start old now : Seen} {limit : ℕ} {records : List Record} {before stand : Stand}
-    (h : HasGivenRecords start old limit records before) (l : IsLonger old now before stand) (new : Stand)
+    (h : HasGivenRecords start old limit records before) (l : IsLonger before stand) (new : Stand)
     (title : Line) (read : Read) → TellsRecord stand new title (Ok (Given read))
     → HasGiven start now limit (reads_in records ++ read ∷ []) new
     → HasGivenRecords start now limit (records ++ record_of title read ∷ []) new
@@ -183,32 +176,30 @@ records_more {start = start} {now = now} {limit = limit} {records = records} {st
     given = record {
       given = subst (λ v. HasGiven start now limit v new) (sym (map_push (λ (r : Record). r.read) records (record_of title read)))
           given;
-      bytes = h.bytes ++ l.more;
-      taken = taken_longer h l;
       said = λ more none.
           let come : MayCome stand.ended more = λ e. none (tells.0 ∙ e) in
-          AreRecords-push (lines ((h.bytes ++ l.more) ++ more)) records (lines (stand.unread.bytes ++ more))
-          (record_of title read) (lines (new.unread.bytes ++ more)) (said_longer h l more come) (tells.1 more come);
+          subst (λ v. AreRecords (lines (v ++ more)) (records ++ record_of title read ∷ []) (lines (new.unread.bytes ++ more)))
+          (sym tells.1)
+          (AreRecords-push (lines (stand.unread.came ++ more)) records (lines (stand.unread.bytes ++ more))
+          (record_of title read) (lines (new.unread.bytes ++ more)) (said_longer h l more come) (tells.2 more come));
     }
 
 -- the same records
 pub records_same : {start old now : Seen} {limit : ℕ} {records : List Record} {before stand : Stand}
-    (h : HasGivenRecords start old limit records before) → IsLonger old now before stand
+    (h : HasGivenRecords start old limit records before) → IsLonger before stand
     → HasGiven start now limit (reads_in records) stand → HasGivenRecords start now limit records stand
 records_same h l given = record {
   given = given;
-  bytes = h.bytes ++ l.more;
-  taken = taken_longer h l;
   said = said_longer h l;
 }
 
 -- all records
 pub records_all : {start now : Seen} {limit count : ℕ} {records : List Record} {stand : Stand}
-    (h : HasGivenRecords start now limit records stand) → skip_blanks (lines stand.unread.bytes) ≡ []
+    (h : HasGivenRecords start now limit records stand) → stand.ended ≡ true → skip_blanks (lines stand.unread.bytes) ≡ []
     → GivesReads start now limit (reads_in records) count → GivesRecords start now limit records
-records_all {start = start} {records = records} {stand = stand} h blank gives =
-    let same : h.bytes ≡ gives.bytes = append_cancel_left start.history.bytes h.bytes gives.bytes
-    (sym h.taken ∙ gives.taken.taken.given) in
+records_all {records = records} {stand = stand} h ended blank gives =
+    let same : stand.unread.came ≡ gives.bytes =
+    sym h.given.taken.taken.are ∙ taken_once (all_taken ended h.given.taken) gives.taken in
     let said = h.said [] (λ e. refl) in (
       gives.bytes,
       gives.taken,
@@ -217,7 +208,7 @@ records_all {start = start} {records = records} {stand = stand} h blank gives =
         rest = lines stand.unread.bytes;
         said = subst (λ v. AreRecords (lines gives.bytes) records (lines v)) (append-nil stand.unread.bytes)
             (subst (λ v. AreRecords (lines v) records (lines (stand.unread.bytes ++ [])))
-            (append-nil h.bytes ∙ same) said);
+            (append-nil stand.unread.came ∙ same) said);
         ends = blank;
       },
     )

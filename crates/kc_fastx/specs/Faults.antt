@@ -1,11 +1,11 @@
 -- The numbers of the faults (our formats page), what a contract says of them, and the faults of a source.
 use Rattle.std.specs.Prelude.{ℕ, Bool, true, false, ⊤, Option, Some}
-use Rattle.kc_io.specs.declared.intakes.TakeFault.{TakeFault}
-use Rattle.kc_io.specs.declared.intakes.TakeFault.TheVariants as taking
+use Rattle.kc_gzip.specs.declared.unpacked_intakes.TakeFault.{TakeFault}
+use Rattle.kc_gzip.specs.declared.unpacked_intakes.TakeFault.TheVariants as taking
 use Rattle.kc_fastx.specs.declared.read_faults.FastxFault.{FastxFault}
 use Rattle.kc_fastx.specs.declared.read_faults.FastxFault.TheVariants.{BadStart, BadBase, BadQuality}
 use Rattle.kc_fastx.specs.declared.read_faults.FastxFault.TheVariants.{LongQuality, Truncated}
-use Rattle.kc_fastx.specs.declared.read_faults.FastxFault.TheVariants.{TooLong, Read, Memory}
+use Rattle.kc_fastx.specs.declared.read_faults.FastxFault.TheVariants.{TooLong, Read, Memory, BrokenGzip, ShortGzip}
 
 abbrev pub fault_number : FastxFault → ℕ
 fault_number (BadStart line) = 1
@@ -16,12 +16,16 @@ fault_number (Truncated line) = 5
 fault_number TooLong = 6
 fault_number Read = 7
 fault_number Memory = 8
+fault_number BrokenGzip = 71
+fault_number ShortGzip = 72
 
 -- the fault is one of the lines
 abbrev pub is_of_lines : FastxFault → Bool
 is_of_lines TooLong = false
 is_of_lines Read = false
 is_of_lines Memory = false
+is_of_lines BrokenGzip = false
+is_of_lines ShortGzip = false
 is_of_lines fault = true
 
 -- memory was refused, of which nothing more is said, or the fault is one that `Is` tells
@@ -38,4 +42,6 @@ kept_fault failed fault = Some fault
 abbrev pub taking_fault : TakeFault → FastxFault
 taking_fault taking.TooLong = TooLong
 taking_fault taking.Read = Read
+taking_fault taking.Broken = BrokenGzip
+taking_fault taking.Short = ShortGzip
 taking_fault taking.Memory = Memory

@@ -1,10 +1,11 @@
 -- The reads of a byte string, or its first fault; the same of a source, and of a list of byte strings.
 use Rattle.std.specs.Prelude.{◌≡◌, ℕ, ◌+◌, ◌^◌, List, [], ◌∷◌, ◌++◌, length, MatchBool, Result, MatchResult, ◌⊎◌}
-use Rattle.kc_io.specs.declared.intakes.TakeFault.TheVariants as taking
+use Rattle.kc_gzip.specs.declared.unpacked_intakes.TakeFault.TheVariants as taking
 use Rattle.kc_io.specs.Sources.{Seen}
-use Rattle.kc_io.specs.Intakes.{TakesAll, TakingFails}
+use Rattle.kc_gzip.specs.Intakes.{TakesAll, TakingFails}
 use Rattle.kc_fastx.specs.declared.read_faults.FastxFault.{FastxFault}
 use Rattle.kc_fastx.specs.declared.read_faults.FastxFault.TheVariants.{TooLong, Read as ReadFailed, Memory}
+use Rattle.kc_fastx.specs.declared.read_faults.FastxFault.TheVariants.{BrokenGzip, ShortGzip}
 use Rattle.kc_fastx.specs.Reads.{Read}
 use Rattle.kc_fastx.specs.Lines.{Line, lines, next_begins_with, skip_blanks}
 use Rattle.kc_fastx.specs.Records.{Records, FaultBehind, FirstFault}
@@ -52,11 +53,11 @@ HasFaultBehind bytes reads fault =
 abbrev pub IsReadsOf : List ℕ → Result (List Read) FastxFault → Type 0
 IsReadsOf bytes answer = MatchResult answer (HasReads bytes) (HasFault bytes)
 
--- the most bytes that a source may give, and the sources of one count together
+-- the most bytes that a source may say, and the sources of one count together
 abbrev pub most_bytes : ℕ
 most_bytes = 2 ^ 36
 
--- all bytes of the source were taken, they say these reads, and there are `count` of them
+-- all bytes of the source were taken and decompressed, they say these reads, and there are `count` of them
 pub record GivesReads (old new : Seen) (limit : ℕ) (reads : List Read) (count : ℕ) : Type 0 where
   pub bytes : List ℕ
   pub taken : TakesAll old new limit bytes
@@ -68,6 +69,8 @@ pub record GivesReads (old new : Seen) (limit : ℕ) (reads : List Read) (count 
 abbrev pub RefusesFor : Seen → Seen → ℕ → FastxFault → Type 0
 RefusesFor old new limit TooLong = TakingFails old new limit taking.TooLong
 RefusesFor old new limit ReadFailed = TakingFails old new limit taking.Read
+RefusesFor old new limit BrokenGzip = TakingFails old new limit taking.Broken
+RefusesFor old new limit ShortGzip = TakingFails old new limit taking.Short
 RefusesFor old new limit Memory =
     TakingFails old new limit taking.Memory ⊎ ((bytes : List ℕ) × TakesAll old new limit bytes)
 RefusesFor old new limit fault = (bytes : List ℕ) × TakesAll old new limit bytes × HasFault bytes fault

@@ -2,12 +2,12 @@
 use Rattle.std.specs.Prelude.{◌≡◌, ◌≢◌, ⊤, ℕ, ◌+◌, ◌<◌, ◌≤◌, ◌&&◌, Bool, true, false, not, List, [], ◌∷◌, ◌++◌, length}
 use Rattle.std.specs.Prelude.{MatchBool, ◌⊎◌}
 use Rattle.std.specs.Prelude.{Option, Some, None, Result, Ok, Err}
-use Rattle.kc_io.specs.declared.intakes.TakeFault.{TakeFault}
+use Rattle.kc_gzip.specs.declared.unpacked_intakes.TakeFault.{TakeFault}
 use Rattle.kc_io.specs.Sources.{Seen}
-use Rattle.kc_io.specs.Intakes.{TakenSoFar, TakesAll, TakingFails}
-use Rattle.kc_io.specs.Intakes.{Unread}
+use Rattle.kc_gzip.specs.Intakes.{Ended, Filled, FillingFails, TakenSoFar, Unread, nothing_taken}
 use Rattle.kc_fastx.specs.declared.read_faults.FastxFault.{FastxFault}
 use Rattle.kc_fastx.specs.declared.read_faults.FastxFault.TheVariants.{Truncated, TooLong, Read as ReadFailed, Memory}
+use Rattle.kc_fastx.specs.declared.read_faults.FastxFault.TheVariants.{BrokenGzip, ShortGzip}
 use Rattle.kc_fastx.specs.Reads.{Read}
 use Rattle.kc_fastx.specs.Lines.{Line, lines, next_begins_with, ends_or_begins_with, skip_blanks, HasWhole}
 use Rattle.kc_fastx.specs.Lines.{HasLongestWhole}
@@ -36,7 +36,7 @@ pub record Stand : Type 0 where
 -- nothing was taken yet, and so many bytes may be
 abbrev pub first_stand : ℕ → Stand
 first_stand limit = record {
-  unread = record { bytes = []; room = limit };
+  unread = nothing_taken limit;
   used = 0;
   lines_used = 0;
   is_fastq = false;
@@ -65,7 +65,8 @@ MayCome ended more = ended ≡ true → more ≡ []
 
 -- these bytes were taken: all, where the source told its end
 pub record HasTaken (start now : Seen) (limit : ℕ) (stand : Stand) (bytes : List ℕ) : Type 0 where
-  pub taken : MatchBool stand.ended (TakesAll start now limit bytes) (TakenSoFar start now limit bytes)
+  pub taken : TakenSoFar start now limit stand.unread bytes
+  pub whole : stand.ended ≡ true → Ended stand.unread
   pub room : length bytes + stand.unread.room ≡ limit
 
 -- the lines of these bytes are records that say these reads, and then the lines of the rest
@@ -191,14 +192,11 @@ pub record TakesFew (old new : Stand) : Type 0 where
   pub counted : new.used ≡ old.used + length used
   pub few : (taken ≡ []) ⊎ CameInSteps old taken
 
--- these came behind the bytes that were there
+-- more came behind the bytes that were there: some, or all up to the end
 pub record HasGrown (old new : Seen) (before after : Stand) : Type 0 where
-  pub more : List ℕ
-  pub taken : MatchBool after.ended (TakesAll old new before.unread.room more)
-      (TakenSoFar old new before.unread.room more)
-  pub behind : after.unread.bytes ≡ before.unread.bytes ++ more
-  pub room : before.unread.room ≡ after.unread.room + length more
-  pub some : MatchBool after.ended ⊤ (0 < length more)
+  pub filled : Filled old new before.unread after.unread
+  pub whole : after.ended ≡ true → Ended after.unread
+  pub some : MatchBool after.ended ⊤ (0 < length filled.more)
   pub used : after.used ≡ before.used
   pub lines_used : after.lines_used ≡ before.lines_used
   pub is_fastq : after.is_fastq ≡ before.is_fastq
@@ -209,16 +207,20 @@ abbrev pub MeetsFault : Seen → Seen → ℕ → Stand → FastxFault → Type 
 MeetsFault start now limit stand TooLong = RefusesFor start now limit TooLong
 MeetsFault start now limit stand ReadFailed = RefusesFor start now limit ReadFailed
 MeetsFault start now limit stand Memory = RefusesFor start now limit Memory
+MeetsFault start now limit stand BrokenGzip = RefusesFor start now limit BrokenGzip
+MeetsFault start now limit stand ShortGzip = RefusesFor start now limit ShortGzip
 MeetsFault start now limit stand fault = HasMet start now limit stand fault
 
 -- A fault of the lines is that of the record behind those that said these reads, whatever may still come behind the
--- bytes that the source gave. The other faults are of no record.
-abbrev pub ComesBehind : Seen → Seen → List Read → Stand → FastxFault → Type 0
-ComesBehind start now reads stand TooLong = ⊤
-ComesBehind start now reads stand ReadFailed = ⊤
-ComesBehind start now reads stand Memory = ⊤
-ComesBehind start now reads stand fault = (bytes : List ℕ) × (now.history.bytes ≡ start.history.bytes ++ bytes)
-    × ((more : List ℕ) → MayCome stand.ended more → HasFaultBehind (bytes ++ more) reads fault)
+-- bytes that came. The other faults are of no record.
+abbrev pub ComesBehind : List Read → Stand → FastxFault → Type 0
+ComesBehind reads stand TooLong = ⊤
+ComesBehind reads stand ReadFailed = ⊤
+ComesBehind reads stand Memory = ⊤
+ComesBehind reads stand BrokenGzip = ⊤
+ComesBehind reads stand ShortGzip = ⊤
+ComesBehind reads stand fault =
+    (more : List ℕ) → MayCome stand.ended more → HasFaultBehind (stand.unread.came ++ more) reads fault
 
 -- What a reader that had given these reads answers: one read more, or the end, where all bytes were taken and those
 -- reads are what they say, or a fault.
@@ -248,4 +250,4 @@ Moves old new answer = ⊤
 abbrev pub Grows : Seen → Seen → Stand → Stand → Result (Unit {0}) TakeFault → Type 0
 Grows old new before after (Ok done) = HasGrown old new before after
 Grows old new before after (Err why) =
-    TakingFails old new before.unread.room why × (after.failed ≡ Some (taking_fault why))
+    FillingFails old new before.unread why × (after.failed ≡ Some (taking_fault why))

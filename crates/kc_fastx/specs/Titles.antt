@@ -1,7 +1,7 @@
 -- The records of FASTA and FASTQ: the reads with their titles.
-use Rattle.std.specs.Prelude.{◌≡◌, ⊤, ℕ, List, [], ◌∷◌, ◌++◌, map, drop, Option, Some, None, Result, Ok, Err}
+use Rattle.std.specs.Prelude.{◌≡◌, ⊤, ℕ, true, List, [], ◌∷◌, ◌++◌, map, drop, Option, Some, None, Result, Ok, Err}
 use Rattle.kc_io.specs.Sources.{Seen}
-use Rattle.kc_io.specs.Intakes.{TakesAll}
+use Rattle.kc_gzip.specs.Intakes.{TakesAll}
 use Rattle.kc_fastx.specs.declared.read_faults.FastxFault.{FastxFault}
 use Rattle.kc_fastx.specs.declared.record_reader.Next.{Next}
 use Rattle.kc_fastx.specs.declared.record_reader.Next.TheVariants.{Given, End}
@@ -53,10 +53,8 @@ pub record HasRecords (bytes : List ℕ) (records : List Record) : Type 0 where
 -- the lines of all bytes are the records, and then the lines of the bytes that it did not use.
 pub record HasGivenRecords (start now : Seen) (limit : ℕ) (records : List Record) (stand : Stand) : Type 0 where
   pub given : HasGiven start now limit (reads_in records) stand
-  pub bytes : List ℕ
-  pub taken : now.history.bytes ≡ start.history.bytes ++ bytes
   pub said : (more : List ℕ) → MayCome stand.ended more
-      → AreRecords (lines (bytes ++ more)) records (lines (stand.unread.bytes ++ more))
+      → AreRecords (lines (stand.unread.came ++ more)) records (lines (stand.unread.bytes ++ more))
 
 -- all bytes of the source were taken, and they say these records
 abbrev pub GivesRecords : Seen → Seen → ℕ → List Record → Type 0
@@ -68,13 +66,15 @@ abbrev pub GivesRecord : Seen → Seen → ℕ → List Record → Stand → Lin
 GivesRecord start now limit records stand title (Ok (Some read)) =
     HasGivenRecords start now limit (records ++ record_of title read ∷ []) stand
 GivesRecord start now limit records stand title (Ok None) =
-    HasGivenRecords start now limit records stand × GivesRecords start now limit records
+    HasGivenRecords start now limit records stand × (stand.ended ≡ true) × GivesRecords start now limit records
 GivesRecord start now limit records stand title (Err fault) = MeetsFault start now limit stand fault
 
 -- What the unused bytes alone tell of that: whatever may still come, they begin with the record of a read that was
 -- given; at the end all their lines are blank.
 abbrev pub TellsRecord : Stand → Stand → Line → Result Next FastxFault → Type 0
-TellsRecord old new title (Ok (Given read)) = (new.ended ≡ old.ended) × ((more : List ℕ) → MayCome old.ended more
+TellsRecord old new title (Ok (Given read)) = (new.ended ≡ old.ended) × (new.unread.came ≡ old.unread.came)
+    × ((more : List ℕ) → MayCome old.ended more
     → IsRecord (lines (old.unread.bytes ++ more)) (record_of title read) (lines (new.unread.bytes ++ more)))
-TellsRecord old new title (Ok End) = (new ≡ old) × (skip_blanks (lines old.unread.bytes) ≡ [])
+TellsRecord old new title (Ok End) =
+    (new ≡ old) × (old.ended ≡ true) × (skip_blanks (lines old.unread.bytes) ≡ [])
 TellsRecord old new title answer = ⊤

@@ -4,7 +4,7 @@ ghost use Rattle.kc_fastx.specs.declared.read_faults.FastxFault.{FastxFault};
 ghost use Rattle.kc_fastx.specs.declared.read_faults.FastxFault.TheVariants.{Memory};
 ghost use Rattle.kc_fastx.specs.Faults.{fault_number, is_of_lines, taking_fault};
 
-use kc_io::TakeFault;
+use kc_gzip::TakeFault;
 use std::alloc::{AllocError, AllocFailed};
 use thiserror::Error;
 
@@ -35,10 +35,16 @@ pub enum FastxFault {
     /// Memory was refused.
     #[error("no memory")]
     Memory,
+    /// The source is gzip, and broken.
+    #[error("broken gzip")]
+    BrokenGzip,
+    /// The source is gzip, and ends before it should.
+    #[error("gzip cut short")]
+    ShortGzip,
 }
 
 impl FastxFault {
-    /// The fault's number, from 1 to 8.
+    /// The fault's number: 1 to 8, 71 or 72.
     pub fn number(&self) -> u32
         ensures { result ≡ fault_number self.now }
     {
@@ -51,6 +57,8 @@ impl FastxFault {
             FastxFault::TooLong => 6,
             FastxFault::Read => 7,
             FastxFault::Memory => 8,
+            FastxFault::BrokenGzip => 71,
+            FastxFault::ShortGzip => 72,
         }
     }
 
@@ -69,6 +77,8 @@ impl From<TakeFault> for FastxFault {
         match why {
             TakeFault::TooLong => FastxFault::TooLong,
             TakeFault::Read => FastxFault::Read,
+            TakeFault::Broken => FastxFault::BrokenGzip,
+            TakeFault::Short => FastxFault::ShortGzip,
             TakeFault::Memory => FastxFault::Memory,
         }
     }

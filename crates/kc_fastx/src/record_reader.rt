@@ -1,6 +1,6 @@
 //! The reads that a source says, one after another: of its bytes the reader keeps a block and what a record takes.
 ghost use Rattle.std.specs.Prelude.{◌≡◌, ℕ, List, true, false, None, Some, Err, ◌+◌, ◌≤◌, ◌<◌};
-ghost use Rattle.std.specs.Prelude.{length, IfOk, IfErr, OnOk, OnErr, IfSome, OnSome};
+ghost use Rattle.std.specs.Prelude.{length, min, ◌-◌, ◌^◌, IfOk, IfErr, OnOk, OnErr, IfSome, OnSome};
 ghost use Rattle.kc_io.specs.Sources.{Seen};
 ghost use Rattle.kc_fastx.specs.Reads.{Read};
 ghost use Rattle.kc_fastx.specs.Lines.{line_count, skip_blanks, Passes, HasWhole, HasLongestWhole};
@@ -17,7 +17,8 @@ use crate::fastq::next_fastq;
 use crate::read_faults::FastxFault;
 use crate::reads::SeqRead;
 use crate::text_lines::LineCursor;
-use kc_io::{Intake, Source, TakeFault};
+use kc_gzip::{Intake, TakeFault};
+use kc_io::Source;
 use memchr::memrchr;
 use std::alloc::{AllocError, Global};
 use std::marker::Model;
@@ -108,7 +109,7 @@ impl Reading {
             → GivesNext start (S.seen source.new) limit reads self.new result }
         ensures behind { (start : Seen) (limit : ℕ) (reads : List Read)
             → HasGiven start (S.seen source.old) limit reads self.old
-            → IfErr result (ComesBehind start (S.seen source.new) reads self.new) }
+            → IfErr result (ComesBehind reads self.new) }
         ensures used { IfOk result (λ next. IfSome next (λ read. self.old.used < self.new.used)) }
         ensures few { TakesFew self.old self.new }
         ensures memory { result ≡ Err FastxFault.Memory → self.old.failed ≡ None → LacksMemory self.new }
@@ -139,7 +140,7 @@ impl Reading {
             → GivesRecord start (S.seen source.new) limit records self.new title.new.items result }
         ensures behind { (start : Seen) (limit : ℕ) (records : List Record)
             → HasGivenRecords start (S.seen source.old) limit records self.old
-            → IfErr result (ComesBehind start (S.seen source.new) (reads_in records) self.new) }
+            → IfErr result (ComesBehind (reads_in records) self.new) }
         ensures used { IfOk result (λ next. IfSome next (λ read. self.old.used < self.new.used)) }
         ensures few { TakesFew self.old self.new }
         ensures memory { result ≡ Err FastxFault.Memory → self.old.failed ≡ None → LacksMemory self.new }
@@ -160,6 +161,13 @@ impl Reading {
         ensures { result ≡ self.now.used + length self.now.unread.bytes }
     {
         self.used + self.intake.as_slice().len() as u64
+    }
+
+    /// How many bytes the source has given, compressed as it gave them, or 2^64 - 1 where they are more.
+    pub fn taken_count(&self) -> u64
+        ensures { result ≡ min (length self.now.unread.since.bytes) (2 ^ 64 - 1) }
+    {
+        self.intake.taken_count()
     }
 
     /// The fault of the source, where all its bytes are asked for and `next_read` has answered this fault. Behind a
@@ -194,7 +202,7 @@ impl Reading {
             → GivesRecord start (S.seen source.new) limit records self.new title.new.items result }
         ensures behind { (start : Seen) (limit : ℕ) (reads : List Read)
             → HasGiven start (S.seen source.old) limit reads self.old
-            → IfErr result (ComesBehind start (S.seen source.new) reads self.new) }
+            → IfErr result (ComesBehind reads self.new) }
         ensures used { IfOk result (λ next. IfSome next (λ read. self.old.used < self.new.used)) }
         ensures few { TakesFew self.old self.new }
         ensures memory { result ≡ Err FastxFault.Memory → self.old.failed ≡ None → LacksMemory self.new }
@@ -273,7 +281,7 @@ impl Reading {
         ensures tells { (start now : Seen) (limit : ℕ) (reads : List Read)
             → HasGiven start now limit reads self.old → TellsNext start now limit reads self.new result }
         ensures behind { (start now : Seen) (limit : ℕ) (reads : List Read)
-            → HasGiven start now limit reads self.old → IfErr result (ComesBehind start now reads self.new) }
+            → HasGiven start now limit reads self.old → IfErr result (ComesBehind reads self.new) }
         ensures moves { Moves self.old self.new result }
         ensures memory { result ≡ Err FastxFault.Memory → BeginsRecord self.old }
         ensures wants { WantsMore self.old result }

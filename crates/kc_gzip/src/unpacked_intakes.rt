@@ -1,5 +1,5 @@
 //! The intake of a source block by block, for readers that use the bytes that it says as they come.
-ghost use Rattle.std.specs.Prelude.{◌≡◌, ◌+◌, ◌≤◌, length, drop, IfOk, IfErr, OnErr};
+ghost use Rattle.std.specs.Prelude.{◌≡◌, ◌+◌, ◌-◌, ◌^◌, ◌≤◌, length, drop, min, IfOk, IfErr, OnErr};
 ghost use Rattle.kc_gzip.specs.declared.unpacked_intakes.TakeFault.TheVariants.{Memory};
 ghost use Rattle.kc_gzip.specs.Since.{Continues};
 ghost use Rattle.kc_gzip.specs.Intakes.{AsksForBlocks, Comes, Fills, Skips, Stops, block_size, none_kept};
@@ -114,6 +114,13 @@ impl Intake {
         ensures { result.now ≡ self.now.bytes }
     {
         &self.bytes[self.used..]
+    }
+
+    /// How many bytes the source has given, compressed as it gave them, or 2^64 - 1 where they are more.
+    pub fn taken_count(&self) -> u64
+        ensures { result ≡ min (length self.now.since.bytes) (2 ^ 64 - 1) }
+    {
+        self.unpacking.taken_count()
     }
 
     /// Uses the first `count` bytes, which are forgotten. Condition: at least `count` bytes are there.

@@ -1,6 +1,5 @@
 pub mod BlockLemmas
 pub mod CallsLemmas
-pub mod IntakesLemmas
 pub mod KnownBytesLemmas
 pub mod SinksLemmas
 pub mod Walks

@@ -1,5 +1,4 @@
 pub mod Answers
 pub mod History
-pub mod Intakes
 pub mod Sinks
 pub mod Sources

@@ -1,28 +1,26 @@
 //! Bytes in and bytes out.
 //!
-//! A `Source` gives bytes and a `Sink` takes them. Proofs see of each the bytes that it tells, and the history of what
-//! it answered, so that contracts speak of streams that tell no bytes too. `FromBytes` and `FromRead` make a source of
-//! a slice and of a reader of std; `ToVec` and `ToWrite` make a sink of a vector and of a writer of std. A call of
-//! std's that was interrupted is tried again and is no failure.
+//! A `Source` gives bytes and a `Sink` takes them. Proofs see of each its bytes, where these are known, and the
+//! history of what it answered, so that contracts cover streams whose bytes are not known too. `FromBytes` and
+//! `FromRead` make a source of a slice and of a reader of std; `ToVec` and `ToWrite` make a sink of a vector and of a
+//! writer of std. A call of std's that was interrupted is tried again and is no failure.
 //!
-//! An `Intake` takes the bytes of a source block by block, up to a limit, for a caller that uses them as they come;
 //! `write_out` hands a text to a sink and flushes it, and `write_all` hands over a part of one. `Block` gathers small
 //! texts, so that the sink gets blocks of 64 KB:
 //!
 //! ```ignore
-//! let mut intake = Intake::new(alloc, 1 << 36)?;
-//! if intake.fill(&mut FromBytes::new(b"ACGT"))? {
-//!     let mut sink = ToVec::new(Vec::new(alloc));
-//!     write_out(&mut sink, intake.as_slice())?;
-//!     assert_eq!(rt; sink.as_slice(), b"ACGT".as_slice());
-//! }
+//! let mut sink = ToVec::new(Vec::new(alloc));
+//! let mut block = Block::new();
+//! block.push(b"ACG ");
+//! block.push_number(2);
+//! write_out(&mut sink, block.as_slice())?;
+//! assert_eq!(rt; sink.as_slice(), b"ACG 2".as_slice());
 //! ```
 #![tactic(auto)]
 
 mod block;
 mod failures;
 mod histories;
-mod intakes;
 mod recorded_calls;
 mod sinks;
 mod sources;
@@ -31,7 +29,6 @@ mod whole_texts;
 pub use block::{BLOCK_SIZE, Block, NUMBER_SIZE};
 pub use failures::Failed;
 pub use histories::Heard;
-pub use intakes::{Intake, TakeFault};
 pub use sinks::{Sink, ToVec, ToWrite};
 pub use sources::{FromBytes, FromRead, Source};
 pub use whole_texts::{write_all, write_out};

@@ -1,19 +1,19 @@
 //! The examples at the front of kc_io, kc_fastx, kc_kmer and kc_word.
 use crate::sample_reads::{k_of, reads_of};
 use kc_fastx::{Reads, read_all};
-use kc_io::{FromBytes, Intake, ToVec, write_out};
+use kc_io::{Block, FromBytes, ToVec, write_out};
 use kc_word::{Rule, Word, canonical, clean, cut, pack, words};
 use std::test::Fail;
 
 #[test]
-fn bytes_are_taken_and_written(rt: HostRuntime) -> Result<(), Fail> {
+fn a_block_is_written(rt: HostRuntime) -> Result<(), Fail> {
     let alloc = rt.alloc();
-    let mut intake = Intake::new(alloc, 1 << 36)?;
-    if intake.fill(&mut FromBytes::new(b"ACGT"))? {
-        let mut sink = ToVec::new(Vec::new(alloc));
-        write_out(&mut sink, intake.as_slice())?;
-        assert_eq!(rt; sink.as_slice(), b"ACGT".as_slice());
-    }
+    let mut sink = ToVec::new(Vec::new(alloc));
+    let mut block = Block::new();
+    block.push(b"ACG ");
+    block.push_number(2);
+    write_out(&mut sink, block.as_slice())?;
+    assert_eq!(rt; sink.as_slice(), b"ACG 2".as_slice());
     Ok(())
 }
 

@@ -1,12 +1,15 @@
 //! How the faults of streams and of readers are displayed.
 use crate::assertions::assert_displayed;
 use kc_fastx::FastxFault;
-use kc_io::{Failed, TakeFault};
+use kc_gzip::TakeFault;
+use kc_io::Failed;
 use std::alloc::AllocError;
 
 const OF_TAKING: &[(TakeFault, &str)] = &[
     (TakeFault::TooLong, "too long"),
     (TakeFault::Read, "read failed"),
+    (TakeFault::Broken, "broken gzip"),
+    (TakeFault::Short, "gzip cut short"),
     (TakeFault::Memory, "no memory"),
 ];
 
@@ -19,6 +22,8 @@ const OF_READS: &[(FastxFault, &str)] = &[
     (FastxFault::TooLong, "too long"),
     (FastxFault::Read, "read failed"),
     (FastxFault::Memory, "no memory"),
+    (FastxFault::BrokenGzip, "broken gzip"),
+    (FastxFault::ShortGzip, "gzip cut short"),
 ];
 
 #[test]

@@ -548,6 +548,8 @@ const NUMBERS: &[(FastxFault, u32)] = &[
     (FastxFault::TooLong, 6),
     (FastxFault::Read, 7),
     (FastxFault::Memory, 8),
+    (FastxFault::BrokenGzip, 71),
+    (FastxFault::ShortGzip, 72),
 ];
 
 #[test]
@@ -569,6 +571,41 @@ fn assert_two_reads<H: Abort>(rt: &H, reads: &[SeqRead]) {
         }
         _ => assert!(rt; false),
     }
+}
+
+// What `gzip -9n` makes of these bytes: `>r1`, a line feed, `AC`, and a line feed.
+const GZIPPED: &[u8] = b"\x1f\x8b\x08\x00\x00\x00\x00\x00\x00\xff\xb3+2\xe4rt\xe6\x02\x00\xc6\xce\
+    \xff\x9a\x07\x00\x00\x00";
+
+// Asserts that all bytes of the source, which comes byte by byte, are refused so.
+fn assert_not_unzipped<H: AllocGlobal + Abort>(rt: &H, bytes: &[u8], fault: FastxFault) {
+    match all_reads(rt.alloc(), &mut slow_source(bytes, u64::MAX), 1 << 30) {
+        Ok(_) => assert!(rt; false),
+        Err(is) => assert_same(rt, "fault", &is, &fault),
+    }
+}
+
+#[test]
+fn gzip_is_decompressed(rt: HostRuntime) -> Result<(), FastxFault> {
+    let (reads, count) = all_reads(rt.alloc(), &mut slow_source(GZIPPED, u64::MAX), 7)?;
+    assert_same(&rt, "bytes", &count, &7);
+    match reads.as_slice() {
+        [read] => assert_bytes(&rt, "read", read.bases(), b"AC"),
+        _ => assert!(rt; false),
+    }
+    for len in 2..GZIPPED.len() {
+        assert_not_unzipped(&rt, &GZIPPED[..len], FastxFault::ShortGzip);
+    }
+    assert_not_unzipped(&rt, b"\x1f", FastxFault::BadStart(1));
+    let mut longer = Vec::new(rt.alloc());
+    longer.extend_from_slice(GZIPPED)?;
+    longer.push(b'>')?;
+    assert_not_unzipped(&rt, longer.as_slice(), FastxFault::BrokenGzip);
+    match all_reads(rt.alloc(), &mut slow_source(GZIPPED, u64::MAX), 6) {
+        Ok(_) => assert!(rt; false),
+        Err(is) => assert_same(&rt, "fault", &is, &FastxFault::TooLong),
+    }
+    Ok(())
 }
 
 // Run with each allocation refused in turn: `rt try --test --fail-alloc N`.

@@ -1,7 +1,14 @@
-use Rattle.std.proofs.Common.{arith}
+use Rattle.std.proofs.Common.{[], arith, sym, subst}
 use Rattle.std.proofs.lemmas.Result.{err_from_is_err_and}
-use Rattle.kc_fastx.proofs.ReadingLemmas.{begun_in_vain, given_in_vain, used_within, base_count-gives}
+use Rattle.kc_fastx.proofs.ReadingLemmas.{begun_in_vain, given_in_vain, given_none, used_within, base_count-gives}
+use Rattle.kc_fastx.specs.Reading.{HasGiven}
 use Rattle.kc_fastx.proofs.parser.read_all.Goals as goal
+
+pub reads-init : goal.reads-init
+reads-init g c =
+    let start = g.R.Source.seen c.args.reader.now in
+    subst (λ reads. HasGiven start start c.args.limit reads c.in_ok-reading.reading) (sym c.new-reads.ensures.items)
+    (subst (λ stand. HasGiven start start c.args.limit [] stand) (sym c.in_ok-reading.ensures) (given_none start c.args.limit))
 
 pub returns-in_err-reading-clause-fault : goal.returns-in_err-reading-clause-fault
 returns-in_err-reading-clause-fault g c =
@@ -53,3 +60,10 @@ returns-in-Err-clause-fault g c =
     let seen = g.R.Source.seen in
     c.settle.ensures (seen c.args.reader.now) c.args.limit (c.in-Err.ensures.given
     (seen c.args.reader.now) c.args.limit c.reads.reads.items c.reads.invariant)
+
+pub reads-preserved : goal.reads-preserved
+reads-preserved g c =
+    let seen = g.R.Source.seen in
+    let next = rw c.in-Ok-Some.field-0-is at c.in-Ok-Some.ensures.given
+    (seen c.args.reader.now) c.args.limit c.reads.reads.items c.reads.invariant in
+    rw (c.in_ok-push-in-Ok-Some.ensures.items, c.in-Ok-Some.read-is) next

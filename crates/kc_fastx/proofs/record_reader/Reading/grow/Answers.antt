@@ -1,6 +1,6 @@
-use Rattle.std.proofs.Common.{arith, ◌∙◌, ◌+◌, ap, sym, length, Some}
+use Rattle.std.proofs.Common.{◌≡◌, true, false, arith, ◌∙◌, ◌+◌, ap, sym, length, Some}
 use Rattle.std.proofs.lemmas.Grind.{common_steps}
-use Rattle.kc_io.proofs.IntakesLemmas.{filled_both, filled_end, filled_fails}
+use Rattle.kc_gzip.proofs.IntakesLemmas.{filled_both, filled_fails}
 use Rattle.kc_fastx.proofs.ReadingLemmas.{filling_none, some_came}
 use Rattle.kc_fastx.proofs.record_reader.Reading.grow.Goals as goal
 
@@ -28,10 +28,8 @@ returns-in-Ok-false-clause-grows g c =
     let filling = c.filling.invariant.filling in
     let told = rw c.in-Ok-false.field-0-test at c.in-Ok-false.ensures.filled in
     record {
-      more = filling.filled.more;
-      taken = filled_end filling.filled told.0;
-      behind = ap (λ u. u.bytes) told.1 ∙ filling.filled.behind;
-      room = filling.filled.room ∙ ap (λ u. u.room + length filling.filled.more) (sym told.1);
+      filled = filled_both filling.filled told.0;
+      whole = λ ended. told.2;
       some = tt;
       used = filling.used;
       lines_used = filling.lines_used;
@@ -45,11 +43,9 @@ returns-then-as_slice-wanted-clause-grows g c =
     let told = rw c.in-Ok-true.field-0-test at c.in-Ok-true.ensures.filled in
     let both = filled_both filling.filled told.0 in
     record {
-      more = both.more;
-      taken = rw filling.unended (both.taken);
-      behind = both.behind;
-      room = both.room;
-      some = rw filling.unended (some_came both filling.filled told.1);
+      filled = both;
+      whole = λ ended. absurd (let no : true ≡ false = sym ended ∙ filling.unended in cc);
+      some = rw filling.unended (some_came both filling.filled told.0 told.1);
       used = filling.used;
       lines_used = filling.lines_used;
       is_fastq = filling.is_fastq;

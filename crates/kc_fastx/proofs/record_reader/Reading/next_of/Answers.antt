@@ -32,8 +32,11 @@ returns-in-Ok-End-clause-titled g c = λ wanted start limit records h.
     let tells = returns-in-Ok-End-clause-given g c start limit (reads_in records) h.given in
     let titled = rw c.in-Ok-End.field-0-is at c.in-Ok-End.ensures.titled wanted in
     let same = records_same h c.reading.invariant.longer
-    (subst (λ v. HasGiven start now limit (reads_in records) v) titled.0 tells.0) in
-    (subst (λ v. HasGivenRecords start now limit records v) (sym titled.0) same, records_all same titled.1 tells.1)
+    (subst (λ v. HasGiven start now limit (reads_in records) v) titled.0 tells.0) in (
+      subst (λ v. HasGivenRecords start now limit records v) (sym titled.0) same,
+      ap (λ (s : Stand). s.ended) titled.0 ∙ titled.1,
+      records_all same titled.1 titled.2 tells.1,
+    )
 
 pub reading-preserved : goal.reading-preserved
 reading-preserved g c =
@@ -46,8 +49,8 @@ reading-preserved g c =
           let tells = rw c.in-Ok-Short.field-0-is at c.in-Ok-Short.ensures.tells start (seen c.reading.source) limit
           reads (c.reading.invariant.given start limit reads h) in
           given_grown (record { given = tells; unended = more.1 }) (seen c.grow.new.source) c.grow.new.self grown;
-      longer = longer_grown (subst (λ v. IsLonger (seen c.args.source.now) (seen c.reading.source) c.args.self.now v)
-          (sym more.0) c.reading.invariant.longer) more.1 (seen c.grow.new.source) c.grow.new.self grown;
+      longer = longer_grown (subst (λ v. IsLonger c.args.self.now v) (sym more.0) c.reading.invariant.longer) more.1
+          (seen c.reading.source) (seen c.grow.new.source) c.grow.new.self grown;
       unfailed = grown.unfailed;
       used = grown.used ∙ ap (λ (s : Stand). s.used) more.0 ∙ c.reading.invariant.used;
       taking = taking_more (subst (λ v. Taking c.args.self.now v) (sym more.0) c.reading.invariant.taking)
@@ -95,8 +98,7 @@ returns-in-Err-clause-resumed_titled g c = λ none start limit records h.
 pub returns-in_err-grow-in-Ok-Short-clause-behind : goal.returns-in_err-grow-in-Ok-Short-clause-behind
 returns-in_err-grow-in-Ok-Short-clause-behind g c = λ start limit reads h.
     let p = err_from_is_err_and c.from_residual.result c.from_residual.ensures.1 in
-    rw (p.1, p.2) (comes_taking start (g.S.Source.seen c.grow.new.source) reads c.grow.new.self
-    c.in_err-grow-in-Ok-Short.field-0.0)
+    rw (p.1, p.2) (comes_taking reads c.grow.new.self c.in_err-grow-in-Ok-Short.field-0.0)
 
 pub returns-in-Err-clause-behind : goal.returns-in-Err-clause-behind
 returns-in-Err-clause-behind g c = λ start limit reads h.
@@ -106,7 +108,7 @@ returns-in-Err-clause-behind g c = λ start limit reads h.
     let comes = c.in-Err.ensures.behind start now limit reads
     (c.reading.invariant.given start limit reads h) in
     rw (c.keep.ensures.answered, c.keep.ensures.kept)
-    (comes_kept start now reads stand fault (kept_fault stand.failed fault) comes)
+    (comes_kept reads stand fault (kept_fault stand.failed fault) comes)
 
 pub returns-in_err-grow-in-Ok-Short-clause-few : goal.returns-in_err-grow-in-Ok-Short-clause-few
 returns-in_err-grow-in-Ok-Short-clause-few g c =

@@ -11,7 +11,7 @@ invariant-reading g l = record {
   given : (start : Seen) (limit : ℕ) (reads : List Read)
       → HasGiven start (g.S.Source.seen l.fn.source) limit reads l.fn.self
       → HasGiven start (g.S.Source.seen l.source) limit reads l.self;
-  longer : IsLonger (g.S.Source.seen l.fn.source) (g.S.Source.seen l.source) l.fn.self l.self;
+  longer : IsLonger l.fn.self l.self;
   unfailed : l.self.failed ≡ None;
   used : l.self.used ≡ l.fn.self.used;
   taking : Taking l.fn.self l.self;

@@ -105,7 +105,7 @@ returns-clause-titled c = λ wanted.
     let behind = behind_is (length whole - length c.lines-2.inside.left.now) c.in-Some.is_fastq c.self.view_is
     c.use_up.ensures (ap (λ (s : Cursor). s.taken) c.lines-2.view_is) in
     subst (λ v. TellsRecord stand v c.if-is_titled.title.items (Ok (Given c.in-Some.read))) (sym behind)
-    (refl, λ more none. record_read (one c) _ is more none)
+    (refl, refl, λ more none. record_read (one c) _ is more none)
 
 pub returns-clause-moves : goal.returns-clause-moves
 returns-clause-moves c =

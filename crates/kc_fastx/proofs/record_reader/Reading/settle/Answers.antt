@@ -1,4 +1,6 @@
-use Rattle.std.proofs.Common.{rules}
+use Rattle.std.proofs.Common.{rules, subst, Ok}
+use Rattle.kc_gzip.specs.Intakes.{Skips}
+use Rattle.kc_fastx.specs.Reading.{Stand}
 use Rattle.kc_fastx.proofs.ReadingLemmas.{IsMetEarly, settled, settled_ended, settled_other, settled_refused}
 use Rattle.kc_fastx.proofs.record_reader.Reading.settle.Goals as goal
 use Rattle.kc_fastx.proofs.record_reader.Reading.settle.Goals.{then-self-via-then-self}
@@ -16,13 +18,13 @@ returns-then-self g c = λ start limit meets.
 pub returns-in-Ok : goal.returns-in-Ok
 returns-in-Ok g c = λ start limit meets.
     let seen = g.S.Source.seen in
-    let skipped = c.in-Ok.ensures.skipped in
     let early : IsMetEarly start (seen c.args.source.now) limit c.args.self c.args.fault = record {
       of_lines = search rules;
       unended = search rules;
       meets = meets;
     } in
-    settled early (seen c.skip_rest.new.source) skipped.0 (search (rules, skipped.1))
+    settled early (seen c.skip_rest.new.source) c.in-Ok.field-0
+    (subst (λ (s : Stand). Skips (seen c.args.source.now) (seen c.skip_rest.new.source) s.unread (Ok c.in-Ok.field-0)) c.self.view_is c.in-Ok.ensures)
 
 pub returns-in-Err : goal.returns-in-Err
 returns-in-Err g c = λ start limit meets.
@@ -33,4 +35,4 @@ returns-in-Err g c = λ start limit meets.
       meets = meets;
     } in
     rw c.from.ensures
-    (settled_refused early (seen c.skip_rest.new.source) c.in-Err.why (search (rules, c.in-Err.ensures.fault)))
+    (settled_refused early (seen c.skip_rest.new.source) c.in-Err.why (search (rules, c.in-Err.ensures)))
