@@ -18,6 +18,8 @@ const OF_REPORTS: &[(ReportFault, &str)] = &[
     (ReportFault::BadEnd, "bad end"),
     (ReportFault::TableTooLong, "table too long"),
     (ReportFault::TableRead, "table read failed"),
+    (ReportFault::BrokenGzip, "broken gzip"),
+    (ReportFault::ShortGzip, "gzip cut short"),
     (ReportFault::BadWord(101), "bad word 101"),
     (ReportFault::Unlike, "tables do not match"),
     (ReportFault::TooLarge, "sums too large"),

@@ -1,5 +1,6 @@
 //! Tables and reports over streams that give and take few bytes at a time, and fail.
 use crate::count_assertions::{assert_items, assert_same};
+use crate::merged_tables::text_of;
 use crate::report_rows::{strings_of, table_of};
 use kc_io::{FromRead, ToWrite};
 use kc_report::{
@@ -293,6 +294,66 @@ fn rows_byte_by_byte(rt: HostRuntime) -> Result<(), ReportFault> {
     let got = rows_slowly(rt.alloc(), TABLE, TABLE.len() + 1, 100)?;
     assert_same(&rt, "rows", &got, &(2, None));
     Ok(())
+}
+
+// What Python's `gzip.compress(TABLE, 9, mtime=0)` makes.
+const GZIPPED: &[u8] = b"\x1f\x8b\x08\x00\x00\x00\x00\x00\x02\x03\xf3v\x0eQ0T0V\
+    H\xe6rtvW0\xe2r\x0fqT0\xe4r\xf5sQ0R0\xe6\x02\x00\xa2M<6\x1e\x00\x00\x00";
+
+// The same of a table whose rows do not rise.
+const GZIPPED_BAD_ROW: &[u8] = b"\x1f\x8b\x08\x00\x00\x00\x00\x00\x02\x03\xf3v\x0eQ0T0V\
+    H\xe6r\x0fqT0\xe4rtvW0\xe2r\xf5sQ0R0\xe6\x02\x00\x96\x9dk\xf9\x1e\x00\x00\x00";
+
+const GZIPS: &[&[u8]] = &[GZIPPED, GZIPPED_BAD_ROW];
+
+// A gzipped table says the rows of its text, and the limit is one of the decompressed bytes.
+#[test]
+fn gzipped_table_byte_by_byte(rt: HostRuntime) -> Result<(), ReportFault> {
+    let tally = read_slowly(rt.alloc(), GZIPPED, usize::MAX, 30)?;
+    let text = text_of(rt.alloc(), &tally, None)?;
+    assert_items(&rt, "table", text.as_slice(), TABLE);
+    for limit in 0..30 {
+        assert_refused(&rt, GZIPPED, usize::MAX, limit, ReportFault::TableTooLong);
+    }
+    assert_refused(&rt, GZIPPED_BAD_ROW, usize::MAX, 30, ReportFault::BadRow(3));
+    Ok(())
+}
+
+// Before any fault of the text it is told that the gzip is cut short, or that a read failed.
+#[test]
+fn fronts_of_a_gzipped_table(rt: HostRuntime) -> Result<(), ReportFault> {
+    for gzip in GZIPS {
+        for count in 2..gzip.len() {
+            assert_refused(&rt, &gzip[..count], usize::MAX, 30, ReportFault::ShortGzip);
+        }
+        for reads in 0..=gzip.len() {
+            assert_refused(&rt, *gzip, reads, 30, ReportFault::TableRead);
+        }
+    }
+    let rows = rows_slowly(rt.alloc(), &GZIPPED[..49], usize::MAX, 30)?;
+    assert_same(&rt, "rows", &rows, &(2, Some(ReportFault::ShortGzip)));
+    Ok(())
+}
+
+// These have another check sum, another length, another method, or something behind them.
+const BROKEN: &[&[u8]] = &[
+    b"\x1f\x8b\x08\x00\x00\x00\x00\x00\x02\x03\xf3v\x0eQ0T0V\
+        H\xe6rtvW0\xe2r\x0fqT0\xe4r\xf5sQ0R0\xe6\x02\x00\xa3M<6\x1e\x00\x00\x00",
+    b"\x1f\x8b\x08\x00\x00\x00\x00\x00\x02\x03\xf3v\x0eQ0T0V\
+        H\xe6rtvW0\xe2r\x0fqT0\xe4r\xf5sQ0R0\xe6\x02\x00\xa2M<6\x1f\x00\x00\x00",
+    b"\x1f\x8b\x09\x00\x00\x00\x00\x00\x02\x03\xf3v\x0eQ0T0V\
+        H\xe6rtvW0\xe2r\x0fqT0\xe4r\xf5sQ0R0\xe6\x02\x00\xa2M<6\x1e\x00\x00\x00",
+    b"\x1f\x8b\x08\x00\x00\x00\x00\x00\x02\x03\xf3v\x0eQ0T0V\
+        H\xe6rtvW0\xe2r\x0fqT0\xe4r\xf5sQ0R0\xe6\x02\x00\xa2M<6\x1e\x00\x00\x00K",
+    b"\x1f\x8b\x08\x00\x00\x00\x00\x00\x02\x03\xf3v\x0eQ0T0V\
+        H\xe6r\x0fqT0\xe4rtvW0\xe2r\xf5sQ0R0\xe6\x02\x00\x97\x9dk\xf9\x1e\x00\x00\x00",
+];
+
+#[test]
+fn broken_gzip_of_a_table(rt: HostRuntime) {
+    for gzip in BROKEN {
+        assert_refused(&rt, *gzip, usize::MAX, 30, ReportFault::BrokenGzip);
+    }
 }
 
 // The tally of a table text. Asserts that nothing but want of memory refuses it.

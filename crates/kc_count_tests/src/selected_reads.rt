@@ -222,6 +222,7 @@ fn a_selection_is_what_it_was_made_of(rt: HostRuntime) -> Result<(), Fail> {
     let usual = Selection::new(7, 100);
     assert_same(&rt, "floor", &usual.floor(), &33);
     assert_same(&rt, "inverted", &usual.is_inverted(), &false);
+    assert_same(&rt, "profiled", &usual.is_profiled(), &false);
     assert_same(&rt, "most", &usual.most(), &u64::MAX);
     assert_same(&rt, "most", &usual.with_most(9).most(), &9);
     let selection = usual.with_floor(126).with_inverted(true);
@@ -394,6 +395,110 @@ fn assert_selected<H: Abort + AllocGlobal>(
     let answer = answer_of(rt.alloc(), selector, text, limit, &mut sink);
     assert_same(rt, text.len(), &answer, want);
     assert_items(rt, text.len(), sink.as_slice(), written);
+}
+
+// A table, a text, the least quality byte, what is answered of it, and the profile of its reads.
+type Profiled = (
+    &'static [u8],
+    &'static [u8],
+    u8,
+    Result<[u64; 5], SelectFault>,
+    &'static [u8],
+);
+
+const PROFILES: &[Profiled] = &[
+    (TABLE, b"", b'!', Ok([0, 0, 0, 0, 0]), b""),
+    // ACG and CGT have the same count, and GTA another
+    (
+        TABLE,
+        b">r one\nACGTA\n",
+        b'!',
+        Ok([13, 1, 1, 3, 3]),
+        b"r\t0\t2\t2\nr\t2\t3\t1\n",
+    ),
+    // words that the table lacks have the count 0
+    (
+        TABLE,
+        b">r\tone\nacgttt\n",
+        b'!',
+        Ok([14, 1, 1, 4, 4]),
+        b"r\t0\t2\t2\nr\t2\t4\t0\n",
+    ),
+    // no run goes over an N, whose words have no line
+    (
+        TABLE,
+        b">r\nACGNACG\n",
+        b'!',
+        Ok([11, 1, 1, 2, 2]),
+        b"r\t0\t1\t2\nr\t4\t5\t2\n",
+    ),
+    // TAC is GTA on the other strand, and CGT is ACG
+    (
+        BOTH,
+        b">r\nTACGT\n",
+        b'!',
+        Ok([9, 1, 1, 3, 3]),
+        b"r\t0\t1\t1\nr\t1\t3\t4\n",
+    ),
+    // on one strand TAC is not in the table
+    (
+        TABLE,
+        b">r\nTACGT\n",
+        b'!',
+        Ok([9, 1, 1, 3, 3]),
+        b"r\t0\t1\t0\nr\t1\t3\t2\n",
+    ),
+    // records without words have no lines, and a title may be empty
+    (
+        TABLE,
+        b">s\nAC\n>t\n>\nACG\n",
+        b'!',
+        Ok([15, 3, 3, 1, 1]),
+        b"\t0\t1\t2\n",
+    ),
+    // a base of a low quality breaks words
+    (
+        TABLE,
+        b"@q\nACGTA\n+\nIII!I\n",
+        b'#',
+        Ok([17, 1, 1, 1, 1]),
+        b"q\t0\t1\t2\n",
+    ),
+    // the records before a fault are written
+    (
+        TABLE,
+        b">a\nACG\n>b\nA@C\n",
+        b'!',
+        Err(SelectFault::Reads(FastxFault::BadBase(4))),
+        b"a\t0\t1\t2\n",
+    ),
+];
+
+#[test]
+fn profiles_of_reads(rt: HostRuntime) -> Result<(), Fail> {
+    for row in PROFILES {
+        let (table, ..) = row;
+        let tally = table_of(rt.alloc(), *table)?;
+        assert_profile(&rt, &tally, row)?;
+    }
+    Ok(())
+}
+
+// Asserts what a row says of the profile of its text.
+fn assert_profile<H: Abort + AllocGlobal>(
+    rt: &H,
+    tally: &Tally,
+    row: &Profiled,
+) -> Result<(), AllocError> {
+    let (_, text, floor, want, written) = row;
+    if *floor < 33 || *floor > 126 {
+        return Ok(());
+    }
+    let selection = Selection::profiles().with_floor(*floor);
+    assert_same(rt, "profiled", &selection.is_profiled(), &true);
+    let selector = Selector::new(rt.alloc(), tally, selection)?;
+    assert_selected(rt, &selector, *text, 100, want, *written);
+    Ok(())
 }
 
 // A record of FASTA with this many bases.

@@ -12,6 +12,7 @@ pub mod FieldLemmas
 pub mod FormLemmas
 pub mod HeaderLemmas
 pub mod NextRowLemmas
+pub mod UsedLemmas
 pub mod TableReadingLemmas
 pub mod RowByRowLemmas
 pub mod QueryLemmas

@@ -1,15 +1,14 @@
 -- The first line of some bytes, of which a front was searched before.
 use Rattle.std.proofs.Common.{◌≡◌, ℕ, zero, suc, ◌+◌, ◌<◌, ◌≤◌, true, false, Bool, eqb, ◌-◌, List, [], ◌∷◌, ◌++◌}
-use Rattle.std.proofs.Common.{inl, inr, length, get_or, take, drop, refl, sym, subst, ◌∙◌, ap, arith, append_assoc, eq-eqb}
+use Rattle.std.proofs.Common.{inl, inr, length, get_or, take, drop, refl, sym, subst, ◌∙◌, ap, arith, append_assoc, append-nil, eq-eqb}
 use Rattle.std.specs.Prelude.{IsTrue, Ok}
 use Rattle.std.proofs.Math.Seq.{take-add}
 use Rattle.std.proofs.lemmas.Bool.{eqb-true}
 use Rattle.std.proofs.lemmas.List.{take_more, take-append-drop, take-append-le, length-append, length-drop, take_all}
 use Rattle.kc_lemmas.proofs.Lists.{drop-append}
 use Rattle.kc_io.specs.Sources.{Seen}
-use Rattle.kc_io.specs.Intakes.{TakesAll}
-use Rattle.kc_io.specs.Intakes.{Unread, Filled, Fills}
-use Rattle.kc_io.proofs.IntakesLemmas.{filled_both, filled_end}
+use Rattle.kc_gzip.specs.Intakes.{Ended, Filled, Fills, Unread}
+use Rattle.kc_gzip.proofs.IntakesLemmas.{filled_both}
 use Rattle.kc_report.specs.Bytes.{line_feed}
 use Rattle.kc_report.specs.Lines.{Without, IsLine, EndsWithBlock, CameForLine}
 use Rattle.kc_report.specs.Table.{ended}
@@ -84,18 +83,26 @@ pub filled_searched : {old mid new : Seen} {first before after : Unread} (came :
     → Without line_feed before.bytes → came ≡ true → Fills mid new before after (Ok came)
     → Filled old new first after × (length before.bytes ≤ length after.bytes)
     × Without line_feed (take (length before.bytes) after.bytes)
-filled_searched true so_far none is fills = let longer =
-    fills.1 in (filled_both so_far fills.0, omega (arith, longer), filled_searched_front fills.0 none)
+filled_searched {before = before} true so_far none is fills =
+    let long = ap length fills.0.behind in (
+      filled_both so_far fills.0,
+      omega (arith, long, length-append before.bytes fills.0.more),
+      filled_searched_front fills.0 none,
+    )
 filled_searched false so_far none is fills = absurd (let wrong : false ≡ true = is in cc)
 
 -- nothing more came
 pub ended_searched : {old mid new : Seen} {first before : Unread} (after : Unread) (came : Bool)
     → Filled old mid first before → Without line_feed before.bytes → came ≡ false
-    → Fills mid new before after (Ok came)
-    → (more : List ℕ) × TakesAll old new first.room more × (¬ HasLine (first.bytes ++ more))
+    → Fills mid new before after (Ok came) → Filled old new first after × Ended after × (¬ HasLine after.bytes)
 ended_searched after true so_far none is fills = absurd (let wrong : true ≡ false = is in cc)
-ended_searched after false so_far none is fills =
-    (so_far.more, filled_end so_far fills.0, subst (λ v. ¬ HasLine v) so_far.behind (no_line _ none))
+ended_searched {before = before} after false so_far none is fills =
+    let same : after.bytes ≡ before.bytes = fills.0.behind ∙ ap (λ v. before.bytes ++ v) fills.1
+    ∙ append-nil before.bytes in (
+      filled_both so_far fills.0,
+      fills.2,
+      subst (λ v. ¬ HasLine v) (sym same) (no_line _ none),
+    )
 
 -- Whether the first `count` of so many bytes are all, and nothing more came. Where there are others, they aren't.
 pub others_left : (bytes more : List ℕ) (count long : ℕ) (is : Bool) → long ≡ length bytes → (long - count ≡ 0 → ⊥)
@@ -106,6 +113,22 @@ others_left bytes more count long is whole others told = (
   λ none. let rest = ap length none in let parts = length-append (drop count bytes) more in let dropped =
       length-drop count bytes in absurd (others (omega (arith, rest, parts, dropped, whole))),
 )
+
+-- The first `count` are all, and so many more came.
+pub none_left : (bytes more : List ℕ) (count long many : ℕ) → long ≡ length bytes → long - count ≡ 0
+    → length more ≡ many
+    → (IsTrue (eqb many 0) → drop count bytes ++ more ≡ []) × (drop count bytes ++ more ≡ [] → IsTrue (eqb many 0))
+none_left bytes more count long many whole none counted =
+    let parts = length-append (drop count bytes) more in
+    let dropped = length-drop count bytes in (
+      λ is. empty (drop count bytes ++ more)
+          (let no_more = eqb-true many 0 is in omega (arith, no_more, parts, dropped, whole, none, counted)),
+      λ e. eq-eqb many 0 (let nothing = ap length e in omega (arith, nothing, parts, dropped, whole, none, counted)),
+    )
+  where
+    empty : (bytes : List ℕ) → length bytes ≡ 0 → bytes ≡ []
+    empty [] e = refl
+    empty (b ∷ bytes) e = absurd (omega (arith, e))
 
 -- ---- how many bytes were taken for a line
 

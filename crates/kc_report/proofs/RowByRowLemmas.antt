@@ -3,20 +3,22 @@ use Rattle.std.proofs.Common.{◌≡◌, ℕ, ◌+◌, ◌^◌, ◌<◌, ◌≤�
 use Rattle.std.proofs.Common.{refl, sym, ◌∙◌, ap, subst, arith, inl, inr}
 use Rattle.std.specs.Prelude.{Option, Some, None, IfSome, Result, Ok, Err, IfErr}
 use Rattle.kc_io.specs.Sources.{Seen}
-use Rattle.kc_io.specs.Intakes.{Unread, Filled, TakesAll}
+use Rattle.kc_gzip.specs.Intakes.{Unread, Filled, TakesAll}
 use Rattle.kc_tally.specs.declared.row.Row.{Row}
 use Rattle.kc_tally.specs.Tally.{TallySeen}
 use Rattle.kc_report.specs.declared.origin.Origin.{Origin}
 use Rattle.kc_report.specs.declared.report_faults.ReportFault.{ReportFault}
 use Rattle.kc_report.specs.declared.report_faults.ReportFault.TheVariants.{BadHeader, BadRow, BadEnd, Write}
 use Rattle.kc_report.specs.declared.report_faults.ReportFault.TheVariants.{TableTooLong, TableRead, BadWord}
-use Rattle.kc_report.specs.declared.report_faults.ReportFault.TheVariants.{Unlike, TooLarge, Memory}
+use Rattle.kc_report.specs.declared.report_faults.ReportFault.TheVariants.{BrokenGzip, ShortGzip, Unlike, TooLarge, Memory}
 use Rattle.kc_report.specs.Dumping.{row_in_columns}
 use Rattle.kc_report.specs.Table.{end_line, ended, end_text}
 use Rattle.kc_report.specs.TableReading.{BeginsWith, MayFollow, RefusesTable}
 use Rattle.kc_report.specs.RowByRow.{RowsRead, IsKeptOf, TableStand, tally_of, HasGivenRows, UsesRow}
 use Rattle.kc_report.specs.RowByRow.{RefusesHeader, RefusesRow, GivesRow, ComesNext, with_row}
-use Rattle.kc_report.proofs.NextRowLemmas.{follows-kept, comes-kept, kept_none, kept_push, may-pack}
+use Rattle.kc_report.specs.RowByRow.{BeginsWithNoRow}
+use Rattle.kc_report.proofs.FieldLemmas.{one_row}
+use Rattle.kc_report.proofs.NextRowLemmas.{follows-kept, comes-kept, kept_none, kept_push, may-pack, next_fits, says}
 use Rattle.kc_report.proofs.TableFronts.{length-le_total}
 use Rattle.kc_report.proofs.TableReadingLemmas.{Reached, reached_more, row_passed, row_used, memory_refused}
 
@@ -73,6 +75,27 @@ given_row {start} {now} {limit} {rows} {old} {new} {row} h u =
     subst (λ s. HasGivenRows start now limit (rows ++ row ∷ []) s) (sym u.moved)
     (given passed (record { kept = kept_push row h.kept; still = refl; unfailed = h.unfailed }))
 
+-- the row in front of the bytes is the only one that may come next there
+pub gives_only : {old new : TableStand} {row : Row} → UsesRow old new row → IfSome old.unread (λ unread.
+    (other : Row) → ComesNext old.read other → BeginsWith unread.bytes (row_in_columns old.read.k false other)
+    → ◌≡◌ {A = Result (Option Row) ReportFault} (Ok (Some row)) (Ok (Some other)))
+gives_only {old} {new} {row} u =
+    let fits = next_fits old.read row u.follows in
+    let here = says old.read.k row u.size fits u.said in
+    subst (λ v. IfSome v (λ unread. (other : Row) → ComesNext old.read other
+    → BeginsWith unread.bytes (row_in_columns old.read.k false other)
+    → ◌≡◌ {A = Result (Option Row) ReportFault} (Ok (Some row)) (Ok (Some other)))) (sym u.still)
+    (λ other next at. ap (λ (r : Row). Ok (Some r)) (one_row old.read.k row other u.unread.bytes fits
+    (next_fits old.read other next) here.at at))
+
+-- none stands there
+pub gives_none : (Gives : Row → Type 0) (read : RowsRead) (unread : Option Unread)
+    → IfSome unread (λ unread. BeginsWithNoRow read unread.bytes)
+    → IfSome unread (λ unread. (row : Row) → ComesNext read row
+    → BeginsWith unread.bytes (row_in_columns read.k false row) → Gives row)
+gives_none Gives read None none = tt
+gives_none Gives read (Some unread) none = λ row next at. absurd (none row next at)
+
 -- the end line by what is kept of the rows
 pub end_is : {rows : List Row} {read : RowsRead} → IsKeptOf rows read
     → ended (end_line read.count read.total) ≡ end_text rows
@@ -88,6 +111,8 @@ header_refuses start now limit BadEnd h = absurd h
 header_refuses start now limit Write h = absurd h
 header_refuses start now limit TableTooLong h = h
 header_refuses start now limit TableRead h = h
+header_refuses start now limit BrokenGzip h = h
+header_refuses start now limit ShortGzip h = h
 header_refuses start now limit (BadWord number) h = absurd h
 header_refuses start now limit Unlike h = absurd h
 header_refuses start now limit TooLarge h = absurd h
@@ -101,6 +126,8 @@ row_refuses start now limit front BadEnd h = (h.0, h.1, h.2.0)
 row_refuses start now limit front Write h = absurd h
 row_refuses start now limit front TableTooLong h = h
 row_refuses start now limit front TableRead h = h
+row_refuses start now limit front BrokenGzip h = h
+row_refuses start now limit front ShortGzip h = h
 row_refuses start now limit front (BadWord number) h = absurd h
 row_refuses start now limit front Unlike h = absurd h
 row_refuses start now limit front TooLarge h = absurd h
@@ -169,6 +196,10 @@ no_row_kept {rows} {inside} {now} {line} view kept none row follows at =
     let here = subst (λ (s : TableStand). (row : Row) → ComesNext s.read row
     → BeginsWith line (row_in_columns s.read.k false row) → ⊥) view none in
     here row (comes-kept rows now.read row kept follows) at
+
+pub no_row_now : {inside now : TableStand} {line : List ℕ} → inside ≡ now → BeginsWithNoRow inside.read line
+    → BeginsWithNoRow now.read line
+no_row_now {line = line} view none = subst (λ (s : TableStand). BeginsWithNoRow s.read line) view none
 
 -- the number of the line behind the rows
 pub line_number : {rows : List Row} {inside now : TableStand} (number : ℕ) → inside ≡ now → IsKeptOf rows now.read

@@ -7,7 +7,8 @@ use Rattle.kc_tally.specs.Tally.{AreRows, TallySeen, total_of}
 use Rattle.kc_report.specs.declared.origin.Origin.{Origin}
 use Rattle.kc_report.specs.declared.report_faults.ReportFault.{ReportFault}
 use Rattle.kc_report.specs.declared.report_faults.ReportFault.TheVariants.{BadHeader, BadRow, BadEnd, Write, TableTooLong}
-use Rattle.kc_report.specs.declared.report_faults.ReportFault.TheVariants.{TableRead, BadWord, Unlike, TooLarge, Memory}
+use Rattle.kc_report.specs.declared.report_faults.ReportFault.TheVariants.{TableRead, BrokenGzip, ShortGzip, BadWord}
+use Rattle.kc_report.specs.declared.report_faults.ReportFault.TheVariants.{Unlike, TooLarge, Memory}
 use Rattle.kc_report.specs.Dumping.{row_in_columns}
 use Rattle.kc_report.specs.Table.{header_line, end_line, ended, rows_text, end_text, table_text}
 use Rattle.kc_report.specs.TableReading.{BeginsWith, HasLine, IsTable, ReadsTo, HasBadHeader, IsTableOf}
@@ -177,6 +178,8 @@ reading bytes (Err BadEnd) h = inr (record {
 reading bytes (Err Write) h = absurd h
 reading bytes (Err TableTooLong) h = absurd h
 reading bytes (Err TableRead) h = absurd h
+reading bytes (Err BrokenGzip) h = absurd h
+reading bytes (Err ShortGzip) h = absurd h
 reading bytes (Err (BadWord number)) h = absurd h
 reading bytes (Err Unlike) h = absurd h
 reading bytes (Err TooLarge) h = absurd h

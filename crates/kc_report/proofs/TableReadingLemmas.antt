@@ -1,36 +1,37 @@
 -- A table text, line by line, as it is taken of a source.
-use Rattle.std.proofs.Common.{◌≡◌, ℕ, ◌+◌, ◌≤◌, Bool, true, false, eqb, List, [], ◌∷◌, ◌++◌}
+use Rattle.std.proofs.Common.{◌≡◌, ℕ, zero, suc, ◌+◌, ◌≤◌, Bool, true, false, eqb, List, [], ◌∷◌, ◌++◌}
 use Rattle.std.proofs.Common.{length, get_or, drop, take, refl, sym, ◌∙◌, ap, subst, append_assoc, append-nil, length-append, arith}
 use Rattle.std.proofs.Common.{inl, inr, ◌⊎◌}
-use Rattle.std.specs.Prelude.{codes, IsTrue, Option}
+use Rattle.std.specs.Prelude.{codes, IsTrue, Ok, Option}
 use Rattle.std.specs.Cmp.Lexicographic.{pointwise}
 use Rattle.std.proofs.lemmas.Bool.Decides.{Decides-eqb}
 use Rattle.std.proofs.lemmas.List.{take-append-drop, length-take-le, take-take}
 use Rattle.std.proofs.lemmas.Slice.Eq.{starts_is}
-use Rattle.kc_io.specs.declared.intakes.TakeFault.{TakeFault}
-use Rattle.kc_io.specs.declared.intakes.TakeFault.TheVariants as taking
 use Rattle.kc_io.specs.Sources.{Seen}
-use Rattle.kc_io.specs.Intakes.{TakesAll, TakingFails}
-use Rattle.kc_io.specs.Intakes.{Unread, Filled}
-use Rattle.kc_io.proofs.IntakesLemmas.{Used, used_none, used_filled, used_up, used_all, used_fails, used_in_vain}
+use Rattle.kc_gzip.specs.declared.unpacked_intakes.TakeFault.{TakeFault}
+use Rattle.kc_gzip.specs.declared.unpacked_intakes.TakeFault.TheVariants as taking
+use Rattle.kc_gzip.specs.Intakes.{Ended, Filled, FillingFails, Skips, TakingFails, Unread, nothing_taken}
+use Rattle.kc_kmer.specs.Word.{text}
 use Rattle.kc_tally.specs.declared.row.Row.{Row}
 use Rattle.kc_tally.specs.Tally.{TallySeen, total_of}
 use Rattle.kc_report.specs.declared.report_faults.ReportFault.TheVariants.{BadHeader, BadRow, BadEnd, Memory}
 use Rattle.kc_report.specs.Bytes.{line_feed}
 use Rattle.kc_report.specs.Dumping.{row_in_columns}
 use Rattle.kc_report.specs.Faults.{taking_fault}
-use Rattle.kc_report.specs.Lines.{Without, IsLine}
+use Rattle.kc_report.specs.Lines.{CameForLine, Without, IsLine}
 use Rattle.kc_report.specs.declared.origin.Origin.{Origin}
 use Rattle.kc_report.specs.Table.{header_line, MaySay, end_line, ended, front_text, end_text}
 use Rattle.kc_report.specs.TableReading.{BeginsWith, HasLine, IsTable, ReadsTo, MayFollow}
 use Rattle.kc_report.specs.TableReading.{GivesTable, RefusesTable}
-use Rattle.kc_report.specs.RowByRow.{RefusesHeader, RefusesRow}
+use Rattle.kc_report.specs.RowByRow.{BeginsWithNoRow, RefusesHeader, RefusesRow, RowsRead}
 use Rattle.kc_report.proofs.FieldLemmas.{never}
-use Rattle.kc_report.proofs.NextRowLemmas.{follower_fits}
-use Rattle.kc_report.proofs.TableAnswers.{end_has_line}
+use Rattle.kc_report.proofs.NextRowLemmas.{follower_fits, next_fits}
+use Rattle.kc_report.proofs.TableAnswers.{end_has_line, row_has_line}
 use Rattle.kc_report.proofs.TableFronts.{AreRows-none, length-le_total}
-use Rattle.kc_report.proofs.TableLines.{row_line, first_line, Without-row, Without-header, Without-end}
+use Rattle.kc_report.proofs.TableLines.{row_line, first_line, row-no_end, Without-row, Without-header, Without-end}
 use Rattle.kc_report.proofs.TableSearch.{front_push}
+use Rattle.kc_report.proofs.UsedLemmas.{Used, used_none, used_filled, used_up, used_ended, used_skips, used_fails}
+use Rattle.kc_report.proofs.UsedLemmas.{used_in_vain}
 
 -- ---- one line of the bytes
 
@@ -121,28 +122,36 @@ reads_to {front = front} {origin = origin} {unread = unread} more r =
 
 -- ---- the header
 
--- some bytes were taken, and none was used
-pub begun : {old now : Seen} {limit : ℕ} {start unread : Unread} → start ≡ record { bytes = []; room = limit }
+-- some bytes came, and none was used
+pub begun : {old now : Seen} {limit : ℕ} {start unread : Unread} → start ≡ nothing_taken limit
     → Filled old now start unread → Used old now limit [] unread
 begun {old} {now} {limit} {start} {unread} new filled =
     used_filled (used_none old limit) (subst (λ v. Filled old now v unread) new filled)
 
+-- no block was had
+pub begun_in_vain : (s : Seen) (limit : ℕ) → RefusesHeader s s limit Memory
+begun_in_vain s limit = used_in_vain (used_none s limit)
+
 -- there was no line
-pub header_missing : {old new : Seen} {limit : ℕ} (more : List ℕ) → TakesAll old new limit more → ¬ HasLine more
-    → RefusesHeader old new limit BadHeader
-header_missing more all none = (more, all, λ k both origin some most said at. none (header_line k both origin, at))
+pub header_missing : {old new : Seen} {limit : ℕ} {unread : Unread} → Used old new limit [] unread → Ended unread
+    → ¬ HasLine unread.bytes → RefusesHeader old new limit BadHeader
+header_missing {unread = unread} used ended none = (
+  unread.bytes,
+  used_ended used ended,
+  λ k both origin some most said at. none (header_line k both origin, at),
+)
 
 -- the first line is no header
-pub header_refused : {old mid new : Seen} {limit count : ℕ} {unread : Unread} {line more : List ℕ}
-    → Used old mid limit [] unread → TakesAll mid new unread.room more → InFront unread count line
+pub header_refused : {old mid new : Seen} {limit count many : ℕ} {unread : Unread} {line : List ℕ}
+    → Used old mid limit [] unread → Skips mid new unread (Ok many) → InFront unread count line
     → ((k : ℕ) (both : Bool) (origin : Option Origin) → 1 ≤ k → k ≤ 31 → MaySay origin
     → line ≡ ended (header_line k both origin) → ⊥)
     → RefusesHeader old new limit BadHeader
-header_refused {unread = unread} {more = more} used all f none = (
-  unread.bytes ++ more,
-  used_all used all,
+header_refused {unread = unread} used skips f none = (
+  unread.bytes ++ skips.0,
+  used_skips used skips,
   λ k both origin some most said at. none k both origin some most said
-      (line_is (header_line k both origin) at.0 (splits more f) (Without-header k both origin most said) at.1),
+      (line_is (header_line k both origin) at.0 (splits skips.0 f) (Without-header k both origin most said) at.1),
 )
 
 -- what a header may say
@@ -197,26 +206,26 @@ row_used {old} {now} {limit} {count} {front} {origin} {unread} {line} size row r
     row_passed size row r (same ∙ e) follows
 
 -- the line is no such row
-pub row_refused : {old mid new : Seen} {limit count : ℕ} {front : TallySeen} {origin : Option Origin} {unread : Unread}
-    {line more : List ℕ} (is : Bool) (number : ℕ)
-    → Reached old mid limit front origin unread → TakesAll mid new unread.room more → InFront unread count line
+pub row_refused : {old mid new : Seen} {limit count many : ℕ} {front : TallySeen} {origin : Option Origin}
+    {unread : Unread} {line : List ℕ} (is : Bool) (number : ℕ)
+    → Reached old mid limit front origin unread → Skips mid new unread (Ok many) → InFront unread count line
     → BeginsAsEnd line is × (is ≡ false)
     → ((row : Row) → MayFollow front row → BeginsWith line (row_in_columns front.k false row) → ⊥)
     → number ≡ length front.rows + 2 → RefusesRow old new limit front (BadRow number)
-row_refused {front = front} {origin = origin} {unread = unread} {more = more} is number r all f told none counted = (
-  (front_of front origin ++ unread.bytes) ++ more,
-  used_all r.used all,
+row_refused {front = front} {origin = origin} {unread = unread} is number r skips f told none counted = (
+  (front_of front origin ++ unread.bytes) ++ skips.0,
+  used_skips r.used skips,
   (
     record {
       front = front;
       origin = origin;
-      rest = unread.bytes ++ more;
-      reads = reads_to more r;
-      line = has_line (splits more f);
-      no_end = no_end is (splits more f) told.0 told.1;
+      rest = unread.bytes ++ skips.0;
+      reads = reads_to skips.0 r;
+      line = has_line (splits skips.0 f);
+      no_end = no_end is (splits skips.0 f) told.0 told.1;
       no_row = λ row follows at. none row follows (
         [],
-        line_is (row_line front.k row) at.0 (splits more f)
+        line_is (row_line front.k row) at.0 (splits skips.0 f)
             (Without-row front.k row (follower_fits front row follows).count) at.1
             ∙ sym (append-nil (row_in_columns front.k false row)),
       );
@@ -226,24 +235,61 @@ row_refused {front = front} {origin = origin} {unread = unread} {more = more} is
   ),
 )
 
+-- ---- bytes in front of which stands no row that may come next
+
+-- no line is there
+pub no_row_without_line : (read : RowsRead) (bytes : List ℕ) → ¬ HasLine bytes → BeginsWithNoRow read bytes
+no_row_without_line read bytes none = λ row next at. none (row_has_line read.k row bytes at)
+
+-- the first line is none
+pub no_row_in_line : {unread : Unread} {count : ℕ} {line : List ℕ} (read : RowsRead) → InFront unread count line
+    → BeginsWithNoRow read line → BeginsWithNoRow read unread.bytes
+no_row_in_line {unread} read f none = λ row next at. none row next (
+  [],
+  line_is (row_line read.k row) at.0 (splits [] f) (Without-row read.k row (next_fits read row next).count)
+      (append-nil unread.bytes ∙ at.1) ∙ sym (append-nil (row_in_columns read.k false row)),
+)
+
+-- a row of words without bases begins with a blank
+no_bases-no_end : (row : Row) (rest more : List ℕ) → ¬ (row_in_columns 0 false row ++ rest ≡ codes "END" ++ more)
+unfolding text
+no_bases-no_end row rest more e = omega (arith, ap (λ (l : List ℕ). get_or l 0 0) e)
+
+row_is_no_end : (k : ℕ) (row : Row) (rest more : List ℕ)
+    → ¬ (row_in_columns k false row ++ rest ≡ codes "END" ++ more)
+row_is_no_end zero row rest more e = no_bases-no_end row rest more e
+row_is_no_end (suc k) row rest more e = row-no_end (suc k) row rest more (omega arith) e
+
+-- the line begins as the end does
+pub no_row_at_end : (read : RowsRead) (line : List ℕ) (is : Bool) → BeginsAsEnd line is → is ≡ true
+    → BeginsWithNoRow read line
+no_row_at_end read line is told taken = λ row next at.
+    row_is_no_end read.k row at.0 (drop 3 line)
+    (sym at.1 ∙ (starts_is Decides-eqb line (codes "END") is told).0 taken)
+
+-- none was there before a line was searched
+pub no_row_before : {old mid : Seen} (read : RowsRead) (before after : Unread) → CameForLine old mid before after
+    → BeginsWithNoRow read after.bytes → BeginsWithNoRow read before.bytes
+no_row_before read before after (inl same) none = subst (λ (u : Unread). BeginsWithNoRow read u.bytes) same.1 none
+no_row_before read before after (inr came) none = no_row_without_line read before.bytes came.0
+
 -- ---- the end
 
 -- no line is left
-pub end_missing : {old mid new : Seen} {limit : ℕ} {front : TallySeen} {origin : Option Origin} {unread : Unread} {more : List ℕ}
-    → Reached old mid limit front origin unread → TakesAll mid new unread.room more → ¬ HasLine (unread.bytes ++ more)
+pub end_missing : {old new : Seen} {limit : ℕ} {front : TallySeen} {origin : Option Origin} {unread : Unread}
+    → Reached old new limit front origin unread → Ended unread → ¬ HasLine unread.bytes
     → RefusesRow old new limit front BadEnd
-end_missing {front = front} {origin = origin} {unread = unread} {more = more} r all none = (
-  (front_of front origin ++ unread.bytes) ++ more,
-  used_all r.used all,
+end_missing {front = front} {origin = origin} {unread = unread} r ended none = (
+  front_of front origin ++ unread.bytes,
+  used_ended r.used ended,
   (
     record {
       front = front;
       origin = origin;
-      rest = unread.bytes ++ more;
-      reads = reads_to more r;
+      rest = unread.bytes;
+      reads = record { lawful = r.lawful; split = refl };
       ends = inl none;
-      wrong =
-          λ e. none (end_has_line front.rows (unread.bytes ++ more) e);
+      wrong = λ e. none (end_has_line front.rows unread.bytes e);
     },
     refl,
   ),
@@ -277,41 +323,42 @@ not_both one other (inl failed) told told_one a b = never (sym failed ∙ told_o
 not_both one other (inr failed) told told_one a b = never (sym failed.1 ∙ told a)
 
 -- the line begins as the end does, but it is another, or more comes behind it
-pub end_refused : {old mid new : Seen} {limit count : ℕ} {front : TallySeen} {origin : Option Origin} {unread : Unread}
-    {line more : List ℕ} (is : Bool)
-    → Reached old mid limit front origin unread → TakesAll mid new unread.room more → InFront unread count line
-    → BeginsAsEnd line is × (is ≡ true) → (line ≡ end_text front.rows → drop count unread.bytes ++ more ≡ [] → ⊥)
+pub end_refused : {old mid new : Seen} {limit count many : ℕ} {front : TallySeen} {origin : Option Origin}
+    {unread : Unread} {line : List ℕ} (is : Bool)
+    → Reached old mid limit front origin unread → (skips : Skips mid new unread (Ok many)) → InFront unread count line
+    → BeginsAsEnd line is × (is ≡ true) → (line ≡ end_text front.rows → drop count unread.bytes ++ skips.0 ≡ [] → ⊥)
     → RefusesRow old new limit front BadEnd
-end_refused {front = front} {origin = origin} {unread = unread} {more = more} is r all f told wrong = (
-  (front_of front origin ++ unread.bytes) ++ more,
-  used_all r.used all,
+end_refused {front = front} {origin = origin} {unread = unread} is r skips f told wrong = (
+  (front_of front origin ++ unread.bytes) ++ skips.0,
+  used_skips r.used skips,
   (
     record {
       front = front;
       origin = origin;
-      rest = unread.bytes ++ more;
-      reads = reads_to more r;
-      ends = inr (begins_with_end is (splits more f) told.0 told.1);
-      wrong = λ e. let only = only_end r.lawful (splits more f) e in wrong only.0 only.1;
+      rest = unread.bytes ++ skips.0;
+      reads = reads_to skips.0 r;
+      ends = inr (begins_with_end is (splits skips.0 f) told.0 told.1);
+      wrong = λ e. let only = only_end r.lawful (splits skips.0 f) e in wrong only.0 only.1;
     },
     refl,
   ),
 )
 
 -- the line is the end, and nothing comes behind it
-pub table_given : {old mid new : Seen} {limit count : ℕ} {front : TallySeen} {origin : Option Origin} {unread : Unread} {line more : List ℕ}
-    → Reached old mid limit front origin unread → TakesAll mid new unread.room more → InFront unread count line
-    → line ≡ end_text front.rows → drop count unread.bytes ++ more ≡ [] → GivesTable old new limit (front, origin)
-table_given {front = front} {origin = origin} {unread = unread} {line = line} {more = more} r all f is none = record {
-  bytes = (front_of front origin ++ unread.bytes) ++ more;
-  taken = used_all r.used all;
+pub table_given : {old mid new : Seen} {limit count many : ℕ} {front : TallySeen} {origin : Option Origin}
+    {unread : Unread} {line : List ℕ}
+    → Reached old mid limit front origin unread → (skips : Skips mid new unread (Ok many)) → InFront unread count line
+    → line ≡ end_text front.rows → drop count unread.bytes ++ skips.0 ≡ [] → GivesTable old new limit (front, origin)
+table_given {front = front} {origin = origin} {unread = unread} {line = line} r skips f is none = record {
+  bytes = (front_of front origin ++ unread.bytes) ++ skips.0;
+  taken = used_skips r.used skips;
   has_table =
-      let s = splits more f in
-      let rest : unread.bytes ++ more ≡ end_text front.rows = s.split ∙ ap (λ v. line ++ v) none ∙ append-nil line
+      let s = splits skips.0 f in
+      let rest : unread.bytes ++ skips.0 ≡ end_text front.rows = s.split ∙ ap (λ v. line ++ v) none ∙ append-nil line
       ∙ is in
       record {
         lawful = r.lawful;
-        whole = append_assoc (front_of front origin) unread.bytes more
+        whole = append_assoc (front_of front origin) unread.bytes skips.0
             ∙ ap (λ v. front_of front origin ++ v) rest;
       };
 }
@@ -323,22 +370,26 @@ refuses-header : (old new : Seen) (limit : ℕ) (why : TakeFault) → TakingFail
     → RefusesHeader old new limit (taking_fault why)
 refuses-header old new limit taking.TooLong h = h
 refuses-header old new limit taking.Read h = h
+refuses-header old new limit taking.Broken h = h
+refuses-header old new limit taking.Short h = h
 refuses-header old new limit taking.Memory h = h
 
 refuses-row : (old new : Seen) (limit : ℕ) (front : TallySeen) (why : TakeFault) → TakingFails old new limit why
     → RefusesRow old new limit front (taking_fault why)
 refuses-row old new limit front taking.TooLong h = h
 refuses-row old new limit front taking.Read h = h
+refuses-row old new limit front taking.Broken h = h
+refuses-row old new limit front taking.Short h = h
 refuses-row old new limit front taking.Memory h = h
 
 pub taking_refused : {old mid : Seen} {limit : ℕ} {used : List ℕ} {unread : Unread} (new : Seen) (why : TakeFault)
-    → Used old mid limit used unread → TakingFails mid new unread.room why
+    → Used old mid limit used unread → FillingFails mid new unread why
     → RefusesHeader old new limit (taking_fault why)
 taking_refused {old} {mid} {limit} new why used fails =
     refuses-header old new limit why (used_fails new why used fails)
 
 pub row_taking_refused : {old mid : Seen} {limit : ℕ} {used : List ℕ} {unread : Unread} (front : TallySeen)
-    (new : Seen) (why : TakeFault) → Used old mid limit used unread → TakingFails mid new unread.room why
+    (new : Seen) (why : TakeFault) → Used old mid limit used unread → FillingFails mid new unread why
     → RefusesRow old new limit front (taking_fault why)
 row_taking_refused {old} {mid} {limit} front new why used fails =
     refuses-row old new limit front why (used_fails new why used fails)

@@ -1,14 +1,17 @@
 -- The faults of a source, and what a contract says of a fault: source, our formats page ("Refusals and their lines").
 use Rattle.std.specs.Prelude.{⊤}
-use Rattle.kc_io.specs.declared.intakes.TakeFault.{TakeFault}
-use Rattle.kc_io.specs.declared.intakes.TakeFault.TheVariants as taking
+use Rattle.kc_gzip.specs.declared.unpacked_intakes.TakeFault.{TakeFault}
+use Rattle.kc_gzip.specs.declared.unpacked_intakes.TakeFault.TheVariants as taking
 use Rattle.kc_report.specs.declared.report_faults.ReportFault.{ReportFault}
 use Rattle.kc_report.specs.declared.report_faults.ReportFault.TheVariants.{TableTooLong, TableRead, Memory}
+use Rattle.kc_report.specs.declared.report_faults.ReportFault.TheVariants.{BrokenGzip, ShortGzip}
 
 -- the fault that says why the bytes of a source could not be taken
 abbrev pub taking_fault : TakeFault → ReportFault
 taking_fault taking.TooLong = TableTooLong
 taking_fault taking.Read = TableRead
+taking_fault taking.Broken = BrokenGzip
+taking_fault taking.Short = ShortGzip
 taking_fault taking.Memory = Memory
 
 -- memory was refused, of which nothing more is said, or the fault is one that `Is` tells

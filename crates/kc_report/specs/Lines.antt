@@ -1,10 +1,9 @@
--- Lines that line feeds end, and the finding of one in what a source gives.
+-- Lines that line feeds end, and the finding of one in what a source says.
 use Rattle.std.specs.Prelude.{◌≡◌, ◌≢◌, ◌⊎◌, ℕ, ◌≤◌, List, [], ◌∷◌, ◌++◌, length, take, Result, Ok, Err}
 use Rattle.std.specs.Prelude.{Option, Some, None}
-use Rattle.kc_io.specs.declared.intakes.TakeFault.{TakeFault}
+use Rattle.kc_gzip.specs.declared.unpacked_intakes.TakeFault.{TakeFault}
 use Rattle.kc_io.specs.Sources.{Seen}
-use Rattle.kc_io.specs.Intakes.{TakesAll, TakingFails}
-use Rattle.kc_io.specs.Intakes.{Unread, Filled}
+use Rattle.kc_gzip.specs.Intakes.{Ended, Filled, FillingFails, Unread}
 use Rattle.kc_report.specs.Bytes.{line_feed}
 use Rattle.kc_report.specs.Table.{ended}
 use Rattle.kc_report.specs.TableReading.{HasLine}
@@ -38,10 +37,10 @@ CameForLine old new before after =
     ((new ≡ old) × (after ≡ before)) ⊎ ((¬ HasLine before.bytes) × EndsWithBlock after.bytes)
 
 -- The search for a line in the unread bytes, for which more may have been taken: Ok(Some(n)), the first n of them are
--- one; Ok(None), the source told its end, and there is none; else why no more could be taken, where no line was there.
+-- one; Ok(None), all came that the source says, and there is none; else why no more could be taken, where no line was
+-- there.
 abbrev pub FindsLine : Seen → Seen → Unread → Unread → Result (Option ℕ) TakeFault → Type 0
 FindsLine old new before after (Ok (Some n)) = Filled old new before after × (n ≤ length after.bytes)
     × IsLine (take n after.bytes) × CameForLine old new before after
-FindsLine old new before after (Ok None) =
-    (more : List ℕ) × TakesAll old new before.room more × (¬ HasLine (before.bytes ++ more))
-FindsLine old new before after (Err why) = TakingFails old new before.room why × (¬ HasLine before.bytes)
+FindsLine old new before after (Ok None) = Filled old new before after × Ended after × (¬ HasLine after.bytes)
+FindsLine old new before after (Err why) = FillingFails old new before why × (¬ HasLine before.bytes)

@@ -2,9 +2,9 @@
 -- page ("Table text").
 use Rattle.std.specs.Prelude.{◌≡◌, ℕ, ◌+◌, ◌^◌, ◌<◌, ◌≤◌, Bool, false, List, [], ◌∷◌, ◌++◌, length, take, drop}
 use Rattle.std.specs.Prelude.{Option, Some, None, Result, Ok, Err, IfSome}
-use Rattle.kc_io.specs.declared.intakes.TakeFault.TheVariants as taking
+use Rattle.kc_gzip.specs.declared.unpacked_intakes.TakeFault.TheVariants as taking
 use Rattle.kc_io.specs.Sources.{Seen}
-use Rattle.kc_io.specs.Intakes.{Unread, TakenSoFar, TakesAll, TakingFails}
+use Rattle.kc_gzip.specs.Intakes.{Unread, TakenSoFar, TakesAll, TakingFails}
 use Rattle.kc_kmer.specs.Word.{text, form}
 use Rattle.kc_tally.specs.declared.row.Row.{Row}
 use Rattle.kc_tally.specs.Tally.{TallySeen, total_of}
@@ -12,10 +12,11 @@ use Rattle.kc_report.specs.declared.origin.Origin.{Origin}
 use Rattle.kc_report.specs.declared.report_faults.ReportFault.{ReportFault}
 use Rattle.kc_report.specs.declared.report_faults.ReportFault.TheVariants.{BadHeader, BadRow, BadEnd}
 use Rattle.kc_report.specs.declared.report_faults.ReportFault.TheVariants.{TableTooLong, TableRead, Memory}
+use Rattle.kc_report.specs.declared.report_faults.ReportFault.TheVariants.{BrokenGzip, ShortGzip}
 use Rattle.kc_report.specs.Dumping.{row_in_columns}
 use Rattle.kc_report.specs.Lines.{EndsWithBlock}
 use Rattle.kc_report.specs.Table.{front_text}
-use Rattle.kc_report.specs.TableReading.{IsTable, HasBadHeader, HasBadRow, HasBadEnd, GivesTable}
+use Rattle.kc_report.specs.TableReading.{BeginsWith, IsTable, HasBadHeader, HasBadRow, HasBadEnd, GivesTable}
 
 -- ---- what is kept of the rows
 
@@ -49,6 +50,10 @@ pub record ComesNext (read : RowsRead) (row : Row) : Type 0 where
   pub present : 1 ≤ row.count
   pub small : read.total + row.count ≤ 2 ^ 62
 
+-- no row that may come next stands in front of the bytes
+abbrev pub BeginsWithNoRow : RowsRead → List ℕ → Type 0
+BeginsWithNoRow read bytes = (row : Row) → ComesNext read row → ¬ BeginsWith bytes (row_in_columns read.k false row)
+
 -- one row more
 abbrev pub with_row : RowsRead → Row → RowsRead
 with_row read row =
@@ -61,7 +66,7 @@ pub record TableStand : Type 0 where
   pub read : RowsRead
   -- what the table was counted from, where the header says that
   pub origin : Option Origin
-  -- the bytes that were taken and not used yet; none where the table has ended or a fault was met
+  -- the bytes that came and were not used yet; none where the table has ended or a fault was met
   pub unread : Option Unread
   -- the fault that is kept, and answered from then on
   pub failed : Option ReportFault
@@ -74,14 +79,14 @@ tally_of stand rows = record { k = stand.read.k; both = stand.read.both; rows = 
 abbrev pub given_text : TableStand → List Row → List ℕ
 given_text stand rows = front_text stand.read.k stand.read.both stand.origin rows
 
--- Of a source that was seen as `start`, a reader with this limit gave these rows: the bytes that were taken are the
--- header and these rows, and then the bytes that it did not use.
+-- Of a source that was seen as `start`, a reader with this limit gave these rows: the bytes that came, decompressed,
+-- are the header and these rows, and then the bytes that it did not use.
 pub record HasGivenRows (start now : Seen) (limit : ℕ) (rows : List Row) (stand : TableStand) : Type 0 where
   pub lawful : IsTable (tally_of stand rows) stand.origin
   pub kept : IsKeptOf rows stand.read
   pub unread : Unread
   pub still : stand.unread ≡ Some unread
-  pub taken : TakenSoFar start now limit (given_text stand rows ++ unread.bytes)
+  pub taken : TakenSoFar start now limit unread (given_text stand rows ++ unread.bytes)
   pub room : length (given_text stand rows ++ unread.bytes) + unread.room ≡ limit
   pub unfailed : stand.failed ≡ None
 
@@ -101,6 +106,8 @@ pub record HasSameHeader (old new : TableStand) : Type 0 where
 abbrev pub RefusesHeader : Seen → Seen → ℕ → ReportFault → Type 0
 RefusesHeader start now limit TableTooLong = TakingFails start now limit taking.TooLong
 RefusesHeader start now limit TableRead = TakingFails start now limit taking.Read
+RefusesHeader start now limit BrokenGzip = TakingFails start now limit taking.Broken
+RefusesHeader start now limit ShortGzip = TakingFails start now limit taking.Short
 RefusesHeader start now limit Memory = TakingFails start now limit taking.Memory
 RefusesHeader start now limit BadHeader = (bytes : List ℕ) × TakesAll start now limit bytes × HasBadHeader bytes
 RefusesHeader start now limit fault = ⊥
@@ -110,6 +117,8 @@ RefusesHeader start now limit fault = ⊥
 abbrev pub RefusesRow : Seen → Seen → ℕ → TallySeen → ReportFault → Type 0
 RefusesRow start now limit front TableTooLong = TakingFails start now limit taking.TooLong
 RefusesRow start now limit front TableRead = TakingFails start now limit taking.Read
+RefusesRow start now limit front BrokenGzip = TakingFails start now limit taking.Broken
+RefusesRow start now limit front ShortGzip = TakingFails start now limit taking.Short
 RefusesRow start now limit front Memory = TakingFails start now limit taking.Memory
 RefusesRow start now limit front (BadRow number) =
     (bytes : List ℕ) × TakesAll start now limit bytes × ((bad : HasBadRow bytes number) × (bad.front ≡ front))

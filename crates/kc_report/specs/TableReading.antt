@@ -2,14 +2,15 @@
 -- fault. Source, our formats page ("Table text").
 use Rattle.std.specs.Prelude.{◌≡◌, ℕ, ◌+◌, ◌≤◌, Bool, false, List}
 use Rattle.std.specs.Prelude.{[], ◌∷◌, ◌++◌, length, codes, Result, MatchResult, Option, ◌⊎◌}
-use Rattle.kc_io.specs.declared.intakes.TakeFault.TheVariants as taking
+use Rattle.kc_gzip.specs.declared.unpacked_intakes.TakeFault.TheVariants as taking
 use Rattle.kc_io.specs.Sources.{Seen}
-use Rattle.kc_io.specs.Intakes.{TakesAll, TakingFails}
+use Rattle.kc_gzip.specs.Intakes.{TakesAll, TakingFails}
 use Rattle.kc_tally.specs.declared.row.Row.{Row}
 use Rattle.kc_tally.specs.Tally.{TallySeen, AreRows}
 use Rattle.kc_report.specs.declared.report_faults.ReportFault.{ReportFault}
 use Rattle.kc_report.specs.declared.report_faults.ReportFault.TheVariants.{BadHeader, BadRow, BadEnd}
 use Rattle.kc_report.specs.declared.report_faults.ReportFault.TheVariants.{TableTooLong, TableRead, Memory}
+use Rattle.kc_report.specs.declared.report_faults.ReportFault.TheVariants.{BrokenGzip, ShortGzip}
 use Rattle.kc_report.specs.Dumping.{row_in_columns}
 use Rattle.kc_report.specs.declared.origin.Origin.{Origin}
 use Rattle.kc_report.specs.Table.{header_line, MaySay, ended, front_text, end_text, table_text}
@@ -80,7 +81,7 @@ HasTableFault bytes _ = ⊥
 abbrev pub IsTableOf : List ℕ → Result (TallySeen × Option Origin) ReportFault → Type 0
 IsTableOf bytes answer = MatchResult answer (HasTable bytes) (HasTableFault bytes)
 
--- all bytes of the source were taken, and they are the text of this tally with this origin
+-- all bytes of the source were taken and decompressed, and they are the text of this tally with this origin
 pub record GivesTable (old new : Seen) (limit : ℕ) (table : TallySeen × Option Origin) : Type 0 where
   pub bytes : List ℕ
   pub taken : TakesAll old new limit bytes
@@ -92,6 +93,8 @@ pub record GivesTable (old new : Seen) (limit : ℕ) (table : TallySeen × Optio
 abbrev pub RefusesTable : Seen → Seen → ℕ → ReportFault → Type 0
 RefusesTable old new limit TableTooLong = TakingFails old new limit taking.TooLong
 RefusesTable old new limit TableRead = TakingFails old new limit taking.Read
+RefusesTable old new limit BrokenGzip = TakingFails old new limit taking.Broken
+RefusesTable old new limit ShortGzip = TakingFails old new limit taking.Short
 RefusesTable old new limit Memory =
     TakingFails old new limit taking.Memory ⊎ ((bytes : List ℕ) × TakesAll old new limit bytes)
 RefusesTable old new limit fault = (bytes : List ℕ) × TakesAll old new limit bytes × HasTableFault bytes fault

@@ -3,7 +3,8 @@ ghost use Rattle.std.specs.Prelude.{◌≡◌};
 ghost use Rattle.kc_report.specs.declared.report_faults.ReportFault.TheVariants.{Write, Memory};
 ghost use Rattle.kc_report.specs.Faults.{taking_fault};
 
-use kc_io::{Failed, TakeFault};
+use kc_gzip::TakeFault;
+use kc_io::Failed;
 use std::alloc::{AllocError, AllocFailed};
 use thiserror::Error;
 
@@ -22,12 +23,18 @@ pub enum ReportFault {
     /// A table has no end line, or a wrong one, or goes on behind it.
     #[error("bad end")]
     BadEnd,
-    /// The source of a table gave more bytes than its limit.
+    /// The source of a table says more bytes than its limit.
     #[error("table too long")]
     TableTooLong,
     /// The source of a table failed.
     #[error("table read failed")]
     TableRead,
+    /// The source of a table is gzip, and broken.
+    #[error("broken gzip")]
+    BrokenGzip,
+    /// The source of a table is gzip, and ends before it should.
+    #[error("gzip cut short")]
+    ShortGzip,
     /// This asked word, numbered from 1, is no word of the tally's length.
     #[error("bad word {0}")]
     BadWord(u64),
@@ -57,6 +64,8 @@ impl From<TakeFault> for ReportFault {
         match why {
             TakeFault::TooLong => ReportFault::TableTooLong,
             TakeFault::Read => ReportFault::TableRead,
+            TakeFault::Broken => ReportFault::BrokenGzip,
+            TakeFault::Short => ReportFault::ShortGzip,
             TakeFault::Memory => ReportFault::Memory,
         }
     }

@@ -1,11 +1,12 @@
 //! The lines of a source, each ended by a line feed.
 ghost use Rattle.kc_report.specs.Lines.{FindsLine};
 
-use kc_io::{Intake, Source, TakeFault};
+use kc_gzip::{Intake, TakeFault};
+use kc_io::Source;
 use memchr::memchr;
 
 // How many of the unread bytes the first line has, with its line end. Blocks are taken until a whole line is there, or
-// the source has told its end.
+// all came that the source says.
 pub(crate) fn first_line<R: Source>(
     reader: &mut R,
     intake: &mut Intake,

@@ -11,12 +11,14 @@ use kc_tally::{GrowingRows, Tally};
 use std::alloc::Global;
 
 /// Takes all bytes of the source, and answers the tally whose table text they are, and what it was counted from where
-/// the text says that. It keeps the rows, and of the text one block and one line. Condition: the limit is at most 2^42.
+/// the text says that. Gzip is decompressed: then the text and the limit are of the decompressed bytes. It keeps the
+/// rows, of the text one block and one line, and what the decompression keeps. Condition: the limit is at most 2^42.
 ///
 /// # Errors
-/// `TableTooLong` where the source gave more than `limit` bytes, and `TableRead` where it failed, whichever the
-/// reading met first; these before any fault of the text, behind which the source is read to its end. Else the first
-/// fault of the bytes: `BadHeader`, `BadRow` with its line or `BadEnd`. `Memory` where a growth was refused.
+/// `TableTooLong` where the source says more than `limit` bytes, `TableRead` where it failed, `BrokenGzip` where its
+/// gzip is broken, and `ShortGzip` where that is cut short, whichever the reading met first; these before any fault of
+/// the text, behind which the source is read to its end. Else the first fault of the bytes: `BadHeader`, `BadRow` with
+/// its line or `BadEnd`. `Memory` where a growth was refused.
 pub fn read_table<R: Source>(
     alloc: Global,
     reader: &mut R,

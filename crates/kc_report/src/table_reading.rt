@@ -1,33 +1,35 @@
 //! A table text that is read row by row, of which the reader keeps a block and a line.
-ghost use Rattle.std.specs.Prelude.{◌≡◌, ◌≢◌, ◌↔◌, ℕ, List, [], ◌++◌, ◌≤◌, length, drop, None, Some, Ok, Err};
+ghost use Rattle.std.specs.Prelude.{◌≡◌, ◌↔◌, ℕ, List, [], ◌++◌, ◌≤◌, false, length, drop, None, Some, Ok, Err};
 ghost use Rattle.std.specs.Prelude.{IsTrue, IfSome, IfNone, IfOk, IfErr};
-ghost use Rattle.kc_io.specs.declared.intakes.TakeFault.TheVariants as taking;
 ghost use Rattle.kc_io.specs.Sources.{Seen};
-ghost use Rattle.kc_io.specs.Intakes.{TakesAll, TakingFails};
+ghost use Rattle.kc_gzip.specs.Intakes.{FillingFails, Skips};
 ghost use Rattle.kc_tally.specs.declared.row.Row.{Row};
 ghost use Rattle.kc_report.specs.declared.report_faults.ReportFault.TheVariants.{Memory};
+ghost use Rattle.kc_report.specs.Dumping.{row_in_columns};
 ghost use Rattle.kc_report.specs.Lines.{EndsWithBlock};
-ghost use Rattle.kc_report.specs.TableReading.{HasLine, RefusesTable};
+ghost use Rattle.kc_report.specs.TableReading.{BeginsWith, HasLine, RefusesTable};
 ghost use Rattle.kc_report.specs.RowByRow.{HasGivenRows, KeepsFew, HasSameHeader, RefusesHeader, GivesRow, UsesRow};
-ghost use Rattle.kc_report.specs.RowByRow.{Stays};
+ghost use Rattle.kc_report.specs.RowByRow.{BeginsWithNoRow, ComesNext, Stays};
 
 use crate::origin::Origin;
 use crate::report_faults::ReportFault;
 use crate::table_header::header_of;
 use crate::table_lines::first_line;
 use crate::table_rows::TableRows;
-use kc_io::{Block, Intake, Source, TakeFault};
+use kc_gzip::{Intake, TakeFault};
+use kc_io::{Block, Source};
 use kc_kmer::K;
 use kc_tally::Row;
 use std::alloc::Global;
 use std::marker::Model;
 
-/// A reader of a table text, which gives its rows one after another and leaves the source with its caller. It keeps a
-/// block of the bytes and one line, and of the rows numbers alone.
+/// A reader of a table text, which gives its rows one after another and leaves the source with its caller. Gzip is
+/// decompressed: the text is that of the decompressed bytes. The reader keeps a block of these and one line, what the
+/// decompression keeps, and of the rows numbers alone.
 ///
 /// Contracts speak of the rows that were given so far: `HasGivenRows` with none of them holds behind `open`, `next_row`
-/// adds the row that it gives, and where it answers `None` the bytes of the source are the table text of these rows.
-/// Each call is handed the same source, of which nobody else takes bytes meanwhile.
+/// adds the row that it gives, and where it answers `None` the bytes that the source says are the table text of these
+/// rows. Each call is handed the same source, of which nobody else takes bytes meanwhile.
 ///
 /// ```ignore
 /// let mut reading = TableReading::open(alloc, &mut source, limit)?;
@@ -58,12 +60,14 @@ impl Model for TableReading {
 }
 
 impl TableReading {
-    /// Takes the header of a table text. At most `limit` bytes are taken of the source, here and for the rows.
+    /// Takes the header of a table text. At most `limit` bytes may come of the source, here and for the rows; of gzip
+    /// these are the decompressed ones.
     ///
     /// # Errors
-    /// `BadHeader` where the first line is no header; then all bytes were taken. `TableTooLong` where the source gave
-    /// more than `limit` bytes, and `TableRead` where it failed, whichever the reading met first; these before
-    /// `BadHeader`. `Memory` where a growth was refused.
+    /// `BadHeader` where the first line is no header; then all bytes were taken. `TableTooLong` where the source says
+    /// more than `limit` bytes, `TableRead` where it failed, `BrokenGzip` where its gzip is broken, and `ShortGzip`
+    /// where that is cut short, whichever the reading met first; these before `BadHeader`. `Memory` where a growth was
+    /// refused.
     pub fn open<S: Source>(
         alloc: Global,
         source: &mut S,
@@ -117,10 +121,12 @@ impl TableReading {
     /// of the rows that were given. From then on the answer is none, and nothing more is taken.
     ///
     /// # Errors
-    /// `TableTooLong` where the source gave more bytes than the limit, and `TableRead` where it failed, whichever the
-    /// reading met first; these before any fault of the text, behind which the source is read to its end. Else the
-    /// first fault of the bytes: `BadRow` with its line, or `BadEnd`. `Memory` where a growth was refused. The fault is
-    /// kept: from then on the answer is the same, nothing is taken of the source, and the reader stays as it is.
+    /// `TableTooLong` where the source says more bytes than the limit, `TableRead` where it failed, `BrokenGzip` where
+    /// its gzip is broken, and `ShortGzip` where that is cut short, whichever the reading met first; these before any
+    /// fault of the text, behind which the source is read to its end. Else the first fault of the bytes: `BadRow` with
+    /// its line, or `BadEnd`. `Memory` where a growth was refused. None of these comes while a row is at hand. The
+    /// fault is kept: from then on the answer is the same, nothing is taken of the source, and the reader stays as it
+    /// is.
     #[inline(always)]
     pub fn next_row<S: Source>(&mut self, source: &mut S) -> Result<Option<Row>, ReportFault>
         ensures given { (start : Seen) (limit : ℕ) (rows : List Row)
@@ -133,8 +139,11 @@ impl TableReading {
         ensures few { KeepsFew self.new }
         ensures at_hand { IfOk result (λ next. IfSome next (λ row. IfSome self.old.unread (λ unread.
             HasLine unread.bytes → S.seen source.new ≡ S.seen source.old))) }
+        ensures at_once { IfSome self.old.unread (λ unread. (row : Row)
+            → ComesNext self.old.read row → BeginsWith unread.bytes (row_in_columns self.old.read.k false row)
+            → result ≡ Ok (Some row)) }
         ensures memory { result ≡ Err Memory → self.old.failed ≡ None
-            → IfSome self.old.unread (λ unread. ¬ HasLine unread.bytes) }
+            → IfSome self.old.unread (λ unread. BeginsWithNoRow self.old.read unread.bytes) }
         ensures over { IfOk result (λ next. IfNone next ((self.new.unread ≡ None) × (self.new.failed ≡ None))) }
         ensures kept { IfErr result (λ fault. (self.new.unread ≡ None) × (self.new.failed ≡ Some fault)) }
         ensures ended { self.old.unread ≡ None → self.old.failed ≡ None → result ≡ Ok None }
@@ -153,6 +162,8 @@ impl TableReading {
     fn row_at_hand(&mut self) -> Option<Row>
         ensures some { IfSome result (UsesRow self.old self.new) }
         ensures none { IfNone result (self.new ≡ self.old) }
+        ensures no_row { IfNone result (IfSome self.old.unread (λ unread.
+            BeginsWithNoRow self.old.read unread.bytes)) }
         ensures few { KeepsFew self.new }
     {
         let Some(intake) = &mut self.intake else {
@@ -176,7 +187,7 @@ impl TableReading {
         ensures at_hand { IfOk result (λ next. IfSome next (λ row. IfSome self.old.unread (λ unread.
             HasLine unread.bytes → S.seen source.new ≡ S.seen source.old))) }
         ensures memory { result ≡ Err Memory → self.old.failed ≡ None
-            → IfSome self.old.unread (λ unread. ¬ HasLine unread.bytes) }
+            → IfSome self.old.unread (λ unread. BeginsWithNoRow self.old.read unread.bytes) }
         ensures over { IfOk result (λ next. IfNone next ((self.new.unread ≡ None) × (self.new.failed ≡ None))) }
         ensures kept { IfErr result (λ fault. (self.new.unread ≡ None) × (self.new.failed ≡ Some fault)) }
         ensures ended { self.old.unread ≡ None → self.old.failed ≡ None → result ≡ Ok None }
@@ -214,7 +225,7 @@ impl TableReading {
         ensures stays { Stays self.old self.new result }
         ensures at_hand { IfOk result (λ next. IfSome next (λ row.
             HasLine unread.bytes → S.seen source.new ≡ S.seen source.old)) }
-        ensures memory { result ≡ Err Memory → ¬ HasLine unread.bytes }
+        ensures memory { result ≡ Err Memory → BeginsWithNoRow self.old.read unread.bytes }
     {
         let Some(count) = first_line(source, &mut unread)? else {
             return Err(ReportFault::BadEnd);
@@ -241,11 +252,10 @@ impl TableReading {
 // Takes all that comes of the source, and answers whether the first `count` unread bytes are the last of all.
 fn is_last<R: Source>(reader: &mut R, intake: Intake, count: usize) -> Result<bool, TakeFault>
     requires { count ≤ length intake.bytes }
-    ensures last { IfOk result (λ last. (more : List ℕ)
-        × TakesAll (R.seen reader.old) (R.seen reader.new) intake.room more
-        × (IsTrue last ↔ (drop count intake.bytes ++ more ≡ []))) }
-    ensures fault { IfErr result (TakingFails (R.seen reader.old) (R.seen reader.new) intake.room) }
-    ensures no_memory { IfErr result (λ fault. fault ≢ taking.Memory) }
+    ensures last { IfOk result (λ last. (many : ℕ)
+        × (skips : Skips (R.seen reader.old) (R.seen reader.new) intake (Ok many))
+        × (IsTrue last ↔ (drop count intake.bytes ++ skips.0 ≡ []))) }
+    ensures fault { IfErr result (FillingFails (R.seen reader.old) (R.seen reader.new) intake) }
 {
     let behind = intake.as_slice().len() - count;
     let more = intake.skip_rest(reader)?;

@@ -4,7 +4,7 @@ ghost use Rattle.std.specs.Prelude.{IsTrue, IfSome, IfNone};
 ghost use Rattle.kc_tally.specs.declared.row.Row.{Row};
 ghost use Rattle.kc_kmer.specs.Word.{text, form};
 ghost use Rattle.kc_report.specs.Dumping.{row_in_columns};
-ghost use Rattle.kc_report.specs.RowByRow.{ComesNext, with_row};
+ghost use Rattle.kc_report.specs.RowByRow.{BeginsWithNoRow, ComesNext, with_row};
 ghost use Rattle.kc_report.specs.Table.{end_line, ended};
 ghost use Rattle.kc_report.specs.TableReading.{BeginsWith};
 
@@ -80,8 +80,7 @@ impl TableRows {
         ensures within { IfSome result (λ found. found.1 ≤ length bytes.now) }
         ensures some { IfSome result (λ found. take found.1 bytes.now ≡ row_in_columns self.now.k false found.0) }
         ensures follows { IfSome result (λ found. ComesNext self.now found.0) }
-        ensures none { IfNone result ((row : Row) → ComesNext self.now row
-            → ¬ BeginsWith bytes.now (row_in_columns self.now.k false row)) }
+        ensures none { IfNone result (BeginsWithNoRow self.now bytes.now) }
     {
         let Some((row, size)) = row_of(bytes, self.k) else {
             return None;

@@ -1,7 +1,7 @@
 use Rattle.std.proofs.Common.{arith}
 use Rattle.std.proofs.lemmas.List.{length-drop}
 use Rattle.std.proofs.lemmas.Result.{err_from_is_err_and}
-use Rattle.kc_io.proofs.IntakesLemmas.{filled_fails}
+use Rattle.kc_gzip.proofs.IntakesLemmas.{filled_fails}
 use Rattle.kc_report.proofs.LineLemmas.{line_found, none_found, filled_searched, ended_searched}
 use Rattle.kc_report.proofs.LineLemmas.{no_line, none_before, came_more}
 use Rattle.kc_report.proofs.table_lines.first_line.Goals as goal

@@ -1,5 +1,5 @@
 use Rattle.std.proofs.Common.{◌≤◌, length, take}
-use Rattle.kc_io.specs.Intakes.{Filled}
+use Rattle.kc_gzip.specs.Intakes.{Filled}
 use Rattle.kc_report.specs.Bytes.{line_feed}
 use Rattle.kc_report.specs.Lines.{Without, CameForLine}
 use Rattle.kc_report.proofs.table_lines.first_line.Given as goal

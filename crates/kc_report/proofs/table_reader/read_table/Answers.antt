@@ -28,6 +28,10 @@ pub push-requires-clause-present : goal.push-requires-clause-present
 push-requires-clause-present g c =
     let told = rw c.in-Some.is at c.in_ok-row.ensures.given _ _ _ c.rows.invariant in (given_packs c.rows.rows c.in-Some.row told).1
 
+pub rows-preserved : goal.rows-preserved
+rows-preserved g c =
+    let told = rw c.in-Some.is at c.in_ok-row.ensures.given _ _ _ c.rows.invariant in rw c.in_ok-push.ensures.more told
+
 pub rows-smaller : goal.rows-smaller
 rows-smaller g c =
     let told = rw c.in-Some.is at c.in_ok-row.ensures.given _ _ _ c.rows.invariant in

@@ -4,7 +4,9 @@ use Rattle.kc_report.specs.RowByRow.{TableStand, tally_of, IsKeptOf}
 use Rattle.kc_report.proofs.LineLemmas.{ends_used, ends_found}
 use Rattle.kc_report.proofs.TableReadingLemmas.{in_front, reached_more, not_both, row_taking_refused}
 use Rattle.kc_report.proofs.TableReadingLemmas.{row_refused, end_missing, end_refused, table_given}
+use Rattle.kc_report.proofs.TableReadingLemmas.{no_row_before, no_row_in_line, no_row_at_end}
 use Rattle.kc_report.proofs.RowByRowLemmas.{reached, end_is, line_given, no_row_kept, line_number, fault_of_none}
+use Rattle.kc_report.proofs.RowByRowLemmas.{no_row_now}
 use Rattle.kc_report.proofs.table_reading.TableReading.row_of_line.Goals as goal
 
 pub returns-in_err-count-clause-given : goal.returns-in_err-count-clause-given
@@ -17,7 +19,7 @@ returns-in_err-count-clause-given g c = λ start limit rows h.
 pub returns-in_default-clause-given : goal.returns-in_default-clause-given
 returns-in_default-clause-given g c = λ start limit rows h.
     let found = rw c.in_default.is at c.in_ok-count.ensures in
-    end_missing {more = found.0} (reached c.args.unread h refl) found.1 found.2
+    end_missing (reached_more (reached c.args.unread h refl) found.0) found.1 found.2
 
 pub returns-in_err-is_last-clause-given : goal.returns-in_err-is_last-clause-given
 returns-in_err-is_last-clause-given g c = λ start limit rows h.
@@ -53,17 +55,34 @@ returns-in_err-skip_rest-clause-given g c = λ start limit rows h.
     let p = err_from_is_err_and c.from_residual-in_err-skip_rest.result c.from_residual-in_err-skip_rest.ensures.1 in
     rw (p.1, p.2) (row_taking_refused (tally_of c.args.self.now rows) (g.S.Source.seen c.skip_rest.new.source)
     c.in_err-skip_rest.field-0.0 (reached_more (reached c.args.unread h refl) found.0).used
-    c.in_err-skip_rest.ensures.fault)
+    c.in_err-skip_rest.ensures)
 
 pub returns-in_default-next_row-clause-given : goal.returns-in_default-next_row-clause-given
 returns-in_default-next_row-clause-given g c = λ start limit rows h.
     let found = rw c.in-Some.is at c.in_ok-count.ensures in
     let line = in_front found.2 (ap (take c.in-Some.count) c.as_slice.ensures) in
-    let skipped = c.in_ok-skip_rest.ensures.skipped in
     row_refused c.starts_with.result c.next_line_number.result (reached_more (reached c.args.unread h refl) found.0)
-    skipped.1 line (c.starts_with.ensures.value, c.if-starts_with.false)
+    c.in_ok-skip_rest.ensures line (c.starts_with.ensures.value, c.if-starts_with.false)
     (no_row_kept c.self.view_is h.kept c.in_default-next_row.ensures.none)
     (line_number c.next_line_number.result c.self.view_is h.kept c.next_line_number.ensures)
+
+pub returns-in_err-is_last-clause-memory : goal.returns-in_err-is_last-clause-memory
+returns-in_err-is_last-clause-memory g c = λ is.
+    let found = rw c.in-Some.is at c.in_ok-count.ensures in
+    let unread = c.first_line.new.intake in
+    let line = in_front {unread = unread} found.2 (ap (take c.in-Some.count) c.as_slice.ensures) in
+    let read = c.args.self.now.read in
+    no_row_before read c.args.unread unread found.3
+    (no_row_in_line read line (no_row_at_end read _ c.starts_with.result c.starts_with.ensures.value c.if-starts_with.true))
+
+pub returns-in_err-skip_rest-clause-memory : goal.returns-in_err-skip_rest-clause-memory
+returns-in_err-skip_rest-clause-memory g c = λ is.
+    let found = rw c.in-Some.is at c.in_ok-count.ensures in
+    let unread = c.first_line.new.intake in
+    let line = in_front {unread = unread} found.2 (ap (take c.in-Some.count) c.as_slice.ensures) in
+    let read = c.args.self.now.read in
+    no_row_before read c.args.unread unread found.3
+    (no_row_in_line read line (no_row_now c.self.view_is c.in_default-next_row.ensures.none))
 
 pub returns-clause-given : goal.returns-clause-given
 returns-clause-given g c = λ start limit rows h.
