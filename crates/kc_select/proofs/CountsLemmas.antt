@@ -1,11 +1,11 @@
 -- What is counted of reads, one more at a time, and that it fits 64 bits.
-use Rattle.std.proofs.Common.{◌≡◌, ℕ, cond, ◌+◌, ◌^◌, ◌<◌, ◌≤◌, Bool, true, false, List, [], ◌∷◌, ◌++◌, length}
+use Rattle.std.proofs.Common.{◌≡◌, ℕ, cond, ◌+◌, ◌^◌, ◌<◌, ◌≤◌, true, List, [], ◌∷◌, ◌++◌, length}
 use Rattle.std.proofs.Common.{sym, ap, ◌∙◌, arith, length-append}
-use Rattle.std.specs.Prelude.{MatchBool}
 use Rattle.std.proofs.lemmas.List.{map-append}
 use Rattle.std.proofs.lemmas.List.Sums.{sum_by-append, sum_by-cons, count_by-le-length}
 use Rattle.kc_io.specs.Sources.{Seen}
-use Rattle.kc_io.specs.Intakes.{TakesAll, TakenSoFar}
+use Rattle.kc_gzip.proofs.IntakesLemmas.{taken_once}
+use Rattle.kc_fastx.proofs.ReadingLemmas.{all_taken}
 use Rattle.kc_fastx.specs.Reads.{Read, base_count}
 use Rattle.kc_fastx.specs.Parsing.{most_bytes}
 use Rattle.kc_fastx.specs.Reading.{Stand}
@@ -87,25 +87,11 @@ counts_few tally rule some reads bases few =
       solid = omega (arith, bases, words, solid);
     }
 
--- at the end as many bytes were taken as were used or stand there unused
+-- at the end as many bytes came as were used or stand there unused
 pub taken_same : (start now : Seen) (limit : ℕ) (records : List Record) (stand : Stand)
-    → HasGivenRecords start now limit records stand → (gives : GivesRecords start now limit records)
+    → HasGivenRecords start now limit records stand → stand.ended ≡ true → (gives : GivesRecords start now limit records)
     → stand.used + length stand.unread.bytes ≡ length gives.0
-taken_same start now limit records stand given gives =
+taken_same start now limit records stand given ended gives =
     let counted = given.given.counted in
-    let all = taken_length start now limit (given.given.used ++ stand.unread.bytes) stand.ended given.given.taken.taken in
-    omega (
-      arith,
-      counted,
-      all,
-      length-append given.given.used stand.unread.bytes,
-      ap length gives.1.taken.given,
-      length-append start.history.bytes gives.0,
-    )
-  where
-    taken_length : (start now : Seen) (limit : ℕ) (bytes : List ℕ) (ended : Bool)
-        → MatchBool ended (TakesAll start now limit bytes) (TakenSoFar start now limit bytes)
-        → length now.history.bytes ≡ length start.history.bytes + length bytes
-    taken_length start now limit bytes true h =
-        ap length h.taken.given ∙ length-append start.history.bytes bytes
-    taken_length start now limit bytes false h = ap length h.given ∙ length-append start.history.bytes bytes
+    let same = taken_once (all_taken ended given.given.taken) gives.1 in
+    omega (arith, counted, ap length same, length-append given.given.used stand.unread.bytes)

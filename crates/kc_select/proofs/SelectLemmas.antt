@@ -1,6 +1,6 @@
 -- The records that came, and the text of the selected ones on its way to the sink.
 use Rattle.std.proofs.Common.{◌≡◌, ℕ, ◌+◌, ◌<◌, ◌≤◌, List, [], ◌∷◌, ◌++◌, length, sym, ap, ◌∙◌, subst, append_assoc, append-nil}
-use Rattle.std.proofs.Common.{arith, refl, length-append}
+use Rattle.std.proofs.Common.{arith, refl, true, length-append}
 use Rattle.std.proofs.lemmas.List.{length-map}
 use Rattle.kc_io.specs.Sources.{Seen}
 use Rattle.kc_fastx.specs.Parsing.{most_bytes}
@@ -132,15 +132,15 @@ module _ {task : Task} {old now : Streams} {stand : Stand} {block : List ℕ} {c
 
   -- all records came, and what stood in the block is written
   pub selects_all : (new : Streams) (next : Stand) (bytes : ℕ)
-      → HasGivenRecords old.source new.source task.limit s.records next
+      → HasGivenRecords old.source new.source task.limit s.records next → next.ended ≡ true
       → GivesRecords old.source new.source task.limit s.records
       → HasWritten now.sink new.sink block → bytes ≡ next.used + length next.unread.bytes
       → Selects task old new (Ok (record { bytes = bytes; counts = counts }))
-  selects_all new next bytes given gives w all = (
+  selects_all new next bytes given end gives w all = (
     s.records,
     gives,
     written new.sink w,
-    alike (all ∙ taken_same old.source new.source task.limit s.records next given gives) s.counted,
+    alike (all ∙ taken_same old.source new.source task.limit s.records next given end gives) s.counted,
   )
     where
       alike : {n m : ℕ} {one other : SelectionCounts} → n ≡ m → one ≡ other
@@ -153,20 +153,20 @@ module _ {task : Task} {old now : Streams} {stand : Stand} {block : List ℕ} {c
 
   -- either of both is answered
   pub selects_ended : (new : Streams) (next : Stand) (bytes : ℕ) (answer : Result Selected SelectFault)
-      → HasGivenRecords old.source new.source task.limit s.records next
+      → HasGivenRecords old.source new.source task.limit s.records next → next.ended ≡ true
       → GivesRecords old.source new.source task.limit s.records
       → bytes ≡ next.used + length next.unread.bytes → Writes now.sink new.sink answer block
       → IfOk answer (λ selected. selected ≡ record { bytes = bytes; counts = counts })
       → IfErr answer (λ fault. fault ≡ Write) → Selects task old new answer
-  selects_ended new next bytes (Ok selected) given gives all w told fault =
-      subst (λ v. Selects task old new (Ok v)) (sym told) (selects_all new next bytes given gives w all)
-  selects_ended new next bytes (Err met) given gives all h told fault =
+  selects_ended new next bytes (Ok selected) given end gives all w told fault =
+      subst (λ v. Selects task old new (Ok v)) (sym told) (selects_all new next bytes given end gives w all)
+  selects_ended new next bytes (Err met) given end gives all h told fault =
       subst (λ v. Selects task old new (Err v)) (sym fault) (fails_last new h)
 
   -- the reads met a fault, and what stood in the block was to be written
   pub selects_before : (new : Streams) (next : Stand) (fault : FastxFault) (answer : SelectFault)
       → MeetsFault old.source new.source task.limit next fault
-      → ComesBehind old.source new.source (reads_in s.records) next fault
+      → ComesBehind (reads_in s.records) next fault
       → EndsWith now.sink new.sink block fault answer → Selects task old new (Err answer)
   selects_before new next fault (Reads met) meets comes ends = (
     s.records,

@@ -1,4 +1,7 @@
+pub mod CountWalks
 pub mod Counts
+pub mod Profiles
+pub mod RunWalks
 pub mod Selecting
 pub mod Solid
 pub mod SolidWords

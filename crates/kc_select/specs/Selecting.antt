@@ -37,7 +37,7 @@ BeginWith task start records =
 -- lines. Memory may be refused at any time.
 abbrev pub Meets : Task → Seen → Seen → List Record → FastxFault → Type 0
 Meets task start now records fault = (stand : Stand) × MeetsFault start now task.limit stand fault
-    × ComesBehind start now (reads_in records) stand fault
+    × ComesBehind (reads_in records) stand fault
 
 -- what is answered about these bytes, which say these records
 abbrev pub selected_of : Task → List ℕ → List Record → Selected

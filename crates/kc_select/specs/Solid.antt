@@ -1,19 +1,33 @@
 -- Which reads of a file are selected by their words and a table of counts.
 -- Source: this project's own; the words of a read and the forms under which they count are those of the counter.
-use Rattle.std.specs.Prelude.{ℕ, ◌*◌, Bool, not, nat_le, ◌&&◌, List, length, count_by, if◌then◌else◌}
+use Rattle.std.specs.Prelude.{ℕ, ◌*◌, ◌^◌, ◌-◌, Bool, true, false, not, nat_le, ◌&&◌, List, length, count_by}
+use Rattle.std.specs.Prelude.{if◌then◌else◌}
 use Rattle.kc_fastx.specs.Reads.{Read}
 use Rattle.kc_kmer.specs.Rule.{CountingRule, unlisted_rule}
 use Rattle.kc_kmer.specs.Occurrences.{words_in}
 use Rattle.kc_tally.specs.Tally.{TallySeen, count_of}
 
 -- the rule of a selection: the least and the greatest count of a solid word, how many of a hundred words of a read have
--- to be solid, the least quality byte of a usable base, and whether the reads that are not solid are selected instead
+-- to be solid, the least quality byte of a usable base, whether the reads that are not solid are selected instead, and
+-- whether the profiles of the selected reads are written and not their records
 pub record SelectionRule : Type 0 where
   pub least : ℕ
   pub most : ℕ
   pub share : ℕ
   pub floor : ℕ
   pub inverted : Bool
+  pub profiled : Bool
+
+-- every read is selected, and its profile is written
+abbrev pub profile_rule : ℕ → SelectionRule
+profile_rule floor = record {
+  least = 0;
+  most = 2 ^ 64 - 1;
+  share = 0;
+  floor = floor;
+  inverted = false;
+  profiled = true;
+}
 
 -- by which rule the words of a read count: they have the table's length, and the forms under which the table counts
 -- them, and no base of theirs has a quality below the floor

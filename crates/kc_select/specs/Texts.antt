@@ -6,7 +6,8 @@ use Rattle.kc_fastx.specs.Fasta.{greater_than}
 use Rattle.kc_fastx.specs.Fastq.{at_sign, plus_sign}
 use Rattle.kc_fastx.specs.Titles.{Record}
 use Rattle.kc_tally.specs.Tally.{TallySeen}
-use Rattle.kc_select.specs.Solid.{SelectionRule, is_selected}
+use Rattle.kc_select.specs.Profiles.{profile_lines}
+use Rattle.kc_select.specs.Solid.{SelectionRule, is_selected, rule_for}
 
 -- a line and its end
 abbrev pub line_of : List ℕ → List ℕ
@@ -30,9 +31,14 @@ text_with (Some quals) title bases = fastq_text title bases quals
 abbrev pub record_text : Record → List ℕ
 record_text this = text_with this.read.quals this.title this.read.bases
 
--- what is written of a record: its text where its read is selected, and else nothing
+-- what is written of a record whose read is selected: its text, or the lines of its profile
+abbrev pub text_of_kept : TallySeen → SelectionRule → Record → List ℕ
+text_of_kept tally rule this =
+    if rule.profiled then profile_lines tally (rule_for tally rule) this else record_text this
+
+-- what is written of a record: nothing where its read is not selected
 abbrev pub text_of_selected : TallySeen → SelectionRule → Record → List ℕ
-text_of_selected tally rule this = if is_selected tally rule this.read then record_text this else []
+text_of_selected tally rule this = if is_selected tally rule this.read then text_of_kept tally rule this else []
 
 -- the text of the selected records, in order
 abbrev pub selected_text : TallySeen → SelectionRule → List Record → List ℕ

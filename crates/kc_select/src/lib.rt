@@ -15,7 +15,10 @@
 #![tactic(auto)]
 
 mod base_walk;
+mod count_walk;
+mod profile_text;
 mod record_texts;
+mod run_walk;
 mod select_fault;
 mod selected_text;
 mod selection;

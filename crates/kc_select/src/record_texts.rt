@@ -78,7 +78,7 @@ fn put_line<W: Sink>(
 }
 
 // Puts bytes behind the block, however many they are.
-fn put<W: Sink>(writer: &mut W, block: &mut Block, bytes: &[u8]) -> Result<(), Failed>
+pub(crate) fn put<W: Sink>(writer: &mut W, block: &mut Block, bytes: &[u8]) -> Result<(), Failed>
     ensures ok { OnOk result (Drains (W.seen writer.old) (W.seen writer.new) (block.old ++ bytes.now) block.new) }
     ensures err { OnErr result (HasBegun (W.seen writer.old) (W.seen writer.new) (block.old ++ bytes.now)) }
 {

@@ -4,10 +4,12 @@ ghost use Rattle.kc_io.specs.Sinks.{HasBegun, Drains, Writes};
 ghost use Rattle.kc_fastx.specs.Parsing.{most_bytes};
 ghost use Rattle.kc_fastx.specs.Titles.{record_of};
 ghost use Rattle.kc_select.specs.Counts.{counts_of};
-ghost use Rattle.kc_select.specs.Texts.{text_of_selected};
+ghost use Rattle.kc_select.specs.Texts.{text_of_kept, text_of_selected};
 ghost use Rattle.kc_select.specs.Selecting.{Selects, EndsWith, task_of};
 ghost use Rattle.kc_select.specs.declared.select_fault.SelectFault.TheVariants.{Write};
 
+use crate::count_walk::CountWalk;
+use crate::profile_text::put_profile;
 use crate::record_texts::put_record;
 use crate::select_fault::SelectFault;
 use crate::selection_counts::{Selected, SelectionCounts};
@@ -17,9 +19,9 @@ use kc_io::{Block, Failed, Sink, write_out};
 use std::alloc::Global;
 
 /// Writes the reads of the source that the selection keeps, whole and in order, each with its title: FASTA as FASTA,
-/// and FASTQ as FASTQ, with sequence and quality in one line each. No byte of a read is written before the read was
-/// judged. At most `limit` bytes are taken of the source. It answers how many these are, and what was counted of the
-/// reads. Condition: the limit is at most 2^36.
+/// and FASTQ as FASTQ, with sequence and quality in one line each; or in place of each its profile. No byte of a read
+/// is written before the read was judged. At most `limit` bytes are taken of the source. It answers how many these
+/// are, and what was counted of the reads. Condition: the limit is at most 2^36.
 ///
 /// # Errors
 /// `Reads` with the fault that the reads met. The selected ones of those before it were written and flushed. `Write`
@@ -76,12 +78,32 @@ fn put_selected<W: Sink>(
     let counted = selector.count_words(read);
     let is_kept = counted.is_kept(selector.selection());
     if is_kept {
-        put_record(writer, block, title, read)?;
+        put_kept(writer, block, selector, title, read)?;
     }
     Ok(counted.of_one(is_kept))
 }
 
-// Writes what stands in the block, and answers that so many bytes came and what was counted, or that the writer failed.
+// Puts the text of a record whose read is kept behind the block: the record itself, or its profile.
+fn put_kept<W: Sink>(
+    writer: &mut W,
+    block: &mut Block,
+    selector: &Selector<'_>,
+    title: &[u8],
+    read: &SeqRead,
+) -> Result<(), Failed>
+    ensures ok { OnOk result (Drains (W.seen writer.old) (W.seen writer.new)
+        (block.old ++ text_of_kept selector.now.tally selector.now.rule (record_of title.now read.now)) block.new) }
+    ensures err { OnErr result (HasBegun (W.seen writer.old) (W.seen writer.new)
+        (block.old ++ text_of_kept selector.now.tally selector.now.rule (record_of title.now read.now))) }
+{
+    if !selector.selection().is_profiled() {
+        return put_record(writer, block, title, read);
+    }
+    let mut walk = CountWalk::new(selector.tally(), read, selector.rule());
+    put_profile(writer, block, &mut walk, title)
+}
+
+// Writes the block, and answers that so many bytes came and what was counted, or that the writer failed.
 fn finish<W: Sink>(
     writer: &mut W,
     block: &Block,
@@ -96,7 +118,7 @@ fn finish<W: Sink>(
     Ok(Selected { bytes, counts })
 }
 
-// Writes what stands in the block, and answers this fault of the reads, or that the writer failed.
+// Writes the block, and answers this fault of the reads, or that the writer failed.
 fn end_with<W: Sink>(writer: &mut W, block: &Block, fault: FastxFault) -> SelectFault
     ensures { EndsWith (W.seen writer.old) (W.seen writer.new) block.now fault result }
 {

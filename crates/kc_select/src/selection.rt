@@ -1,6 +1,6 @@
 //! The rule of a selection of reads.
 ghost use Rattle.std.specs.Prelude.{◌≡◌, ◌≤◌, ◌^◌, ◌-◌, false};
-ghost use Rattle.kc_select.specs.Solid.{is_solid_count};
+ghost use Rattle.kc_select.specs.Solid.{is_solid_count, profile_rule};
 ghost use Rattle.kc_select.specs.SolidWords.{is_exception};
 
 use std::marker::Model;
@@ -9,8 +9,8 @@ use std::marker::Model;
 const EVERY_QUALITY: u8 = 33;
 
 /// The rule of a selection of reads: the least and the greatest count of a solid word, how many of a hundred words of a
-/// read have to be solid, at most 100, the least quality byte of a usable base, from 33 to 126, and whether the reads
-/// that are not solid are selected instead.
+/// read have to be solid, at most 100, the least quality byte of a usable base, from 33 to 126, whether the reads that
+/// are not solid are selected instead, and whether their profiles are written and not their records.
 #[derive(Clone, Copy, PartialEq, Eq, Debug)]
 pub struct Selection {
     least: u64,
@@ -18,6 +18,7 @@ pub struct Selection {
     share: u64,
     floor: u8,
     inverted: bool,
+    profiled: bool,
 }
 
 impl Model for Selection {
@@ -32,6 +33,7 @@ impl Model for Selection {
       share = s.share;
       floor = s.floor;
       inverted = s.inverted;
+      profiled = s.profiled;
     } };
 
     ghost invariant = { λ s. (s.share ≤ 100) × (33 ≤ s.floor) × (s.floor ≤ 126) };
@@ -42,6 +44,7 @@ impl Model for Selection {
       share = v.share;
       floor = v.floor;
       inverted = v.inverted;
+      profiled = v.profiled;
     } };
 }
 
@@ -50,7 +53,14 @@ impl Selection {
     /// greatest count. Condition: the share is at most 100.
     pub fn new(least: u64, share: u64) -> Selection
         requires { share ≤ 100 }
-        ensures { result ≡ record { least = least; most = 2 ^ 64 - 1; share = share; floor = 33; inverted = false } }
+        ensures { result ≡ record {
+          least = least;
+          most = 2 ^ 64 - 1;
+          share = share;
+          floor = 33;
+          inverted = false;
+          profiled = false;
+        } }
     {
         Selection {
             least,
@@ -58,6 +68,19 @@ impl Selection {
             share,
             floor: EVERY_QUALITY,
             inverted: false,
+            profiled: false,
+        }
+    }
+
+    /// The selection of all reads, by bases of every quality, of which the profiles are written: the counts of their
+    /// words along them.
+    pub fn profiles() -> Selection
+        ensures { result ≡ profile_rule 33 }
+    {
+        let every = Selection::new(0, 0);
+        Selection {
+            profiled: true,
+            ..every
         }
     }
 
@@ -126,6 +149,13 @@ impl Selection {
         ensures { result ≡ self.inverted }
     {
         self.inverted
+    }
+
+    /// Whether the profiles of the selected reads are written, and not their records.
+    pub fn is_profiled(self) -> bool
+        ensures { result ≡ self.profiled }
+    {
+        self.profiled
     }
 
     // Whether a word with this count is solid.

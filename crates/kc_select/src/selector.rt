@@ -1,7 +1,7 @@
 //! A selection by a table: whether a read is solid.
 ghost use Rattle.std.specs.Prelude.{◌≡◌, ◌<◌, ◌^◌, IfOk, length};
 ghost use Rattle.kc_word.specs.Only.{AreListed};
-ghost use Rattle.kc_select.specs.Solid.{words_for, is_solid_word, solid_in, is_solid, is_selected};
+ghost use Rattle.kc_select.specs.Solid.{rule_for, words_for, is_solid_word, solid_in, is_solid, is_selected};
 ghost use Rattle.kc_select.specs.SolidWords.{AreExceptions};
 
 use crate::base_walk::BaseWalk;
@@ -61,6 +61,20 @@ impl<'a> Selector<'a> {
         self.tally.k()
     }
 
+    // The table.
+    pub(crate) fn tally(&self) -> &'a Tally
+        ensures { result.now ≡ self.now.tally }
+    {
+        self.tally
+    }
+
+    // How the words of a read count.
+    pub(crate) fn rule(&self) -> Rule
+        ensures { result ≡ rule_for self.now.tally self.now.rule }
+    {
+        Rule::new(self.tally.k(), self.tally.both(), self.selection.floor())
+    }
+
     // The rule of the selection.
     pub(crate) fn selection(&self) -> Selection
         ensures { result ≡ self.now.rule }
@@ -89,8 +103,7 @@ impl<'a> Selector<'a> {
         ensures words { result.words ≡ length (words_for self.now.tally self.now.rule read.now) }
         ensures solid { result.solid ≡ solid_in self.now.tally self.now.rule read.now }
     {
-        let rule = Rule::new(self.tally.k(), self.tally.both(), self.selection.floor());
-        let mut walk = BaseWalk::new(read, rule);
+        let mut walk = BaseWalk::new(read, self.rule());
         let mut counted = WordCounts { words: 0, solid: 0 };
         'words: while let Some(word) = walk.next_word() {
             counted.words += 1;

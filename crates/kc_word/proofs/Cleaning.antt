@@ -111,7 +111,7 @@ form_at-cleaned : (rule : CountingRule) (read : Read) (p : ℕ) → form_at rule
 unfolding form_at
 form_at-cleaned rule read p = ap (option_map (form rule.both)) (word_at-cleaned rule read p)
 
-counted_at-cleaned : (rule : CountingRule) (read : Read) (p : ℕ) → counted_at rule (read_of (cleaned rule read) None) p ≡ counted_at rule read p
+pub counted_at-cleaned : (rule : CountingRule) (read : Read) (p : ℕ) → counted_at rule (read_of (cleaned rule read) None) p ≡ counted_at rule read p
 unfolding counted_at
 counted_at-cleaned rule read p = ap (option_and_then (where_listed rule.only)) (form_at-cleaned rule read p)
 

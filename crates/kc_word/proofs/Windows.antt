@@ -105,7 +105,7 @@ length-last_window k bytes =
     let pads = length-replicate k unusable in
     length-drop (length bytes) (replicate k unusable ++ bytes) ∙ omega (arith, whole, pads)
 
-last_window-whole : (k : ℕ) (bytes : List ℕ) → k ≤ length bytes → last_window k bytes ≡ drop (length bytes - k) bytes
+pub last_window-whole : (k : ℕ) (bytes : List ℕ) → k ≤ length bytes → last_window k bytes ≡ drop (length bytes - k) bytes
 unfolding last_window
 last_window-whole k bytes h =
     ap (λ n. drop n (replicate k unusable ++ bytes)) (omega (arith, h)) ∙ sym (drop-drop (length bytes - k) k (replicate k unusable ++ bytes))

@@ -17,7 +17,7 @@ use std::sync::Arc;
 /// parts of the batch that is begun are packed one behind another only where it is whole, so that a refusal leaves them
 /// as they were.
 ///
-/// Contracts say of it which pieces it `HasTaken`.
+/// Contracts state which pieces it `HasTaken`.
 #[derive(Drop)]
 pub struct Cutting {
     k: K,

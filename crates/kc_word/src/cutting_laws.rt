@@ -16,7 +16,7 @@ pub fn cutting_occurrences()
     ensures { CuttingOccurrences }
 {}
 
-/// At index i of a cutting stands batch i.
+/// Index i of a cutting has batch i.
 pub fn cutting_numbers()
     ensures { CuttingNumbers }
 {}

@@ -6,7 +6,7 @@ ghost use Rattle.kc_word.specs.Packed.{code_in, codes_in};
 use std::alloc::AllocError;
 use std::marker::Model;
 
-/// How many bases stand in a number of 64 bits.
+/// How many bases a number of 64 bits has.
 pub(crate) const BASES: usize = 32;
 
 /// Codes of bases, seen as their list: two bits each, the first one in the highest bits of its number. The bits behind

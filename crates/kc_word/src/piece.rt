@@ -8,12 +8,12 @@ use kc_kmer::letter::base_of;
 use std::alloc::{AllocError, Global};
 use std::marker::Model;
 
-/// What stands in a piece for a base that is not usable.
+/// The letter of a piece in place of a base that is not usable.
 const UNUSABLE: u8 = b'N';
 
 /// A piece: a read, or a part of one, made ready to be counted, with upper-case bases, and `N` in place of each base
-/// that is not usable. It is kept as packed codes and a list of the runs of N. Under a run stand codes 0, so that equal
-/// pieces are kept alike.
+/// that is not usable. It is kept as packed codes and a list of the runs of N. Under a run the codes are 0, so that
+/// equal pieces are kept alike.
 #[derive(Debug, Drop)]
 pub struct Piece {
     pub(crate) bases: Packed,

@@ -51,7 +51,7 @@ pub returns-in-Ok-None : goal.returns-in-Ok-None
 returns-in-Ok-None g c =
     let s = c.reads.invariant in
     let end = rw c.in-Ok-None.field-0-is at c.in-Ok-None.ensures.given _ _ s.records s.given in
-    selects_ended s _ c.next_titled.new.self c.byte_count-bytes.result c.finish.result end.0 end.1
+    selects_ended s _ c.next_titled.new.self c.byte_count-bytes.result c.finish.result end.0 end.1 end.2
     c.byte_count-bytes.ensures c.finish.ensures.written c.finish.ensures.told c.finish.ensures.fault
 
 pub returns-in-Err : goal.returns-in-Err
