@@ -23,7 +23,7 @@ use Rattle.clap.specs.Faults.{check_fault, defaults_fault, entered_fault, fault_
 use Rattle.clap.specs.Faults.{turn_fault, walk_fault}
 use Rattle.std.specs.List.{AllByRecursion}
 use Rattle.kc_command.specs.Command.{IsCommand, count_shape, dump_shape, histo_shape, kcount_app, merge_shape}
-use Rattle.kc_command.specs.Command.{query_shape, select_shape, stats_shape}
+use Rattle.kc_command.specs.Command.{profile_shape, query_shape, select_shape, stats_shape}
 
 -- a command with one argument more
 pub added : {old new : Command} {argument : Arg} {app : App} {rule : Rule} → AddsArg old argument new
@@ -215,6 +215,7 @@ commands =
     ∷ of_kcount query_shape
     ∷ of_kcount merge_shape
     ∷ of_kcount select_shape
+    ∷ of_kcount profile_shape
     ∷ []
 
 abbrev helping : Shape
@@ -231,7 +232,13 @@ are_commands = (
         inr (inr (inr (inl refl))),
         (
           inr (inr (inr (inr (inl refl)))),
-          (inr (inr (inr (inr (inr (inl refl))))), (inr (inr (inr (inr (inr (inr refl))))), tt)),
+          (
+            inr (inr (inr (inr (inr (inl refl))))),
+            (
+              inr (inr (inr (inr (inr (inr (inl refl)))))),
+              (inr (inr (inr (inr (inr (inr (inr refl)))))), tt),
+            ),
+          ),
         ),
       ),
     ),

@@ -7,7 +7,7 @@ use Rattle.std.specs.Option.{option_and_then}
 use Rattle.std.specs.Str.{bytes_eq}
 use Rattle.clap.specs.Words.{Row, Text, first_of, one_of}
 use Rattle.kc_report.specs.declared.dump.Dump.{Dump}
-use Rattle.kc_select.specs.Solid.{SelectionRule}
+use Rattle.kc_select.specs.Solid.{SelectionRule, profile_rule}
 use Rattle.kc_command.specs.Numbers.{number_between, scaled_between}
 use Rattle.kc_command.specs.Settings.{Settings, lowered}
 use Rattle.kc_command.specs.declared.option_name.OptionName.{OptionName}
@@ -167,6 +167,10 @@ first_bad_of_select rows = first_of_bad (judged option.MinCount (min_count_of ro
     ∷ judged option.MinQualChar (floor_of rows)
     ∷ [])
 
+-- of `profile`
+abbrev pub first_bad_of_profile : List Row → Option OptionName
+first_bad_of_profile rows = first_of_bad (judged option.MinQualChar (floor_of rows) ∷ [])
+
 -- What all options together ask for.
 
 -- a flag is up where it was given, and down where it was not
@@ -189,6 +193,12 @@ pub record AsksForSelection (rows : List Row) (rule : SelectionRule) : Type 0 wh
   pub min_share : min_share_of rows ≡ Some rule.share
   pub min_qual_char : floor_of rows ≡ Some rule.floor
   pub invert : IsFlag rows (codes "invert") rule.inverted
+  pub profiled : rule.profiled ≡ false
+
+-- the options of a profile ask for this rule
+pub record AsksForProfile (rows : List Row) (rule : SelectionRule) : Type 0 where
+  pub min_qual_char : floor_of rows ≡ Some rule.floor
+  pub profile : rule ≡ profile_rule rule.floor
 
 -- the options of a count ask for these settings
 pub record AsksFor (rows : List Row) (settings : Settings) : Type 0 where

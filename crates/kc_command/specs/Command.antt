@@ -126,7 +126,7 @@ file_argument = one_argument (codes "file")
 abbrev pub table_argument : Rule
 table_argument = required file_argument
 
--- TABLE of a selection, a file that has to be given
+-- TABLE of a selection or of a profile, a file that has to be given
 abbrev pub counted_argument : Rule
 counted_argument = required (one_argument (codes "table"))
 
@@ -216,6 +216,12 @@ select_shape = record (new_shape (codes "select")) {
       ∷ [];
 }
 
+-- `kcount profile`, which takes a table and any number of files
+abbrev pub profile_shape : Shape
+profile_shape = record (new_shape (codes "profile")) {
+  rules = min_qual_char_option ∷ output_option ∷ explain_option ∷ counted_argument ∷ files_argument ∷ [];
+}
+
 -- `kcount` before it has commands
 abbrev pub bare_app : App
 bare_app = record {
@@ -227,7 +233,15 @@ bare_app = record {
 abbrev pub kcount_app : App
 kcount_app = record {
   top = record (new_shape (codes "kcount")) { has_version = true; subcommand_required = true; is_leaf = false };
-  subs = count_shape ∷ dump_shape ∷ histo_shape ∷ stats_shape ∷ query_shape ∷ merge_shape ∷ select_shape ∷ [];
+  subs = count_shape
+      ∷ dump_shape
+      ∷ histo_shape
+      ∷ stats_shape
+      ∷ query_shape
+      ∷ merge_shape
+      ∷ select_shape
+      ∷ profile_shape
+      ∷ [];
 }
 
 -- the name of a command
@@ -239,3 +253,4 @@ IsCommand name = (name ≡ codes "count")
     ⊎ (name ≡ codes "query")
     ⊎ (name ≡ codes "merge")
     ⊎ (name ≡ codes "select")
+    ⊎ (name ≡ codes "profile")

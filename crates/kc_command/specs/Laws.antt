@@ -17,6 +17,7 @@ use Rattle.kc_command.specs.Arguments.{
   first_bad,
   first_bad_of_dump,
   first_bad_of_histo,
+  first_bad_of_profile,
   first_bad_of_select,
   first_table_of,
   floor_of,
@@ -261,6 +262,41 @@ pub record SelectsReads : Type 0 where
       ∷ codes "--min-count=x" ∷ codes "t.kct" ∷ []))) ≡ Some option.MinCount
   pub second_of_two : first_bad_of_select (options_of (select_with (codes "--min-share=101"
       ∷ codes "--max-count=x" ∷ codes "t.kct" ∷ []))) ≡ Some option.MaxCount
+
+-- `kcount profile`, with these arguments behind it
+abbrev pub profile_with : List Text → List Text
+profile_with options = codes "kcount" ∷ codes "profile" ∷ options
+
+-- `kcount profile --min-qual-char 5 t.kct a.fa b.fa`
+abbrev pub good_bases : List Text
+good_bases = profile_with (codes "--min-qual-char"
+    ∷ codes "5"
+    ∷ codes "t.kct"
+    ∷ codes "a.fa"
+    ∷ codes "b.fa"
+    ∷ [])
+
+-- writes the counts along the records of two files, or of standard input, by a table
+pub record ProfilesRecords : Type 0 where
+  pub taken : fault_of kcount_app good_bases ≡ []
+  pub command : option_map (λ met. met.0) (subcommand_of kcount_app good_bases) ≡ Some (codes "profile")
+  pub good : first_bad_of_profile (options_of good_bases) ≡ None
+  pub floor : floor_of (options_of good_bases) ≡ Some 53
+  pub table : first_of (codes "table") (options_of good_bases) ≡ Some (codes "t.kct")
+  pub files : all_of (codes "file") (options_of good_bases) ≡ Some (codes "a.fa" ∷ codes "b.fa" ∷ [])
+  pub output : first_of (codes "output") (options_of (profile_with (codes "-o" ∷ codes "out" ∷ codes "t.kct" ∷ [])))
+      ≡ Some (codes "out")
+  pub alone : fault_of kcount_app (profile_with (codes "t.kct" ∷ [])) ≡ []
+  pub alone_good : first_bad_of_profile (options_of (profile_with (codes "t.kct" ∷ []))) ≡ None
+  pub usual_floor : floor_of (options_of (profile_with (codes "t.kct" ∷ []))) ≡ Some 33
+  pub no_file : all_of (codes "file") (options_of (profile_with (codes "t.kct" ∷ []))) ≡ None
+  pub no_table : fault_of kcount_app (profile_with []) ≡ MissingRequiredArgument ∷ []
+  pub option_of_select : fault_of kcount_app (profile_with (codes "--stats" ∷ codes "t.kct" ∷ []))
+      ≡ UnknownArgument ∷ []
+  pub option_of_dump : fault_of kcount_app (profile_with (codes "-L" ∷ codes "2" ∷ codes "t.kct" ∷ []))
+      ≡ UnknownArgument ∷ []
+  pub two_bytes : first_bad_of_profile (options_of (profile_with (codes "--min-qual-char"
+      ∷ codes "II" ∷ codes "t.kct" ∷ []))) ≡ Some option.MinQualChar
 
 -- these are no command lines, or ask for help
 pub record Refuses : Type 0 where

@@ -8,6 +8,7 @@ ghost use Rattle.kc_command.specs.Command.{
   histo_shape,
   kcount_app,
   merge_shape,
+  profile_shape,
   query_shape,
   select_shape,
   stats_shape,
@@ -43,6 +44,9 @@ pub const MERGE: &str = "merge";
 /// The name of the command that writes the reads that a table selects.
 pub const SELECT: &str = "select";
 
+/// The name of the command that writes the counts along reads.
+pub const PROFILE: &str = "profile";
+
 /// The command line of `kcount`. Options take texts, which are judged when the command line has been read.
 pub fn command<'a>(alloc: Global) -> Result<Command<'a>, AllocError>
     ensures { IfOk result (λ command. app_of command ≡ kcount_app) }
@@ -53,7 +57,8 @@ pub fn command<'a>(alloc: Global) -> Result<Command<'a>, AllocError>
     let command = with_command(command, stats_command(alloc));
     let command = with_command(command, query_command(alloc));
     let command = with_command(command, merge_command(alloc));
-    with_command(command, select_command(alloc))
+    let command = with_command(command, select_command(alloc));
+    with_command(command, profile_command(alloc))
 }
 
 // The command with one more command, where there was memory for both.
@@ -169,7 +174,21 @@ fn select_command<'a>(alloc: Global) -> Result<Command<'a>, AllocError>
     described(alloc, SELECT, help::SELECT, help::AFTER_SELECT).args(arguments)
 }
 
-// A command without arguments, with the text that stands at the top of its help and the one at the end.
+// The command that writes the counts of the words along reads.
+fn profile_command<'a>(alloc: Global) -> Result<Command<'a>, AllocError>
+    ensures { IfOk result (λ command. shape_of command ≡ profile_shape) }
+{
+    let arguments = vec![in alloc;
+        min_qual_char(alloc),
+        output(alloc),
+        explain(alloc),
+        counted(alloc),
+        files(alloc),
+    ]?;
+    described(alloc, PROFILE, help::PROFILE, help::AFTER_PROFILE).args(arguments)
+}
+
+// A command without arguments, with the texts at the top and at the end of its help.
 fn described<'a>(alloc: Global, name: &'a str, top: &'a str, end: &'a str) -> Command<'a>
     ensures { app_of result ≡ new_app name.entry.now }
 {

@@ -227,7 +227,7 @@ pub(crate) fn invert<'a>(alloc: Global) -> Arg<'a>
     flag_option(alloc, "invert", help)
 }
 
-/// `--stats`: to tell how many reads and k-mers there were.
+/// `--stats`: to print how many reads and k-mers there were.
 pub(crate) fn stats<'a>(alloc: Global) -> Arg<'a>
     ensures rule { rule_of result ≡ stats_option }
     ensures own { result.global ≡ false }
@@ -273,7 +273,7 @@ pub(crate) fn table<'a>(alloc: Global) -> Arg<'a>
     required(one_argument(alloc, "file", "TABLE", help))
 }
 
-/// TABLE, which has to be given: the table of a selection.
+/// TABLE, which has to be given: the table of a selection or of a profile.
 pub(crate) fn counted<'a>(alloc: Global) -> Arg<'a>
     ensures rule { rule_of result ≡ counted_argument }
     ensures own { result.global ≡ false }

@@ -6,6 +6,7 @@ ghost use Rattle.kc_command.specs.Laws.{
   JudgesInOrder,
   KeepsLimits,
   MergesTables,
+  ProfilesRecords,
   ReadsTables,
   Refuses,
   ScalesNumbers,
@@ -20,10 +21,11 @@ pub fn command_lines()
     ensures tables { ReadsTables }
     ensures merges { MergesTables }
     ensures selects { SelectsReads }
+    ensures profiles { ProfilesRecords }
     ensures refuses { Refuses }
 {}
 
-/// Values at their limits and past them, and which one of several bad ones is told.
+/// Values at their limits and past them, and which one of several bad ones is reported.
 pub fn limits()
     ensures scaled { ScalesNumbers }
     ensures kept { KeepsLimits }

@@ -11,7 +11,7 @@ error, 2 for an invalid command line. Errors are printed on standard error.
 
 Examples:
   kcount count -m 21 -C -o reads.kct reads_1.fq reads_2.fq
-  zcat reads.fq.gz | kcount count -m 21 -C -o reads.kct
+  kcount count -m 21 -C -o reads.kct reads_1.fq.gz reads_2.fq.gz
   kcount histo reads.kct
   kcount query reads.kct ACGTACGTACGTACGTACGTA
   kcount merge -o both.kct reads.kct more_reads.kct";
@@ -25,7 +25,7 @@ pub(crate) const AFTER_COUNT: &str = "\
 Each file is FASTA or Sanger FASTQ: its first line decides. Sequences may be
 wrapped. Letters other than ACGT and acgt, and bases below --min-qual-char,
 break k-mers. K-mers are written in ascending order, after all files have been
-read and counted. Compressed files are read through zcat.
+read and counted. Gzip is decompressed, whatever the file is called.
 
 The k-mers of the --only file are those of its sequences, with the same
 --mer-len, --canonical and --min-qual-char as those of the other files.
@@ -35,7 +35,7 @@ are printed on standard error.
 
 Examples:
   kcount count -m 21 -C -t 4 -s 100M -o reads.kct reads_1.fq reads_2.fq
-  zcat reads.fq.gz | kcount count -m 21 -C -o reads.kct
+  kcount count -m 21 -C -o reads.kct reads_1.fq.gz reads_2.fq.gz
   kcount count -m 4 --print dump --column < reads.fa
   kcount count -m 21 -C --only genome.fa -o reads.kct reads.fq";
 
@@ -52,7 +52,7 @@ are printed on standard error.
 
 Examples:
   kcount dump -c -L 2 reads.kct
-  zcat reads.fq.gz | kcount count -m 21 | kcount dump -c -t -o reads.tsv";
+  kcount count -m 21 reads.fq.gz | kcount dump -c -t -o reads.tsv";
 
 /// At the top of the help of `histo`.
 pub(crate) const HISTO: &str = "\
@@ -68,7 +68,7 @@ are printed on standard error.
 
 Examples:
   kcount histo -o reads.histo reads.kct
-  zcat reads.fq.gz | kcount count -m 21 -C | kcount histo --high 1000";
+  kcount count -m 21 -C reads.fq.gz | kcount histo --high 1000";
 
 /// At the top of the help of `stats`.
 pub(crate) const STATS: &str = "\
@@ -84,7 +84,7 @@ are printed on standard error.
 
 Examples:
   kcount stats reads.kct
-  zcat reads.fq.gz | kcount count -m 21 -C | kcount stats";
+  kcount count -m 21 -C reads.fq.gz | kcount stats";
 
 /// At the top of the help of `query`.
 pub(crate) const QUERY: &str = "\
@@ -101,7 +101,7 @@ Exit status: 0 on success, 1 on an error, 2 for an invalid command line. Errors
 are printed on standard error.
 
 Examples:
-  zcat reads.fq.gz | kcount count -m 5 -C -o reads.kct
+  kcount count -m 5 -C -o reads.kct reads.fq.gz
   kcount query reads.kct ACGTA GATTA";
 
 /// At the top of the help of `merge`.
@@ -143,4 +143,25 @@ are printed on standard error.
 Examples:
   kcount count -m 21 -C -o reads.kct reads.fq
   kcount select --min-count 3 -o solid.fq reads.kct reads.fq
-  zcat reads.fq.gz | kcount select --invert reads.kct > others.fq";
+  kcount select --invert reads.kct reads.fq.gz > others.fq";
+
+/// At the top of the help of `profile`.
+pub(crate) const PROFILE: &str = "\
+Writes the counts of the k-mers along each record.";
+
+/// At the end of the help of `profile`.
+pub(crate) const AFTER_PROFILE: &str = "\
+Writes bedGraph: for each run of equal counts a line of NAME, START, END and
+COUNT, with tabs between. The k-mers that begin at START to END - 1 have this
+COUNT; positions are counted from 0. NAME is the title up to its first blank. A
+k-mer that is not in the table has a count of 0. A k-mer with a letter other
+than ACGT and acgt, or with a base below --min-qual-char, has no line, and
+neither has a record without k-mers. The records before an error are written
+too, but not to a file given by -o.
+
+Exit status: 0 on success, 1 on an error, 2 for an invalid command line. Errors
+are printed on standard error.
+
+Examples:
+  kcount count -m 21 -C -o reads.kct reads.fq.gz
+  kcount profile -o assembly.bedgraph reads.kct assembly.fa";

@@ -2,9 +2,10 @@
 //!
 //! `command::command` makes the command line that `clap` reads, with the text of its help, and the module `command` has
 //! the names of its commands. From what `clap` found, `options` makes the `Options` of a count, `dump_options` how a
-//! dump is laid out, `high_of` how far a histogram goes, and `select_options` which reads are selected; `text_of` gives
-//! the text of an option as it stands, and `has_flag` says whether a flag was given. The first option whose value is
-//! outside its limits is answered as its `OptionName`. `command_laws` has worked command lines.
+//! dump is laid out, `high_of` how far a histogram goes, `select_options` which reads are selected, and
+//! `profile_options` which bases count in a profile; `text_of` gives the text of an option as it was given, and
+//! `has_flag` returns whether a flag was given. The first option whose value is outside its limits is returned as its
+//! `OptionName`. `command_laws` has worked command lines.
 //!
 //! ```ignore
 //! let options = Options::new(k).with_print(Print::Dump).with_dump(Dump::in_columns());
@@ -22,4 +23,6 @@ mod settings_of_options;
 
 pub use option_name::OptionName;
 pub use settings::{Options, Print};
-pub use settings_of_options::{dump_options, has_flag, high_of, options, select_options, text_of};
+pub use settings_of_options::{
+    dump_options, has_flag, high_of, options, profile_options, select_options, text_of,
+};

@@ -4,7 +4,7 @@ ghost use Rattle.std.specs.Option.{SomeIff};
 ghost use Rattle.std.specs.Char.{is_ascii_digit};
 ghost use Rattle.kc_command.specs.Numbers.{between, number_between, number_of, scaled_between, scaled_number, unit};
 
-/// The number that a text of decimal digits alone is, where it stands between the bounds, both of which count. However
+/// The number that a text of decimal digits alone is, if it is between the bounds, both of which count. However
 /// many digits there are, the number never wraps.
 pub(crate) fn number_between(text: &[u8], least: u64, most: u64) -> Option<u64>
     ensures value { result ≡ number_between least most text.now }
@@ -13,7 +13,7 @@ pub(crate) fn number_between(text: &[u8], least: u64, most: u64) -> Option<u64>
     between(number(text)?, least, most)
 }
 
-/// The number that a text of digits is which may have `k`, `M` or `G` (10^3, 10^6 or 10^9) behind them, where it stands
+/// The number that a text of digits is which may have `k`, `M` or `G` (10^3, 10^6 or 10^9) behind them, if it is
 /// between the bounds.
 pub(crate) fn scaled_between(text: &[u8], least: u64, most: u64) -> Option<u64>
     ensures value { result ≡ scaled_between least most text.now }
@@ -22,7 +22,7 @@ pub(crate) fn scaled_between(text: &[u8], least: u64, most: u64) -> Option<u64>
     between(scaled_number(text)?, least, most)
 }
 
-// The number, where it stands between the bounds.
+// The number, if it is between the bounds.
 fn between(number: u64, least: u64, most: u64) -> Option<u64>
     ensures value { result ≡ between least most (Some number) }
     ensures limits { IfSome result (λ number. (least ≤ number) × (number ≤ most)) }

@@ -34,7 +34,7 @@ pub enum OptionName {
 }
 
 impl OptionName {
-    /// The long name, as it stands on the command line.
+    /// The long name, as it is typed on the command line.
     pub fn text(self) -> &'static str
         ensures { result.now ≡ option_text self }
     {

@@ -5,6 +5,7 @@ ghost use Rattle.kc_command.specs.Arguments.{
   AsksFor,
   AsksForCounting,
   AsksForDump,
+  AsksForProfile,
   AsksForSelection,
   IsFlag,
   IsValueOf,
@@ -13,6 +14,7 @@ ghost use Rattle.kc_command.specs.Arguments.{
   first_bad_of_counting,
   first_bad_of_dump,
   first_bad_of_histo,
+  first_bad_of_profile,
   first_bad_of_select,
   floor_of,
   high_of,
@@ -107,6 +109,19 @@ pub fn select_options(matches: &ArgMatches<'_>) -> Result<Selection, OptionName>
             .with_floor(floor)
             .with_inverted(has_flag(matches, "invert")),
     )
+}
+
+/// What the options of `profile` ask for. It takes no memory.
+///
+/// # Errors
+/// `--min-qual-char` where its value is outside its limits.
+pub fn profile_options(matches: &ArgMatches<'_>) -> Result<Selection, OptionName>
+    ensures first_bad { MatchResult result (λ s. first_bad_of_profile (rows_of (found_of matches.now)) ≡ None)
+        (λ name. first_bad_of_profile (rows_of (found_of matches.now)) ≡ Some name) }
+    ensures asked { IfOk result (AsksForProfile (rows_of (found_of matches.now))) }
+{
+    let floor = min_qual_char(matches)?;
+    Ok(Selection::profiles().with_floor(floor))
 }
 
 /// The greatest count that has a line of its own in a histogram, as `--high` of `histo` and of `count` asks for. It
@@ -315,7 +330,7 @@ fn upper_count(matches: &ArgMatches<'_>) -> Result<u64, OptionName>
     upper.ok_or(OptionName::UpperCount)
 }
 
-// The number that an option asks for, where it stands between the bounds; where it is not given, its default.
+// The number that an option asks for, if it is between the bounds; if it is not given, its default.
 fn number_of(
     matches: &ArgMatches<'_>,
     name: &str,

@@ -214,6 +214,19 @@ const SELECTION: &[Line] = &[
     (9_000, Told::Ends, "\r\x1b[K"),
 ];
 
+// The same of a profile.
+const PROFILE: &[Line] = &[
+    (0, Told::ToFile, ""),
+    (0, Told::Begins(Stage::Tables), "\rreading tables\x1b[K"),
+    (
+        1,
+        Told::Begins(Stage::Profile),
+        "\rcounting along reads\x1b[K",
+    ),
+    (200, Told::Read(1), ""),
+    (9_000, Told::Ends, "\r\x1b[K"),
+];
+
 const SELECTION_SHOWN: &[Line] = &[
     (0, Told::Begins(Stage::Tables), "\rreading tables\x1b[K"),
     (1, Told::Begins(Stage::Selection), "\r\x1b[K"),
@@ -286,6 +299,7 @@ const TABLES: &[(bool, &[Line])] = &[
     (true, NO_LINES),
     (false, PERCENTAGES),
     (false, SELECTION),
+    (false, PROFILE),
     (false, SELECTION_SHOWN),
     (true, STAGES),
     (false, TEXT_SHOWN),
@@ -513,7 +527,7 @@ impl Progress for Heard {
     fn begins(&self, stage: Stage) {
         match stage {
             Stage::Tables => self.hear(&self.tables, 1),
-            Stage::Selection | Stage::Text => self.hear(&self.texts, 1),
+            Stage::Selection | Stage::Profile | Stage::Text => self.hear(&self.texts, 1),
         }
     }
 

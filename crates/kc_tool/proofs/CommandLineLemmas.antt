@@ -42,6 +42,8 @@ use Rattle.kc_tool.specs.declared.tool_faults.ToolFault.TheVariants.{
   OpenFailed,
   Unlike,
   TooLarge,
+  BrokenTable,
+  ShortTable,
 }
 use Rattle.kc_tool.specs.declared.command_line.Ending.{Ending}
 use Rattle.kc_tool.specs.declared.command_line.Ending.TheVariants.{Fault, Refused}
@@ -63,7 +65,8 @@ has_verb name (inr (inr (inl is))) = (verb.Histo, is)
 has_verb name (inr (inr (inr (inl is)))) = (verb.Stats, is)
 has_verb name (inr (inr (inr (inr (inl is))))) = (verb.Query, is)
 has_verb name (inr (inr (inr (inr (inr (inl is)))))) = (verb.Merge, is)
-has_verb name (inr (inr (inr (inr (inr (inr is)))))) = (verb.Select, is)
+has_verb name (inr (inr (inr (inr (inr (inr (inl is))))))) = (verb.Select, is)
+has_verb name (inr (inr (inr (inr (inr (inr (inr is))))))) = (verb.Profile, is)
 
 -- `clap` takes the arguments where nothing fails
 taken : (arguments : List Text) (matches : ArgMatches) → fault_of kcount_app arguments ≡ [] → subcommand_rows_of matches ≡ subcommand_of kcount_app arguments
@@ -96,6 +99,7 @@ verb_found verb.Stats = refl
 verb_found verb.Query = refl
 verb_found verb.Merge = refl
 verb_found verb.Select = refl
+verb_found verb.Profile = refl
 
 module _ {Z : Type 0} where
   name_with_rows : (sub : Option (Box SubCommand Z)) → option_map (λ b. (out-SubCommand (box_value b)).name.now) sub ≡ option_map (λ p. p.0) (subcommand_rows sub)
@@ -163,6 +167,8 @@ shown input asked arguments error old new (Err (Fault (Run fault))) h s = absurd
 shown input asked arguments error old new (Err (Fault (OpenFailed name))) h s = absurd s
 shown input asked arguments error old new (Err (Fault Unlike)) h s = absurd s
 shown input asked arguments error old new (Err (Fault TooLarge)) h s = absurd s
+shown input asked arguments error old new (Err (Fault (BrokenTable place))) h s = absurd s
+shown input asked arguments error old new (Err (Fault (ShortTable place))) h s = absurd s
 shown input asked arguments error old new (Err (Refused text)) h s = (
   record {
     reason = kind_of error;
@@ -194,6 +200,8 @@ some_status (Run fault) = omega arith
 some_status (OpenFailed name) = omega arith
 some_status Unlike = omega arith
 some_status TooLarge = omega arith
+some_status (BrokenTable place) = omega arith
+some_status (ShortTable place) = omega arith
 
 pub small_status : (fault : ToolFault) → status_of fault ≤ 2
 small_status (BadOption name) = omega arith
@@ -210,6 +218,8 @@ small_status (Run fault) = omega arith
 small_status (OpenFailed name) = omega arith
 small_status Unlike = omega arith
 small_status TooLarge = omega arith
+small_status (BrokenTable place) = omega arith
+small_status (ShortTable place) = omega arith
 
 -- How the program ends, by its status.
 module _ (watched : Bool) {arguments : List Text} {old new : Surroundings} {errors errors_after : Written}

@@ -24,7 +24,7 @@ use Rattle.kc_tool.specs.Commands.{AsksForTask, DoesTaskInto, EndsSo, IsRefused,
 use Rattle.kc_tool.specs.Commands.{Surroundings, files_of, first_refused, stage_after, stage_before}
 use Rattle.kc_tool.specs.declared.named_sources.NamedSource.{NamedSource}
 use Rattle.kc_tool.specs.declared.tool_faults.ToolFault.{ToolFault}
-use Rattle.kc_tool.specs.declared.tool_faults.ToolFault.TheVariants.{Fastx, BadHeader, BadRow, BadEnd, TableTooLong, TableRead, Memory, BadOption, BadWord, Write, Run, OpenFailed, Unlike, TooLarge}
+use Rattle.kc_tool.specs.declared.tool_faults.ToolFault.TheVariants.{Fastx, BadHeader, BadRow, BadEnd, TableTooLong, TableRead, Memory, BadOption, BadWord, Write, Run, OpenFailed, Unlike, TooLarge, BrokenTable, ShortTable}
 use Rattle.kc_tool.specs.declared.commands.Task.{Task}
 use Rattle.kc_tool.specs.declared.commands.Task.TheVariants.{Count, CountListed, Report, Query, Merge, Select}
 use Rattle.kc_tool.specs.declared.commands.Verb.{Verb}
@@ -125,6 +125,12 @@ module _ (rows : List Row) where
   has_files verb.Select (Query words) names asks are = absurd asks
   has_files verb.Select Merge names asks are = absurd asks
   has_files verb.Select (Select rule tells) names asks are = has_list _ (files_named rows) names are
+  has_files verb.Profile (Count settings) names asks are = absurd asks
+  has_files verb.Profile (CountListed settings) names asks are = absurd asks
+  has_files verb.Profile (Report report) names asks are = absurd asks
+  has_files verb.Profile (Query words) names asks are = absurd asks
+  has_files verb.Profile Merge names asks are = absurd asks
+  has_files verb.Profile (Select rule tells) names asks are = has_list _ (files_named rows) names are
 
 -- As many others are such files too.
 as_many : {X Y : Type 0} (task : Task) (files : List X) (others : List Y) → length files ≡ length others
@@ -172,6 +178,8 @@ module _ (task : Task) (old new : Stage) where
   undone (OpenFailed name) other same why = (same, why)
   undone Unlike other same why = (same, why)
   undone TooLarge other same why = (same, why)
+  undone (BrokenTable place) other same why = (same, why)
+  undone (ShortTable place) other same why = (same, why)
 
   -- The answer about the tally was written, or a beginning of it, or nothing.
   pub answered : (table : TableSeen) (outcome : Result Told ToolFault) → IsTallyFor old.given new.given task table
@@ -191,6 +199,8 @@ module _ (task : Task) (old new : Stage) where
   answered table (Err (OpenFailed name)) is h = (h.0, inr (table, is, h.1))
   answered table (Err Unlike) is h = (h.0, inr (table, is, h.1))
   answered table (Err TooLarge) is h = (h.0, inr (table, is, h.1))
+  answered table (Err (BrokenTable place)) is h = (h.0, inr (table, is, h.1))
+  answered table (Err (ShortTable place)) is h = (h.0, inr (table, is, h.1))
 
   -- So it is of the report on what was counted.
   pub reported : (settings : Settings) → ((table : TableSeen) → IsAnswer task table (report_text (report_of settings) table))
@@ -261,6 +271,8 @@ module _ (command : Verb) (rows : List Row) where
     unasked (OpenFailed name) refused = absurd refused
     unasked Unlike refused = absurd refused
     unasked TooLarge refused = absurd refused
+    unasked (BrokenTable place) refused = absurd refused
+    unasked (ShortTable place) refused = absurd refused
 
   told_so : (name : Text) (asked : List FileEvent) (fault : ToolFault) → first_refused command rows ≡ None → LacksFile (files_of command rows) (output_of rows) name asked
       → TellsName name fault → IsRefused command rows asked fault
@@ -279,6 +291,8 @@ module _ (command : Verb) (rows : List Row) where
   told_so name asked (Run fault) lawful lacks tells = absurd tells
   told_so name asked Unlike lawful lacks tells = absurd tells
   told_so name asked TooLarge lawful lacks tells = absurd tells
+  told_so name asked (BrokenTable place) lawful lacks tells = absurd tells
+  told_so name asked (ShortTable place) lawful lacks tells = absurd tells
 
   -- There is no file for a text that is to go to the one of this name.
   no_output : {name : Text} (tried : List FileEvent) (fault : ToolFault) → output_of rows ≡ Some name → first_refused command rows ≡ None

@@ -231,7 +231,7 @@ module _ {R F : Type 0} (seen : R → Seen) (seen_file : F → Seen) where
 
 -- The table of the one source.
 pub one_table : (old new : List Seen) (outcome : Result TableSeen ToolFault) → length old ≡ 1
-    → ReadsAt 0 old new (λ before after. TellsOrNot before after outcome)
+    → ReadsAt 0 old new (λ before after. TellsOrNot 1 before after outcome)
     → IfOk outcome (λ table. TellOneTable old new (table.0, table.1)) × IfOk outcome (λ table. MaySay table.1)
     × IfErr outcome (TellNoTable old new)
 one_table [] new outcome one at = absurd (omega (arith, one))
@@ -240,27 +240,27 @@ one_table (a ∷ []) new (Ok table) one at =
     let gives = subst (λ v. GivesTable v at.later most_table_bytes table) (sym at.was) at.reads.0 in
     (subst (λ v. TellOneTable (a ∷ []) v table) (sym at.are) gives, at.reads.1, tt)
 one_table (a ∷ []) new (Err fault) one at =
-    (tt, tt, subst (λ v. TellNoTable (a ∷ []) v fault) (sym at.are) (subst (λ v. TellsOrNot v at.later (Err fault)) (sym at.was) at.reads))
+    (tt, tt, subst (λ v. TellNoTable (a ∷ []) v fault) (sym at.are) (subst (λ v. TellsOrNot 1 v at.later (Err fault)) (sym at.was) at.reads))
 
 -- The tables of two sources.
 pub first_untold : (old new : List Seen) (fault : ToolFault) → length old ≡ 2
-    → ReadsAt 0 old new (λ before after. TellsOrNot before after (Err fault)) → TellNoSum old new fault
+    → ReadsAt 0 old new (λ before after. TellsOrNot 1 before after (Err fault)) → TellNoSum old new fault
 first_untold [] new fault two at = absurd (omega (arith, two))
 first_untold (a ∷ []) new fault two at = absurd (omega (arith, two))
 first_untold (a ∷ b ∷ c ∷ old) new fault two at = absurd (omega (arith, two))
 first_untold (a ∷ b ∷ []) new fault two at =
     subst (λ v. TellNoSum (a ∷ b ∷ []) v fault) (sym at.are)
-    (inl (subst (λ v. TellsOrNot v at.later (Err fault)) (sym at.was) at.reads, refl))
+    (inl (subst (λ v. TellsOrNot 1 v at.later (Err fault)) (sym at.was) at.reads, refl))
 
 -- What both come to.
 module _ (table : TableSeen) (outcome : Result TableSeen ToolFault) where
   abbrev Comes : List Seen → List Seen → Type 0
   Comes old new = (later : Seen) × (first_after : Seen) × (second : Seen) × (first : Seen)
       × (old ≡ first ∷ second ∷ []) × (new ≡ first_after ∷ later ∷ []) × GivesTable first first_after most_table_bytes table
-      × TellsOrNot second later outcome
+      × TellsOrNot 2 second later outcome
 
-  pub both_read : (old mid new : List Seen) → length old ≡ 2 → ReadsAt 0 old mid (λ before after. TellsOrNot before after (Ok table))
-      → ReadsAt 1 mid new (λ before after. TellsOrNot before after outcome) → Comes old new
+  pub both_read : (old mid new : List Seen) → length old ≡ 2 → ReadsAt 0 old mid (λ before after. TellsOrNot 1 before after (Ok table))
+      → ReadsAt 1 mid new (λ before after. TellsOrNot 2 before after outcome) → Comes old new
   both_read [] mid new two first second = absurd (omega (arith, two))
   both_read (a ∷ []) mid new two first second = absurd (omega (arith, two))
   both_read (a ∷ b ∷ c ∷ old) mid new two first second = absurd (omega (arith, two))
@@ -274,7 +274,7 @@ module _ (table : TableSeen) (outcome : Result TableSeen ToolFault) where
         refl,
         are,
         subst (λ v. GivesTable v first.later most_table_bytes table) (sym first.was) first.reads.0,
-        subst (λ v. TellsOrNot v second.later outcome) (sym was) second.reads,
+        subst (λ v. TellsOrNot 2 v second.later outcome) (sym was) second.reads,
       )
 
 pub second_untold : (old new : List Seen) (table : TableSeen) (fault : ToolFault) → Comes table (Err fault) old new → TellNoSum old new fault

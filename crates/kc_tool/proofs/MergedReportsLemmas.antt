@@ -1,17 +1,18 @@
 -- Reports that are merged tell the reads of both.
 use Rattle.std.proofs.Common.{◌≡◌, ℕ, zero, suc, ◌+◌, ◌-◌, ◌^◌, ◌≤◌, Bool, true, false, List, [], ◌∷◌, ◌++◌}
 use Rattle.std.proofs.Common.{length, map, drop, append_assoc, get_or, eqb, refl, sym, ◌∙◌, ap, subst, arith}
-use Rattle.std.proofs.Common.{eq-eqb, ne_eqb, ⊎_elim}
+use Rattle.std.proofs.Common.{ap₂, eq-eqb, ne_eqb, ⊎_elim}
+use Rattle.kc_gzip.specs.declared.faults.GzipFault.{GzipFault}
 use Rattle.std.specs.Prelude.{All, MatchBool, Option, Some, None, IfSome, Ok, Result}
 use Rattle.std.specs.List.{concat}
 use Rattle.std.proofs.lemmas.Bool.{cases_eq, cases_lt, cond-false, cond-true}
-use Rattle.std.proofs.lemmas.List.{length-append}
+use Rattle.std.proofs.lemmas.List.{length-append, map-append}
 use Rattle.std.proofs.lemmas.Grind.{flat_map-append}
 use Rattle.std.proofs.lemmas.List.Elements.{All-head, All-tail}
 use Rattle.std.proofs.lemmas.List.Sums.{sum_by-append}
-use Rattle.std.proofs.KnownBytes.{Consumes-whole}
 use Rattle.kc_io.specs.Sources.{Seen}
-use Rattle.kc_io.specs.Intakes.{TakesAll}
+use Rattle.kc_gzip.specs.Following.{says}
+use Rattle.kc_gzip.specs.Intakes.{TakesAll}
 use Rattle.kc_fastx.specs.declared.read_faults.FastxFault.{FastxFault}
 use Rattle.kc_fastx.specs.Reads.{Read, base_count}
 use Rattle.kc_fastx.specs.Lines.{next_begins_with}
@@ -310,15 +311,17 @@ merged_reports rule reads more first second text tells tells_ are =
 
 -- ---- sources that tell their bytes
 
--- A source that was read to its end gave the bytes that it told.
+-- A source that was read to its end gave what the bytes say that it told.
 gave_told : (old new : Seen) (limit : ℕ) (input bytes : List ℕ) → TakesAll old new limit input → old.left ≡ Some bytes
-    → input ≡ bytes
+    → says bytes ≡ Ok input
 gave_told old new limit input bytes taken tells =
-    subst (λ left. IfSome left (λ bytes. input ≡ bytes)) tells
-    (Consumes-whole old.left new.left input (λ bytes. input ≡ bytes) taken.taken.consumed taken.at_end refl)
+    let some : taken.since.ends ≡ [] → ⊥ = λ none. (let no : length taken.since.bytes ∷ [] ≡ [] = sym taken.all.ended ∙ none in cc) in
+    let all : taken.since.bytes ≡ bytes =
+    subst (λ left. IfSome left (λ bytes. taken.since.bytes ≡ bytes)) tells (taken.answered.whole some) in
+    ap says (sym all) ∙ taken.all.said
 
 gave_inputs : (limit : ℕ) (old new : List Seen) (inputs told : List (List ℕ)) → GaveInputs limit old new inputs
-    → map (λ source. source.left) old ≡ map (λ input. Some input) told → inputs ≡ told
+    → map (λ source. source.left) old ≡ map (λ input. Some input) told → map says told ≡ map (λ input. Ok input) inputs
 gave_inputs limit [] [] [] [] gave tell = refl
 gave_inputs limit [] [] [] (bytes ∷ told) gave tell = absurd (let long = ap length tell in omega (arith, long))
 gave_inputs limit (source ∷ old) (later ∷ new) (input ∷ inputs) [] gave tell =
@@ -354,10 +357,12 @@ same_reads inputs reads others h h_ =
     same_answer_of_all inputs (Ok reads) (Ok others) h h_ in
     cc
 
--- What a report tells of sources that tell their bytes: the reads of these.
+-- What a report tells of sources that tell their bytes: the reads of what these say.
 record TellsInputs (settings : Settings) (inputs : List (List ℕ)) (text : List ℕ) : Type 0 where
   reads : List Read
-  have : HaveReads inputs reads
+  texts : List (List ℕ)
+  say : map says inputs ≡ map (λ text. Ok text) texts
+  have : HaveReads texts reads
   tells : TellsReads (rule_of settings) reads text
 
 tells_inputs : (settings : Settings) → AreSettings settings → (inputs : List (List ℕ)) (text : List ℕ)
@@ -365,8 +370,22 @@ tells_inputs : (settings : Settings) → AreSettings settings → (inputs : List
 tells_inputs settings are inputs text is_table on =
     let told = report_tells settings are on.sources text is_table on.report in
     let gave = told.1.1 in
-    let same = gave_inputs most_bytes on.sources on.report.later.sources told.1.0 inputs gave.gave on.tell in
-    record { reads = told.0; have = subst (λ v. HaveReads v told.0) same gave.has_reads; tells = told.2 }
+    record {
+      reads = told.0;
+      texts = told.1.0;
+      say = gave_inputs most_bytes on.sources on.report.later.sources told.1.0 inputs gave.gave on.tell;
+      have = gave.has_reads;
+      tells = told.2;
+    }
+
+same_texts : (xs ys : List (List ℕ)) → map {B = Result (List ℕ) GzipFault} (λ text. Ok text) xs ≡ map (λ text. Ok text) ys → xs ≡ ys
+same_texts [] [] h = refl
+same_texts [] (y ∷ ys) h = let no : ⊥ = cc in absurd no
+same_texts (x ∷ xs) [] h = let no : ⊥ = cc in absurd no
+same_texts (x ∷ xs) (y ∷ ys) h =
+    let here : x ≡ y = cc in
+    let rest = same_texts xs ys (ap (drop 1) h) in
+    λ i. here i ∷ rest i
 
 pub apart_is_together : (settings : Settings) → AreSettings settings → ApartIsTogether settings
 apart_is_together settings are inputs more first second merged whole is_table one two put all =
@@ -374,8 +393,12 @@ apart_is_together settings are inputs more first second merged whole is_table on
     let front = tells_inputs settings are inputs first is_table one in
     let back = tells_inputs settings are more second is_table two in
     let both = tells_inputs settings are (inputs ++ more) whole is_table all in
-    let same = same_reads (inputs ++ more) both.reads (front.reads ++ back.reads) both.have
-    (HaveReads-append inputs more front.reads back.reads front.have back.have) in
+    let texts : both.texts ≡ front.texts ++ back.texts = same_texts both.texts (front.texts ++ back.texts)
+    (sym both.say ∙ map-append says inputs more ∙ ap₂ (λ xs ys. xs ++ ys) front.say back.say
+    ∙ sym (map-append (λ text. Ok text) front.texts back.texts)) in
+    let same = same_reads (front.texts ++ back.texts) both.reads (front.reads ++ back.reads)
+    (subst (λ texts. HaveReads texts both.reads) texts both.have)
+    (HaveReads-append front.texts back.texts front.reads back.reads front.have back.have) in
     one_report rule (front.reads ++ back.reads) merged whole
     (merged_reports rule front.reads back.reads first second merged front.tells back.tells put)
     (subst (λ reads. TellsReads rule reads whole) same both.tells)

@@ -1,16 +1,22 @@
 -- Sources whose reads were cut, and what is counted of them, with a list and without one.
 use Rattle.std.proofs.Common.{◌≡◌, ◌≤◌, ◌-◌, ◌^◌, ◌∙◌, ℕ, List, [], ◌∷◌, ◌++◌, length, length-append, arith, refl, sym, ap, ap₂, subst, inl, inr}
 use Rattle.std.specs.Io.KnownBytes.{Consumes}
-use Rattle.std.specs.Prelude.{Option, Some, None, false, true}
+use Rattle.std.specs.Prelude.{Option, Some, None, false, true, Result, Ok, Err}
+use Rattle.kc_gzip.specs.declared.faults.GzipFault.{GzipFault}
+use Rattle.kc_gzip.specs.declared.faults.GzipFault.TheVariants as gzip
 use Rattle.std.specs.List.{concat}
 use Rattle.std.specs.declared.alloc.Global.{Global}
 use Rattle.std.specs.declared.sync.Arc.{Arc}
 use Rattle.std.proofs.lemmas.List.{length-map, nil_from_length}
 use Rattle.kc_io.specs.Sources.{Seen}
-use Rattle.kc_io.specs.Intakes.{TakesAll}
+use Rattle.kc_io.specs.History.{History}
+use Rattle.kc_gzip.specs.Following.{says, says_partly, IsFront}
+use Rattle.kc_gzip.specs.Intakes.{TakesAll}
+use Rattle.kc_gzip.specs.Since.{HasAnswered}
 use Rattle.kc_fastx.specs.declared.read_faults.FastxFault.{FastxFault}
 use Rattle.kc_fastx.specs.declared.read_faults.FastxFault.TheVariants.{BadStart, BadBase, BadQuality, LongQuality, Truncated}
 use Rattle.kc_fastx.specs.declared.read_faults.FastxFault.TheVariants.{TooLong, Read as ReadFailed, Memory as LacksMemory}
+use Rattle.kc_fastx.specs.declared.read_faults.FastxFault.TheVariants.{BrokenGzip, ShortGzip}
 use Rattle.kc_fastx.specs.Lines.{Line, skip_blanks}
 use Rattle.kc_fastx.specs.Fastq.{FastqFails}
 use Rattle.kc_fastx.specs.Parsing.{HasFault, RefusesFor, most_bytes}
@@ -35,7 +41,7 @@ use Rattle.kc_tool.proofs.ReadCountLemmas.{read_count-within}
 use Rattle.kc_tool.proofs.TalliesLemmas.{few_batches, few_enough, small_cutting, small_enough}
 use Rattle.kc_tool.specs.Tallies.{Given, given, kept_to, origin_of, pieces_of, reader_lacks_memory}
 use Rattle.kc_tool.specs.declared.tool_faults.ToolFault.{ToolFault}
-use Rattle.kc_tool.specs.declared.tool_faults.ToolFault.TheVariants.{Fastx, BadHeader, BadRow, BadEnd, TableTooLong, TableRead, Memory, BadOption, BadWord, Write, Run, OpenFailed, Unlike, TooLarge}
+use Rattle.kc_tool.specs.declared.tool_faults.ToolFault.TheVariants.{Fastx, BadHeader, BadRow, BadEnd, TableTooLong, TableRead, Memory, BadOption, BadWord, Write, Run, OpenFailed, Unlike, TooLarge, BrokenTable, ShortTable}
 
 -- A list changes neither the length of the words nor the pieces.
 pub k-kept : (list : Option (List ℕ)) (rule : CountingRule) → (kept_to list rule).k ≡ rule.k
@@ -111,11 +117,29 @@ none_consumed (Some left) (Some later) bytes h is =
     let none : left ≡ [] = cc in
     omega (arith, ap length none, ap length h, length-append bytes later)
 
+none_answered : (old new : Seen) (since : History) → old.left ≡ Some [] → HasAnswered old new since → since.bytes ≡ []
+none_answered old new since empty h =
+    nil_from_length since.bytes (none_consumed old.left new.left since.bytes h.consumed empty)
+
+none_said : (old new : Seen) (limit : ℕ) (bytes : List ℕ) → old.left ≡ Some [] → TakesAll old new limit bytes → bytes ≡ []
+none_said old new limit bytes empty all =
+    let none = none_answered old new all.since empty all.answered in
+    let said : says [] ≡ Ok bytes = ap says (sym none) ∙ all.all.said in
+    let same : Ok [] ≡ Ok bytes = said in
+    cc
+
+none_in_front : (old new : Seen) (since : History) (bytes : List ℕ) → old.left ≡ Some [] → HasAnswered old new since
+    → IsFront bytes (says_partly since.bytes) → length bytes ≡ 0
+none_in_front old new since bytes empty h front =
+    let none = none_answered old new since empty h in
+    let all : says_partly [] ≡ bytes ++ front.0 = ap says_partly (sym none) ∙ front.1 in
+    omega (arith, ap length all, length-append bytes front.0)
+
 no_reads : (input after : Seen) → input.left ≡ Some [] → (inputs : List (List ℕ)) (reads : List Read)
     → GaveReads (input ∷ []) (after ∷ []) inputs reads → reads ≡ []
 no_reads input after empty [] reads g = absurd g.gave
 no_reads input after empty (bytes ∷ []) reads g =
-    let none = none_consumed input.left after.left bytes g.gave.0.taken.consumed empty in
+    let none = ap length (none_said input after most_bytes bytes empty g.gave.0) in
     let has = g.has_reads in
     nil_from_length reads (omega (arith, none, read_count-within bytes has.0 has.2, ap length has.3, ap length has.4, length-append has.0 has.1))
 no_reads input after empty (bytes ∷ other ∷ more) reads g = absurd g.gave.1
@@ -134,6 +158,8 @@ no_fastq_fault count ls none (Truncated number) h = none_begins ls none h.1.titl
 no_fastq_fault count ls none TooLong h = none_begins ls none h.1.title h.0 h.1.whole
 no_fastq_fault count ls none ReadFailed h = none_begins ls none h.1.title h.0 h.1.whole
 no_fastq_fault count ls none LacksMemory h = none_begins ls none h.1.title h.0 h.1.whole
+no_fastq_fault count ls none BrokenGzip h = none_begins ls none h.1.title h.0 h.1.whole
+no_fastq_fault count ls none ShortGzip h = none_begins ls none h.1.title h.0 h.1.whole
 
 no_fault : (fault : FastxFault) → HasFault [] fault → ⊥
 no_fault fault ([], here, records, fails) = no_fastq_fault 0 here (sym records) fault fails
@@ -143,17 +169,27 @@ no_fault fault (read ∷ reads, here, records, fails) =
 faultless : (old new : Seen) → old.left ≡ Some [] → (limit : ℕ) (fault : FastxFault)
     → ((bytes : List ℕ) × TakesAll old new limit bytes × HasFault bytes fault) → ⊥
 faultless old new empty limit fault h =
-    let none = nil_from_length h.0 (none_consumed old.left new.left h.0 h.1.taken.consumed empty) in
+    let none = none_said old new limit h.0 empty h.1 in
     no_fault fault (subst (λ (bytes : List ℕ). HasFault bytes fault) none h.2)
+
+never_refused : (old new : Seen) (since : History) (fault : GzipFault) → old.left ≡ Some [] → HasAnswered old new since
+    → says since.bytes ≡ Err fault → ⊥
+never_refused old new since fault empty h refused =
+    let none = none_answered old new since empty h in
+    let is : says [] ≡ Err fault = ap says (sym none) ∙ refused in
+    let no : Ok [] ≡ Err fault = is in
+    cc
 
 -- A source of no bytes of which no read failed is refused for want of memory alone.
 lacks_memory : (old new : Seen) → old.left ≡ Some [] → old.history.failures ≡ 0 → new.history.failures ≡ 0 → (limit : ℕ)
     (fault : FastxFault) → RefusesFor old new limit fault → fault ≡ LacksMemory
 lacks_memory old new empty unfailed still limit TooLong h =
-    let none = none_consumed old.left new.left h.0 h.1.consumed empty in
-    let no : ⊥ = omega (arith, none, h.2) in absurd no
+    let none = none_in_front old new h.0 h.1 empty h.2 h.3.0.front in
+    let no : ⊥ = omega (arith, none, h.3.1) in absurd no
 lacks_memory old new empty unfailed still limit ReadFailed h =
-    let no : ⊥ = omega (arith, unfailed, still, h.1.failures) in absurd no
+    let no : ⊥ = omega (arith, unfailed, still, h.3.failed, ap (λ (h : History). h.failures) h.2.history) in absurd no
+lacks_memory old new empty unfailed still limit BrokenGzip h = absurd (never_refused old new h.0 gzip.Broken empty h.2 h.3.refused)
+lacks_memory old new empty unfailed still limit ShortGzip h = absurd (never_refused old new h.0 gzip.Short empty h.2 h.3.0.refused)
 lacks_memory old new empty unfailed still limit LacksMemory h = refl
 lacks_memory old new empty unfailed still limit (BadStart number) h = absurd (faultless old new empty limit (BadStart number) h)
 lacks_memory old new empty unfailed still limit (BadBase number) h = absurd (faultless old new empty limit (BadBase number) h)
@@ -225,6 +261,8 @@ module _ {S : Type 0} (seen : S → Seen) (input after : Seen) (empty : input.le
   refused_without files later none same unfailed still settings (OpenFailed name) other h = absurd h
   refused_without files later none same unfailed still settings Unlike other h = absurd h
   refused_without files later none same unfailed still settings TooLarge other h = absurd h
+  refused_without files later none same unfailed still settings (BrokenTable place) other h = absurd h
+  refused_without files later none same unfailed still settings (ShortTable place) other h = absurd h
 
   pub refused_alone : (files later : List (NamedSource S)) → (files ≡ [] → ⊥) → names_of later ≡ names_of files
       → (settings : Settings) (fault : ToolFault)
@@ -265,6 +303,8 @@ module _ (list : Option (List ℕ)) (before after : Option Seen) (old new : List
   sources_refused (OpenFailed name) h = inr (record { list = list; listed = listed; refused = h })
   sources_refused Unlike h = inr (record { list = list; listed = listed; refused = h })
   sources_refused TooLarge h = inr (record { list = list; listed = listed; refused = h })
+  sources_refused (BrokenTable place) h = inr (record { list = list; listed = listed; refused = h })
+  sources_refused (ShortTable place) h = inr (record { list = list; listed = listed; refused = h })
 
 -- The list has no reads.
 pub list_refused : (before after : Seen) (sources : List Seen) (settings : Settings) (fault : ToolFault)
@@ -284,6 +324,8 @@ list_refused before after sources settings (Run fault) h = absurd h
 list_refused before after sources settings (OpenFailed name) h = absurd h
 list_refused before after sources settings Unlike h = absurd h
 list_refused before after sources settings TooLarge h = absurd h
+list_refused before after sources settings (BrokenTable place) h = absurd h
+list_refused before after sources settings (ShortTable place) h = absurd h
 
 -- The same, where the list was read for good.
 pub list_left : (source : Option Seen) (sources : List Seen) (settings : Settings) (fault : ToolFault) → ListFailsIn source fault

@@ -1,6 +1,6 @@
 -- What a command comes to: its task, its sources, and what is written.
 -- Source: the README ("The commands") and our formats page.
-use Rattle.std.specs.Prelude.{◌≡◌, ◌⊎◌, ◌^◌, ◌≤◌, ℕ, Bool, List, [], ◌∷◌, ◌++◌, Option, Some, None, All}
+use Rattle.std.specs.Prelude.{◌≡◌, ◌⊎◌, ◌^◌, ◌≤◌, ℕ, Bool, false, List, [], ◌∷◌, ◌++◌, Option, Some, None, All}
 use Rattle.std.specs.Prelude.{map, length, take, drop}
 use Rattle.std.specs.Prelude.{Result, Ok, Err, if◌then◌else◌, codes, string_bytes, unwrap_or, ⊤}
 use Rattle.std.specs.Str.{bytes_eq}
@@ -15,14 +15,14 @@ use Rattle.kc_report.specs.TableReading.{GivesTable, RefusesTable}
 use Rattle.kc_report.specs.Merging.{Merges}
 use Rattle.kc_command.specs.Arguments.{AsksFor, AsksForDump, first_bad, first_bad_of_dump, first_bad_of_histo, high_of}
 use Rattle.kc_command.specs.Arguments.{first_table_of, only_of, second_table_of, AsksForSelection, IsFlag}
-use Rattle.kc_command.specs.Arguments.{first_bad_of_select}
+use Rattle.kc_command.specs.Arguments.{AsksForProfile, first_bad_of_profile, first_bad_of_select}
 use Rattle.kc_select.specs.Solid.{SelectionRule}
 use Rattle.kc_select.specs.declared.selection_counts.SelectionCounts.{SelectionCounts}
 use Rattle.kc_tool.specs.Selections.{SelectsFrom}
 use Rattle.kc_tool.specs.Told.{counted_of, counted_with}
 use Rattle.kc_command.specs.declared.option_name.OptionName.{OptionName}
 use Rattle.kc_command.specs.declared.settings.Print.TheVariants as print
-use Rattle.kc_tool.specs.Faults.{report_fault}
+use Rattle.kc_tool.specs.Faults.{report_fault, table_fault}
 use Rattle.kc_tool.specs.FileEvents.{FileEvent}
 use Rattle.kc_tool.specs.Files.{AreOf, AreOpened, FileRead, FileWritten, HasNoOutput, LacksFile, LacksRoom}
 use Rattle.kc_tool.specs.Files.{files_named, given_back, openings, output_of, returned, words_asked}
@@ -52,19 +52,19 @@ abbrev pub TellOneTable : List Seen → List Seen → TableSeen → Type 0
 TellOneTable (old ∷ []) (new ∷ []) table = GivesTable old new most_table_bytes table
 TellOneTable old new table = ⊥
 
--- it gave no table, for this reason
-abbrev pub TellsNoTable : Seen → Seen → ToolFault → Type 0
-TellsNoTable old new fault =
-    (why : ReportFault) × RefusesTable old new most_table_bytes why × (fault ≡ report_fault why)
+-- it gave no table, for this reason; it is the source of the table of this place, from 1
+abbrev pub TellsNoTable : ℕ → Seen → Seen → ToolFault → Type 0
+TellsNoTable place old new fault =
+    (why : ReportFault) × RefusesTable old new most_table_bytes why × (fault ≡ table_fault place why)
 
 abbrev pub TellNoTable : List Seen → List Seen → ToolFault → Type 0
-TellNoTable (old ∷ []) (new ∷ []) fault = TellsNoTable old new fault
+TellNoTable (old ∷ []) (new ∷ []) fault = TellsNoTable 1 old new fault
 TellNoTable old new fault = ⊥
 
 -- it gave this one, whose origin a header can say, or none
-abbrev pub TellsOrNot : Seen → Seen → Result TableSeen ToolFault → Type 0
-TellsOrNot old new (Ok table) = GivesTable old new most_table_bytes table × MaySay table.1
-TellsOrNot old new (Err fault) = TellsNoTable old new fault
+abbrev pub TellsOrNot : ℕ → Seen → Seen → Result TableSeen ToolFault → Type 0
+TellsOrNot place old new (Ok table) = GivesTable old new most_table_bytes table × MaySay table.1
+TellsOrNot place old new (Err fault) = TellsNoTable place old new fault
 
 -- the source of a table told this one, or none, for this reason
 abbrev pub TellsTableOf : Option Seen → Option Seen → TableSeen → Type 0
@@ -72,7 +72,7 @@ TellsTableOf (Some old) (Some new) table = GivesTable old new most_table_bytes t
 TellsTableOf old new table = ⊥
 
 abbrev pub TellsNoTableOf : Option Seen → Option Seen → ToolFault → Type 0
-TellsNoTableOf (Some old) (Some new) fault = TellsNoTable old new fault
+TellsNoTableOf (Some old) (Some new) fault = TellsNoTable 1 old new fault
 TellsNoTableOf old new fault = ⊥
 
 -- two sources gave the table texts of these tallies
@@ -96,9 +96,9 @@ MergesNot tally other origin another fault =
 -- tables can't be added
 abbrev pub TellNoSum : List Seen → List Seen → ToolFault → Type 0
 TellNoSum (first ∷ second ∷ []) (first_after ∷ second_after ∷ []) fault =
-    (TellsNoTable first first_after fault × (second_after ≡ second))
+    (TellsNoTable 1 first first_after fault × (second_after ≡ second))
     ⊎ ((table : TableSeen) × GivesTable first first_after most_table_bytes table
-    × TellsNoTable second second_after fault)
+    × TellsNoTable 2 second second_after fault)
     ⊎ ((table : TableSeen) × (other : TableSeen) × TellTables first second first_after second_after table other
     × MergesNot table.0 other.0 table.1 other.1 fault)
 TellNoSum old new fault = ⊥
@@ -232,16 +232,16 @@ told_of_count (Ok words) = Ok (says.Counted words)
 told_of_count (Err fault) = Err fault
 
 -- what there is to say of a selection: what was counted of its reads, and whether that is asked for
-abbrev pub told_of : Bool → Result SelectionCounts ToolFault → Result Told ToolFault
-told_of tells (Ok counts) = Ok (says.Selected counts tells)
-told_of tells (Err fault) = Err fault
+abbrev pub told_of : SelectionRule → Bool → Result SelectionCounts ToolFault → Result Told ToolFault
+told_of rule tells (Ok counts) = Ok (if rule.profiled then says.Profiled counts else says.Selected counts tells)
+told_of rule tells (Err fault) = Err fault
 
 -- what a selection does: the source of its table told one, and by it the reads of the sources were selected; or it told
 -- none, and nothing was read or written
 abbrev pub SelectsBy : SelectionRule → Bool → Stage → Stage → Result Told ToolFault → Type 0
 SelectsBy rule tells old new outcome =
     ((table : TableSeen) × TellsTableOf old.given.list new.given.list table
-    × ((selected : Result SelectionCounts ToolFault) × (outcome ≡ told_of tells selected)
+    × ((selected : Result SelectionCounts ToolFault) × (outcome ≡ told_of rule tells selected)
     × SelectsFrom rule table.0 old.given.sources new.given.sources old.output new.output selected))
     ⊎ ((fault : ToolFault) × (outcome ≡ Err fault) × TellsNoTableOf old.given.list new.given.list fault
     × (new.given.sources ≡ old.given.sources) × (new.output ≡ old.output))
@@ -268,6 +268,7 @@ name_of verb.Stats = codes "stats"
 name_of verb.Query = codes "query"
 name_of verb.Merge = codes "merge"
 name_of verb.Select = codes "select"
+name_of verb.Profile = codes "profile"
 
 -- the command of a name
 abbrev pub verb_named : Text → Option Verb
@@ -278,6 +279,7 @@ verb_named name = if bytes_eq name (name_of verb.Count) then Some verb.Count
     else if bytes_eq name (name_of verb.Query) then Some verb.Query
     else if bytes_eq name (name_of verb.Merge) then Some verb.Merge
     else if bytes_eq name (name_of verb.Select) then Some verb.Select
+    else if bytes_eq name (name_of verb.Profile) then Some verb.Profile
     else None
 
 -- a command with these options asks for this task
@@ -291,6 +293,7 @@ AsksForTask verb.Stats rows (Report report) = report.print ≡ print.Stats
 AsksForTask verb.Query rows (Query words) = map string_bytes words.items ≡ words_asked rows
 AsksForTask verb.Merge rows Merge = ⊤
 AsksForTask verb.Select rows (Select rule tells) = AsksForSelection rows rule × IsFlag rows (codes "stats") tells
+AsksForTask verb.Profile rows (Select rule tells) = AsksForProfile rows rule × (tells ≡ false)
 AsksForTask verb rows task = ⊥
 
 -- the first option of a command whose value is outside its limits
@@ -299,6 +302,7 @@ first_refused verb.Count rows = first_bad rows
 first_refused verb.Dump rows = first_bad_of_dump rows
 first_refused verb.Histo rows = first_bad_of_histo rows
 first_refused verb.Select rows = first_bad_of_select rows
+first_refused verb.Profile rows = first_bad_of_profile rows
 first_refused verb rows = None
 
 -- the list of a count in front of its files, where one is named
@@ -306,12 +310,17 @@ abbrev pub behind_list : Option Text → List Text → List Text
 behind_list None names = names
 behind_list (Some list) names = list ∷ names
 
--- the files that a command reads, in order: a count its list and all that are named, a selection its table and all that
--- are named, a sum its two tables, any other the first that is named. A table that a selection or a sum lacks, which
--- `clap` lets none, has an empty name
+-- the table of a selection in front of its files; one that is missing, which `clap` lets none, has an empty name
+abbrev pub behind_table : List Row → List Text
+behind_table rows = unwrap_or (first_of (codes "table") rows) [] ∷ files_named rows
+
+-- the files that a command reads, in order: a count its list and all that are named, a selection and a profile their
+-- table and all that are named, a sum its two tables, any other the first that is named. A table that a sum lacks,
+-- which `clap` lets none, has an empty name
 abbrev pub files_of : Verb → List Row → List Text
 files_of verb.Count rows = behind_list (only_of rows) (files_named rows)
-files_of verb.Select rows = unwrap_or (first_of (codes "table") rows) [] ∷ files_named rows
+files_of verb.Select rows = behind_table rows
+files_of verb.Profile rows = behind_table rows
 files_of verb.Merge rows = unwrap_or (first_table_of rows) [] ∷ unwrap_or (second_table_of rows) [] ∷ []
 files_of verb rows = take 1 (files_named rows)
 

@@ -19,6 +19,8 @@ use Rattle.kc_tool.specs.declared.tool_faults.ToolFault.TheVariants.{
   OpenFailed,
   Unlike,
   TooLarge,
+  BrokenTable,
+  ShortTable,
 }
 use Rattle.kc_run.specs.declared.run_fault.RunFault.{RunFault}
 use Rattle.kc_run.specs.declared.run_fault.RunFault.TheVariants as run
@@ -41,6 +43,8 @@ reader_text source (fastx.Truncated line) = at_line (codes "5: truncated") sourc
 reader_text source fastx.TooLong = in_source (codes "6: too long") source
 reader_text source fastx.Read = in_source (codes "7: read failed") source
 reader_text source fastx.Memory = codes "8: no memory"
+reader_text source fastx.BrokenGzip = in_source (codes "71: broken gzip") source
+reader_text source fastx.ShortGzip = in_source (codes "72: gzip cut short") source
 
 -- what a refusal of the counting says, behind `kcount: `
 abbrev pub run_text : RunFault → List ℕ
@@ -65,6 +69,8 @@ fault_front (Run fault) = run_text fault
 fault_front (OpenFailed name) = codes "54: cannot open "
 fault_front Unlike = codes "61: tables do not match"
 fault_front TooLarge = codes "62: sums too large"
+fault_front (BrokenTable table) = in_source (codes "71: broken gzip") table
+fault_front (ShortTable table) = in_source (codes "72: gzip cut short") table
 
 -- the name of the file that a refusal names at its end
 abbrev pub fault_name : ToolFault → List ℕ

@@ -1,4 +1,5 @@
 -- The faults of the crates below, as faults of the program.
+use Rattle.std.specs.Prelude.{ℕ}
 use Rattle.kc_report.specs.declared.report_faults.ReportFault.{ReportFault}
 use Rattle.kc_report.specs.declared.report_faults.ReportFault.TheVariants as report
 use Rattle.kc_tool.specs.declared.tool_faults.ToolFault.{ToolFault}
@@ -13,17 +14,25 @@ use Rattle.kc_tool.specs.declared.tool_faults.ToolFault.TheVariants.{
   Write,
   Unlike,
   TooLarge,
+  BrokenTable,
+  ShortTable,
 }
 
--- the fault that says why a report could not be written, or a table not be read
+-- the fault that says why the table of this place, from 1, could not be read, or no report be written
+abbrev pub table_fault : ℕ → ReportFault → ToolFault
+table_fault place report.BadHeader = BadHeader
+table_fault place (report.BadRow line) = BadRow line
+table_fault place report.BadEnd = BadEnd
+table_fault place report.TableTooLong = TableTooLong
+table_fault place report.TableRead = TableRead
+table_fault place report.Memory = Memory
+table_fault place (report.BadWord number) = BadWord number
+table_fault place report.Write = Write
+table_fault place report.Unlike = Unlike
+table_fault place report.TooLarge = TooLarge
+table_fault place report.BrokenGzip = BrokenTable place
+table_fault place report.ShortGzip = ShortTable place
+
+-- the same where there is one table
 abbrev pub report_fault : ReportFault → ToolFault
-report_fault report.BadHeader = BadHeader
-report_fault (report.BadRow line) = BadRow line
-report_fault report.BadEnd = BadEnd
-report_fault report.TableTooLong = TableTooLong
-report_fault report.TableRead = TableRead
-report_fault report.Memory = Memory
-report_fault (report.BadWord number) = BadWord number
-report_fault report.Write = Write
-report_fault report.Unlike = Unlike
-report_fault report.TooLarge = TooLarge
+report_fault why = table_fault 1 why

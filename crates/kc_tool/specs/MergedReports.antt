@@ -1,7 +1,7 @@
 -- What the reports of two counts say once they are merged: source, our formats page ("Merging").
 use Rattle.std.specs.Prelude.{◌≡◌, ℕ, List, [], ◌∷◌, ◌++◌, map, Some, None, Ok}
 use Rattle.kc_io.specs.Sources.{Seen}
-use Rattle.kc_io.specs.Intakes.{TakesAll}
+use Rattle.kc_gzip.specs.Intakes.{TakesAll}
 use Rattle.kc_fastx.specs.Reads.{Read}
 use Rattle.kc_kmer.specs.Rule.{CountingRule}
 use Rattle.kc_tally.specs.Tally.{TallySeen, IsTallyOf}

@@ -3,7 +3,7 @@ use Rattle.std.specs.Prelude.{◌≡◌, ◌≤◌, ◌<◌, ◌⊎◌, ◌+◌,
 use Rattle.std.specs.Prelude.{map, max, sum_by, ⊤, Bool, true, false, Option, Some, None, IfSome, is_some, option_map}
 use Rattle.std.specs.List.{concat}
 use Rattle.kc_io.specs.Sources.{Seen}
-use Rattle.kc_io.specs.Intakes.{TakesAll}
+use Rattle.kc_gzip.specs.Intakes.{TakesAll}
 use Rattle.kc_fastx.specs.Parsing.{GivesReads, HaveReads, RefusesFor, most_bytes}
 use Rattle.kc_fastx.specs.Reads.{Read}
 use Rattle.kc_fastx.specs.declared.read_faults.FastxFault.{FastxFault}
@@ -22,8 +22,9 @@ use Rattle.kc_tool.specs.declared.counted_sources.ReadsInCutting.{ReadsInCutting
 use Rattle.kc_tool.specs.declared.tool_faults.ToolFault.{ToolFault}
 use Rattle.kc_tool.specs.declared.tool_faults.ToolFault.TheVariants.{Fastx, Memory, Run}
 
--- each source gave its input in this call, up to the end that it told, and all together no more bytes than the limit.
--- Of each source the first list has what is seen before the call, the second what is seen after it
+-- each source gave its bytes in this call, up to the end that it told, and what they say is its input: gzip is
+-- decompressed, other bytes are what they are. All inputs together have no more bytes than the limit. Of each source
+-- the first list has what is seen before the call, the second what is seen after it
 abbrev pub GaveInputs : ℕ → List Seen → List Seen → List (List ℕ) → Type 0
 GaveInputs limit [] [] [] = Unit {0}
 GaveInputs limit (old ∷ olds) (new ∷ news) (input ∷ inputs) =

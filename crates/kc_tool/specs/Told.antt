@@ -9,7 +9,7 @@ use Rattle.kc_tool.specs.Selections.{counts_line}
 use Rattle.kc_tool.specs.Tallies.{TableSeen}
 use Rattle.kc_tool.specs.declared.told.CountedWords.{CountedWords}
 use Rattle.kc_tool.specs.declared.told.Told.{Told}
-use Rattle.kc_tool.specs.declared.told.Told.TheVariants.{Nothing, Counted, Selected}
+use Rattle.kc_tool.specs.declared.told.Told.TheVariants.{Nothing, Counted, Selected, Profiled}
 
 -- how many k-mers a tally has, of so many reads
 abbrev pub counted_with : Option ℕ → TallySeen → CountedWords
@@ -61,13 +61,15 @@ none_text n = if n == 0
     then codes "  no k-mer was counted: one is k letters A, C, G or T in a row, and with --only of the list\n"
     else []
 
--- the line that says what was counted or selected, and how long it took
+-- the line that says what was counted, selected or profiled, and how long it took
 abbrev pub closing_line : Told → Option ℕ → Text
 closing_line Nothing passed = []
 closing_line (Counted words) passed = reads_text words.reads ++ many words.total (codes "k-mer") ++ codes ", "
     ++ grouped words.distinct ++ codes " distinct" ++ time_text passed ++ none_text words.total
 closing_line (Selected counts asked) passed = grouped counts.kept ++ codes " of " ++ many counts.reads (codes "read")
     ++ codes " kept" ++ time_text passed
+closing_line (Profiled counts) passed =
+    many counts.reads (codes "read") ++ codes ", " ++ many counts.words (codes "k-mer") ++ time_text passed
 
 -- the text is the closing line, whatever the clock says
 abbrev pub IsClosing : Told → Text → Type 0

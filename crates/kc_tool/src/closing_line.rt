@@ -1,4 +1,4 @@
-//! The line that says, at the end of a command, what was counted or selected, and how long it took.
+//! The line at the end of a command: what was counted, selected or profiled, and how long it took.
 ghost use Rattle.std.specs.Prelude.{◌≡◌, ◌++◌, ◌+◌, ◌*◌, ◌<◌, ◌≤◌, codes, length};
 ghost use Rattle.kc_tool.specs.Told.{closing_line, grouped, in_groups, many, none_text, reads_text};
 ghost use Rattle.kc_tool.specs.Told.{three_digits, time_text};
@@ -8,7 +8,7 @@ use crate::told::{CountedWords, Told};
 use kc_report::Block;
 use kc_select::SelectionCounts;
 
-/// The closing line of what is told, where so many tenths of a second have passed. It takes no memory.
+/// The closing line of a command, where so many tenths of a second have passed. It takes no memory.
 pub(crate) fn closing_line(told: &Told, tenths: Option<u64>) -> Block
     ensures { result ≡ closing_line told.now tenths }
 {
@@ -17,6 +17,7 @@ pub(crate) fn closing_line(told: &Told, tenths: Option<u64>) -> Block
         Told::Nothing => {}
         Told::Counted(words) => push_counted(&mut text, words, tenths),
         Told::Selected(counts, _) => push_selected(&mut text, counts, tenths),
+        Told::Profiled(counts) => push_profiled(&mut text, counts, tenths),
     }
     text
 }
@@ -36,7 +37,7 @@ fn push_counted(text: &mut Block, words: &CountedWords, tenths: Option<u64>)
     push_none(text, words.total);
 }
 
-// Puts how many reads there were, where that is part of what is said, at the end of the text.
+// Puts how many reads there were, where that is part of the line, at the end of the text.
 fn push_reads(text: &mut Block, reads: Option<u64>)
     requires room { length text.old ≤ 100 }
     ensures pushed { text.new ≡ text.old ++ reads_text reads }
@@ -49,7 +50,7 @@ fn push_reads(text: &mut Block, reads: Option<u64>)
     text.push(b", ");
 }
 
-// What is said where no k-mer was counted.
+// What is printed where no k-mer was counted.
 const NONE: &[u8] =
     b"  no k-mer was counted: one is k letters A, C, G or T in a row, and with --only of the list\n";
 
@@ -73,6 +74,18 @@ fn push_selected(text: &mut Block, counts: &SelectionCounts, tenths: Option<u64>
     text.push(b" of ");
     push_many(text, counts.reads, b"read");
     text.push(b" kept");
+    push_time(text, tenths);
+}
+
+// Puts the line of profiles at the end of the text.
+fn push_profiled(text: &mut Block, counts: &SelectionCounts, tenths: Option<u64>)
+    requires room { length text.old ≤ 100 }
+    ensures { text.new ≡ text.old ++ many counts.now.reads (codes "read") ++ codes ", "
+        ++ many counts.now.words (codes "k-mer") ++ time_text tenths }
+{
+    push_many(text, counts.reads, b"read");
+    text.push(b", ");
+    push_many(text, counts.words, b"k-mer");
     push_time(text, tenths);
 }
 

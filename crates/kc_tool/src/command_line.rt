@@ -44,22 +44,22 @@ const FAULT: u8 = 1;
 /// The exit status of a command line that is refused.
 const REFUSED: u8 = 2;
 
-// The line that is told of an argument that is no text.
+// The line for an argument that is no text.
 const NOT_TEXT: &[u8] = b"kcount: an argument is not UTF-8\n";
 
 /// Carries out the command line `arguments`, which begins with the program's name, and answers the exit status. Files
-/// are opened and created by their names, and how far a count has come is told to `progress`: the end before the report
-/// or the line of a fault is written.
+/// are opened and created by their names. The progress of a count is reported to `progress`, and its end before the
+/// report or the line of a fault is written.
 ///
 /// Status 0: the output, or the file that the arguments name for it, has what the arguments ask for: a report, the
-/// answer to a query, selected reads, help or the version; and a selection's counts went to the errors, where they are
-/// asked for. Status 1: the line of a fault went to the errors, and the output is as it was, or has a beginning of the
-/// answer where writing failed, or the selected reads before the fault. Status 2: the output is as it was, and why the
-/// arguments are refused went to the errors. The input is read where a command reads no file, and else it is as it was;
-/// and nothing is asked of files but what the command asks for.
+/// answer to a query, selected reads, profiles, help or the version; and a selection's counts went to the errors,
+/// where they are asked for. Status 1: the line of a fault went to the errors, and the output is as it was, or has a
+/// beginning of the answer where writing failed, or what was selected before the fault. Status 2: the output is as it
+/// was, and why the arguments are refused went to the errors. The input is read where a command reads no file, and
+/// else it is as it was; and nothing is asked of files but what the command asks for.
 ///
 /// The arguments are as std gives them. If one of them is not UTF-8, that refuses the command line: status 2, nothing
-/// was read or written, and a line that says so went to the errors. If they can't be had otherwise, there was no memory
+/// was read or written, and a line about it went to the errors. If they can't be had otherwise, there was no memory
 /// for them: status 1, and the line of `Memory`.
 pub fn run<H: Threads + Wait + Sync, S: Files, R: Source, W: Sink, E: Sink, P: Progress + Sync>(
     rt: &H,
@@ -110,7 +110,7 @@ pub fn run<H: Threads + Wait + Sync, S: Files, R: Source, W: Sink, E: Sink, P: P
     tell_end(ended.map_err(Ending::Fault), said.as_bytes(), errors)
 }
 
-// What is said beside the lines for programs.
+// What is printed beside the lines for programs.
 #[derive(Drop)]
 enum Remark {
     // Nothing.
@@ -135,7 +135,7 @@ impl Remark {
 }
 
 // The closing line of what ended well, or the text that explains a fault, where a person reads the errors, or where
-// that is asked for. Elsewhere nothing is said, nor where there is no memory to explain a fault.
+// that is asked for. Elsewhere nothing is printed, nor where there is no memory to explain a fault.
 fn said<H: Threads, S: Files, P: Progress>(
     means: &Means<'_, H, P>,
     ended: &Result<Told, ToolFault>,
@@ -176,7 +176,7 @@ fn tell_unread<E: Sink>(error: &io::Error, errors: &mut E) -> u8
     ensures { TellsUnread error.now (E.seen errors.old) (E.seen errors.new) result }
 {
     if error.kind() == io::ErrorKind::InvalidData {
-        // as with any refusal, failing to say so changes no status
+        // as with any refusal, failing to print that changes no status
         let _ = write_out(errors, NOT_TEXT);
         return REFUSED;
     }
@@ -185,7 +185,7 @@ fn tell_unread<E: Sink>(error: &io::Error, errors: &mut E) -> u8
 }
 
 // Tells how a command line ended, and puts this text behind the line of a fault, or of what was asked for: the exit
-// status. Failing to say so changes no status.
+// status. Failing to print that changes no status.
 fn tell_end<E: Sink>(ended: Result<Told, Ending>, said: &[u8], errors: &mut E) -> u8
     ensures within { result ≤ 2 }
     ensures ends { (watched : Bool) (arguments : List Text) (old new : Surroundings)
@@ -262,7 +262,7 @@ fn write_explained<E: Sink>(
 enum Ending {
     // The command met a fault.
     Fault(ToolFault),
-    // The command line was refused, and this text says why.
+    // The command line was refused, and this text is the reason.
     Refused(String),
 }
 
@@ -292,7 +292,7 @@ fn status_of(fault: &ToolFault) -> u8
     }
 }
 
-// Help and the version go to the output, and nothing is told. Any other text refuses the command line.
+// Help and the version go to the output, and nothing else is printed. Any other text refuses the command line.
 fn show<W: Sink>(
     alloc: Global,
     error: &clap::Error,

@@ -32,7 +32,7 @@ ghost use Rattle.kc_tool.specs.Tallies.{given};
 use crate::count_progress::{Progress, Stage};
 use crate::counted_sources::Means;
 use crate::files::{FileSource, NamedFiles, open_files, size_of_all, take_sources};
-use crate::given_options::{dump_options, high_of, options, select_options};
+use crate::given_options::{dump_options, high_of, options, profile_options, select_options};
 use crate::given_sources::GivenSources;
 use crate::named_sources::NamedSource;
 use crate::outputs::{close_output, open_output};
@@ -42,7 +42,7 @@ use crate::task_tallies::{report_listed, sum_of, table_from, table_of};
 use crate::told::{CountedWords, Told};
 use crate::tool_faults::ToolFault;
 use clap::ArgMatches;
-use kc_command::command::{COUNT, DUMP, HISTO, MERGE, QUERY, SELECT, STATS};
+use kc_command::command::{COUNT, DUMP, HISTO, MERGE, PROFILE, QUERY, SELECT, STATS};
 use kc_command::{Options, Print, has_flag, text_of};
 use kc_io::{Sink, Source};
 use kc_report::{Dump, query, write_table};
@@ -72,6 +72,8 @@ pub(crate) enum Verb {
     Merge,
     /// Writes the reads that a table selects.
     Select,
+    /// Writes the counts of the words along each read.
+    Profile,
 }
 
 /// The command of this name.
@@ -86,6 +88,7 @@ pub(crate) fn verb_named(name: &str) -> Option<Verb>
         QUERY => Some(Verb::Query),
         MERGE => Some(Verb::Merge),
         SELECT => Some(Verb::Select),
+        PROFILE => Some(Verb::Profile),
         _ => None,
     }
 }
@@ -103,15 +106,15 @@ pub(crate) enum Task {
     Query(Vec<String>),
     /// To read two tables, and write the table of both together.
     Merge,
-    /// To read a table, which is the first file, and write the reads of the others that it selects, and whether to tell
-    /// what was counted of the reads.
+    /// To read a table, which is the first file, and write the reads of the others that it selects, or their profiles,
+    /// and whether to print what was counted of the reads.
     Select(Selection, bool),
 }
 
 /// Runs a command with its options: opens its files, takes the tally that it is about, and writes its answer. Files are
 /// opened in order before anything is read, the file for the output behind them, and at the end all are closed. A text
-/// takes the place of the file that is named for it once it is whole. How far a count has come is told. It answers what
-/// there is to say of what was done.
+/// takes the place of the file that is named for it once it is whole. The progress of a count is reported. It returns
+/// what there is to report of what was done.
 ///
 /// # Errors
 /// `BadOption` with the first option whose value is outside its limits, before any file is asked for. `OpenFailed` with
@@ -264,7 +267,7 @@ fn count_listed<H: Threads + Wait + Sync, R: Source, F: Source, W: Sink, P: Prog
     counted(report_listed(means, options, sources, output))
 }
 
-// What there is to say of a count.
+// What there is to report of a count.
 fn counted(counted: Result<CountedWords, ToolFault>) -> Result<Told, ToolFault>
     ensures { result ≡ told_of_count counted }
 {
@@ -341,8 +344,9 @@ fn write_sum<H: Threads, R: Source, F: Source, W: Sink, P: Progress>(
     Ok(Told::Counted(CountedWords::of(&sum, None)))
 }
 
-// Reads the table of the first file, and writes the reads of the sources that it selects. It answers what was counted
-// of the reads, and whether that is asked for. Condition: the first file, and no other, comes before the sources.
+// Reads the table of the first file, and writes the reads of the sources that it selects, or their profiles. It answers
+// what was counted of the reads, and whether that is asked for. Condition: the first file, and no other, comes before
+// the sources.
 fn select_by_table<H: Threads, R: Source, F: Source, W: Sink, P: Progress>(
     means: &Means<'_, H, P>,
     selection: Selection,
@@ -360,19 +364,31 @@ fn select_by_table<H: Threads, R: Source, F: Source, W: Sink, P: Progress>(
 {
     let files = &mut *sources.files;
     means.progress.begins(Stage::Tables);
-    let (tally, _origin) = table_from(means.alloc, &mut files[0].source)?;
-    means.progress.begins(Stage::Selection);
-    told_of(
-        select_given(means.alloc, sources, &tally, selection, output),
-        tells,
-    )
+    let (tally, _origin) = table_from(means.alloc, &mut files[0].source, 1)?;
+    means.progress.begins(stage_of(selection));
+    let selected = select_given(means.alloc, sources, &tally, selection, output);
+    told_of(selected, selection, tells)
 }
 
-// What there is to say of a selection.
-fn told_of(selected: Result<SelectionCounts, ToolFault>, tells: bool) -> Result<Told, ToolFault>
-    ensures { result ≡ told_of tells selected }
+// What is shown while a selection goes on.
+fn stage_of(selection: Selection) -> Stage {
+    if selection.is_profiled() {
+        Stage::Profile
+    } else {
+        Stage::Selection
+    }
+}
+
+// What there is to report of a selection.
+fn told_of(
+    selected: Result<SelectionCounts, ToolFault>,
+    selection: Selection,
+    tells: bool,
+) -> Result<Told, ToolFault>
+    ensures { result ≡ told_of selection tells selected }
 {
     match selected {
+        Ok(counts) if selection.is_profiled() => Ok(Told::Profiled(counts)),
         Ok(counts) => Ok(Told::Selected(counts, tells)),
         Err(fault) => Err(fault),
     }
@@ -417,11 +433,12 @@ fn task_of(alloc: Global, verb: Verb, matches: &ArgMatches<'_>) -> Result<Task, 
             let selection = select_options(matches)?;
             Ok(Task::Select(selection, has_flag(matches, "stats")))
         }
+        Verb::Profile => Ok(Task::Select(profile_options(matches)?, false)),
     }
 }
 
-// The names of the files that a command reads: a count reads its list and all that are named, a selection its table and
-// all that are named, a sum its two tables, and any other command the first that is named.
+// The names of the files that a command reads: a count reads its list and all that are named, a selection and a profile
+// their table and all that are named, a sum its two tables, and any other command the first that is named.
 fn file_names<'a>(
     alloc: Global,
     verb: Verb,
@@ -438,7 +455,7 @@ fn file_names<'a>(
                 Some(list) => behind(alloc, list, &files),
             }
         }
-        Verb::Select => {
+        Verb::Select | Verb::Profile => {
             let files = texts_of(alloc, matches, "file")?;
             behind(alloc, text_of(matches, "table").unwrap_or(""), &files)
         }
@@ -467,7 +484,7 @@ fn behind<'a>(alloc: Global, first: &'a str, others: &[&'a str]) -> Result<Vec<&
     Ok(names)
 }
 
-// The texts that stand under a name.
+// The texts that were given under a name.
 fn texts_of<'a>(
     alloc: Global,
     matches: &ArgMatches<'a>,

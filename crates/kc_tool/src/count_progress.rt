@@ -1,5 +1,4 @@
-//! How far a command has come: who is told it, as the sources are read and as the workers book, and the text that says
-//! it.
+//! The progress of a command: who is told about it, as the sources are read and as the workers book, and its text.
 ghost use Rattle.std.specs.Prelude.{◌≡◌, ◌≢◌, ◌≤◌, ◌+◌, ◌*◌, ◌/◌, ◌++◌, length, min};
 ghost use Rattle.kc_tool.specs.Progress.{batches_text, percent_text, progress_text};
 
@@ -13,12 +12,14 @@ pub enum Stage {
     Tables,
     /// Reads are selected and written.
     Selection,
+    /// Counts along reads are written.
+    Profile,
     /// The text of the command is written.
     Text,
 }
 
-/// Whoever is told how far a command has come. It is the gate of the workers too, who tell of each batch before they
-/// book it and after, and may do so at the same time.
+/// Whoever is told about the progress of a command. It is the gate of the workers too, who report each batch before
+/// they book it and after, and may do so at the same time.
 pub trait Progress: Gate {
     ghost use Rattle.std.specs.Prelude.{Bool};
 

@@ -1,5 +1,5 @@
 //! The tally of the reads of all sources: they are read, cleaned and cut into batches, and the words of the batches are
-//! counted by as many threads as are asked for, all of them or those of a list. The caller says whether the tally is
+//! counted by as many threads as are asked for, all of them or those of a list. The caller decides whether the tally is
 //! wanted, or no more than its histogram or its statistics.
 ghost use Rattle.std.specs.Prelude.{◌≡◌, ◌≤◌, ◌<◌, ◌+◌, ◌^◌, length, IfOk, IfErr, IfSome, OnOk};
 ghost use Rattle.kc_fastx.specs.Parsing.{most_bytes};
@@ -75,7 +75,7 @@ pub(crate) fn read_list<R: Source, P: Progress>(
     }
 }
 
-/// With what a command works: threads of the runtime, this memory, and who is told how far a count has come.
+/// With what a command works: threads of the runtime, this memory, and who is told about the progress.
 #[derive(Drop)]
 pub(crate) struct Means<'a, H: Threads, P: Progress> {
     /// The runtime.
@@ -86,7 +86,7 @@ pub(crate) struct Means<'a, H: Threads, P: Progress> {
     pub progress: &'a P,
 }
 
-/// Counts the words of the reads of the sources, in order, as the options say, or those of the list alone, by as many
+/// Counts the words of the reads of the sources, in order, as the options ask, or those of the list alone, by as many
 /// threads as are asked for. It answers what the caller wants of their tally, and its origin. How many bytes each read
 /// gave is told, how many batches there are, and each that was booked. Condition: the list is one under the rule of the
 /// options.
@@ -141,9 +141,9 @@ pub(crate) fn reader_lacks_memory(fault: &ToolFault) -> bool
     }
 }
 
-// The batches of the reads of the sources, in order, and what is told of a count of them. They have as many positions
-// as the options say, and more where a list is long: each booking of a batch compares the lists, and so this takes
-// little time beside counting. A fault is one of `cut_given`.
+// The batches of the reads of the sources, in order, and what is reported of a count of them. They have as many
+// positions as the options ask, and more where a list is long: each booking of a batch compares the lists, and so this
+// takes little time beside counting. A fault is one of `cut_given`.
 fn batches_given<R: Source, F: Source, P: Progress>(
     alloc: Global,
     list: &Option<Only>,
@@ -288,9 +288,10 @@ impl ReadsInCutting {
                 }
             };
             let bytes = reading.byte_count();
-            if told < bytes {
-                progress.bytes_read(bytes - told);
-                told = bytes;
+            let taken = reading.taken_count();
+            if told < taken {
+                progress.bytes_read(taken - told);
+                told = taken;
             }
             let Some(read) = read else {
                 self.left -= bytes;

@@ -1,4 +1,4 @@
-//! The line that tells what was counted of the reads that a selection judged.
+//! The line with what was counted of the reads that a selection judged.
 ghost use Rattle.std.specs.Prelude.{◌≡◌, ◌≤◌, ◌+◌, ◌++◌, [], codes, decimal, length};
 ghost use Rattle.kc_io.specs.Sinks.{Writes};
 ghost use Rattle.kc_tool.specs.Selections.{counts_line};

@@ -1,4 +1,4 @@
-//! What a person is told of a fault, behind its line: what was found, where, and what to do.
+//! What a person reads of a fault, behind its line: what was found, where, and what to do.
 use crate::commands::Verb;
 use crate::file_kinds::{FileKind, kind_of};
 use crate::file_refusals::Refusal;
@@ -42,7 +42,9 @@ pub(crate) fn explanation(
         | ToolFault::BadRow(_)
         | ToolFault::BadEnd
         | ToolFault::TableTooLong
-        | ToolFault::TableRead => of_table(alloc, fault, known),
+        | ToolFault::TableRead
+        | ToolFault::BrokenTable(_)
+        | ToolFault::ShortTable(_) => of_table(alloc, fault, known),
         ToolFault::BadOption(name) => of_option(alloc, *name, known),
         ToolFault::BadWord(number) => of_word(alloc, *number, known),
         ToolFault::OpenFailed(name) => of_file(alloc, name.as_str(), known),
@@ -123,7 +125,7 @@ fn table_name<'m>(known: &Known<'_, 'm>) -> &'m str {
     match known.verb {
         Verb::Merge if known.looks.count > 1 => named("second", known.matches),
         Verb::Merge => named("first", known.matches),
-        Verb::Select => named("table", known.matches),
+        Verb::Select | Verb::Profile => named("table", known.matches),
         _ => file_name(1, known.matches),
     }
 }
@@ -159,6 +161,8 @@ fn of_reads(
         FastxFault::TooLong => line(alloc, name, TOO_LONG, ""),
         FastxFault::Read => line(alloc, name, READ_FAILED, ""),
         FastxFault::Memory => line(alloc, "memory ran out while this was read: ", name, ""),
+        FastxFault::BrokenGzip => line(alloc, name, BROKEN_GZIP, ""),
+        FastxFault::ShortGzip => line(alloc, name, SHORT_GZIP, ""),
     }
 }
 
@@ -170,7 +174,7 @@ fn of_text(
     what: &str,
     known: &Known<'_, '_>,
 ) -> Result<String, AllocError> {
-    match reads_of_kind(kind_of_last(name, known)) {
+    match reads_of_kind(kind_of_last(name, known), at) {
         Some((is, command)) => {
             if name == STANDARD_INPUT {
                 return line(alloc, name, is, command.strip_suffix(" ").unwrap_or(""));
@@ -183,8 +187,8 @@ fn of_text(
     }
 }
 
-const BAD_START: &str = "a record should begin here, with > or @; is the input compressed, or BAM? \
-     Put zcat or samtools fastq in front";
+const BAD_START: &str = "a record should begin here, with > or @; is the input BAM? Put samtools \
+     fastq in front";
 
 const BAD_BASE: &str = "a sequence has a byte that is no letter; are two formats in one input?";
 
@@ -196,14 +200,24 @@ const TRUNCATED: &str = "the input ends inside a record: it was cut off, or its 
 
 const TOO_LONG: &str = " takes the input above 64 GiB: count parts of it, and merge their tables";
 
-// What is said behind the name of a file of this kind that should be one of reads, in front of the name once more.
-fn reads_of_kind(kind: FileKind) -> Option<(&'static str, &'static str)> {
+const BROKEN_GZIP: &str = " is damaged gzip, or other bytes follow the gzip: get the file again";
+
+const SHORT_GZIP: &str = " is gzip that ends too early: its copy is not whole, get the file again";
+
+// What is printed behind the name of a file of this kind that should be one of reads and has a fault in this line, in
+// front of the name once more.
+fn reads_of_kind(kind: FileKind, at: u64) -> Option<(&'static str, &'static str)> {
     match kind {
-        FileKind::Gzip => Some((" is compressed with gzip: count the output of ", "zcat ")),
-        FileKind::Bgzip => Some((
-            " is BAM, or compressed with bgzip: count the output of ",
-            "samtools fastq, or zcat, of ",
+        FileKind::Gzip if at == 1 => Some((
+            " contains, decompressed, neither FASTA nor FASTQ: look at it by ",
+            "zcat ",
         )),
+        FileKind::Bgzip if at == 1 => {
+            Some((
+                " is BAM, or no reads: count the output of ",
+                "samtools fastq ",
+            ))
+        }
         FileKind::Bzip2 => Some((" is compressed with bzip2: count the output of ", "bzcat ")),
         FileKind::Xz => Some((" is compressed with xz: count the output of ", "xzcat ")),
         FileKind::Zstd => Some((" is compressed with zstd: count the output of ", "zstdcat ")),
@@ -236,6 +250,8 @@ fn of_table(alloc: Global, fault: &ToolFault, known: &Known<'_, '_>) -> Result<S
         ToolFault::BadEnd => line(alloc, name, BAD_END, ""),
         ToolFault::TableTooLong => line(alloc, name, " is longer than any table", ""),
         ToolFault::TableRead => line(alloc, name, READ_FAILED, ""),
+        ToolFault::BrokenTable(_) => line(alloc, name, BROKEN_GZIP, ""),
+        ToolFault::ShortTable(_) => line(alloc, name, SHORT_GZIP, ""),
         _ => line(alloc, name, header_of_kind(kind_of_last(name, known)), ""),
     }
 }
@@ -245,11 +261,11 @@ const BAD_ROW: &str = "this is no row in its place: a table is read as it was wr
 
 const BAD_END: &str = " lacks its last line, END: it was cut off, or lines were taken out of it";
 
-// What is said behind the name of a file of this kind that should be a table.
+// What is printed behind the name of a file of this kind that should be a table.
 fn header_of_kind(kind: FileKind) -> &'static str {
     match kind {
         FileKind::Empty => " is empty: the count that should have written it has failed",
-        FileKind::Gzip | FileKind::Bgzip => " is compressed: uncompress it by gunzip, or read zcat",
+        FileKind::Gzip | FileKind::Bgzip => " contains, decompressed, no table: look at it by zcat",
         FileKind::Jellyfish => {
             " is a file of Jellyfish, which kcount does not read: count the reads by kcount count"
         }
@@ -284,8 +300,11 @@ fn of_word(alloc: Global, number: u64, known: &Known<'_, '_>) -> Result<String, 
             text.push_str(*word)?;
         }
     }
-    text.push_str(" is no k-mer of this table, whose k-mers have a length of ")?;
     let length = header_field(&known.looks.last, 2);
+    if length.is_empty() {
+        return line(alloc, text.as_str(), " is no k-mer of this table", "");
+    }
+    text.push_str(" is no k-mer of this table, whose k-mers have a length of ")?;
     line(
         alloc,
         text.as_str(),
@@ -313,7 +332,7 @@ fn of_file(alloc: Global, name: &str, known: &Known<'_, '_>) -> Result<String, A
     line(alloc, text.as_str(), why.text(), tip_of_name(name, known))
 }
 
-// What is said of a name that can't be opened.
+// What is printed about a name that can't be opened.
 fn tip_of_name(name: &str, known: &Known<'_, '_>) -> &'static str {
     if name == "-" {
         return "; standard input is read where no file is named";
@@ -353,6 +372,9 @@ fn of_unlike(alloc: Global, known: &Known<'_, '_>) -> Result<String, AllocError>
     let mut text = String::from_str(alloc, named("first", known.matches))?;
     text.push_str(" and ")?;
     text.push_str(named("second", known.matches))?;
+    if kind_of(first.bytes()) != FileKind::Table || kind_of(second.bytes()) != FileKind::Table {
+        return line(alloc, text.as_str(), UNLIKE_HEADERS, "");
+    }
     if header_field(first, 2) == header_field(second, 2) {
         return line(alloc, text.as_str(), UNLIKE, "");
     }
@@ -360,6 +382,10 @@ fn of_unlike(alloc: Global, known: &Known<'_, '_>) -> Result<String, AllocError>
     text.push_str(header_field(first, 2))?;
     line(alloc, text.as_str(), " and ", header_field(second, 2))
 }
+
+// What is said of two tables of which one is compressed.
+const UNLIKE_HEADERS: &str =
+    " were counted in different ways: compare their first lines, of gzip by zcat";
 
 const UNLIKE: &str = " were counted in different ways: with and without -C or --only, or with \
      another --min-qual-char";

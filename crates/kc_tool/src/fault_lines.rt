@@ -51,7 +51,7 @@ fn put_text<W: Sink>(writer: &mut W, block: &mut Block, text: &[u8]) -> Result<(
     write_all(writer, text)
 }
 
-// The name of the file that the refusal names, which stands at its end.
+// The name of the file at the end of the refusal.
 fn name_of(fault: &ToolFault) -> &str
     ensures { result.now ≡ fault_name fault.now }
 {
@@ -85,6 +85,8 @@ fn push_front(line: &mut Block, fault: &ToolFault)
         ToolFault::OpenFailed(_) => line.push(b"54: cannot open "),
         ToolFault::Unlike => line.push(b"61: tables do not match"),
         ToolFault::TooLarge => line.push(b"62: sums too large"),
+        ToolFault::BrokenTable(table) => push_source(line, b"71: broken gzip", *table),
+        ToolFault::ShortTable(table) => push_source(line, b"72: gzip cut short", *table),
     }
 }
 
@@ -131,6 +133,8 @@ fn push_reader_fault(line: &mut Block, source: u64, fault: FastxFault)
         FastxFault::TooLong => push_source(line, b"6: too long", source),
         FastxFault::Read => push_source(line, b"7: read failed", source),
         FastxFault::Memory => line.push(b"8: no memory"),
+        FastxFault::BrokenGzip => push_source(line, b"71: broken gzip", source),
+        FastxFault::ShortGzip => push_source(line, b"72: gzip cut short", source),
     }
 }
 

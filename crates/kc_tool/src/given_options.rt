@@ -4,10 +4,12 @@ ghost use Rattle.clap.specs.Words.{found_of, rows_of};
 ghost use Rattle.kc_command.specs.Arguments.{
   AsksFor,
   AsksForDump,
+  AsksForProfile,
   AsksForSelection,
   first_bad,
   first_bad_of_dump,
   first_bad_of_histo,
+  first_bad_of_profile,
   first_bad_of_select,
   high_of,
 };
@@ -75,4 +77,17 @@ pub fn select_options(matches: &ArgMatches<'_>) -> Result<Selection, ToolFault>
     ensures asked { IfOk result (AsksForSelection (rows_of (found_of matches.now))) }
 {
     Ok(kc_command::select_options(matches)?)
+}
+
+/// What the options of `profile` ask for. It takes no memory.
+///
+/// # Errors
+/// `BadOption` with `--min-qual-char` where its value is no character from ! to ~.
+pub fn profile_options(matches: &ArgMatches<'_>) -> Result<Selection, ToolFault>
+    ensures first_bad { MatchResult result (λ s. first_bad_of_profile (rows_of (found_of matches.now)) ≡ None)
+        (λ fault. (name : OptionName) × (first_bad_of_profile (rows_of (found_of matches.now)) ≡ Some name)
+        × (fault ≡ ToolFault.BadOption name)) }
+    ensures asked { IfOk result (AsksForProfile (rows_of (found_of matches.now))) }
+{
+    Ok(kc_command::profile_options(matches)?)
 }

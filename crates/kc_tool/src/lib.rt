@@ -1,12 +1,12 @@
 //! The program `kcount`: how often each k-mer (word of length k) occurs in sequence reads.
 //!
-//! `count_reads` goes from sources of bytes to a written report, as `Options` say. `program` reads a whole command
+//! `count_reads` goes from sources of bytes to a written report, as `Options` ask. `program` reads a whole command
 //! line, does what it asks for and answers the exit status; `run` does the same over streams that the caller keeps. A
 //! refusal is a `ToolFault`, and `write_fault` writes its line.
 //!
 //! `write_dump`, `write_histo`, `write_stats` and `write_table` write a `Tally`, and `query` the counts of some words;
-//! `read_table` reads what `write_table` writes, with the `Origin` that it tells, and `merge` adds two of these;
-//! `report_laws` says what becomes of the tables that `count_reads` wrote.
+//! `read_table` reads what `write_table` writes, with its `Origin`, and `merge` adds two of these;
+//! `report_laws` states what becomes of the tables that `count_reads` wrote.
 //!
 //! ```text
 //! let k = K::new(3).ok_or("a length")?;

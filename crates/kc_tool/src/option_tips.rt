@@ -1,4 +1,4 @@
-//! What is said of an option that Jellyfish has, and that is called otherwise here, or is not needed.
+//! Tips for options that Jellyfish has, and that are called otherwise here, or are not needed.
 use std::alloc::{AllocError, Global};
 
 /// The text of a refusal by `clap`, with a tip of our own where we know the option: in place of that of `clap`, which
@@ -26,7 +26,7 @@ pub(crate) fn with_tip(
     Ok(told)
 }
 
-// What stands between the first two quotation marks.
+// The text between the first two quotation marks.
 fn quoted_in(line: &str) -> &str {
     match line.split('\'').nth(1) {
         Some(quoted) => quoted,
@@ -34,7 +34,7 @@ fn quoted_in(line: &str) -> &str {
     }
 }
 
-// What stands behind the tip, where there is one.
+// The text behind the tip, where there is one.
 fn without_tip(rest: &str) -> &str {
     let Some(tip) = rest.strip_prefix("\n  tip: ") else {
         return rest;
@@ -45,7 +45,7 @@ fn without_tip(rest: &str) -> &str {
     }
 }
 
-// What is said of an argument of a command.
+// The tip for an argument of a command.
 fn tip_of(command: &str, argument: &str) -> Option<&'static str> {
     for tip in TIPS {
         let (of, name, text) = *tip;
@@ -67,7 +67,7 @@ const LINES: &str = "lines of counts that no k-mer has are left out, and the fir
 
 const HEADER: &str = "the first line of a table says how it was counted: head -n 1 TABLE";
 
-// The commands and options of Jellyfish that are missed, and what is said of each.
+// The commands and options of Jellyfish that are missed, and the tip for each.
 const TIPS: &[(&str, &str, &str)] = &[
     ("count", "-k", "the length of the k-mers is -m"),
     ("count", "-Q", "Jellyfish's -Q is --min-qual-char"),

@@ -11,9 +11,9 @@ ghost use Rattle.kc_tool.specs.MergedReports.{
 
 use kc_command::Options;
 
-/// Where `count_reads` has no list and writes a table, its text tells the reads that the sources gave. Two such texts
-/// under one rule match, and they fit, so that they are never refused as unlike or as too large. What the command
-/// `merge` writes of them tells the reads of both, and one text alone does. So of sources that tell their bytes, the
+/// Where `count_reads` has no list and writes a table, its text has the number of reads that the sources gave. Two such
+/// texts under one rule match, and they fit, so that they are never refused as unlike or as too large. What the command
+/// `merge` writes of them has the reads of both, and only one text does. So if the bytes of the sources are known, the
 /// tables of two inputs that were counted apart, merged, are byte for byte the table of both counted together.
 pub fn merged_reports(options: &Options)
     ensures report { ReportTellsReads options.now }

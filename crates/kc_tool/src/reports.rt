@@ -197,7 +197,7 @@ fn report_files<H: Threads + Wait + Sync, R: Source, F: Source, W: Sink, P: Prog
 }
 
 /// Counts words as `count_given` does, writes the report that the options ask for, and answers how many were counted.
-/// Of the tally no more is gathered than the report is about. How far it has come is told, and when the writing begins.
+/// Of the tally no more is gathered than the report is about. Its progress is reported, and when the writing begins.
 ///
 /// # Errors
 /// Those of `count_given`; nothing was written. Those of `write_report`.
@@ -263,7 +263,7 @@ fn report_as<
     Ok(summary.words(reads_of(&origin)))
 }
 
-// How many reads a table was counted from, where that is told.
+// How many reads a table was counted from, where that is known.
 fn reads_of(origin: &Option<Origin>) -> Option<u64>
     ensures { result ≡ reads_of origin.now }
 {
@@ -273,8 +273,8 @@ fn reads_of(origin: &Option<Origin>) -> Option<u64>
     }
 }
 
-/// Writes a report on a tally; a table says what it was counted from, where that is told. Conditions: a histogram is
-/// for counts up to 1 to 10,000,000, and the origin is one that a header can say.
+/// Writes a report on a tally; a table has what it was counted from, where that is known. Conditions: a histogram is
+/// for counts up to 1 to 10,000,000, and the origin is one that a header can have.
 ///
 /// # Errors
 /// `Write` where the writer failed or took no byte; a beginning of the text was written. `Memory` where a growth was

@@ -100,7 +100,7 @@ impl<W: Sink> ReadsSource<W> for Choice<'_, '_> {
     }
 }
 
-// Writes the reads of the source of this number that the selection keeps. It counts all, and tells how many bytes the
+// Writes the reads of the source of this number that the selection keeps. It counts all, and returns how many bytes the
 // source gave. Condition: the limit is at most 2^36.
 fn select_next<R: Source, W: Sink>(
     alloc: Global,

@@ -20,7 +20,7 @@ use crate::counted_sources::{Means, read_list};
 use crate::given_sources::{GivenSources, ReadsSource};
 use crate::reports::report_given;
 use crate::told::CountedWords;
-use crate::tool_faults::ToolFault;
+use crate::tool_faults::{ToolFault, table_fault};
 use kc_command::Options;
 use kc_io::{Sink, Source};
 use kc_report::{Origin, merge, read_table};
@@ -33,7 +33,7 @@ use std::thread::Threads;
 const MOST_TABLE_BYTES: u64 = 1 << 42;
 
 /// Counts those words that occur in the reads of the first file, in the reads of the sources, and writes the report
-/// that the options ask for, as `report_given` does. How far it has come is told. Condition: the first file, and no
+/// that the options ask for, as `report_given` does. Its progress is reported. Condition: the first file, and no
 /// other, comes before the sources.
 ///
 /// # Errors
@@ -78,13 +78,14 @@ pub(crate) fn sum_of<R: Source, F: Source>(
     ensures fault { IfErr result (TellNoSum (seen_in R.seen F.seen sources.old) (seen_in R.seen F.seen sources.new)) }
     ensures kept { Keeps R.seen F.seen sources.old sources.new }
 {
-    let reader = TableReader { alloc };
+    let reader = TableReader { alloc, place: 1 };
     let (first, first_origin) = sources.read(0, &reader, &mut ())?;
+    let reader = TableReader { alloc, place: 2 };
     let (second, second_origin) = sources.read(1, &reader, &mut ())?;
     merged(alloc, &first, first_origin, &second, second_origin)
 }
 
-// The sum of two tallies, and what it was counted from. Condition: the origins are such as a header can say.
+// The sum of two tallies, and what it was counted from. Condition: the origins are such as a header can have.
 fn merged(
     alloc: Global,
     first: &Tally,
@@ -107,7 +108,7 @@ fn merged(
     )?)
 }
 
-/// What the table text of the one source says. Condition: there is one source.
+/// The table of the one source. Condition: there is one source.
 ///
 /// # Errors
 /// The fault of the table.
@@ -122,13 +123,14 @@ pub(crate) fn table_of<R: Source, F: Source>(
     ensures fault { IfErr result (TellNoTable (seen_in R.seen F.seen sources.old) (seen_in R.seen F.seen sources.new)) }
     ensures kept { Keeps R.seen F.seen sources.old sources.new }
 {
-    sources.read(0, &TableReader { alloc }, &mut ())
+    sources.read(0, &TableReader { alloc, place: 1 }, &mut ())
 }
 
-// Reads the table of one source, with this memory.
+// Reads the table of one source, with this memory. It is the table of this place, from 1.
 #[derive(Drop)]
 struct TableReader {
     alloc: Global,
+    place: u64,
 }
 
 impl ReadsSource<()> for TableReader {
@@ -139,26 +141,30 @@ impl ReadsSource<()> for TableReader {
 
     ghost can_read = { λ reader state. ⊤ };
 
-    ghost reads = { λ reader old new state after result. TellsOrNot old new result };
+    ghost reads = { λ reader old new state after result. TellsOrNot reader.place old new result };
 
     fn read_source<R: Source>(
         &self,
         source: &mut R,
         _state: &mut (),
     ) -> Result<(Tally, Option<Origin>), ToolFault> {
-        table_from(self.alloc, source)
+        table_from(self.alloc, source, self.place)
     }
 }
 
-// What the table text of this source says.
+// What the table text of this source says, which is the table of this place, from 1.
 pub(crate) fn table_from<R: Source>(
     alloc: Global,
     source: &mut R,
+    place: u64,
 ) -> Result<(Tally, Option<Origin>), ToolFault>
     ensures table { let Gives = GivesTable (R.seen source.old) (R.seen source.new) most_table_bytes in
         IfOk result (λ table. Gives (table.0, table.1)) }
     ensures origin { IfOk result (λ table. MaySay table.1) }
-    ensures fault { IfErr result (TellsNoTable (R.seen source.old) (R.seen source.new)) }
+    ensures fault { IfErr result (TellsNoTable place (R.seen source.old) (R.seen source.new)) }
 {
-    Ok(read_table(alloc, source, MOST_TABLE_BYTES)?)
+    match read_table(alloc, source, MOST_TABLE_BYTES) {
+        Ok(table) => Ok(table),
+        Err(why) => Err(table_fault(place, why)),
+    }
 }

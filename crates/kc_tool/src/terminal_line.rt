@@ -19,7 +19,7 @@ const CLEARED: &[u8] = b"\r\x1b[K";
 // Says that input is typed, and how it ends.
 const INPUT_IS_TYPED: &[u8] = b"reading standard input; end it with Ctrl-D\n";
 
-/// A line on a terminal that says how far a command has come: the bytes that were read, the batches that were counted,
+/// A line on a terminal with the progress of a command: the bytes that were read, the batches that were counted,
 /// and how long it took; or the name of a part of it. What is told of a count is written over the line at most ten
 /// times a second, and not where the clock can't be read; nothing is written of a count that is over sooner. The line
 /// is cleared at the end. Nothing is written where there is no terminal.
@@ -45,7 +45,7 @@ pub struct ProgressLine<'a, C: Clock, T: Print + IsTerminal> {
 
 impl<'a, C: Clock, T: Print + IsTerminal> ProgressLine<'a, C, T> {
     /// A line on this terminal, where it is one. Its first text of a count is written an eighth of a second later at
-    /// the earliest. Whether standard input is a terminal is said besides.
+    /// the earliest. Whether standard input is a terminal is given besides.
     pub fn new(clock: &'a C, terminal: &'a T, input_is_terminal: bool) -> ProgressLine<'a, C, T> {
         ProgressLine {
             clock,
@@ -88,7 +88,7 @@ impl<'a, C: Clock, T: Print + IsTerminal> ProgressLine<'a, C, T> {
         self.began?.elapsed(self.clock).ok()
     }
 
-    // Writes the line where that is due, or where all batches were counted, since what follows tells nothing.
+    // Writes the line where that is due, or where all batches were counted, since what follows is not shown.
     fn show(&self, is_last: bool) {
         if !self.is_terminal {
             return;
@@ -126,7 +126,7 @@ impl<'a, C: Clock, T: Print + IsTerminal> ProgressLine<'a, C, T> {
         self.due.load(Ordering::SeqCst) == NEVER
     }
 
-    // Text is written from now on, and this says so: nothing more of a count is shown, and where the text goes to no
+    // Text is written from now on, and this shows it: nothing more of a count is shown, and where the text goes to no
     // file that is named, nothing at all, since standard output may be shown on the same terminal.
     fn text_begins(&self, said: &[u8]) {
         self.due.store(NEVER, Ordering::SeqCst);
@@ -188,6 +188,7 @@ impl<C: Clock, T: Print + IsTerminal> Progress for ProgressLine<'_, C, T> {
         match stage {
             Stage::Tables => self.write_over(b"\rreading tables\x1b[K"),
             Stage::Selection => self.text_begins(b"\rselecting reads\x1b[K"),
+            Stage::Profile => self.text_begins(b"\rcounting along reads\x1b[K"),
             Stage::Text => self.text_begins(b"\rwriting\x1b[K"),
         }
     }

@@ -1,4 +1,4 @@
-//! What there is to say of a command that ended well.
+//! What a command that ended well reports.
 ghost use Rattle.std.specs.Prelude.{◌≡◌};
 ghost use Rattle.kc_tool.specs.Told.{asked_counts, counted_with};
 
@@ -8,7 +8,7 @@ use kc_tally::Tally;
 /// How many k-mers were counted, in how many reads.
 #[derive(Clone, Copy, Debug)]
 pub(crate) struct CountedWords {
-    /// How many reads there were, where that is part of what is said.
+    /// How many reads there were, where that is part of the line.
     pub reads: Option<u64>,
     /// How many k-mers were counted.
     pub total: u64,
@@ -16,7 +16,7 @@ pub(crate) struct CountedWords {
     pub distinct: u64,
 }
 
-/// What there is to say of a command that ended well.
+/// What a command that ended well reports.
 #[derive(Clone, Copy, Debug)]
 pub(crate) enum Told {
     /// Nothing: of help, and of a command that reads a table.
@@ -25,6 +25,8 @@ pub(crate) enum Told {
     Counted(CountedWords),
     /// Of a selection, and whether `--stats` asks for its counts.
     Selected(SelectionCounts, bool),
+    /// Of profiles: how many reads they are of, and how many k-mers these have.
+    Profiled(SelectionCounts),
 }
 
 impl CountedWords {

@@ -1,7 +1,7 @@
 //! The refusals of the program.
 ghost use Rattle.std.specs.Prelude.{◌≡◌};
 ghost use Rattle.kc_tool.specs.declared.tool_faults.ToolFault.TheVariants.{BadOption, Memory, Run, Write};
-ghost use Rattle.kc_tool.specs.Faults.{report_fault};
+ghost use Rattle.kc_tool.specs.Faults.{report_fault, table_fault};
 
 use kc_command::OptionName;
 use kc_fastx::FastxFault;
@@ -61,6 +61,12 @@ pub enum ToolFault {
     /// The counts of two tables together, or their reads together, are above 2^62.
     #[error("sums too large")]
     TooLarge,
+    /// The table of this place, numbered from 1, is broken gzip.
+    #[error("broken gzip, source {0}")]
+    BrokenTable(u64),
+    /// The table of this place, numbered from 1, is gzip that is cut short.
+    #[error("gzip cut short, source {0}")]
+    ShortTable(u64),
 }
 
 impl From<AllocError> for ToolFault {
@@ -107,17 +113,26 @@ impl From<ReportFault> for ToolFault {
     ghost from_gives = { λ report fault. fault ≡ report_fault report };
 
     fn from(fault: ReportFault) -> ToolFault {
-        match fault {
-            ReportFault::BadHeader => ToolFault::BadHeader,
-            ReportFault::BadRow(line) => ToolFault::BadRow(line),
-            ReportFault::BadEnd => ToolFault::BadEnd,
-            ReportFault::TableTooLong => ToolFault::TableTooLong,
-            ReportFault::TableRead => ToolFault::TableRead,
-            ReportFault::Memory => ToolFault::Memory,
-            ReportFault::BadWord(number) => ToolFault::BadWord(number),
-            ReportFault::Write => ToolFault::Write,
-            ReportFault::Unlike => ToolFault::Unlike,
-            ReportFault::TooLarge => ToolFault::TooLarge,
-        }
+        table_fault(1, fault)
+    }
+}
+
+/// Why the table of this place, numbered from 1, could not be read, or no report be written.
+pub(crate) fn table_fault(place: u64, fault: ReportFault) -> ToolFault
+    ensures { result ≡ table_fault place fault }
+{
+    match fault {
+        ReportFault::BadHeader => ToolFault::BadHeader,
+        ReportFault::BadRow(line) => ToolFault::BadRow(line),
+        ReportFault::BadEnd => ToolFault::BadEnd,
+        ReportFault::TableTooLong => ToolFault::TableTooLong,
+        ReportFault::TableRead => ToolFault::TableRead,
+        ReportFault::Memory => ToolFault::Memory,
+        ReportFault::BadWord(number) => ToolFault::BadWord(number),
+        ReportFault::Write => ToolFault::Write,
+        ReportFault::Unlike => ToolFault::Unlike,
+        ReportFault::TooLarge => ToolFault::TooLarge,
+        ReportFault::BrokenGzip => ToolFault::BrokenTable(place),
+        ReportFault::ShortGzip => ToolFault::ShortTable(place),
     }
 }

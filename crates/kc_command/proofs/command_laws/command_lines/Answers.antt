@@ -1,6 +1,6 @@
 use Rattle.std.proofs.Common.{refl}
 use Rattle.clap.proofs.OnLiterals.{clap_on_literals}
-use Rattle.kc_command.specs.Laws.{CountsBothStrands, CountsFiles, CountsListedWords, MergesTables, ReadsTables, Refuses, SelectsReads}
+use Rattle.kc_command.specs.Laws.{CountsBothStrands, CountsFiles, CountsListedWords, MergesTables, ProfilesRecords, ReadsTables, Refuses, SelectsReads}
 use Rattle.kc_command.proofs.command_laws.command_lines.Goals as goal
 
 counts_both_strands : CountsBothStrands
@@ -102,6 +102,26 @@ selects_reads = record {
   second_of_two = refl;
 }
 
+profiles_records : ProfilesRecords
+unfolding clap_on_literals
+profiles_records = record {
+  taken = refl;
+  command = refl;
+  good = refl;
+  floor = refl;
+  table = refl;
+  files = refl;
+  output = refl;
+  alone = refl;
+  alone_good = refl;
+  usual_floor = refl;
+  no_file = refl;
+  no_table = refl;
+  option_of_select = refl;
+  option_of_dump = refl;
+  two_bytes = refl;
+}
+
 refuses : Refuses
 unfolding clap_on_literals
 refuses = record {
@@ -134,3 +154,6 @@ returns-clause-refuses c = refuses
 
 pub returns-clause-selects : goal.returns-clause-selects
 returns-clause-selects c = selects_reads
+
+pub returns-clause-profiles : goal.returns-clause-profiles
+returns-clause-profiles c = profiles_records

@@ -27,6 +27,8 @@ unanswered words table old new report.TableRead h = absurd h
 unanswered words table old new report.Memory h = absurd h
 unanswered words table old new report.Unlike h = absurd h
 unanswered words table old new report.TooLarge h = absurd h
+unanswered words table old new report.BrokenGzip h = absurd h
+unanswered words table old new report.ShortGzip h = absurd h
 
 pub returns-clause-done : goal.returns-clause-done
 returns-clause-done g c =

@@ -31,8 +31,8 @@ returns g c =
     let given = c.args.sources.now in
     let file = get_or given.files.now 0 c.index-files-0.result in
     let mid = record given { files = record given.files { now = set given.files.now 0 (record { name = file.name; source = later }) } } in
-    let new = c.select_given.new in
-    let kept = c.select_given.ensures.kept in
+    let new = c.select_given-selected.new in
+    let kept = c.select_given-selected.ensures.kept in
     record {
       done = listed_done seen seen_file given mid c.index-files-0.result later c.requires.own c.requires.some refl refl refl new.sources kept
           (λ before after. SelectsBy c.args.selection c.args.tells (record { given = before; output = g.W.Sink.seen c.args.output.now })
@@ -40,7 +40,7 @@ returns g c =
           (inl (
             (c.in_ok-tally.tally, c.in_ok-tally._origin),
             c.in_ok-tally.ensures.table,
-            (c.select_given.result, c.told_of.ensures, c.select_given.ensures.selects),
+            (c.select_given-selected.result, c.told_of.ensures, c.select_given-selected.ensures.selects),
           ));
       kept = files_both seen seen_file
           (first_read seen seen_file given mid c.index-files-0.result later c.requires.own c.requires.some refl refl refl refl)

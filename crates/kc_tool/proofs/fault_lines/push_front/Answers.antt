@@ -36,3 +36,9 @@ returns-in-TooLarge-clause-pushed c = rw c.in-TooLarge.is c.push-in-TooLarge.ens
 
 pub returns-in-OpenFailed-clause-pushed : goal.returns-in-OpenFailed-clause-pushed
 returns-in-OpenFailed-clause-pushed c = rw c.in-OpenFailed.is c.push-in-OpenFailed.ensures.pushed
+
+pub returns-in-BrokenTable-clause-pushed : goal.returns-in-BrokenTable-clause-pushed
+returns-in-BrokenTable-clause-pushed c = rw c.in-BrokenTable.is c.push_source.ensures.pushed
+
+pub returns-in-ShortTable-clause-pushed : goal.returns-in-ShortTable-clause-pushed
+returns-in-ShortTable-clause-pushed c = rw c.in-ShortTable.is c.push_source-in-ShortTable.ensures.pushed

@@ -3,7 +3,7 @@ use Rattle.kc_io.specs.Sources.{Seen}
 use Rattle.kc_fastx.specs.Reads.{Read}
 use Rattle.kc_fastx.specs.Reading.{GivesNext, Stand}
 use Rattle.kc_fastx.proofs.ReadingLemmas.{used_within}
-use Rattle.kc_io.proofs.IntakesLemmas.{taken_in_vain, taken_none}
+use Rattle.kc_fastx.proofs.ReadingLemmas.{begun_in_vain}
 use Rattle.kc_tool.proofs.ReadCountLemmas.{read_count-gives}
 use Rattle.kc_tool.proofs.CleaningLemmas.{no_piece, one_more_piece}
 use Rattle.kc_tool.proofs.counted_sources.ReadsInCutting.take.Goals as goal
@@ -16,7 +16,7 @@ unfailed start now limit reads stand None given = given.0.unfailed
 
 pub returns-in_default-clause-fault : goal.returns-in_default-clause-fault
 returns-in_default-clause-fault g c =
-    (refl, inl (taken_in_vain (taken_none (g.R.Source.seen c.args.source.now) c.args.self.now.left)))
+    (refl, begun_in_vain (g.R.Source.seen c.args.source.now) c.args.self.now.left)
 
 pub reads-init : goal.reads-init
 reads-init g c =
