@@ -28,7 +28,7 @@ pub(crate) fn clear_each<T: Drop>(vecs: &mut Vec<Vec<T>>)
     }
 }
 
-/// Makes room in each vector for so many more. Condition: it is told for each.
+/// Makes room in each vector for so many more. Condition: there is one for each.
 pub(crate) fn make_room<T>(vecs: &mut Vec<Vec<T>>, more: &[usize]) -> Result<(), AllocError>
     requires { length vecs.old.items ≤ length more.now }
     ensures all { length vecs.new.items ≡ length vecs.old.items }

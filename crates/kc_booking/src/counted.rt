@@ -40,7 +40,7 @@ struct Refusal {
 }
 
 impl<C: Counts> CountedTable<C> {
-    /// Counts the keys, all or none: the count of each is greater by how often it stands among them. They are counted
+    /// Counts the keys, all or none: the count of each is greater by how often it occurs among them. They are counted
     /// one after another, and the table's first refusal is answered; then each count is as before.
     pub fn count_all(&mut self, keys: &[u64]) -> Result<(), TableFault>
         requires in_range { All (λ key. key < 2 ^ C.bits self.old.table) keys.now }
@@ -90,7 +90,7 @@ impl<C: Counts> CountedTable<C> {
         Ok(())
     }
 
-    // Takes one away from the count of each key, as often as it stands among the keys. It takes no memory. Condition:
+    // Takes one away from the count of each key, as often as it occurs among the keys. It takes no memory. Condition:
     // each has been counted so often.
     fn take_back(&mut self, keys: &[u64])
         requires in_range { All (λ key. key < 2 ^ C.bits self.old.table) keys.now }

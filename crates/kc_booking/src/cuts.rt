@@ -18,11 +18,11 @@ pub struct Cuts<'a> {
     pub(crate) setup: &'a Setup,
     pub(crate) stripe: u32,
     pub(crate) batches: &'a [Arc<Batch>],
-    // The keys of one batch stand behind those of another.
+    // The keys of one batch are behind those of another.
     pub(crate) keys: &'a [u64],
     // how many keys each batch has
     pub(crate) sizes: &'a [usize],
-    // whether no number stands twice among the batches
+    // whether no number occurs twice among the batches
     pub(crate) numbers_differ: bool,
 }
 

@@ -19,20 +19,20 @@ use std::sync::Arc;
 
 /// The batches of a round, and the keys of their words in each stripe.
 ///
-/// The vectors in which the keys stand are made once: `clear` takes the batches out, and keeps the room.
+/// The vectors of the keys are made once: `clear` takes the batches out, and keeps the room.
 #[derive(Drop)]
 pub struct Round {
     setup: Setup,
     batches: Vec<Arc<Batch>>,
     // the hash values of the batch that was cut up last
     hash_values: Vec<u64>,
-    // For each stripe the keys there: those of one batch stand behind those of another.
+    // For each stripe the keys there: those of one batch are behind those of another.
     keys: Vec<Vec<u64>>,
     // For each stripe, how many keys each batch has there.
     sizes: Vec<Vec<usize>>,
     // the numbers of the batches
     numbers: HashSet<u64>,
-    // whether no number stands twice among the batches
+    // whether no number occurs twice among the batches
     numbers_differ: bool,
 }
 

@@ -15,15 +15,15 @@ use std::sync::Arc;
 /// The setup of a count: how its words are divided among stripes. It has the rule of the count, the list of the words
 /// that it counts, where one is given, the hash of its words, and the number of stripes.
 ///
-/// A word's hash value is its hashed number. The low bits of the hash value, as many as tell the stripes apart, are the
-/// word's stripe; the rest is its key. No call but `clone` takes memory. It has about 1 KB: lend it where it is not
-/// kept.
+/// A word's hash value is its hashed number. The low bits of the hash value, as many as distinguish the stripes, are
+/// the word's stripe; the rest is its key. No call but `clone` takes memory. It has about 1 KB: lend it where it is
+/// not kept.
 #[derive(Debug, Drop)]
 pub struct Setup {
     rule: Rule,
     only: Option<Arc<Only>>,
     pub(crate) hash: Hash,
-    // how many bits of a hash value tell the stripes apart
+    // how many bits of a hash value distinguish the stripes
     pub(crate) stripe_bits: u32,
 }
 

@@ -228,7 +228,7 @@ impl<C: Counts> Stripe<C> {
         ensures memory { result ≡ Err BookFault.Memory → self.old.total + length (keys_of cut.now) ≤ 2 ^ 62 }
         ensures limits { KeepsLimits C.bits C.may_be_full self.old.table self.new.table }
     {
-        // for the proof: what is known of the journal, in which no number stands twice
+        // for the proof: what is known of the journal, in which no number occurs twice
         let _number = self.number;
         let size = cut.keys.len();
         let cuts = cut.as_round(&size);
@@ -239,9 +239,9 @@ impl<C: Counts> Stripe<C> {
     /// Books several batches, all or none: their words that fall in this stripe are counted, and the journal names
     /// them in their order. No batch is booked where there is none.
     ///
-    /// The refusal is that of the first cut that `book` would refuse, cut by cut; but a number that stands twice is
-    /// told before a full stripe. The keys are counted in the order of the table's parts, so a full table may refuse
-    /// another key than `book` would meet first. What was ordered before goes, and its buffers are used again.
+    /// The refusal is that of the first cut that `book` would refuse, cut by cut; but a number that occurs twice is
+    /// reported before a full stripe. The keys are counted in the order of the table's parts, so a full table may
+    /// refuse another key than `book` would meet first. What was ordered before goes, and its buffers are used again.
     pub fn book_all(&mut self, cuts: &Cuts, ordered: &mut Ordered) -> Result<(), BookFault>
         ensures setup { self.new.setup ≡ self.old.setup }
         ensures number { self.new.number ≡ self.old.number }
@@ -263,7 +263,7 @@ impl<C: Counts> Stripe<C> {
         ensures empty { cuts.now.batches ≡ [] → IsOk result }
     {
         if cuts.batches.is_empty() {
-            // For the proof: what is known of the journal, in which no number stands twice.
+            // For the proof: what is known of the journal, in which no number occurs twice.
             let _number = self.number;
             return Ok(());
         }

@@ -27,7 +27,7 @@ use std::sync::Arc;
 /// looked at before memory is asked for. No batch is missing in a journal that has as many entries as there are
 /// batches.
 ///
-/// Conditions: as many stripes as the setup says; the batches have together at most 2^62 positions.
+/// Conditions: as many stripes as the setup has; the batches have together at most 2^62 positions.
 pub fn gather<C: Counts + Drop>(
     alloc: Global,
     stripes: Vec<Stripe<C>>,

@@ -48,7 +48,7 @@ fn with_last<T: Drop>(mut piles: Vec<Vec<T>>, pile: Vec<T>) -> Result<Vec<Vec<T>
     Ok(piles)
 }
 
-// What the items weigh together, as far as a `usize` tells.
+// What the items weigh together, as far as a `usize` reaches.
 fn total_weight<T: Weighed>(items: &[T]) -> usize {
     let mut total = 0usize;
     for item in items {
@@ -90,7 +90,7 @@ fn room_for_all<T>(alloc: Global, lists: &[Vec<T>]) -> Result<Vec<T>, AllocError
     Vec::with_capacity(alloc, item_count(lists))
 }
 
-/// How many items the lists have, as far as a `usize` tells.
+/// How many items the lists have, as far as a `usize` reaches.
 pub(crate) fn item_count<T>(lists: &[Vec<T>]) -> usize
     ensures { result ≡ min (length (flat_map (λ list. list.items) lists.now)) (2 ^ 64 - 1) }
 {

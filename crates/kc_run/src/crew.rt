@@ -179,7 +179,7 @@ fn start_all<
     })
 }
 
-// Waits for the threads. Their answers stand in the order of the workers, and last that one more was refused.
+// Waits for the threads. Their answers are in the order of the workers, and last that one more was refused.
 fn join_all<R: Threads, N: Terms>(rt: &R, started: Started<N>) -> Result<Vec<Ended<N>>, AllocError>
     ensures kept { IfOk result (λ results. (tickets : TicketsSeen) (plan : Plan)
         → All (λ thread. IsPromised tickets plan thread.promise.tickets.value thread.promise.plan) started.threads.items

@@ -1,6 +1,6 @@
 //! What workers call before and after they book a batch.
 
-/// A gate: what a worker tells of its progress, before its first and after its last booking of a batch.
+/// A gate: what a worker reports of its progress, before its first and after its last booking of a batch.
 pub trait Gate {
     /// Before the worker books the batch of this number into its first stripe.
     fn before_book(&self, worker: u32, batch: u64);

@@ -41,7 +41,7 @@ pub(crate) struct Worker<N: Books> {
 
 impl<N: Terms> Worker<N> {
     /// Works round by round until no number is left: draws numbers, and books the batch of each into every stripe. The
-    /// gate is told the worker's number.
+    /// gate gets the worker's number.
     pub fn work<H: Wait, C: Counts, G: Gate>(
         mut self,
         rt: &H,
@@ -99,7 +99,7 @@ impl<N: Terms> Worker<N> {
     }
 
     // Cuts up the batch of a number that was drawn, and those of more numbers until the round has so many positions, or
-    // as many batches as it may have, or none is left. The gate is told of each as it is drawn.
+    // as many batches as it may have, or none is left. The gate is called for each as it is drawn.
     fn draw_batches<C: Counts, G: Gate>(
         &mut self,
         job: &Job<'_, C, N, G>,

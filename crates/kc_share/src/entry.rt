@@ -2,7 +2,7 @@
 use kc_word::Batch;
 use std::collections::LinkedList;
 
-/// What a sheet is told once, when it is made: how many stripes there are, and into how many parts its shares can be
+/// What a sheet is given once, when it is made: how many stripes there are, and into how many parts its shares can be
 /// split.
 #[derive(Clone, Copy)]
 pub struct Plan {

@@ -1,4 +1,4 @@
-//! A share: what one worker has booked, and how much of the whole it stands for.
+//! A share: what one worker has booked, and how much of the whole that is.
 ghost use Rattle.std.specs.Prelude.{◌≡◌, ◌<◌};
 ghost use Rattle.kc_share.specs.Share.{word_total_in, entry_total_in};
 

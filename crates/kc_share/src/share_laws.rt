@@ -1,7 +1,7 @@
 //! Laws of shares and their entries. Each is the contract of a function that does nothing.
 ghost use Rattle.kc_share.specs.Laws.{AddsUp, SameInSomeOrder, AmongIsThere};
 
-/// Shows what a sheet's rule says in numbers: the words and the entries that were booked into a stripe are those kept
+/// Shows what a sheet's rule means in numbers: the words and the entries that were booked into a stripe are those kept
 /// for it, and each batch was booked as often as it is kept.
 pub fn sheets_add_up()
     ensures { AddsUp }

@@ -61,7 +61,7 @@ impl Join<View> for Together {
     ghost spent = { blank_view };
 }
 
-/// A step that changes nothing and tells what follows from the rule.
+/// A step that changes nothing and gives what follows from the rule.
 pub(crate) struct Look;
 
 impl Play<(), View> for Look {

@@ -33,7 +33,7 @@ impl<N: Books> OpenSheet<N> {
         }
     }
 
-    /// Joins two shares: their parts and numbers are added up, and what one booked stands behind what the other did.
+    /// Joins two shares: their parts and numbers are added up, and what one booked is behind what the other did.
     /// Takes no memory.
     pub fn join(&self, share: &mut Share<N>, other: Share<N>)
         ensures { share.new ≡ joined_shares share.old other }
@@ -82,7 +82,7 @@ impl<N: Books> OpenSheet<N> {
     {
         let stripe = keeper.stripe as usize;
         let shared = &self.table.shared;
-        // The share takes the keeper's view in, so that one atomic step can tell of both, and gives it back.
+        // The share takes the keeper's view in, so that one atomic step is about both, and gives it back.
         let all = shared.split_seat::<Whole>(&mut keeper.token);
         shared.join_seat::<Together>(&mut share.token, all);
         shared.load::<Book<E>>(&mut share.token, PARTS);

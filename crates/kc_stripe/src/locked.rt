@@ -60,7 +60,7 @@ impl<C: Counts, N: Terms> Locked<C, N> {
             ⊎ SomeKeyMayBeFull N.may_be_full (keys_of cut.now) }
         ensures memory { result ≡ Err BookFault.Memory → self.old.total + length (keys_of cut.now) ≤ 2 ^ 62 }
     {
-        // For the proof: no number stands twice in the journal.
+        // For the proof: no number occurs twice in the journal.
         self.stripe.is_lawful();
         self.stripe.book(cut)?;
         sheet.note(
@@ -108,8 +108,8 @@ impl<C: Counts, N: Terms> Locked<C, N> {
         Ok(self.stripe.slots())
     }
 
-    /// What the stripe tells of a word, where it is the one in which the word counts: it has this setup, and the number
-    /// of the word's stripe.
+    /// What the stripe returns for a word, where it is the one in which the word counts: it has this setup, and the
+    /// number of the word's stripe.
     ///
     /// The word is below 4^k. A look books nothing, so it is refused only where the stripe is another one, or for
     /// memory.
@@ -137,7 +137,7 @@ impl<C: Counts, N: Terms> Locked<C, N> {
         if self.stripe.setup() != setup || self.stripe.number() != number {
             return Err(BookFault::Stranger);
         }
-        // What was booked with the share stands in the journal.
+        // What was booked with the share is in the journal.
         sheet.look(share, &mut self.keeper);
         share_laws::among_is_there();
         let seen = Seen::of(alloc, &self.stripe, word)?;

@@ -50,7 +50,7 @@ impl Seen {
         ensures word { IfOk result (λ seen. seen.word ≡ word.0) }
         ensures batches { IfOk result (λ seen. seen.batches ≡ stripe.now.journal) }
     {
-        // No number stands twice in its journal.
+        // No number occurs twice in its journal.
         stripe.is_lawful();
         let count = stripe.count_of(stripe.setup().form_of(word));
         let batches = clones_of(alloc, stripe.journal())?;

@@ -125,7 +125,7 @@ impl<C: Counts, N: Terms> Stripes<C, N> {
         self.sheet.split(share)
     }
 
-    /// Joins two shares: their parts and numbers are added up, and what one booked stands behind what the other did.
+    /// Joins two shares: their parts and numbers are added up, and what one booked is behind what the other did.
     /// Takes no memory.
     pub fn join(&self, share: &mut Share<N>, other: Share<N>)
         ensures { share.new ≡ joined_shares share.old other }
@@ -154,7 +154,7 @@ impl<C: Counts, N: Terms> Stripes<C, N> {
     /// Books several batches into one stripe by one call, under that stripe's lock, and into a share, all or none. The
     /// share has a booking more for each batch, in their order.
     ///
-    /// It returns how many slots the stripe's table has then: for speed alone, as no clause can say it behind a lock.
+    /// It returns how many slots the stripe's table has then: for speed alone, as no clause can state it behind a lock.
     ///
     /// The stripe of the cuts is one of these, and their batches may be booked. A refused booking leaves the share as
     /// it was. A round of no batches is never refused. `Full` comes only where batches that may be booked have more
@@ -180,7 +180,7 @@ impl<C: Counts, N: Terms> Stripes<C, N> {
             .book_all(&self.sheet, share, cuts, ordered)
     }
 
-    /// How often a word occurs in the batches that were booked, and in which: all that stand in the stripe of the form
+    /// How often a word occurs in the batches that were booked, and in which: all that are in the stripe of the form
     /// under which the word counts, under that stripe's lock.
     ///
     /// The word is below 4^k. Each batch that the share booked into that stripe is among them. A look books nothing, so

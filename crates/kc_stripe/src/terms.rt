@@ -3,7 +3,7 @@
 use kc_share::Books;
 use std::marker::Brand;
 
-/// The terms of the stripes whose sheet has this name: what stands behind each of their locks, whoever booked there
+/// The terms of the stripes whose sheet has this name: what is behind each of their locks, whoever booked there
 /// before. Whoever opens the sheet takes `Brand`, and picks them; where nothing is picked, all is allowed.
 pub trait Terms: Books {
     ghost use Rattle.std.specs.Prelude.{ℕ};
