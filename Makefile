@@ -6,7 +6,7 @@ ARCHIVE ?=
 # The crates of tests that tests/memory.sh runs with each growth refused.
 TESTS_OF_MEMORY = kc_count_tests kc_stripe_tests kc_run_tests
 
-.PHONY: demo build dist deb verify check edits bodies memory files mistakes options program examples package documents
+.PHONY: demo build dist deb verify check edits bodies memory files gzip mistakes options program examples package documents
 .PHONY: workflow workflow-slurm test bench figures install clean help
 
 demo: ## shows the program at work within two minutes: its source with checks, not yet proved
@@ -40,6 +40,9 @@ memory: build ## refuses each growth of memory in turn
 
 files: build ## runs the program over files that are missing, are directories or are emptied, and on a terminal
 	tests/files.sh
+
+gzip: build ## counts gzip files of many writers, cut and changed, beside gzip
+	tests/gzip_files.py
 
 mistakes: build ## runs command lines that users get wrong, and compares what explains each fault
 	tests/mistakes.sh

@@ -4,7 +4,7 @@ _kcount() {
     local options=
     COMPREPLY=()
     if [ "$COMP_CWORD" = 1 ]; then
-        mapfile -t COMPREPLY < <(compgen -W 'count dump histo stats query merge select help -h --help -V --version' -- "$word")
+        mapfile -t COMPREPLY < <(compgen -W 'count dump histo stats query merge select profile help -h --help -V --version' -- "$word")
         return
     fi
     case $command in
@@ -16,10 +16,11 @@ _kcount() {
         histo) options='--high -o --output --explain -h --help' ;;
         stats | query | merge) options='-o --output --explain -h --help' ;;
         help)
-            mapfile -t COMPREPLY < <(compgen -W 'count dump histo stats query merge select help' -- "$word")
+            mapfile -t COMPREPLY < <(compgen -W 'count dump histo stats query merge select profile help' -- "$word")
             return
             ;;
         select) options='--min-count --max-count --min-share --min-qual-char --invert --stats -o --output --explain -h --help' ;;
+        profile) options='--min-qual-char -o --output --explain -h --help' ;;
     esac
     case $before in
         --print) mapfile -t COMPREPLY < <(compgen -W 'table dump histo stats' -- "$word") ;;

@@ -7,8 +7,9 @@ complete -c kcount -n __fish_use_subcommand -a stats -d 'Write four numbers abou
 complete -c kcount -n __fish_use_subcommand -a query -d 'Look k-mers up in a table'
 complete -c kcount -n __fish_use_subcommand -a merge -d 'Write the sum of two tables'
 complete -c kcount -n __fish_use_subcommand -a select -d 'Write the reads whose k-mers a table counts often'
+complete -c kcount -n __fish_use_subcommand -a profile -d 'Write the counts of the k-mers along each record'
 complete -c kcount -n __fish_use_subcommand -a help -d 'Write help'
-complete -c kcount -n '__fish_seen_subcommand_from help' -f -a 'count dump histo stats query merge select'
+complete -c kcount -n '__fish_seen_subcommand_from help' -f -a 'count dump histo stats query merge select profile'
 complete -c kcount -n __fish_use_subcommand -s V -l version -d 'Write the version'
 complete -c kcount -s h -l help -d 'Write help'
 
@@ -57,3 +58,7 @@ complete -c kcount -n '__fish_seen_subcommand_from select' -l invert -d 'Write t
 complete -c kcount -n '__fish_seen_subcommand_from select' -l stats -d 'Tell how many reads and k-mers there were'
 complete -c kcount -n '__fish_seen_subcommand_from select' -s o -l output -r -d 'Write to this file'
 complete -c kcount -n '__fish_seen_subcommand_from select' -l explain -d 'Explain a fault in a second line'
+
+complete -c kcount -n '__fish_seen_subcommand_from profile' -l min-qual-char -x -d 'Least quality character that counts'
+complete -c kcount -n '__fish_seen_subcommand_from profile' -s o -l output -r -d 'Write to this file'
+complete -c kcount -n '__fish_seen_subcommand_from profile' -l explain -d 'Explain a fault in a second line'

@@ -44,11 +44,11 @@ side_by_side() {
     local it
     local -A running
     for it in "$@"; do
-        "tests/$it.sh" > "$work/said-$it" 2>&1 &
+        "tests/$it" > "$work/said-$it" 2>&1 &
         running[$it]=$!
     done
     for it in "$@"; do
-        wait "${running[$it]}" || { cat "$work/said-$it"; echo "full test: tests/$it.sh failed"; exit 1; }
+        wait "${running[$it]}" || { cat "$work/said-$it"; echo "full test: tests/$it failed"; exit 1; }
         cat "$work/said-$it"
     done
 }
@@ -63,7 +63,7 @@ TMPDIR=$work/tmp rt ci | tee "$work/ci"
 kill "$linking"
 minutes "proofs, tests and the wrong bodies in must-fail"
 install -D crates/kcount/out/kcount bin/kcount
-side_by_side edits memory files mistakes options program examples package workflow
+side_by_side edits.sh memory.sh files.sh gzip_files.py mistakes.sh options.sh program.sh examples.sh package.sh workflow.sh
 wait "$edits" || { cat "$work/edits"; exit 1; }
 cat "$work/edits"
 kill "$costs"

@@ -16,7 +16,10 @@ cd "$work/here"
 printf '>r1\nACGTA\n' > reads.fa
 printf '@r1\nACGTACGT\n+\nIIIIIIII\n' > reads.fq
 gzip -c reads.fq > reads.fq.gz
-printf '\x1f\x8b\x08\x04\0\0\0\0\0\xff\x06\0BC\x02\0' > reads.bam
+printf '\x1f\x8b\x08\x04\x00\x00\x00\x00\x00\xff\x06\x00\x42\x43\x02\x00\x21\x00\x73\x72\xf4\x65\x64\x80\x02\x00\x7c\xb1\x74\xcc\x0c\x00\x00\x00' > reads.bam
+head -c 30 reads.fq.gz > cut.fq.gz
+{ cat reads.fq.gz; echo more; } > more.fq.gz
+echo ACGT | gzip -c > bare.gz
 printf 'BZh91AY&SY' > reads.fq.bz2
 printf '\xfd7zXZ\0' > reads.fq.xz
 printf '\x28\xb5\x2f\xfd' > reads.fq.zst
@@ -45,6 +48,9 @@ printf '>w1\nACG\n' > one.fa
 head -n 2 three.kct > cut.kct
 printf 'KCT 2 3 s a 33 1\nGTA 1\nACG 1\nEND 2 2\n' > sorted.kct
 gzip -c three.kct > three.kct.gz
+gzip -c four.kct > four.kct.gz
+head -c 40 three.kct.gz > cut.kct.gz
+{ cat three.kct.gz; echo more; } > more.kct.gz
 "$kcount" dump three.kct > dump.fa
 
 ran=0
@@ -70,8 +76,10 @@ count=(count -m 3)
 start='1: bad start, source 1, line 1'
 
 # files of another kind
-explains 1 "$start" 'reads.fq.gz is compressed with gzip: count the output of zcat reads.fq.gz' "${count[@]}" reads.fq.gz
-explains 1 "$start" 'reads.bam is BAM, or compressed with bgzip: count the output of samtools fastq, or zcat, of reads.bam' "${count[@]}" reads.bam
+explains 1 "$start" 'bare.gz contains, decompressed, neither FASTA nor FASTQ: look at it by zcat bare.gz' "${count[@]}" bare.gz
+explains 1 '71: broken gzip, source 1' 'more.fq.gz is damaged gzip, or other bytes follow the gzip: get the file again' "${count[@]}" more.fq.gz
+explains 1 '72: gzip cut short, source 1' 'cut.fq.gz is gzip that ends too early: its copy is not whole, get the file again' "${count[@]}" cut.fq.gz
+explains 1 "$start" 'reads.bam is BAM, or no reads: count the output of samtools fastq reads.bam' "${count[@]}" reads.bam
 explains 1 "$start" 'reads.fq.bz2 is compressed with bzip2: count the output of bzcat reads.fq.bz2' "${count[@]}" reads.fq.bz2
 explains 1 "$start" 'reads.fq.xz is compressed with xz: count the output of xzcat reads.fq.xz' "${count[@]}" reads.fq.xz
 explains 1 "$start" 'reads.fq.zst is compressed with zstd: count the output of zstdcat reads.fq.zst' "${count[@]}" reads.fq.zst
@@ -81,10 +89,11 @@ explains 1 '2: bad base, source 1, line 2' 'header.sam is SAM, or another text o
 explains 1 "$start" 'mark.fa begins with a byte order mark: count the output of tail -c +4 mark.fa' "${count[@]}" mark.fa
 explains 1 "$start" 'three.kct is a table, and its reads are counted: look at it by kcount dump, histo, stats or query three.kct' "${count[@]}" three.kct
 explains 1 "$start" 'reads.jf is a file of Jellyfish, which kcount does not read: look at it by jellyfish dump reads.jf' "${count[@]}" reads.jf
-explains 1 "$start" 'bare.txt, line 1: a record should begin here, with > or @; is the input compressed, or BAM? Put zcat or samtools fastq in front' "${count[@]}" bare.txt
-explains 1 '1: bad start, source 2, line 1' 'reads.fq.gz is compressed with gzip: count the output of zcat reads.fq.gz' "${count[@]}" reads.fa reads.fq.gz
-explains 1 '1: bad start, source 0, line 1' 'reads.fq.gz is compressed with gzip: count the output of zcat reads.fq.gz' "${count[@]}" --only reads.fq.gz reads.fa
-explains 1 "$start" 'reads.fq.gz is compressed with gzip: count the output of zcat reads.fq.gz' select three.kct reads.fq.gz
+explains 1 "$start" 'bare.txt, line 1: a record should begin here, with > or @; is the input BAM? Put samtools fastq in front' "${count[@]}" bare.txt
+explains 1 '1: bad start, source 2, line 1' 'bare.gz contains, decompressed, neither FASTA nor FASTQ: look at it by zcat bare.gz' "${count[@]}" reads.fq.gz bare.gz
+explains 1 '72: gzip cut short, source 2' 'cut.fq.gz is gzip that ends too early: its copy is not whole, get the file again' "${count[@]}" reads.fa cut.fq.gz
+explains 1 '71: broken gzip, source 0' 'more.fq.gz is damaged gzip, or other bytes follow the gzip: get the file again' "${count[@]}" --only more.fq.gz reads.fa
+explains 1 '72: gzip cut short, source 1' 'cut.fq.gz is gzip that ends too early: its copy is not whole, get the file again' select three.kct cut.fq.gz
 
 # lines that are wrong
 explains 1 '2: bad base, source 1, line 2' 'blank.fa, line 2: a sequence has a byte that is no letter; are two formats in one input?' "${count[@]}" blank.fa
@@ -98,13 +107,15 @@ takes() {
     ran=$((ran + 1))
 }
 start='1: bad start, source 1, line 1'
-takes reads.fq.gz 1 "$start" 'standard input is compressed with gzip: count the output of zcat' "${count[@]}"
-takes reads.bam 1 "$start" 'standard input is BAM, or compressed with bgzip: count the output of samtools fastq, or zcat, of' "${count[@]}"
+takes bare.gz 1 "$start" 'standard input contains, decompressed, neither FASTA nor FASTQ: look at it by zcat' "${count[@]}"
+takes cut.fq.gz 1 '72: gzip cut short, source 1' 'standard input is gzip that ends too early: its copy is not whole, get the file again' "${count[@]}"
+takes reads.bam 1 "$start" 'standard input is BAM, or no reads: count the output of samtools fastq' "${count[@]}"
 takes reads.sam 1 "$start" 'standard input is SAM, or another text of columns: of SAM, count the output of samtools fastq' "${count[@]}"
 takes mark.fa 1 "$start" 'standard input begins with a byte order mark: count the output of tail -c +4' "${count[@]}"
 takes mixed.fa 1 '2: bad base, source 1, line 3' 'standard input, line 3: a sequence has a byte that is no letter; are two formats in one input?' "${count[@]}"
 takes reads.jf 1 "41: bad header" 'standard input is a file of Jellyfish, which kcount does not read: count the reads by kcount count' histo
-takes three.kct.gz 1 "41: bad header" 'standard input is compressed: uncompress it by gunzip, or read zcat' stats
+takes bare.gz 1 "41: bad header" 'standard input contains, decompressed, no table: look at it by zcat' stats
+takes cut.kct.gz 1 '72: gzip cut short, source 1' 'standard input is gzip that ends too early: its copy is not whole, get the file again' stats
 takes empty.fq 1 "41: bad header" 'standard input is empty: the count that should have written it has failed' dump
 explains 1 '2: bad base, source 1, line 2' 'tags.fq, line 2: a sequence has a byte that is no letter; are two formats in one input?' "${count[@]}" tags.fq
 explains 1 '2: bad base, source 1, line 3' 'mixed.fa, line 3: a sequence has a byte that is no letter; are two formats in one input?' "${count[@]}" mixed.fa
@@ -118,7 +129,16 @@ explains 1 '7: read failed, source 1' "folder can't be read: it may be a folder,
 header='41: bad header'
 explains 1 "$header" 'standard input is a file of reads, or a dump: count the reads first, by kcount count -m K -o TABLE' histo
 explains 1 "$header" 'empty.fq is empty: the count that should have written it has failed' histo empty.fq
-explains 1 "$header" 'three.kct.gz is compressed: uncompress it by gunzip, or read zcat' histo three.kct.gz
+explains 1 "$header" 'reads.fq.gz contains, decompressed, no table: look at it by zcat' histo reads.fq.gz
+# tables that are damaged gzip, or cut short
+explains 1 '71: broken gzip, source 1' 'more.kct.gz is damaged gzip, or other bytes follow the gzip: get the file again' dump more.kct.gz
+explains 1 '72: gzip cut short, source 1' 'cut.kct.gz is gzip that ends too early: its copy is not whole, get the file again' query cut.kct.gz ACG
+explains 1 '72: gzip cut short, source 1' 'cut.kct.gz is gzip that ends too early: its copy is not whole, get the file again' merge cut.kct.gz more.kct.gz
+explains 1 '71: broken gzip, source 2' 'more.kct.gz is damaged gzip, or other bytes follow the gzip: get the file again' merge three.kct more.kct.gz
+explains 1 '72: gzip cut short, source 1' 'cut.kct.gz is gzip that ends too early: its copy is not whole, get the file again' select cut.kct.gz reads.fa
+explains 1 '71: broken gzip, source 1' 'more.kct.gz is damaged gzip, or other bytes follow the gzip: get the file again' profile more.kct.gz reads.fa
+explains 1 '52: bad word 1' 'ACGT is no k-mer of this table' query three.kct.gz ACGT
+explains 1 '61: tables do not match' 'four.kct.gz and three.kct were counted in different ways: compare their first lines, of gzip by zcat' merge four.kct.gz three.kct
 explains 1 "$header" 'reads.jf is a file of Jellyfish, which kcount does not read: count the reads by kcount count' query reads.jf ACG
 explains 1 "$header" 'dump.fa is a file of reads, or a dump: count the reads first, by kcount count -m K -o TABLE' histo dump.fa
 explains 1 "$header" 'reads.fq is a file of reads, or a dump: count the reads first, by kcount count -m K -o TABLE' query reads.fq ACG

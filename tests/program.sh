@@ -48,6 +48,11 @@ kcount() { "$program" "$@"; }
 # from a pipe, in two parts
 through_a_pipe() { { cat; sleep 0.2; printf 'ACG\n'; } | "$program" "$@"; }
 of_a_directory() { "$program" "$@" < a-directory; }
+of_a_file() {
+    local file=$1
+    shift
+    "$program" "$@" < "$file"
+}
 into_a_full_device() { "$program" "$@" > /dev/full; }
 with_full_errors() { "$program" "$@" 2> /dev/full; }
 with_closed_errors() { "$program" "$@" 2>&-; }
@@ -70,6 +75,7 @@ usage=$'\nUsage: kcount <COMMAND>\n'
 usage_of_count=$'\nUsage: kcount count [OPTIONS] [FILE]...\n'
 usage_of_merge=$'\nUsage: kcount merge <FIRST> <SECOND>\n'
 usage_of_select=$'\nUsage: kcount select <TABLE> [FILE]...\n'
+usage_of_profile=$'\nUsage: kcount profile <TABLE> [FILE]...\n'
 
 # The help goes to the output, and the version does.
 helps() {
@@ -81,7 +87,7 @@ helps() {
 helps kcount --help
 helps kcount -h
 helps kcount help
-for command in count dump histo stats query merge select; do
+for command in count dump histo stats query merge select profile; do
     helps "$command" "$command" --help
     helps "$command" "$command" -h
     helps "$command" help "$command"
@@ -96,7 +102,7 @@ refuses() {
     shift
     wants 2 '' "error: $text$more" "$reads" kcount "$@"
 }
-refuses $'\'kcount\' requires a subcommand but one was not provided\n  [subcommands: count, dump, histo, stats, query, merge, select, help]\n'"$usage"
+refuses $'\'kcount\' requires a subcommand but one was not provided\n  [subcommands: count, dump, histo, stats, query, merge, select, profile, help]\n'"$usage"
 refuses $'unrecognized subcommand \'frob\'\n'"$usage" frob
 refuses $'unrecognized subcommand \'frob\'\n'"$usage" frob --help
 refuses $'unrecognized subcommand \'coun\'\n\n  tip: a similar subcommand exists: \'count\'\n'"$usage" coun -m 3
@@ -117,6 +123,7 @@ refuses $'the following required arguments were not provided:\n  <SECOND>\n'"$us
 refuses $'unexpected argument \'c\' found\n\n  tip: merge adds two tables at a time\n\nUsage: kcount merge [OPTIONS] <FIRST> <SECOND>\n' merge two.kct two.kct c
 refuses $'unexpected argument \'-C\' found\n\n  tip: to pass \'-C\' as a value, use \'-- -C\'\n\nUsage: kcount merge [OPTIONS] <FIRST> <SECOND>\n' merge -C two.kct two.kct
 refuses $'the following required arguments were not provided:\n  <TABLE>\n'"$usage_of_select" select
+refuses $'the following required arguments were not provided:\n  <TABLE>\n'"$usage_of_profile" profile
 refuses $'a value is required for \'--min-share <P>\' but none was supplied\n' select two.kct --min-share
 
 # The program hands on what it is given: each report goes to the output, and its input, all of it, and its arguments
@@ -164,7 +171,7 @@ ranges() {
         input=$reads
         [ "$option" = mer-len ] || run+=(-m 3)
     fi
-    if [ "$command" = select ]; then
+    if [ "$command" = select ] || [ "$command" = profile ]; then
         input=$reads
         run+=(two.kct)
     fi
@@ -213,13 +220,15 @@ ranges select min-count '0 to 2^62' "$reads" ''
 ranges select max-count '0 to 2^62' '' ''
 ranges select min-share '0 to 100' "$reads" ''
 ranges select min-qual-char '33 to 126' '' ''
+profile=$'r1\t0\t2\t2\nr1\t2\t3\t1\n'
+ranges profile min-qual-char '33 to 126' "$profile" "$profile"
 for stripes in 2 4 8 16 32; do wants 0 "$one" '' "$reads" kcount count -m 3 --stripes "$stripes"; done
 for size in 500 20k 2M 2G; do wants 0 "$one" '' "$reads" kcount count -m 3 -s "$size"; done
 
 # The help tells a default, and the definitions of what a count, or a selection, is asked for have it.
 defaults() {
     local option=$1 told=$2 setting=$3 asked=$4 of=${5:-count} command help
-    for command in count dump histo select; do
+    for command in count dump histo select profile; do
         help=$(told_of "$command" "$option")
         [ -n "$help" ] || [ "$command" != "$of" ] || fails "the help of $of has no --$option"
         [[ -z $help || $help == *"[default: $told"[],]* ]] || fails "the help of $command has another default of --$option"
@@ -270,6 +279,7 @@ usual "$reads" min-count 2 '' 1 "$reads" select two.kct
 usual $'>r\nACG\n' max-count 4611686018427387904 $'>r\nACG\n' 1 '' select two.kct
 usual "$reads" min-share 100 '' 66 "$reads" select two.kct
 usual $'@q\nACGTA\n+\nIIII!\n' min-qual-char '!' '' '"' $'@q\nACGTA\n+\nIIII!\n' select two.kct
+usual $'@r1\nACGTA\n+\nIIII!\n' min-qual-char '!' "$profile" '"' $'r1\t0\t2\t2\n' profile two.kct
 
 # Where a list is given, the k-mers of its reads alone are counted, by the rule of the count; the table says that there
 # was one.
@@ -447,6 +457,30 @@ written_before '2: bad base, source 2, line 4' $'@p\nCGT\n+\nIII\n>r\nACG\n' '' 
 written_before '7: read failed, source 2' $'@p\nCGT\n+\nIII\n' '' reads.fq a-directory bad.fa
 wants 1 '' $'kcount: 2: bad base, source 1, line 4\n' '' kcount select -o out two.kct bad.fa
 same "the file out" '' out "a selection with a fault"
+# The counts along each record, in runs: positions from 0, an end that is not included, and no line over a letter that is
+# no base. In the table ACG and CGT occur twice, and GTA and TAC once.
+profiles() {
+    local output=$1 input=$2
+    shift 2
+    wants 0 "$output" '' "$input" kcount profile two.kct "$@"
+}
+profiles "$profile" "$reads"
+profiles '' ''
+profiles $'a\t0\t1\t2\nb\t0\t1\t0\nc>c\t0\t2\t2\n' "$some"
+profiles $'r\t0\t1\t2\nr\t4\t5\t2\n' $'>r one two\nACGNACG\n'
+profiles $'r\t0\t1\t2\nr\t4\t5\t2\n' $'>r\tone two\nACG\nNAC\nG\n'
+profiles $'r\t0\t1\t1\nr\t1\t3\t2\nr\t3\t4\t1\n' $'>r\nTACGTA\n'
+profiles $'\t0\t1\t2\n' $'>s\nAC\n>t\n>\nACG\n'
+profiles $'q\t0\t1\t1\np\t0\t1\t2\nr1\t0\t2\t2\nr1\t2\t3\t1\n' '>r' reads.fq reads.fa
+wants 0 '' '' '' kcount profile -o out two.kct reads.fa
+same "the file out" "$profile" out "a profile"
+: > out
+# those before a fault are written, but not to a file of -o
+wants 1 $'a\t0\t1\t2\n' $'kcount: 2: bad base, source 1, line 4\n' $'>a\nACG\n>b\nA@C\n>c\nACG\n' kcount profile two.kct
+wants 1 $'q\t0\t1\t1\np\t0\t1\t2\n' $'kcount: 7: read failed, source 2\n' '' kcount profile two.kct reads.fq a-directory
+wants 1 '' $'kcount: 2: bad base, source 1, line 4\n' '' kcount profile -o out two.kct bad.fa
+same "the file out" '' out "a profile with a fault"
+fault 2 '51: bad option --min-qual-char' "$reads" kcount profile --min-qual-char= missing
 # no option stands for several of its values
 fault 2 '51: bad option --min-count' "$reads" kcount select --min-share 101 --min-count x missing
 fault 2 '51: bad option --max-count' "$reads" kcount select --min-share 101 --max-count x missing
@@ -499,6 +533,8 @@ for name in - "$long" 'a b' 'é'; do
     fault 1 "54: cannot open $name" "$table" kcount merge two.kct "$name"
     fault 1 "54: cannot open $name" "$reads" kcount select "$name"
     fault 1 "54: cannot open $name" "$reads" kcount select two.kct reads.fa "$name"
+    fault 1 "54: cannot open $name" "$reads" kcount profile "$name"
+    fault 1 "54: cannot open $name" "$reads" kcount profile two.kct reads.fa "$name"
     fault 1 "54: cannot open no-such/$name" "$table" kcount stats -o "no-such/$name"
 done
 cp two.kct ./-
@@ -511,6 +547,7 @@ fault 1 '45: table read failed' '' kcount merge a-directory reads.fa
 fault 1 '45: table read failed' '' kcount merge two.kct a-directory
 fault 1 '45: table read failed' "$reads" kcount select a-directory
 fault 1 '7: read failed, source 1' '' of_a_directory select two.kct
+fault 1 '45: table read failed' "$reads" kcount profile a-directory
 truncate -s 1T large
 fault 1 '8: no memory' '' in_little_memory count -m 3 large
 fault 1 '8: no memory' "$reads" in_little_memory count -m 3 --only large
@@ -520,6 +557,34 @@ fault 1 '46: no memory' '' in_little_memory merge two.kct large
 fault 1 '46: no memory' "$reads" in_little_memory select large
 fault 1 '8: no memory' '' in_little_memory select two.kct large
 fault 1 '46: no memory' "$reads" in_little_memory count -m 31 -s 1000G
+
+# A table may be gzip for each command that reads one, of several members too, and broken gzip is refused.
+gzip -c two.kct > two.kct.gz
+{ head -n 2 two.kct | gzip -c; tail -n +3 two.kct | gzip -c; } > members.kct.gz
+head -c 30 two.kct.gz > cut.kct.gz
+{ cat two.kct.gz; echo; } > more.kct.gz
+for gzipped in two.kct.gz members.kct.gz; do
+    wants 0 "$dump" '' '' kcount dump "$gzipped"
+    wants 0 "$histo" '' '' kcount histo "$gzipped"
+    wants 0 "$stats" '' '' of_a_file "$gzipped" stats
+    wants 0 $'ACG 2\n' '' '' kcount query "$gzipped" ACG
+    wants 0 $'KCT 2 3 c a 33 2\nACG 4\nGTA 2\nEND 2 6\n' '' '' kcount merge two.kct "$gzipped"
+    wants 0 "$reads" '' "$reads" kcount select --min-count 1 "$gzipped"
+    wants 0 "$profile" '' "$reads" kcount profile "$gzipped"
+done
+refused_gzip() {
+    local line=$1 name=$2 command
+    for command in dump histo stats; do
+        fault 1 "$line, source 1" '' kcount "$command" "$name"
+    done
+    fault 1 "$line, source 1" '' kcount query "$name" N
+    fault 1 "$line, source 1" '' kcount merge "$name" a-directory
+    fault 1 "$line, source 2" '' kcount merge two.kct "$name"
+    fault 1 "$line, source 1" '' kcount select "$name" a-directory
+    fault 1 "$line, source 1" '' kcount profile "$name" a-directory
+}
+refused_gzip '71: broken gzip' more.kct.gz
+refused_gzip '72: gzip cut short' cut.kct.gz
 
 # A text that is no table is refused by each command that reads one, also in a file, and before a bad word.
 no_table() {
@@ -533,6 +598,7 @@ no_table() {
     fault 1 "$line" '' kcount merge no.kct a-directory
     fault 1 "$line" '' kcount merge two.kct no.kct
     fault 1 "$line" '' kcount select no.kct a-directory
+    fault 1 "$line" '' kcount profile no.kct a-directory
 }
 no_table '41: bad header' ''
 no_table '41: bad header' $'KCT 2 3 s\nEND 0 0\n'
@@ -571,6 +637,7 @@ if [ -c /dev/full ]; then
         fault 1 '53: write failed' "$table" into_a_full_device $command
     done
     fault 1 '53: write failed' "$reads" into_a_full_device select --stats --min-count 1 two.kct
+    fault 1 '53: write failed' "$reads" into_a_full_device profile two.kct
     wants 0 "$reads" '' "$reads" with_full_errors select --stats --min-count 1 two.kct
     wants 0 "$one" '' "$reads" with_full_errors count -m 3
     wants 1 '' '' '>' with_full_errors stats
