@@ -1,6 +1,7 @@
 #!/bin/bash
 # Decompressing FASTQ that `gzip -6` has compressed, beside `gzip -dc` and, where it is there, `libdeflate-gunzip -c`. The
-# aims are at most 1.25 of gzip's time and at most 2.5 of libdeflate's.
+# aims are at most 1.25 of gzip's time and at most 2.5 of libdeflate's. And counting the compressed file, beside a pipe
+# from `gzip -dc`: the aims are at most 1.15 of its wall time by one thread, and 1.3 by four. It needs bin/kcount.
 #   BASES       bases of the genome whose reads of 100 bases, 20 over each base, are compressed (5 million: 225 MB of text)
 . "$(dirname "$0")/lib.sh"
 bases=${BASES:-5000000}
@@ -31,3 +32,16 @@ if command -v libdeflate-gunzip > "$work/which"; then
     gunzip_with libdeflate libdeflate-gunzip -c
     row libdeflate "the same; beside \`libdeflate-gunzip\`" ms
 fi
+
+kcount=$top/bin/kcount
+[ -x "$kcount" ] || fail "no bin/kcount: run make build first"
+export kcount work
+# the histogram of the 21-mers by so many threads
+count_file() { "$kcount" count -m 21 -C -t "$1" --print histo -o "$work/file.histo" "$work/reads.fq.gz"; }
+count_pipe() { gzip -dc "$work/reads.fq.gz" | "$kcount" count -m 21 -C -t "$1" --print histo -o "$work/pipe.histo"; }
+for threads in 1 4; do
+    time_of "count$threads" rattle count_file $threads
+    time_of "count$threads" plain count_pipe $threads
+    cmp -s "$work/file.histo" "$work/pipe.histo" || fail "the histograms differ"
+    row "count$threads" "count the compressed file, -t $threads; beside \`gzip -dc | kcount\`" ms
+done
