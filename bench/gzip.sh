@@ -43,5 +43,5 @@ for threads in 1 4; do
     time_of "count$threads" rattle count_file $threads
     time_of "count$threads" plain count_pipe $threads
     cmp -s "$work/file.histo" "$work/pipe.histo" || fail "the histograms differ"
-    row "count$threads" "count the compressed file, -t $threads; beside \`gzip -dc | kcount\`" ms
+    row "count$threads" "count the compressed file, -t $threads; beside a pipe from \`gzip -dc\`" ms
 done
