@@ -3,6 +3,7 @@ pub mod CountLemmas
 pub mod DumpLemmas
 pub mod PieceLemmas
 pub mod TableLemmas
+pub mod WritingLemmas
 pub mod TableLines
 pub mod TableFronts
 pub mod TableAnswers

@@ -7,6 +7,7 @@ pub mod Faults
 pub mod Lines
 pub mod TableRows
 pub mod RowByRow
+pub mod RowsWritten
 pub mod Querying
 pub mod Histo
 pub mod Statistics

@@ -59,6 +59,11 @@ abbrev pub with_row : RowsRead → Row → RowsRead
 with_row read row =
     record read { last = Some row.word; count = read.count + 1; total = read.total + row.count }
 
+-- the next row is read, and kept as the others; or none is, and what is kept stays
+abbrev pub ReadsRow : RowsRead → RowsRead → Result (Option Row) ReportFault → Type 0
+ReadsRow old new (Ok (Some row)) = ComesNext old row × (new ≡ with_row old row)
+ReadsRow old new answer = new ≡ old
+
 -- ---- where a reader stands
 
 pub record TableStand : Type 0 where

@@ -21,6 +21,7 @@
 
 mod dump;
 mod fields;
+mod header;
 mod header_fields;
 mod histogram_text;
 mod letters;
@@ -38,8 +39,10 @@ mod table_reader;
 mod table_reading;
 mod table_rows;
 mod table_sum;
+mod table_writing;
 
 pub use dump::{Dump, GREATEST_COUNT, write_dump, write_dump_in_parallel};
+pub use header::Header;
 pub use histogram_text::{GREATEST_HIGH, write_histo, write_histo_of_bins};
 pub use kc_io::{BLOCK_SIZE, Block, NUMBER_SIZE};
 pub use origin::Origin;
@@ -50,3 +53,4 @@ pub use table::{write_table, write_table_in_parallel};
 pub use table_reader::read_table;
 pub use table_reading::TableReading;
 pub use table_sum::merge;
+pub use table_writing::TableWriting;

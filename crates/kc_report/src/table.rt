@@ -6,10 +6,12 @@ ghost use Rattle.kc_report.specs.Bytes.{space};
 ghost use Rattle.kc_report.specs.Table.{version, kind, selection, origin_text, header_line, IsOrigin};
 ghost use Rattle.kc_report.specs.Table.{end_line, ended, table_text};
 
-use crate::dump::{Dump, ROW_SIZE, push_columns};
+use crate::dump::Dump;
+use crate::header::Header;
 use crate::origin::Origin;
 use crate::report_faults::ReportFault;
 use crate::row_pieces::hand_over_in_parallel;
+use crate::table_writing::TableWriting;
 use kc_io::{BLOCK_SIZE, Block, Failed, NUMBER_SIZE, Sink, write_all, write_out};
 use kc_kmer::K;
 use kc_tally::Tally;
@@ -73,17 +75,18 @@ fn table_by_blocks<W: Sink>(
     tally: &Tally,
     origin: Option<Origin>,
 ) -> Result<(), Failed>
+    requires { IfSome origin IsOrigin }
     ensures { Writes (W.seen writer.old) (W.seen writer.new) result (table_text tally.now origin) }
 {
-    let mut block = Block::new();
-    push_header(&mut block, tally.k(), tally.both(), origin);
-    for row in tally.rows() {
-        block.make_room(writer, ROW_SIZE)?;
-        push_columns(&mut block, tally.k(), false, row);
+    let mut writing = TableWriting::begin(&Header {
+        k: tally.k(),
+        both: tally.both(),
+        origin,
+    });
+    'rows: for row in tally.rows() {
+        writing.put(writer, row)?;
     }
-    block.make_room(writer, END_SIZE)?;
-    push_end(&mut block, tally.row_count(), tally.total());
-    write_out(writer, block.as_slice())
+    writing.end(writer)
 }
 
 // Writes the table text of a tally, the rows of which so many threads make. Condition: one at the least.

@@ -9,7 +9,7 @@ ghost use Rattle.kc_report.specs.Dumping.{row_in_columns};
 ghost use Rattle.kc_report.specs.Lines.{EndsWithBlock};
 ghost use Rattle.kc_report.specs.TableReading.{BeginsWith, HasLine, RefusesTable};
 ghost use Rattle.kc_report.specs.RowByRow.{HasGivenRows, KeepsFew, HasSameHeader, RefusesHeader, GivesRow, UsesRow};
-ghost use Rattle.kc_report.specs.RowByRow.{BeginsWithNoRow, ComesNext, Stays};
+ghost use Rattle.kc_report.specs.RowByRow.{BeginsWithNoRow, ComesNext, ReadsRow, Stays};
 
 use crate::origin::Origin;
 use crate::report_faults::ReportFault;
@@ -144,6 +144,7 @@ impl TableReading {
             → result ≡ Ok (Some row)) }
         ensures memory { result ≡ Err Memory → self.old.failed ≡ None
             → IfSome self.old.unread (λ unread. BeginsWithNoRow self.old.read unread.bytes) }
+        ensures comes { ReadsRow self.old.read self.new.read result }
         ensures over { IfOk result (λ next. IfNone next ((self.new.unread ≡ None) × (self.new.failed ≡ None))) }
         ensures kept { IfErr result (λ fault. (self.new.unread ≡ None) × (self.new.failed ≡ Some fault)) }
         ensures ended { self.old.unread ≡ None → self.old.failed ≡ None → result ≡ Ok None }
@@ -188,6 +189,7 @@ impl TableReading {
             HasLine unread.bytes → S.seen source.new ≡ S.seen source.old))) }
         ensures memory { result ≡ Err Memory → self.old.failed ≡ None
             → IfSome self.old.unread (λ unread. BeginsWithNoRow self.old.read unread.bytes) }
+        ensures comes { ReadsRow self.old.read self.new.read result }
         ensures over { IfOk result (λ next. IfNone next ((self.new.unread ≡ None) × (self.new.failed ≡ None))) }
         ensures kept { IfErr result (λ fault. (self.new.unread ≡ None) × (self.new.failed ≡ Some fault)) }
         ensures ended { self.old.unread ≡ None → self.old.failed ≡ None → result ≡ Ok None }
@@ -223,6 +225,7 @@ impl TableReading {
             → HasGivenRows start (S.seen source.old) limit rows (record self.old { unread = Some unread })
             → GivesRow start (S.seen source.new) limit rows self.new result }
         ensures stays { Stays self.old self.new result }
+        ensures comes { ReadsRow self.old.read self.new.read result }
         ensures at_hand { IfOk result (λ next. IfSome next (λ row.
             HasLine unread.bytes → S.seen source.new ≡ S.seen source.old)) }
         ensures memory { result ≡ Err Memory → BeginsWithNoRow self.old.read unread.bytes }

@@ -1,13 +1,15 @@
-use Rattle.std.proofs.Common.{◌++◌, ◌<◌, ◌^◌, All}
-use Rattle.kc_report.specs.Table.{table_text, rows_text, end_text}
-use Rattle.kc_io.proofs.SinksLemmas.{Pending}
+use Rattle.std.proofs.Common.{◌≡◌, ◌++◌, List}
+use Rattle.kc_tally.specs.declared.row.Row.{Row}
+use Rattle.kc_tally.specs.Tally.{AreRows}
+use Rattle.kc_report.specs.RowsWritten.{HasPutRows}
 use Rattle.kc_report.proofs.table.table_by_blocks.Given as goal
 
-abbrev pub invariant-loop-row : goal.invariant-loop-row
-invariant-loop-row g l = record {
-  can_next : (goal.iterator-loop-row g).can_next l.row-iterator;
-  is_finite : (goal.iterator-loop-row g).is_finite l.row-iterator;
-  pending : Pending (g.W.Sink.seen l.fn.writer) (g.W.Sink.seen l.writer) (table_text l.tally l.fn.origin)
-      (l.block ++ (rows_text l.tally.k l.row-iterator ++ end_text l.tally.rows));
-  below : All (λ row. row.word < 4 ^ l.tally.k) l.row-iterator;
+abbrev pub invariant-rows : goal.invariant-rows
+invariant-rows g l = record {
+  can_next : (goal.iterator-rows g).can_next l.row-iterator;
+  is_finite : (goal.iterator-rows g).is_finite l.row-iterator;
+  lawful : AreRows l.tally.k l.tally.both l.tally.rows;
+  put : (done : List Row) × HasPutRows (g.W.Sink.seen l.fn.writer) (g.W.Sink.seen l.writer)
+      (record { k = l.tally.k; both = l.tally.both; origin = l.fn.origin }) done l.writing
+      × (l.tally.rows ≡ done ++ l.row-iterator);
 }
