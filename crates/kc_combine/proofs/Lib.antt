@@ -1,0 +1,9 @@
+pub mod CombinedLemmas
+pub mod AheadsLemmas
+pub mod WalkLemmas
+pub mod BoundLemmas
+pub mod CountLemmas
+pub mod ResultLemmas
+pub mod MergedLemmas
+pub mod OpenTableLemmas
+pub mod WrittenLemmas

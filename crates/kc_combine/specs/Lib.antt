@@ -1,0 +1,9 @@
+pub mod Combined
+pub mod Aheads
+pub mod Walks
+pub mod CombiningLaws
+pub mod Taking
+pub mod Laws
+pub mod MergedTables
+pub mod OpenTables
+pub mod WrittenTables

@@ -1,0 +1,75 @@
+//! What holds of tables that are put together. Each law is the contract of a function that does nothing.
+ghost use Rattle.std.specs.Prelude.{◌≡◌, ℕ, [], ◌∷◌};
+ghost use Rattle.kc_combine.specs.Combined.{difference, difference_of_counts, first_of, greatest_of, intersection};
+ghost use Rattle.kc_combine.specs.Combined.{least_of, sum_of, within};
+ghost use Rattle.kc_combine.specs.Laws.{HasOneResult, HasResult, KeepsFirst, MakesRows, StaysWithin, SumsTwo};
+ghost use Rattle.kc_combine.specs.Laws.{TotalOfSum, TotalWithinFirst};
+ghost use Rattle.kc_combine.specs.MergedTables.{AllCountsMatch, AllMergedText, MergesTwo};
+
+/// A rule makes exactly one list of rows of the tables.
+pub fn one_result()
+    ensures some { HasResult }
+    ensures one { HasOneResult }
+{}
+
+/// The sum of two tables is that of two tallies.
+pub fn sum_of_two()
+    ensures { SumsTwo }
+{}
+
+/// Of rows that tallies may have a rule makes such rows, where their counts are together at most 2^62.
+pub fn made_rows()
+    ensures { MakesRows }
+{}
+
+/// The counts of a sum are together the counts of the tables.
+pub fn total_of_sum()
+    ensures { TotalOfSum }
+{}
+
+/// What an intersection with the least or the first count, a difference, a difference of counts or a filter keeps has
+/// at most the counts of the first table, each and together.
+pub fn counts_of_first()
+    ensures least { KeepsFirst (intersection least_of) }
+    ensures first { KeepsFirst (intersection first_of) }
+    ensures difference { KeepsFirst difference }
+    ensures counts { KeepsFirst difference_of_counts }
+    ensures filter { (least most : ℕ) → KeepsFirst (within least most) }
+    ensures total { TotalWithinFirst }
+{}
+
+/// An intersection with the greatest count makes no count that is above those of the tables.
+pub fn greatest_count_stays()
+    ensures { StaysWithin (intersection greatest_of) }
+{}
+
+/// Worked rows of the rules: the counts of a word, and what is made of them.
+pub fn worked_counts()
+    ensures sum { sum_of (1 ∷ 1 ∷ 1 ∷ []) ≡ 3 }
+    ensures last { sum_of (0 ∷ 0 ∷ 5 ∷ []) ≡ 5 }
+    ensures least { intersection least_of (3 ∷ 1 ∷ 2 ∷ []) ≡ 1 }
+    ensures greatest { intersection greatest_of (1 ∷ 3 ∷ 2 ∷ []) ≡ 3 }
+    ensures together { intersection sum_of (3 ∷ 1 ∷ 2 ∷ []) ≡ 6 }
+    ensures first { intersection first_of (2 ∷ 1 ∷ 3 ∷ []) ≡ 2 }
+    ensures lacking { intersection greatest_of (3 ∷ 0 ∷ 2 ∷ []) ≡ 0 }
+    ensures alone { difference (1 ∷ 0 ∷ 0 ∷ []) ≡ 1 }
+    ensures shared { difference (3 ∷ 0 ∷ 1 ∷ []) ≡ 0 }
+    ensures less { difference_of_counts (3 ∷ 1 ∷ 1 ∷ []) ≡ 1 }
+    ensures no_less { difference_of_counts (3 ∷ 2 ∷ 2 ∷ []) ≡ 0 }
+    ensures lower { within 2 4 (2 ∷ []) ≡ 2 }
+    ensures upper { within 2 4 (4 ∷ []) ≡ 4 }
+    ensures below { within 2 4 (1 ∷ []) ≡ 0 }
+    ensures above { within 2 4 (5 ∷ []) ≡ 0 }
+{}
+
+/// Two tables merged in the way of any number of tables are two tables merged.
+pub fn merge_of_two()
+    ensures { MergesTwo }
+{}
+
+/// The table texts of several counts under one rule match, and merged they have the table text of the count of the
+/// reads of all inputs.
+pub fn merged_texts()
+    ensures matched { AllCountsMatch }
+    ensures text { AllMergedText }
+{}

@@ -1,0 +1,104 @@
+//! What rules compute of the counts of one word.
+ghost use Rattle.std.specs.Prelude.{◌≡◌, ◌^◌, ◌<◌, ◌≤◌, ◌-◌, IfSome, IfNone};
+ghost use Rattle.kc_combine.specs.Combined.{all_have, first_of, greatest_of, least_of, none_has, sum_of};
+
+/// The greatest count.
+pub(crate) const MOST: u64 = 1 << 62;
+
+// The count, or none where it is above 2^62.
+pub(crate) fn at_most(count: u64) -> Option<u64>
+    ensures some { IfSome result (λ same. same ≡ count) }
+    ensures most { IfSome result (λ same. same ≤ 2 ^ 62) }
+    ensures none { IfNone result (2 ^ 62 < count) }
+{
+    if count <= MOST {
+        return Some(count);
+    }
+    None
+}
+
+// The sum of these counts, or none where it is above 2^62.
+pub(crate) fn total_of_counts(counts: &[u64]) -> Option<u64>
+    ensures some { IfSome result (λ sum. sum ≡ sum_of counts.now) }
+    ensures most { IfSome result (λ sum. sum ≤ 2 ^ 62) }
+    ensures none { IfNone result (2 ^ 62 < sum_of counts.now) }
+{
+    let mut sum = 0;
+    'counts: for count in counts {
+        if *count > MOST - sum {
+            return None;
+        }
+        sum += *count;
+    }
+    Some(sum)
+}
+
+// The first of these counts, or 0 where there is none.
+pub(crate) fn first_count(counts: &[u64]) -> u64
+    ensures { result ≡ first_of counts.now }
+{
+    match counts.first() {
+        Some(count) => *count,
+        None => 0,
+    }
+}
+
+// The least of these counts, or 0 where there is none.
+pub(crate) fn least_count(counts: &[u64]) -> u64
+    ensures { result ≡ least_of counts.now }
+{
+    let Some((first, others)) = counts.split_first() else {
+        return 0;
+    };
+    let mut least = *first;
+    'others: for count in others {
+        least = least.min(*count);
+    }
+    least
+}
+
+// The greatest of these counts, or 0 where there is none.
+pub(crate) fn greatest_count(counts: &[u64]) -> u64
+    ensures { result ≡ greatest_of counts.now }
+{
+    let mut greatest = 0;
+    'counts: for count in counts {
+        greatest = greatest.max(*count);
+    }
+    greatest
+}
+
+// Whether each count is above 0.
+pub(crate) fn each_has(counts: &[u64]) -> bool
+    ensures { result ≡ all_have counts.now }
+{
+    'counts: for count in counts {
+        if *count == 0 {
+            return false;
+        }
+    }
+    true
+}
+
+// Whether each count is 0.
+pub(crate) fn no_other_has(counts: &[u64]) -> bool
+    ensures { result ≡ none_has counts.now }
+{
+    'counts: for count in counts {
+        if *count > 0 {
+            return false;
+        }
+    }
+    true
+}
+
+// What is left of a count once these are taken away.
+pub(crate) fn left_of(count: u64, others: &[u64]) -> u64
+    ensures { result ≡ count - sum_of others.now }
+{
+    let mut left = count;
+    'others: for other in others {
+        left = left.saturating_sub(*other);
+    }
+    left
+}
