@@ -5,3 +5,8 @@ pub mod SelectLemmas
 pub mod SolidWordsLemmas
 pub mod RunLemmas
 pub mod CountWalkLemmas
+pub mod PairsLemmas
+pub mod PairReaderLemmas
+pub mod PairingLemmas
+pub mod ApartLemmas
+pub mod LastRowsLemmas

@@ -22,13 +22,13 @@ use Rattle.kc_select.specs.SolidWords.{AreExceptions, is_exception}
 abbrev pub words_where : (ℕ → Bool) → List Row → List ℕ
 words_where p rows = filter_map (λ row. cond (p row.count) (Some row.word) None) rows
 
-tail : (x : ℕ) (xs : List ℕ) → IsStrictlyIncreasing (x ∷ xs) → IsStrictlyIncreasing xs
+pub tail : (x : ℕ) (xs : List ℕ) → IsStrictlyIncreasing (x ∷ xs) → IsStrictlyIncreasing xs
 tail x xs rising k h =
     let e : suc k + 1 ≡ suc (k + 1) = omega arith in
     subst (λ i. get_or xs k 0 < get_or (x ∷ xs) i 0) e (rising (suc k) (omega (arith, h)))
 
 -- the first of rising words is the least
-first_least : (row : Row) (rows : List Row) → IsStrictlyIncreasing (map (λ (r : Row). r.word) (row ∷ rows))
+pub first_least : (row : Row) (rows : List Row) → IsStrictlyIncreasing (map (λ (r : Row). r.word) (row ∷ rows))
     → All (λ r. row.word < r.word) rows
 first_least row [] rising = All-nil _
 first_least row (next ∷ rows) rising =

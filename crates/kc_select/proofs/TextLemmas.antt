@@ -1,7 +1,7 @@
 -- Texts that are put behind a block, one after another.
 use Rattle.std.proofs.Common.{ℕ, List, [], ◌++◌, sym, ap, ◌∙◌, subst, append_assoc, append-nil}
 use Rattle.std.specs.Prelude.{Result, Ok, Err, OnOk, OnErr}
-use Rattle.kc_io.specs.Sinks.{Written, HasTaken, HasBegun, HandsOver, Drains}
+use Rattle.kc_io.specs.Sinks.{Written, HasTaken, HasWritten, HasBegun, HandsOver, Writes, Drains}
 use Rattle.kc_io.proofs.SinksLemmas.{begin, taken_both, began_front}
 
 -- more stands behind the block
@@ -69,3 +69,25 @@ pub handed_err : {A E : Type 0} (old new : Written) (answer : Result A E) (text 
     → HandsOver old new answer text → OnErr answer (HasBegun old new text)
 handed_err old new (Ok done) text h = tt
 handed_err old new (Err fault) text h = h
+
+-- a text was put behind a block, which is written, or the writer fails then
+pub drains_written : {a b c : Written} {text block : List ℕ} → Drains a b text block → HasWritten b c block
+    → HasWritten a c text
+drains_written {a = a} {b = b} {c = c} {block = block} d w = record {
+  taken = subst (λ v. HasTaken a c v) (sym d.split) (taken_both a b c d.front block d.taken w.taken);
+  flushed = w.flushed;
+}
+
+pub drains_wrote : {A E : Type 0} (a b c : Written) (text block : List ℕ) (answer : Result A E) → Drains a b text block
+    → Writes b c answer block → OnOk answer (HasWritten a c text)
+drains_wrote a b c text block (Ok done) d w = drains_written d w
+drains_wrote a b c text block (Err fault) d w = tt
+
+pub drains_failed : {A E : Type 0} (a b c : Written) (text block : List ℕ) (answer : Result A E) → Drains a b text block
+    → Writes b c answer block → OnErr answer (HasBegun a c text)
+drains_failed a b c text block (Ok done) d w = tt
+drains_failed a b c text block (Err fault) d w = drains_begins d w
+
+-- nothing was taken, and all is left
+pub drains_none : (s : Written) (text : List ℕ) → Drains s s text text
+drains_none s text = let none = begin s text in record { front = none.front; taken = none.taken; split = none.whole }

@@ -1,8 +1,12 @@
 pub mod CountWalks
 pub mod Counts
+pub mod PairReaders
+pub mod Pairs
+pub mod LastRows
 pub mod Profiles
 pub mod RunWalks
 pub mod Selecting
+pub mod SelectingPairs
 pub mod Solid
 pub mod SolidWords
 pub mod Texts

@@ -5,21 +5,24 @@ ghost use Rattle.kc_tally.specs.Tally.{count_of};
 ghost use Rattle.kc_select.specs.Profiles.{counts_along, runs_from};
 ghost use Rattle.kc_select.specs.CountWalks.{runs_left};
 
+use crate::row_index::RowIndex;
 use crate::run_walk::{CountRun, RunWalk};
+use crate::word_places::WordPlaces;
 use kc_fastx::SeqRead;
 use kc_kmer::Rule;
-use kc_tally::Tally;
 use kc_word::{Rolled, usable_code};
 use std::marker::Model;
 
 // A place in a read whose words are counted.
 #[derive(Drop)]
 pub(crate) struct CountWalk<'a> {
-    tally: &'a Tally,
+    index: &'a RowIndex<'a>,
     read: &'a SeqRead,
     at: usize,
     rolled: Rolled,
     runs: RunWalk,
+    // where the next words are searched
+    places: WordPlaces<'a>,
 }
 
 impl<'a> Model for CountWalk<'a> {
@@ -28,7 +31,7 @@ impl<'a> Model for CountWalk<'a> {
     ghost Value = { CountWalking };
 
     ghost view = { λ w. record {
-      tally = w.tally.now;
+      tally = w.index.now;
       rule = w.rolled.rule;
       read = w.read.now;
       taken = w.at;
@@ -36,7 +39,7 @@ impl<'a> Model for CountWalk<'a> {
     } };
 
     ghost invariant = { λ w. IsCountWalking (record {
-      tally = w.tally.now;
+      tally = w.index.now;
       rule = w.rolled.rule;
       read = w.read.now;
       taken = w.at;
@@ -46,16 +49,17 @@ impl<'a> Model for CountWalk<'a> {
 
 impl<'a> CountWalk<'a> {
     // At the front of the read.
-    pub(crate) fn new(tally: &'a Tally, read: &'a SeqRead, rule: Rule) -> CountWalk<'a>
-        ensures { runs_left result ≡ runs_from 0 (counts_along tally.now rule read.now) }
+    pub(crate) fn new(index: &'a RowIndex<'a>, read: &'a SeqRead, rule: Rule) -> CountWalk<'a>
+        ensures { runs_left result ≡ runs_from 0 (counts_along index.now rule read.now) }
     {
         let _count = read.bases().len();
         CountWalk {
-            tally,
+            index,
             read,
             at: 0,
             rolled: Rolled::new(rule),
             runs: RunWalk::new(),
+            places: WordPlaces::new(read, rule),
         }
     }
 
@@ -82,7 +86,7 @@ impl<'a> CountWalk<'a> {
         if self.at < k {
             return None;
         }
-        let count = count_in(self.tally, word);
+        let count = count_in(self.index, &mut self.places, word);
         self.runs.push(count)
     }
 
@@ -100,10 +104,10 @@ impl<'a> CountWalk<'a> {
     }
 }
 
-// The count of the word in the table, where there is a word.
+// The count of the word in the table, where there is a word. It is the next word of those whose places were looked up.
 #[inline(always)]
-fn count_in(tally: &Tally, word: Option<u64>) -> Option<u64>
-    ensures { result ≡ option_map (λ word. count_of tally.now.rows word) word }
+fn count_in(index: &RowIndex<'_>, places: &mut WordPlaces<'_>, word: Option<u64>) -> Option<u64>
+    ensures { result ≡ option_map (λ word. count_of index.now.rows word) word }
 {
-    Some(tally.count_of(word?))
+    Some(index.count_of(word?, places.next_place(index)))
 }

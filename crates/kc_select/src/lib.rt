@@ -16,18 +16,36 @@
 
 mod base_walk;
 mod count_walk;
+mod mates_apart;
+mod pair_fault;
+mod pair_laws;
+mod pair_names;
+mod pair_reading;
+mod pair_rule;
+mod pair_selection;
 mod profile_text;
 mod record_texts;
+mod row_index;
 mod run_walk;
 mod select_fault;
+mod selected_pairs;
 mod selected_text;
 mod selection;
 mod selection_counts;
 mod selector;
+mod sides;
 mod word_counts;
+mod word_places;
 
+pub use mates_apart::select_into_two;
+pub use pair_fault::PairFault;
+pub use pair_laws::{titles_of_mates, titles_of_strangers};
+pub use pair_rule::PairRule;
+pub use pair_selection::PairSelection;
 pub use select_fault::SelectFault;
+pub use selected_pairs::select_into_one;
 pub use selected_text::select;
 pub use selection::Selection;
 pub use selection_counts::{Selected, SelectionCounts};
 pub use selector::Selector;
+pub use sides::{Side, Sides};

@@ -33,7 +33,7 @@ pub(crate) fn put_profile<W: Sink>(
 }
 
 // The title up to its first blank.
-fn name_of(title: &[u8]) -> &[u8]
+pub(crate) fn name_of(title: &[u8]) -> &[u8]
     ensures { result.now ≡ name_of title.now }
 {
     match memchr2(b' ', b'\t', title) {

@@ -84,7 +84,7 @@ fn put_selected<W: Sink>(
 }
 
 // Puts the text of a record whose read is kept behind the block: the record itself, or its profile.
-fn put_kept<W: Sink>(
+pub(crate) fn put_kept<W: Sink>(
     writer: &mut W,
     block: &mut Block,
     selector: &Selector<'_>,
@@ -99,7 +99,7 @@ fn put_kept<W: Sink>(
     if !selector.selection().is_profiled() {
         return put_record(writer, block, title, read);
     }
-    let mut walk = CountWalk::new(selector.tally(), read, selector.rule());
+    let mut walk = CountWalk::new(selector.index(), read, selector.rule());
     put_profile(writer, block, &mut walk, title)
 }
 

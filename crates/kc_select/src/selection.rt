@@ -1,6 +1,6 @@
 //! The rule of a selection of reads.
 ghost use Rattle.std.specs.Prelude.{◌≡◌, ◌≤◌, ◌^◌, ◌-◌, false};
-ghost use Rattle.kc_select.specs.Solid.{is_solid_count, profile_rule};
+ghost use Rattle.kc_select.specs.Solid.{is_solid_count, keeps, profile_rule};
 ghost use Rattle.kc_select.specs.SolidWords.{is_exception};
 
 use std::marker::Model;
@@ -156,6 +156,13 @@ impl Selection {
         ensures { result ≡ self.profiled }
     {
         self.profiled
+    }
+
+    // Whether a read or a pair of reads is kept that is solid or is not.
+    pub(crate) fn keeps(self, is_solid: bool) -> bool
+        ensures { result ≡ keeps self is_solid }
+    {
+        is_solid != self.inverted
     }
 
     // Whether a word with this count is solid.

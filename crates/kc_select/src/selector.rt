@@ -5,6 +5,7 @@ ghost use Rattle.kc_select.specs.Solid.{rule_for, words_for, is_solid_word, soli
 ghost use Rattle.kc_select.specs.SolidWords.{AreExceptions};
 
 use crate::base_walk::BaseWalk;
+use crate::row_index::RowIndex;
 use crate::selection::Selection;
 use crate::word_counts::WordCounts;
 use kc_fastx::SeqRead;
@@ -16,10 +17,12 @@ use std::marker::Model;
 
 /// A table and the rule of a selection by it, ready to judge reads. The table's solid words are listed, or those that
 /// are not solid where a word that the table lacks is. So a word is looked up in one or two places of memory. A listed
-/// word takes at most 12 bytes.
+/// word takes at most 12 bytes. Where profiles are written, the rows of the table have an index, which takes at most a
+/// tenth of their memory.
 #[derive(Drop)]
 pub struct Selector<'a> {
-    tally: &'a Tally,
+    // the table, with places of its words where profiles are written
+    index: RowIndex<'a>,
     selection: Selection,
     // the words of the table that are solid where a word that it lacks is not, or are not where such a word is
     exceptions: Only,
@@ -31,9 +34,9 @@ impl<'a> Model for Selector<'a> {
 
     ghost Value = { SelectorSeen };
 
-    ghost view = { λ s. record { tally = s.tally.now; rule = s.selection } };
+    ghost view = { λ s. record { tally = s.index; rule = s.selection } };
 
-    ghost invariant = { λ s. ListsExceptions s.tally.now s.selection s.exceptions };
+    ghost invariant = { λ s. ListsExceptions s.index s.selection s.exceptions };
 }
 
 impl<'a> Selector<'a> {
@@ -48,7 +51,7 @@ impl<'a> Selector<'a> {
         let words = exceptions(alloc, tally, selection)?;
         let exceptions = Only::of_words(alloc, tally.k(), tally.both(), words)?;
         Ok(Selector {
-            tally,
+            index: index_for(alloc, tally, selection)?,
             selection,
             exceptions,
         })
@@ -58,21 +61,29 @@ impl<'a> Selector<'a> {
     pub fn k(&self) -> K
         ensures { result ≡ self.now.tally.k }
     {
-        self.tally.k()
+        self.tally().k()
     }
 
     // The table.
-    pub(crate) fn tally(&self) -> &'a Tally
+    fn tally(&self) -> &'a Tally
         ensures { result.now ≡ self.now.tally }
     {
-        self.tally
+        self.index.tally()
+    }
+
+    // The table, with places of its words where profiles are written.
+    pub(crate) fn index(&self) -> &RowIndex<'a>
+        ensures { result.now ≡ self.now.tally }
+    {
+        &self.index
     }
 
     // How the words of a read count.
     pub(crate) fn rule(&self) -> Rule
         ensures { result ≡ rule_for self.now.tally self.now.rule }
     {
-        Rule::new(self.tally.k(), self.tally.both(), self.selection.floor())
+        let tally = self.tally();
+        Rule::new(tally.k(), tally.both(), self.selection.floor())
     }
 
     // The rule of the selection.
@@ -121,6 +132,21 @@ impl<'a> Selector<'a> {
         ensures { result ≡ is_solid_word self.now.tally self.now.rule word.0 }
     {
         self.exceptions.holds(word) != self.selection.is_solid(0)
+    }
+}
+
+// The index of the table's rows, without places where no profile is written.
+fn index_for<'a>(
+    alloc: Global,
+    tally: &'a Tally,
+    selection: Selection,
+) -> Result<RowIndex<'a>, AllocError>
+    ensures { IfOk result (λ index. index ≡ tally.now) }
+{
+    if selection.is_profiled() {
+        RowIndex::of(alloc, tally)
+    } else {
+        Ok(RowIndex::without_places(alloc, tally))
     }
 }
 

@@ -24,7 +24,7 @@ impl WordCounts {
     pub(crate) fn is_kept(self, selection: Selection) -> bool
         ensures { result ≡ keeps selection (has_share selection self.words self.solid) }
     {
-        self.has_share(selection) != selection.is_inverted()
+        selection.keeps(self.has_share(selection))
     }
 
     // What is counted of one read with these words, which is kept or not.

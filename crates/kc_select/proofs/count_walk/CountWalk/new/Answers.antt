@@ -19,7 +19,7 @@ invariant_of-result c =
 
 pub returns : goal.returns
 returns c =
-    ap (λ r. runs_left (record { tally = c.args.tally.now; rule = r; read = c.args.read.now; taken = 0; runs = c.new-2.result }))
+    ap (λ r. runs_left (record { tally = c.args.index.now; rule = r; read = c.args.read.now; taken = 0; runs = c.new-2.result }))
     c.new.ensures.rule
-    ∙ runs-start (record { tally = c.args.tally.now; rule = c.args.rule; read = c.args.read.now; taken = 0; runs = c.new-2.result })
+    ∙ runs-start (record { tally = c.args.index.now; rule = c.args.rule; read = c.args.read.now; taken = 0; runs = c.new-2.result })
     c.new.ensures.some refl c.new-2.ensures.runs

@@ -18,7 +18,7 @@ before c =
     ∙ c.end.ensures.runs
 
 behind : (c : After-end) → runs_left (record {
-  tally = c.self.inside.tally.now;
+  tally = c.self.inside.index.now;
   rule = c.self.inside.rolled.rule;
   read = c.self.inside.read.now;
   taken = c.self.inside.at;

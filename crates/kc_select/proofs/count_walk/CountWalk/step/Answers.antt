@@ -10,7 +10,7 @@ use Rattle.kc_select.proofs.count_walk.CountWalk.step.Goals.{After-usable_code-c
 -- the walk as it was
 abbrev old : After-usable_code-code → CountWalking
 old c = record {
-  tally = c.self.inside.tally.now;
+  tally = c.self.inside.index.now;
   rule = c.self.inside.rolled.rule;
   read = c.self.inside.read.now;
   taken = c.self.inside.at;
@@ -51,7 +51,7 @@ invariant_of-self c =
     let same = c.get-k.ensures.value ∙ c.k.ensures in
     let at = c.self.invariant.at in
     subst (λ r. IsCountWalking (record {
-      tally = c.self.inside.tally.now;
+      tally = c.self.inside.index.now;
       rule = r;
       read = c.self.inside.read.now;
       taken = c.self.inside.at + 1;
@@ -69,7 +69,7 @@ returns-then-self-k-clause-runs c =
     ap runs_left (sym c.self.view_is)
     ∙ runs-early (old (goal.at.returns-then-self-k-clause-runs c).After-usable_code-code) (omega (arith, early, same))
     ∙ ap (λ r. runs_left (record {
-      tally = c.self.inside.tally.now;
+      tally = c.self.inside.index.now;
       rule = r;
       read = c.self.inside.read.now;
       taken = c.self.inside.at + 1;
@@ -93,7 +93,7 @@ invariant_of-self-2 c =
     let at = c.self.invariant.at in
     let pushed = c.push.ensures.at in
     subst (λ r. IsCountWalking (record {
-      tally = c.self.inside.tally.now;
+      tally = c.self.inside.index.now;
       rule = r;
       read = c.self.inside.read.now;
       taken = c.self.inside.at + 1;
@@ -118,7 +118,7 @@ returns-clause-runs c =
     (taken-word (place_in was) was.read c.push-word.new.self c.push-word.result refl (omega (arith, long, more)) (omega (arith, late, same)) (c.push-word.ensures.taken _ (next here))))
     c.push.ensures.runs
     ∙ ap (λ r. option_to_list c.push.result ++ runs_left (record {
-      tally = c.self.inside.tally.now;
+      tally = c.self.inside.index.now;
       rule = r;
       read = c.self.inside.read.now;
       taken = c.self.inside.at + 1;
