@@ -19,11 +19,15 @@ _kcount() {
             mapfile -t COMPREPLY < <(compgen -W 'count dump histo stats query merge select profile help' -- "$word")
             return
             ;;
-        select) options='--min-count --max-count --min-share --min-qual-char --invert --stats -o --output --explain -h --help' ;;
+        select)
+            options='--min-count --max-count --min-share --min-qual-char --invert --pairs --keep --stats -o --output
+                --output2 --explain -h --help'
+            ;;
         profile) options='--min-qual-char -o --output --explain -h --help' ;;
     esac
     case $before in
         --print) mapfile -t COMPREPLY < <(compgen -W 'table dump histo stats' -- "$word") ;;
+        --keep) mapfile -t COMPREPLY < <(compgen -W 'both any' -- "$word") ;;
         --stripes) mapfile -t COMPREPLY < <(compgen -W '1 2 4 8 16 32 64' -- "$word") ;;
         -m | --mer-len | -s | --size | --threads | --min-qual-char | --batch | -L | --lower-count | -U | --upper-count | --high \
             | --min-count | --max-count | --min-share) ;;

@@ -55,8 +55,11 @@ complete -c kcount -n '__fish_seen_subcommand_from select' -l max-count -x -d 'G
 complete -c kcount -n '__fish_seen_subcommand_from select' -l min-share -x -d 'Least percentage of solid k-mers'
 complete -c kcount -n '__fish_seen_subcommand_from select' -l min-qual-char -x -d 'Least quality character that counts'
 complete -c kcount -n '__fish_seen_subcommand_from select' -l invert -d 'Write the other reads instead'
+complete -c kcount -n '__fish_seen_subcommand_from select' -l pairs -d 'Select pairs of the reads of two files'
+complete -c kcount -n '__fish_seen_subcommand_from select' -l keep -x -a 'both any' -d 'Which reads of a pair must be solid'
 complete -c kcount -n '__fish_seen_subcommand_from select' -l stats -d 'Tell how many reads and k-mers there were'
 complete -c kcount -n '__fish_seen_subcommand_from select' -s o -l output -r -d 'Write to this file'
+complete -c kcount -n '__fish_seen_subcommand_from select' -l output2 -r -d 'Write the second reads of pairs to this file'
 complete -c kcount -n '__fish_seen_subcommand_from select' -l explain -d 'Explain a fault in a second line'
 
 complete -c kcount -n '__fish_seen_subcommand_from profile' -l min-qual-char -x -d 'Least quality character that counts'

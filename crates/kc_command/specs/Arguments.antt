@@ -1,17 +1,21 @@
 -- What the options of a command ask for: source, the table of options in the README. A row is what `clap` found for an
 -- option: its values and where they came from.
 use Rattle.std.specs.Prelude.{◌≡◌, ℕ, ◌^◌, ◌==◌, Bool, true, false, nat_le, ◌&&◌, List, [], ◌∷◌, codes, if◌then◌else◌}
-use Rattle.std.specs.Prelude.{Option, Some, None, is_none, option_map, Result, Ok, Err}
+use Rattle.std.specs.Prelude.{Option, Some, None, is_none, is_some, option_map, unwrap_or, length, Result, Ok, Err}
 use Rattle.std.specs.List.{list_any}
-use Rattle.std.specs.Option.{option_and_then}
+use Rattle.std.specs.Option.{option_and_then, option_map_or}
 use Rattle.std.specs.Str.{bytes_eq}
-use Rattle.clap.specs.Words.{Row, Text, first_of, one_of}
+use Rattle.clap.specs.Words.{Row, Text, all_of, first_of, one_of}
 use Rattle.kc_report.specs.declared.dump.Dump.{Dump}
 use Rattle.kc_select.specs.Solid.{SelectionRule, profile_rule}
+use Rattle.kc_select.specs.declared.pair_rule.PairRule.{PairRule}
+use Rattle.kc_select.specs.declared.pair_rule.PairRule.TheVariants as asks
 use Rattle.kc_command.specs.Numbers.{number_between, scaled_between}
 use Rattle.kc_command.specs.Settings.{Settings, lowered}
 use Rattle.kc_command.specs.declared.option_name.OptionName.{OptionName}
 use Rattle.kc_command.specs.declared.option_name.OptionName.TheVariants as option
+use Rattle.kc_command.specs.declared.pair_options.PairsRefusal.{PairsRefusal}
+use Rattle.kc_command.specs.declared.pair_options.PairsRefusal.TheVariants as refusal
 use Rattle.kc_command.specs.declared.settings.Print.{Print}
 use Rattle.kc_command.specs.declared.settings.Print.TheVariants as report
 
@@ -61,6 +65,20 @@ max_count_of rows = or_default (2 ^ 62) (number_between 0 (2 ^ 62)) (first_of (c
 -- `--min-share`, how many of a hundred words of a read have to be solid, 0 to 100; 100
 abbrev pub min_share_of : List Row → Option ℕ
 min_share_of rows = or_default 100 (number_between 0 100) (first_of (codes "min-share") rows)
+
+-- how many reads of a pair have to be solid, by its name
+abbrev pub pair_rule_named : Text → Option PairRule
+pair_rule_named text = if bytes_eq text (codes "both") then Some asks.All
+    else if bytes_eq text (codes "any") then Some asks.Any
+    else None
+
+-- `--keep`, how many reads of a pair have to be solid; both
+abbrev pub keep_of : List Row → Option PairRule
+keep_of rows = or_default asks.All pair_rule_named (first_of (codes "keep") rows)
+
+-- `--pairs` is given: the value of a flag is `true` then, and else `false`
+abbrev pub has_pairs : List Row → Bool
+has_pairs rows = option_map_or (λ text. bytes_eq text (codes "true")) (first_of (codes "pairs") rows) false
 
 -- `--stripes`, before it is lowered to the number of words; 16
 abbrev pub stripes_of : List Row → Option ℕ
@@ -165,6 +183,7 @@ first_bad_of_select rows = first_of_bad (judged option.MinCount (min_count_of ro
     ∷ judged option.MaxCount (max_count_of rows)
     ∷ judged option.MinShare (min_share_of rows)
     ∷ judged option.MinQualChar (floor_of rows)
+    ∷ judged option.Keep (keep_of rows)
     ∷ [])
 
 -- of `profile`
@@ -195,6 +214,11 @@ pub record AsksForSelection (rows : List Row) (rule : SelectionRule) : Type 0 wh
   pub invert : IsFlag rows (codes "invert") rule.inverted
   pub profiled : rule.profiled ≡ false
 
+-- the options of a selection ask for pairs of which so many reads have to be solid, or for no pairs
+abbrev pub AsksForPairs : List Row → Option PairRule → Type 0
+AsksForPairs rows None = has_pairs rows ≡ false
+AsksForPairs rows (Some asked) = (has_pairs rows ≡ true) × (keep_of rows ≡ Some asked)
+
 -- the options of a profile ask for this rule
 pub record AsksForProfile (rows : List Row) (rule : SelectionRule) : Type 0 where
   pub min_qual_char : floor_of rows ≡ Some rule.floor
@@ -222,3 +246,38 @@ pub record AsksForCounting (rows : List Row) (settings : Settings) : Type 0 wher
   pub min_qual_char : floor_of rows ≡ Some settings.floor
   pub stripes : option_map (lowered settings.k) (stripes_of rows) ≡ Some settings.stripes
   pub batch : batch_of rows ≡ Some settings.batch
+
+-- Which options of a selection don't go together.
+
+-- an option has a value
+abbrev pub is_given : Text → List Row → Bool
+is_given id rows = is_some (first_of id rows)
+
+-- two files are named behind the table
+abbrev pub has_two_files : List Row → Bool
+has_two_files rows = length (unwrap_or (all_of (codes "file") rows) []) == 2
+
+-- without `--pairs` there is no `--keep` and no `--output2`
+abbrev pub refusal_of_reads : List Row → Option PairsRefusal
+refusal_of_reads rows = if is_given (codes "keep") rows then Some refusal.KeepAlone
+    else if is_given (codes "output2") rows then Some refusal.Output2Alone
+    else None
+
+-- the first of two outputs is not given without the second one, nor the second one without the first, and they have
+-- different names
+abbrev pub refusal_of_outputs : Option Text → Option Text → Option PairsRefusal
+refusal_of_outputs (Some first) None = Some refusal.NoOutput2
+refusal_of_outputs None (Some second) = Some refusal.NoOutput
+refusal_of_outputs None None = None
+refusal_of_outputs (Some first) (Some second) =
+    if bytes_eq first second then Some refusal.OneOutput else None
+
+-- with `--pairs` two files are named, and both outputs or none
+abbrev pub refusal_of_pairs : List Row → Option PairsRefusal
+refusal_of_pairs rows = if has_two_files rows
+    then refusal_of_outputs (first_of (codes "output") rows) (first_of (codes "output2") rows)
+    else Some refusal.NotTwoFiles
+
+-- why the options of a selection don't go together, where they don't
+abbrev pub pairs_refusal : List Row → Option PairsRefusal
+pairs_refusal rows = if has_pairs rows then refusal_of_pairs rows else refusal_of_reads rows

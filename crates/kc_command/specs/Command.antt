@@ -106,6 +106,18 @@ min_share_option = value_option (codes "min-share")
 abbrev pub invert_option : Rule
 invert_option = flag_option (codes "invert")
 
+-- `--pairs`
+abbrev pub pairs_option : Rule
+pairs_option = flag_option (codes "pairs")
+
+-- `--keep`, how many reads of a pair have to be solid
+abbrev pub keep_option : Rule
+keep_option = value_option (codes "keep")
+
+-- `--output2`, the file of the second reads of pairs
+abbrev pub output2_option : Rule
+output2_option = value_option (codes "output2")
+
 -- `--stats`
 abbrev pub stats_option : Rule
 stats_option = flag_option (codes "stats")
@@ -208,8 +220,11 @@ select_shape = record (new_shape (codes "select")) {
       ∷ min_share_option
       ∷ min_qual_char_option
       ∷ invert_option
+      ∷ pairs_option
+      ∷ keep_option
       ∷ stats_option
       ∷ output_option
+      ∷ output2_option
       ∷ explain_option
       ∷ counted_argument
       ∷ files_argument

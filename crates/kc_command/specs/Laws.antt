@@ -1,5 +1,5 @@
 -- Worked rows of the command line, computed from the definitions.
-use Rattle.std.specs.Prelude.{◌≡◌, ◌^◌, List, [], ◌∷◌, Option, Some, None, codes, option_map, unwrap_or}
+use Rattle.std.specs.Prelude.{◌≡◌, ◌^◌, true, false, List, [], ◌∷◌, Option, Some, None, codes, option_map, unwrap_or}
 use Rattle.clap.specs.Faults.{fault_of}
 use Rattle.clap.specs.Words.{Row, Text, all_of, first_of, one_of, subcommand_of}
 use Rattle.clap.specs.declared.error.kind.ErrorKind.TheVariants.{
@@ -21,13 +21,16 @@ use Rattle.kc_command.specs.Arguments.{
   first_bad_of_select,
   first_table_of,
   floor_of,
+  has_pairs,
   high_of,
+  keep_of,
   lower_of,
   mer_len_of,
   max_count_of,
   min_count_of,
   min_share_of,
   only_of,
+  pairs_refusal,
   print_of,
   second_table_of,
   size_of,
@@ -40,7 +43,9 @@ use Rattle.kc_command.specs.Numbers.{scaled_between}
 use Rattle.kc_command.specs.Settings.{lowered}
 use Rattle.kc_command.specs.declared.option_name.OptionName.{OptionName}
 use Rattle.kc_command.specs.declared.option_name.OptionName.TheVariants as option
+use Rattle.kc_command.specs.declared.pair_options.PairsRefusal.TheVariants as refusal
 use Rattle.kc_command.specs.declared.settings.Print.TheVariants as report
+use Rattle.kc_select.specs.declared.pair_rule.PairRule.TheVariants as asks
 
 -- what was found of the options of a command
 abbrev pub options_of : List Text → List Row
@@ -262,6 +267,56 @@ pub record SelectsReads : Type 0 where
       ∷ codes "--min-count=x" ∷ codes "t.kct" ∷ []))) ≡ Some option.MinCount
   pub second_of_two : first_bad_of_select (options_of (select_with (codes "--min-share=101"
       ∷ codes "--max-count=x" ∷ codes "t.kct" ∷ []))) ≡ Some option.MaxCount
+
+-- a table and two files
+abbrev pub two_of_a_pair : List Text
+two_of_a_pair = codes "t.kct" ∷ codes "r_1.fq" ∷ codes "r_2.fq" ∷ []
+
+-- `kcount select --pairs --keep=any -o a --output2 b t.kct r_1.fq r_2.fq`
+abbrev pub apart : List Text
+apart = select_with (codes "--pairs"
+    ∷ codes "--keep=any"
+    ∷ codes "-o"
+    ∷ codes "a"
+    ∷ codes "--output2"
+    ∷ codes "b"
+    ∷ two_of_a_pair)
+
+-- `kcount select --pairs`, with these arguments behind it
+abbrev pub pairs_with : List Text → List Text
+pairs_with options = select_with (codes "--pairs" ∷ options)
+
+-- selects pairs of the reads of two files, by a table, and refuses options that don't go together
+pub record SelectsPairs : Type 0 where
+  pub taken : fault_of kcount_app apart ≡ []
+  pub good : first_bad_of_select (options_of apart) ≡ None
+  pub pairs : has_pairs (options_of apart) ≡ true
+  pub any : keep_of (options_of apart) ≡ Some asks.Any
+  pub output : first_of (codes "output") (options_of apart) ≡ Some (codes "a")
+  pub output2 : first_of (codes "output2") (options_of apart) ≡ Some (codes "b")
+  pub files : all_of (codes "file") (options_of apart) ≡ Some (codes "r_1.fq" ∷ codes "r_2.fq" ∷ [])
+  pub together : pairs_refusal (options_of apart) ≡ None
+  pub usual : keep_of (options_of (pairs_with two_of_a_pair)) ≡ Some asks.All
+  pub both : keep_of (options_of (pairs_with (codes "--keep=both" ∷ two_of_a_pair))) ≡ Some asks.All
+  pub interleaved : pairs_refusal (options_of (pairs_with two_of_a_pair)) ≡ None
+  pub no_pairs : has_pairs (options_of (select_with two_of_a_pair)) ≡ false
+  pub reads : pairs_refusal (options_of (select_with two_of_a_pair)) ≡ None
+  pub other_rule : first_bad_of_select (options_of (pairs_with (codes "--keep=one" ∷ two_of_a_pair)))
+      ≡ Some option.Keep
+  pub keep_alone : pairs_refusal (options_of (select_with (codes "--keep=both" ∷ two_of_a_pair)))
+      ≡ Some refusal.KeepAlone
+  pub output2_alone : pairs_refusal (options_of (select_with (codes "-oa" ∷ codes "--output2=b" ∷ two_of_a_pair)))
+      ≡ Some refusal.Output2Alone
+  pub no_output : pairs_refusal (options_of (pairs_with (codes "--output2=b" ∷ two_of_a_pair)))
+      ≡ Some refusal.NoOutput
+  pub no_output2 : pairs_refusal (options_of (pairs_with (codes "-oa" ∷ two_of_a_pair))) ≡ Some refusal.NoOutput2
+  pub one_output : pairs_refusal (options_of (pairs_with (codes "-oa" ∷ codes "--output2=a" ∷ two_of_a_pair)))
+      ≡ Some refusal.OneOutput
+  pub no_file : pairs_refusal (options_of (pairs_with (codes "t.kct" ∷ []))) ≡ Some refusal.NotTwoFiles
+  pub one_file : pairs_refusal (options_of (pairs_with (codes "t.kct" ∷ codes "r_1.fq" ∷ [])))
+      ≡ Some refusal.NotTwoFiles
+  pub three_files : pairs_refusal (options_of (pairs_with (codes "t.kct" ∷ two_of_a_pair)))
+      ≡ Some refusal.NotTwoFiles
 
 -- `kcount profile`, with these arguments behind it
 abbrev pub profile_with : List Text → List Text

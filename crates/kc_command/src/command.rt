@@ -15,9 +15,10 @@ ghost use Rattle.kc_command.specs.Command.{
 };
 
 use crate::command_arguments::{
-    batch, canonical, column, counted, explain, file, files, first, high, invert, lower_count,
-    max_count, mer_len, min_count, min_qual_char, min_share, only, output, print, second, size,
-    stats, stripes, tab, table, threads, upper_count, with_short, words,
+    batch, canonical, column, counted, explain, file, files, first, high, invert, keep,
+    lower_count, max_count, mer_len, min_count, min_qual_char, min_share, only, output, output2,
+    pairs, print, second, size, stats, stripes, tab, table, threads, upper_count, with_short,
+    words,
 };
 use crate::help;
 use clap::Command;
@@ -165,8 +166,11 @@ fn select_command<'a>(alloc: Global) -> Result<Command<'a>, AllocError>
         min_share(alloc),
         min_qual_char(alloc),
         invert(alloc),
+        pairs(alloc),
+        keep(alloc),
         stats(alloc),
         output(alloc),
+        output2(alloc),
         explain(alloc),
         counted(alloc),
         files(alloc),

@@ -13,6 +13,7 @@ ghost use Rattle.kc_command.specs.Command.{
   flag_option,
   high_option,
   invert_option,
+  keep_option,
   lower_count_option,
   mer_len_option,
   max_count_option,
@@ -21,7 +22,9 @@ ghost use Rattle.kc_command.specs.Command.{
   min_share_option,
   one_argument,
   only_option,
+  output2_option,
   output_option,
+  pairs_option,
   print_option,
   required,
   second_argument,
@@ -225,6 +228,36 @@ pub(crate) fn invert<'a>(alloc: Global) -> Arg<'a>
 {
     let help = "Write the other reads instead";
     flag_option(alloc, "invert", help)
+}
+
+/// `--pairs`: pairs of reads of two files.
+pub(crate) fn pairs<'a>(alloc: Global) -> Arg<'a>
+    ensures rule { rule_of result ≡ pairs_option }
+    ensures own { result.global ≡ false }
+{
+    let help = "Select pairs of reads of two files, FIRST and SECOND:{n}\
+        the first reads, the second reads, and so on";
+    flag_option(alloc, "pairs", help)
+}
+
+/// `--keep`: how many reads of a pair have to be solid.
+pub(crate) fn keep<'a>(alloc: Global) -> Arg<'a>
+    ensures rule { rule_of result ≡ keep_option }
+    ensures own { result.global ≡ false }
+{
+    let help = "With --pairs, which reads of a pair must be solid:{n}\
+        both, or any of them [default: both]";
+    value_option(alloc, "keep", "WHICH", help)
+}
+
+/// `--output2`: the file for the second reads of pairs.
+pub(crate) fn output2<'a>(alloc: Global) -> Arg<'a>
+    ensures rule { rule_of result ≡ output2_option }
+    ensures own { result.global ≡ false }
+{
+    let help = "With --pairs and -o, write the reads of SECOND to{n}\
+        this file, and those of FIRST to that of -o";
+    value_option(alloc, "output2", "FILE", help)
 }
 
 /// `--stats`: to print how many reads and k-mers there were.

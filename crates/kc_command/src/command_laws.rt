@@ -10,6 +10,7 @@ ghost use Rattle.kc_command.specs.Laws.{
   ReadsTables,
   Refuses,
   ScalesNumbers,
+  SelectsPairs,
   SelectsReads,
 };
 
@@ -21,6 +22,7 @@ pub fn command_lines()
     ensures tables { ReadsTables }
     ensures merges { MergesTables }
     ensures selects { SelectsReads }
+    ensures pairs { SelectsPairs }
     ensures profiles { ProfilesRecords }
     ensures refuses { Refuses }
 {}

@@ -137,13 +137,20 @@ quality on one line each. The reads before an error are written too, but not to
 a file given by -o. --stats prints the number of reads, of reads written, of
 k-mers, and of solid k-mers.
 
+With --pairs, TABLE is followed by two files, FIRST and SECOND: the n-th read of
+each are a pair, whose titles must match. A pair is written if both its reads
+are, or with --keep any one of them; --invert writes the other pairs. Pairs are
+written one after the other, or with -o and --output2 to two files, which both
+get all pairs or are left unchanged.
+
 Exit status: 0 on success, 1 on an error, 2 for an invalid command line. Errors
 are printed on standard error.
 
 Examples:
   kcount count -m 21 -C -o reads.kct reads.fq
   kcount select --min-count 3 -o solid.fq reads.kct reads.fq
-  kcount select --invert reads.kct reads.fq.gz > others.fq";
+  kcount select --invert reads.kct reads.fq.gz > others.fq
+  kcount select --pairs -o a_1.fq --output2 a_2.fq reads.kct r_1.fq r_2.fq";
 
 /// At the top of the help of `profile`.
 pub(crate) const PROFILE: &str = "\

@@ -19,6 +19,8 @@ pub enum OptionName {
     MinShare,
     /// `--min-qual-char`
     MinQualChar,
+    /// `--keep`
+    Keep,
     /// `--stripes`
     Stripes,
     /// `--batch`
@@ -46,6 +48,7 @@ impl OptionName {
             OptionName::MaxCount => "--max-count",
             OptionName::MinShare => "--min-share",
             OptionName::MinQualChar => "--min-qual-char",
+            OptionName::Keep => "--keep",
             OptionName::Stripes => "--stripes",
             OptionName::Batch => "--batch",
             OptionName::Print => "--print",

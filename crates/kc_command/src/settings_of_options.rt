@@ -5,6 +5,7 @@ ghost use Rattle.kc_command.specs.Arguments.{
   AsksFor,
   AsksForCounting,
   AsksForDump,
+  AsksForPairs,
   AsksForProfile,
   AsksForSelection,
   IsFlag,
@@ -18,12 +19,14 @@ ghost use Rattle.kc_command.specs.Arguments.{
   first_bad_of_select,
   floor_of,
   high_of,
+  keep_of,
   lower_of,
   max_count_of,
   mer_len_of,
   min_count_of,
   min_share_of,
   or_default,
+  pair_rule_named,
   print_of,
   quality_byte,
   report_named,
@@ -37,6 +40,7 @@ ghost use Rattle.kc_command.specs.Numbers.{number_between};
 
 use crate::numbers::{number_between, scaled_between};
 use crate::option_name::OptionName;
+use crate::pair_options::{SelectOptions, has_pairs};
 use crate::settings::{
     FLOOR, GREATEST_BATCH, GREATEST_SIZE, MOST_STRIPES, MOST_WORKERS, Options, Print, USUAL_BATCH,
     USUAL_HIGH, USUAL_SIZE, USUAL_STRIPES, USUAL_WORKERS,
@@ -44,7 +48,7 @@ use crate::settings::{
 use clap::ArgMatches;
 use kc_kmer::K;
 use kc_report::{Dump, GREATEST_COUNT, GREATEST_HIGH};
-use kc_select::Selection;
+use kc_select::{PairRule, Selection};
 use std::alloc::Global;
 
 /// The least count of a solid word where nothing else is asked for.
@@ -93,22 +97,29 @@ pub fn dump_options(matches: &ArgMatches<'_>) -> Result<Dump, OptionName>
 /// What the options of `select` ask for. It takes no memory.
 ///
 /// # Errors
-/// The first of `--min-count`, `--max-count`, `--min-share` and `--min-qual-char` whose value is outside its limits.
-pub fn select_options(matches: &ArgMatches<'_>) -> Result<Selection, OptionName>
+/// The first of `--min-count`, `--max-count`, `--min-share`, `--min-qual-char` and `--keep` whose value is outside its
+/// limits, whether it acts or not.
+pub fn select_options(matches: &ArgMatches<'_>) -> Result<SelectOptions, OptionName>
     ensures first_bad { MatchResult result (λ s. first_bad_of_select (rows_of (found_of matches.now)) ≡ None)
         (λ name. first_bad_of_select (rows_of (found_of matches.now)) ≡ Some name) }
-    ensures asked { IfOk result (AsksForSelection (rows_of (found_of matches.now))) }
+    ensures asked { IfOk result (λ asked. AsksForSelection (rows_of (found_of matches.now)) asked.selection) }
+    ensures pairs { IfOk result (λ asked. AsksForPairs (rows_of (found_of matches.now)) asked.pairs) }
 {
     let least = min_count(matches)?;
     let most = max_count(matches)?;
     let share = min_share(matches)?;
     let floor = min_qual_char(matches)?;
-    Ok(
-        Selection::new(least, share)
-            .with_most(most)
-            .with_floor(floor)
-            .with_inverted(has_flag(matches, "invert")),
-    )
+    let asked = keep(matches)?;
+    let selection = Selection::new(least, share)
+        .with_most(most)
+        .with_floor(floor)
+        .with_inverted(has_flag(matches, "invert"));
+    let pairs = if has_pairs(matches) {
+        Some(asked)
+    } else {
+        None
+    };
+    Ok(SelectOptions { selection, pairs })
 }
 
 /// What the options of `profile` ask for. It takes no memory.
@@ -254,6 +265,28 @@ fn min_share(matches: &ArgMatches<'_>) -> Result<u64, OptionName>
 {
     let share = number_of(matches, "min-share", WHOLE_SHARE, 0, WHOLE_SHARE);
     share.ok_or(OptionName::MinShare)
+}
+
+// How many reads of a pair have to be solid.
+fn keep(matches: &ArgMatches<'_>) -> Result<PairRule, OptionName>
+    ensures { IsValueOf OptionName.Keep (keep_of (rows_of (found_of matches.now))) result }
+{
+    let asked = match text_of(matches, "keep") {
+        None => Some(PairRule::All),
+        Some(text) => pair_rule_named(text),
+    };
+    asked.ok_or(OptionName::Keep)
+}
+
+// The rule of pairs of this name.
+fn pair_rule_named(text: &str) -> Option<PairRule>
+    ensures { result ≡ pair_rule_named text.now }
+{
+    match text {
+        "both" => Some(PairRule::All),
+        "any" => Some(PairRule::Any),
+        _ => None,
+    }
 }
 
 // The stripes, before they are lowered to the number of words.

@@ -20,7 +20,7 @@ use Rattle.kc_tool.specs.declared.counted_sources.ReadsInCutting.{ReadsInCutting
 use Rattle.kc_tool.specs.declared.tool_faults.ToolFault.{ToolFault}
 use Rattle.kc_tool.specs.declared.tool_faults.ToolFault.TheVariants.{Fastx, BadHeader, BadRow, BadEnd, TableTooLong}
 use Rattle.kc_tool.specs.declared.tool_faults.ToolFault.TheVariants.{TableRead, Memory, BadOption, BadWord, Write, Run}
-use Rattle.kc_tool.specs.declared.tool_faults.ToolFault.TheVariants.{OpenFailed, Unlike, TooLarge, BrokenTable, ShortTable}
+use Rattle.kc_tool.specs.declared.tool_faults.ToolFault.TheVariants.{OpenFailed, Unlike, TooLarge, BrokenTable, ShortTable, Unpaired}
 use Rattle.kc_tool.proofs.InputsLemmas.{ReadSoFar, begun, ended, one_more, refused}
 
 pieces_of-append : (rule : CountingRule) (reads more : List Read)
@@ -122,6 +122,7 @@ refused_cleaning d later Unlike r within h settings = absurd h
 refused_cleaning d later TooLarge r within h settings = absurd h
 refused_cleaning d later (BrokenTable place) r within h settings = absurd h
 refused_cleaning d later (ShortTable place) r within h settings = absurd h
+refused_cleaning d later (Unpaired number) r within h settings = absurd h
 
 -- The same, where it is read at its index.
 module _ {old now : List Seen} {rule : CountingRule} {batch i : ℕ} {cut : ReadsInCutting} (counted : cut.sources ≡ i)

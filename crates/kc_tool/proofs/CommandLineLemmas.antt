@@ -13,13 +13,14 @@ use Rattle.clap.specs.declared.error.kind.ErrorKind.{ErrorKind}
 use Rattle.clap.specs.declared.error.kind.ErrorKind.TheVariants.{DisplayHelp, DisplayVersion, OutOfMemory}
 use Rattle.kc_io.specs.Sources.{Seen}
 use Rattle.kc_command.specs.Command.{IsCommand, kcount_app}
-use Rattle.kc_tool.specs.CommandLine.{AskForHelp, AreTaken, CarriesOut, DoesCommand, EndsWell, FailsSo}
-use Rattle.kc_tool.specs.CommandLine.{IsHelp, IsTold, MayExplain, SaysText, ShowsSo, WantsMore, status_of}
+use Rattle.kc_command.specs.declared.pair_options.PairsRefusal.{PairsRefusal}
+use Rattle.kc_tool.specs.CommandLine.{AreApart, AreTaken, AskFor, AskForHelp, CarriesOut, DoesCommand, EndsWell, FailsSo}
+use Rattle.kc_tool.specs.CommandLine.{IsHelp, RefusesSo, IsTold, MayExplain, SaysText, ShowsSo, WantsMore, status_of}
 use Rattle.kc_tool.specs.FaultLines.{fault_line}
 use Rattle.kc_tool.specs.Process.{Ends}
 use Rattle.kc_tool.specs.Told.{IsClosing, closing_line}
 use Rattle.kc_tool.specs.declared.told.Told.{Told}
-use Rattle.kc_tool.specs.Commands.{EndsSo, Surroundings, name_of, verb_named}
+use Rattle.kc_tool.specs.Commands.{AreNotTogether, EndsSo, GoTogether, Surroundings, name_of, verb_named}
 use Rattle.kc_tool.specs.FileEvents.{FileEvent}
 use Rattle.kc_tool.specs.declared.commands.Verb.{Verb}
 use Rattle.kc_tool.specs.declared.commands.Verb.TheVariants as verb
@@ -44,6 +45,7 @@ use Rattle.kc_tool.specs.declared.tool_faults.ToolFault.TheVariants.{
   TooLarge,
   BrokenTable,
   ShortTable,
+  Unpaired,
 }
 use Rattle.kc_tool.specs.declared.command_line.Ending.{Ending}
 use Rattle.kc_tool.specs.declared.command_line.Ending.TheVariants.{Fault, Refused}
@@ -115,16 +117,37 @@ same_rows met e = cc
 same_verb : {found command : Verb} → Some found ≡ Some command → found ≡ command
 same_verb e = cc
 
--- a command was carried out
-pub command_done : {arguments : List Text} {old new : Surroundings} {outcome : Result Told ToolFault} {matches : ArgMatches}
-    {name : Text} {rows : List Row} {command : Verb} → AreTaken arguments matches → Some name ≡ subcommand_name_of matches
-    → Some rows ≡ option_map (λ p. p.1) (subcommand_rows_of matches) → Some command ≡ verb_named name → EndsSo command rows old new outcome
-    → DoesCommand arguments old new outcome
-command_done {arguments} {old} {new} {outcome} {matches} {name} {rows} {command} taken named found is ends =
+-- the arguments ask for the command that was found, with the options that were found
+pub asked_for : {arguments : List Text} {matches : ArgMatches} {name : Text} {rows : List Row} {command : Verb} → AreTaken arguments matches
+    → Some name ≡ subcommand_name_of matches → Some rows ≡ option_map (λ p. p.1) (subcommand_rows_of matches) → Some command ≡ verb_named name
+    → AskFor arguments command rows
+asked_for {arguments} {matches} {name} {rows} {command} taken named found is =
     let name_is : name ≡ name_of taken.command = same_name (name_of taken.command, taken.options) (named ∙ name_with_rows (out-ArgMatches matches).subcommand ∙ ap (option_map (λ p. p.0)) taken.entered) in
     let rows_are : rows ≡ taken.options = same_rows (name_of taken.command, taken.options) (found ∙ ap (option_map (λ p. p.1)) taken.entered) in
     let command_is : command ≡ taken.command = same_verb (is ∙ ap verb_named name_is ∙ verb_found taken.command) in
-    (taken.command, taken.options, taken.asked, subst (λ v. EndsSo v taken.options old new outcome) command_is (subst (λ v. EndsSo command v old new outcome) rows_are ends))
+    subst (λ v. AskFor arguments v rows) (sym command_is) (subst (λ v. AskFor arguments taken.command v) (sym rows_are) taken.asked)
+
+-- a command was carried out
+pub command_done : {arguments : List Text} {old new : Surroundings} {outcome : Result Told ToolFault} {rows : List Row} {command : Verb}
+    → AskFor arguments command rows → GoTogether command rows → EndsSo command rows old new outcome → DoesCommand arguments old new outcome
+command_done {rows = rows} {command} asked together ends = (command, rows, asked, together, ends)
+
+-- options that don't go together are those of a selection
+pub are_apart : {arguments : List Text} {rows : List Row} (why : PairsRefusal) (command : Verb) → AskFor arguments command rows → AreNotTogether command rows why
+    → AreApart arguments
+are_apart {rows = rows} why verb.Select asked apart = record { options = rows; asked = asked; reason = why; is = apart }
+are_apart why verb.Count asked apart = absurd apart
+are_apart why verb.Dump asked apart = absurd apart
+are_apart why verb.Histo asked apart = absurd apart
+are_apart why verb.Stats asked apart = absurd apart
+are_apart why verb.Query asked apart = absurd apart
+are_apart why verb.Merge asked apart = absurd apart
+are_apart why verb.Profile asked apart = absurd apart
+
+-- they refuse the arguments
+pub refused_apart : {arguments : List Text} (old : Surroundings) (ending : Ending) → AreApart arguments → RefusesSo ending → CarriesOut arguments old old (Err ending)
+refused_apart old (Refused text) apart so = (inr apart, refl)
+refused_apart old (Fault fault) apart so = inr (inr (so, refl))
 
 -- a name that `clap` takes is that of a command
 pub verb_known : {arguments : List Text} {matches : ArgMatches} {name : Text} → AreTaken arguments matches
@@ -169,13 +192,14 @@ shown input asked arguments error old new (Err (Fault Unlike)) h s = absurd s
 shown input asked arguments error old new (Err (Fault TooLarge)) h s = absurd s
 shown input asked arguments error old new (Err (Fault (BrokenTable place))) h s = absurd s
 shown input asked arguments error old new (Err (Fault (ShortTable place))) h s = absurd s
+shown input asked arguments error old new (Err (Fault (Unpaired number))) h s = absurd s
 shown input asked arguments error old new (Err (Refused text)) h s = (
-  record {
+  inl (record {
     reason = kind_of error;
     among = among (fault_of kcount_app arguments) error (kind_of error) h refl s.1;
     no_help = s.2;
     no_version = s.3;
-  },
+  }),
   ap (with_output input asked) s.0,
 )
 
@@ -202,6 +226,7 @@ some_status Unlike = omega arith
 some_status TooLarge = omega arith
 some_status (BrokenTable place) = omega arith
 some_status (ShortTable place) = omega arith
+some_status (Unpaired number) = omega arith
 
 pub small_status : (fault : ToolFault) → status_of fault ≤ 2
 small_status (BadOption name) = omega arith
@@ -220,6 +245,7 @@ small_status Unlike = omega arith
 small_status TooLarge = omega arith
 small_status (BrokenTable place) = omega arith
 small_status (ShortTable place) = omega arith
+small_status (Unpaired number) = omega arith
 
 -- How the program ends, by its status.
 module _ (watched : Bool) {arguments : List Text} {old new : Surroundings} {errors errors_after : Written}

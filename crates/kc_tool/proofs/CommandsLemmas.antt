@@ -1,37 +1,42 @@
 -- The commands and their tasks.
 use Rattle.std.proofs.Common.{◌≡◌, ◌≤◌, ◌∙◌, ◌++◌, Bor, List, [], ◌∷◌, Option, Some, None, length, map, take, refl, sym, ap, ap₂, subst, inl, inr, Result, Ok, Err, ℕ, true, false, arith, ⊎_elim}
 use Rattle.std.proofs.Common.{append_assoc, append-nil}
-use Rattle.std.specs.Prelude.{◌==◌, ◌⊎◌, unwrap_or, All}
+use Rattle.std.specs.Prelude.{◌==◌, ◌⊎◌, unwrap_or, All, Bool, codes, if◌then◌else◌, is_some}
 use Rattle.std.proofs.lemmas.List.{length-map, nil_from_length}
 use Rattle.std.proofs.lemmas.Bool.Decides.{nat_tests}
-use Rattle.clap.specs.Words.{Row, Text}
+use Rattle.clap.specs.Words.{Row, Text, first_of}
 use Rattle.kc_io.specs.History.{no_history}
 use Rattle.kc_io.specs.Sinks.{Written}
 use Rattle.kc_io.specs.Sources.{Seen}
 use Rattle.kc_tool.specs.Tallies.{TableSeen}
 use Rattle.kc_tool.specs.FileEvents.{FileEvent, opened}
 use Rattle.kc_tool.specs.NamedSources.{names_of, seen_of}
-use Rattle.kc_tool.specs.Files.{AreOf, AreOpened, FailsToOpen, FileRead, HasNoOutput, LacksFile, OpensAll, TellsName}
-use Rattle.kc_tool.specs.Files.{files_named, given_back, openings, output_of, returned, tried_alone, unread}
-use Rattle.kc_tool.specs.Outputs.{ClosesOutput, OpensOutput}
+use Rattle.kc_command.specs.Arguments.{has_pairs, has_two_files, is_given, pairs_refusal, refusal_of_outputs, refusal_of_pairs, refusal_of_reads}
+use Rattle.kc_command.specs.declared.pair_options.PairsRefusal.TheVariants as refusal
+use Rattle.kc_select.specs.declared.sides.Sides.{Sides}
+use Rattle.kc_tool.specs.Files.{AreOf, AreOpened, FailsToOpen, FileRead, HasNoOutput, HasNotBoth, LacksFile, OpensAll, TellsName}
+use Rattle.kc_tool.specs.Files.{files_named, given_back, openings, output2_of, output_of, returned, tried_alone, unread}
+use Rattle.kc_tool.specs.Outputs.{ClosesBoth, ClosesOutput, OpensBoth, OpensOutput, target}
+use Rattle.kc_tool.specs.PairSelections.{both}
 use Rattle.kc_tool.specs.Commands.{DoesByTally, HasFaultFor, HasNoAnswer, HasNoTallyFor, IsAnswer, Stage, told_about, told_of_count}
 use Rattle.kc_tool.specs.Told.{counted_of}
 use Rattle.kc_tool.specs.declared.told.CountedWords.{CountedWords}
 use Rattle.kc_tool.specs.declared.told.Told.{Told}
 use Rattle.kc_tool.specs.declared.told.Told.TheVariants as says
 use Rattle.kc_tool.specs.Commands.{Answers, Does, HasFilesFor, IsTallyFor, behind_list, given_of, sources_in}
-use Rattle.kc_tool.specs.Commands.{AsksForTask, DoesTaskInto, EndsSo, IsRefused, IsRefusedOption, KeepsInput, LacksOutput}
+use Rattle.kc_tool.specs.Commands.{AsksForTask, DoesApart, DoesTaskApart, DoesTaskInto, EndsSo, GoTogether, IsRefused, IsRefusedOption, KeepsInput, LacksOutput, LacksSecondFile, WritesTwo, behind_table, second_of}
 use Rattle.kc_tool.specs.Commands.{Surroundings, files_of, first_refused, stage_after, stage_before}
 use Rattle.kc_tool.specs.declared.named_sources.NamedSource.{NamedSource}
 use Rattle.kc_tool.specs.declared.tool_faults.ToolFault.{ToolFault}
-use Rattle.kc_tool.specs.declared.tool_faults.ToolFault.TheVariants.{Fastx, BadHeader, BadRow, BadEnd, TableTooLong, TableRead, Memory, BadOption, BadWord, Write, Run, OpenFailed, Unlike, TooLarge, BrokenTable, ShortTable}
+use Rattle.kc_tool.specs.declared.tool_faults.ToolFault.TheVariants.{Fastx, BadHeader, BadRow, BadEnd, TableTooLong, TableRead, Memory, BadOption, BadWord, Write, Run, OpenFailed, Unlike, TooLarge, BrokenTable, ShortTable, Unpaired}
 use Rattle.kc_tool.specs.declared.commands.Task.{Task}
-use Rattle.kc_tool.specs.declared.commands.Task.TheVariants.{Count, CountListed, Report, Query, Merge, Select}
+use Rattle.kc_tool.specs.declared.commands.Task.TheVariants.{Count, CountListed, Report, Query, Merge, Select, SelectPairs}
 use Rattle.kc_tool.specs.declared.commands.Verb.{Verb}
 use Rattle.kc_tool.specs.declared.commands.Verb.TheVariants as verb
 use Rattle.kc_tool.specs.Reports.{ReportsOn, report_of, report_text}
 use Rattle.kc_command.specs.Settings.{Settings}
 use Rattle.kc_tool.proofs.FilesLemmas.{PairedTo, unread_back}
+use Rattle.kc_tool.proofs.GivenLemmas.{same_input}
 use Rattle.kc_tool.proofs.ReportsLemmas.{text_fault}
 
 -- a task is done with sources that were opened, and they are given back
@@ -44,20 +49,24 @@ pub record DoesTask (sources : List (NamedSource Seen)) (task : Task) (old new :
   pub done : Does task (stage_before task old.input files old.output) (stage_after task new.input files new.output) outcome
 
 -- a task is done with sources that were opened, and writes to the given output; or, where a file is named for the
--- output, to that one, if it can be created, and the given output is as it was
-abbrev pub DoesTaskTo : Option Text → List (NamedSource Seen) → Task → Surroundings → Surroundings
+-- output, or two are, to these, if they can be created, and the given output is as it was
+abbrev pub DoesTaskTo : Option Text → Option Text → List (NamedSource Seen) → Task → Surroundings → Surroundings
     → Result Told ToolFault → Type 0
-DoesTaskTo None sources task old new outcome = DoesTask sources task old new outcome
-DoesTaskTo (Some name) sources task old new outcome = (new.output ≡ old.output)
+DoesTaskTo None second sources task old new outcome = DoesTask sources task old new outcome
+DoesTaskTo (Some name) None sources task old new outcome = (new.output ≡ old.output)
     × (DoesTaskInto name sources task old.input new.input old.asked new.asked outcome
-    ⊎ LacksOutput name sources old.input new.input old.asked new.asked outcome)
+    ⊎ LacksOutput (λ tried fault. HasNoOutput name tried fault) sources old.input new.input old.asked new.asked outcome)
+DoesTaskTo (Some name) (Some other) sources task old new outcome = (new.output ≡ old.output)
+    × (DoesTaskApart name other sources task old.input new.input old.asked new.asked outcome
+    ⊎ LacksOutput (λ tried fault. HasNotBoth name other tried fault) sources old.input new.input old.asked new.asked outcome)
 
--- files of these names are opened, and a task is done with them and the output of this name, where one is given; or not
--- all could be opened, and nothing was read or written
-abbrev pub OpensAndDoes : List Text → Option Text → Task → Surroundings → Surroundings → Result Told ToolFault → Type 0
-OpensAndDoes names output task old new outcome =
+-- files of these names are opened, and a task is done with them and the outputs of these names, where they are given; or
+-- not all could be opened, and nothing was read or written
+abbrev pub OpensAndDoes : List Text → Option Text → Option Text → Task → Surroundings → Surroundings
+    → Result Told ToolFault → Type 0
+OpensAndDoes names output second task old new outcome =
     ((opened : List FileEvent) × (sources : List (NamedSource Seen)) × OpensAll names old.asked opened sources
-    × DoesTaskTo output sources task (record { input = old.input; output = old.output; asked = opened }) new outcome)
+    × DoesTaskTo output second sources task (record { input = old.input; output = old.output; asked = opened }) new outcome)
     ⊎ ((fault : ToolFault) × (outcome ≡ Err fault) × FailsToOpen names old.asked new.asked fault
     × (new.input ≡ old.input) × (new.output ≡ old.output))
 
@@ -79,58 +88,107 @@ module _ (rows : List Row) where
   has_list : (name : Text) (files names : List Text) → names ≡ name ∷ files → 1 ≤ length names
   has_list name files names are = omega (arith, ap length are)
 
+  -- A table and two files are read where pairs are asked for.
+  two_files : (names : List Text) → has_pairs rows ≡ true → pairs_refusal rows ≡ None → names ≡ behind_table rows → length names ≡ 3
+  two_files names paired together are = pick (has_two_files rows) refl (ap (λ b. if b then refusal_of_pairs rows else refusal_of_reads rows) (sym paired) ∙ together) where
+    pick : (two : Bool) → has_two_files rows ≡ two
+        → (if two then refusal_of_outputs (first_of (codes "output") rows) (first_of (codes "output2") rows) else Some refusal.NotTwoFiles) ≡ None
+        → length names ≡ 3
+    pick true two e =
+        let counted : length (files_named rows) ≡ 2 = grind (arith, nat_tests) in
+        omega (arith, ap length are, counted)
+    pick false two e = cc
+
   -- A command has the files that its task wants.
-  has_files : (command : Verb) (task : Task) (names : List Text) → AsksForTask command rows task
+  has_files : (command : Verb) (task : Task) (names : List Text) → GoTogether command rows → AsksForTask command rows task
       → names ≡ files_of command rows → HasFilesFor task names
-  has_files verb.Count (Count settings) names asks are = tt
-  has_files verb.Count (CountListed settings) names asks are =
+  has_files verb.Count (Count settings) names together asks are = tt
+  has_files verb.Count (CountListed settings) names together asks are =
       has_list asks.1.0 (files_named rows) names (are ∙ ap (λ only. behind_list only (files_named rows)) asks.1.1)
-  has_files verb.Count (Report report) names asks are = absurd asks
-  has_files verb.Count (Query words) names asks are = absurd asks
-  has_files verb.Count Merge names asks are = absurd asks
-  has_files verb.Count (Select rule tells) names asks are = absurd asks
-  has_files verb.Dump (Count settings) names asks are = absurd asks
-  has_files verb.Dump (CountListed settings) names asks are = absurd asks
-  has_files verb.Dump (Report report) names asks are = one_of names (files_named rows) are
-  has_files verb.Dump (Query words) names asks are = absurd asks
-  has_files verb.Dump Merge names asks are = absurd asks
-  has_files verb.Dump (Select rule tells) names asks are = absurd asks
-  has_files verb.Histo (Count settings) names asks are = absurd asks
-  has_files verb.Histo (CountListed settings) names asks are = absurd asks
-  has_files verb.Histo (Report report) names asks are = one_of names (files_named rows) are
-  has_files verb.Histo (Query words) names asks are = absurd asks
-  has_files verb.Histo Merge names asks are = absurd asks
-  has_files verb.Histo (Select rule tells) names asks are = absurd asks
-  has_files verb.Stats (Count settings) names asks are = absurd asks
-  has_files verb.Stats (CountListed settings) names asks are = absurd asks
-  has_files verb.Stats (Report report) names asks are = one_of names (files_named rows) are
-  has_files verb.Stats (Query words) names asks are = absurd asks
-  has_files verb.Stats Merge names asks are = absurd asks
-  has_files verb.Stats (Select rule tells) names asks are = absurd asks
-  has_files verb.Query (Count settings) names asks are = absurd asks
-  has_files verb.Query (CountListed settings) names asks are = absurd asks
-  has_files verb.Query (Report report) names asks are = absurd asks
-  has_files verb.Query (Query words) names asks are = one_of names (files_named rows) are
-  has_files verb.Query Merge names asks are = absurd asks
-  has_files verb.Query (Select rule tells) names asks are = absurd asks
-  has_files verb.Merge (Count settings) names asks are = absurd asks
-  has_files verb.Merge (CountListed settings) names asks are = absurd asks
-  has_files verb.Merge (Report report) names asks are = absurd asks
-  has_files verb.Merge (Query words) names asks are = absurd asks
-  has_files verb.Merge Merge names asks are = ap length are
-  has_files verb.Merge (Select rule tells) names asks are = absurd asks
-  has_files verb.Select (Count settings) names asks are = absurd asks
-  has_files verb.Select (CountListed settings) names asks are = absurd asks
-  has_files verb.Select (Report report) names asks are = absurd asks
-  has_files verb.Select (Query words) names asks are = absurd asks
-  has_files verb.Select Merge names asks are = absurd asks
-  has_files verb.Select (Select rule tells) names asks are = has_list _ (files_named rows) names are
-  has_files verb.Profile (Count settings) names asks are = absurd asks
-  has_files verb.Profile (CountListed settings) names asks are = absurd asks
-  has_files verb.Profile (Report report) names asks are = absurd asks
-  has_files verb.Profile (Query words) names asks are = absurd asks
-  has_files verb.Profile Merge names asks are = absurd asks
-  has_files verb.Profile (Select rule tells) names asks are = has_list _ (files_named rows) names are
+  has_files verb.Count (Report report) names together asks are = absurd asks
+  has_files verb.Count (Query words) names together asks are = absurd asks
+  has_files verb.Count Merge names together asks are = absurd asks
+  has_files verb.Count (Select rule tells) names together asks are = absurd asks
+  has_files verb.Count (SelectPairs pairing) names together asks are = absurd asks
+  has_files verb.Dump (Count settings) names together asks are = absurd asks
+  has_files verb.Dump (CountListed settings) names together asks are = absurd asks
+  has_files verb.Dump (Report report) names together asks are = one_of names (files_named rows) are
+  has_files verb.Dump (Query words) names together asks are = absurd asks
+  has_files verb.Dump Merge names together asks are = absurd asks
+  has_files verb.Dump (Select rule tells) names together asks are = absurd asks
+  has_files verb.Dump (SelectPairs pairing) names together asks are = absurd asks
+  has_files verb.Histo (Count settings) names together asks are = absurd asks
+  has_files verb.Histo (CountListed settings) names together asks are = absurd asks
+  has_files verb.Histo (Report report) names together asks are = one_of names (files_named rows) are
+  has_files verb.Histo (Query words) names together asks are = absurd asks
+  has_files verb.Histo Merge names together asks are = absurd asks
+  has_files verb.Histo (Select rule tells) names together asks are = absurd asks
+  has_files verb.Histo (SelectPairs pairing) names together asks are = absurd asks
+  has_files verb.Stats (Count settings) names together asks are = absurd asks
+  has_files verb.Stats (CountListed settings) names together asks are = absurd asks
+  has_files verb.Stats (Report report) names together asks are = one_of names (files_named rows) are
+  has_files verb.Stats (Query words) names together asks are = absurd asks
+  has_files verb.Stats Merge names together asks are = absurd asks
+  has_files verb.Stats (Select rule tells) names together asks are = absurd asks
+  has_files verb.Stats (SelectPairs pairing) names together asks are = absurd asks
+  has_files verb.Query (Count settings) names together asks are = absurd asks
+  has_files verb.Query (CountListed settings) names together asks are = absurd asks
+  has_files verb.Query (Report report) names together asks are = absurd asks
+  has_files verb.Query (Query words) names together asks are = one_of names (files_named rows) are
+  has_files verb.Query Merge names together asks are = absurd asks
+  has_files verb.Query (Select rule tells) names together asks are = absurd asks
+  has_files verb.Query (SelectPairs pairing) names together asks are = absurd asks
+  has_files verb.Merge (Count settings) names together asks are = absurd asks
+  has_files verb.Merge (CountListed settings) names together asks are = absurd asks
+  has_files verb.Merge (Report report) names together asks are = absurd asks
+  has_files verb.Merge (Query words) names together asks are = absurd asks
+  has_files verb.Merge Merge names together asks are = ap length are
+  has_files verb.Merge (Select rule tells) names together asks are = absurd asks
+  has_files verb.Merge (SelectPairs pairing) names together asks are = absurd asks
+  has_files verb.Select (Count settings) names together asks are = absurd asks
+  has_files verb.Select (CountListed settings) names together asks are = absurd asks
+  has_files verb.Select (Report report) names together asks are = absurd asks
+  has_files verb.Select (Query words) names together asks are = absurd asks
+  has_files verb.Select Merge names together asks are = absurd asks
+  has_files verb.Select (Select rule tells) names together asks are = has_list _ (files_named rows) names are
+  has_files verb.Select (SelectPairs pairing) names together asks are = two_files names asks.2.0 together are
+  has_files verb.Profile (Count settings) names together asks are = absurd asks
+  has_files verb.Profile (CountListed settings) names together asks are = absurd asks
+  has_files verb.Profile (Report report) names together asks are = absurd asks
+  has_files verb.Profile (Query words) names together asks are = absurd asks
+  has_files verb.Profile Merge names together asks are = absurd asks
+  has_files verb.Profile (Select rule tells) names together asks are = has_list _ (files_named rows) names are
+  has_files verb.Profile (SelectPairs pairing) names together asks are = absurd asks
+
+-- Where a second output is named, pairs are asked for.
+no_reads : (rows : List Row) (other : Text) → has_pairs rows ≡ false → output2_of rows ≡ Some other → pairs_refusal rows ≡ None → ⊥
+no_reads rows other unpaired named together = pick (is_given (codes "keep") rows) (sym (ap (λ b. if b then refusal_of_pairs rows else refusal_of_reads rows) unpaired) ∙ together) where
+  second : is_given (codes "output2") rows ≡ true
+  second = ap is_some named
+
+  pick : (keep : Bool)
+      → (if keep then Some refusal.KeepAlone else if is_given (codes "output2") rows then Some refusal.Output2Alone else None) ≡ None → ⊥
+  pick true e = cc
+  pick false e =
+      let given : Some refusal.Output2Alone ≡ None = sym (ap (λ b. if b then Some refusal.Output2Alone else None) second) ∙ e in
+      cc
+
+pub writes_two : (rows : List Row) (command : Verb) (task : Task) (other : Text) → GoTogether command rows → AsksForTask command rows task
+    → second_of command rows ≡ Some other → WritesTwo task
+writes_two rows verb.Count task other together asks named = let none : ⊥ = cc in absurd none
+writes_two rows verb.Dump task other together asks named = let none : ⊥ = cc in absurd none
+writes_two rows verb.Histo task other together asks named = let none : ⊥ = cc in absurd none
+writes_two rows verb.Stats task other together asks named = let none : ⊥ = cc in absurd none
+writes_two rows verb.Query task other together asks named = let none : ⊥ = cc in absurd none
+writes_two rows verb.Merge task other together asks named = let none : ⊥ = cc in absurd none
+writes_two rows verb.Profile task other together asks named = let none : ⊥ = cc in absurd none
+writes_two rows verb.Select (Count settings) other together asks named = absurd asks
+writes_two rows verb.Select (CountListed settings) other together asks named = absurd asks
+writes_two rows verb.Select (Report report) other together asks named = absurd asks
+writes_two rows verb.Select (Query words) other together asks named = absurd asks
+writes_two rows verb.Select Merge other together asks named = absurd asks
+writes_two rows verb.Select (Select rule tells) other together asks named = absurd (no_reads rows other asks.2 named together)
+writes_two rows verb.Select (SelectPairs pairing) other together asks named = tt
 
 -- As many others are such files too.
 as_many : {X Y : Type 0} (task : Task) (files : List X) (others : List Y) → length files ≡ length others
@@ -141,6 +199,7 @@ as_many (Report report) files others same h = rw same at h
 as_many (Query words) files others same h = rw same at h
 as_many Merge files others same h = rw same at h
 as_many (Select rule tells) files others same h = rw same at h
+as_many (SelectPairs pairing) files others same h = rw same at h
 
 -- So are the files of these names.
 as_named : (task : Task) (names : List (Bor Text)) (sources : List (NamedSource Seen))
@@ -153,12 +212,12 @@ as_named task names sources are h =
 
 -- The files that a command opens are such as its task wants.
 pub has_opened : (command : Verb) (rows : List Row) (task : Task) (names : List (Bor Text)) {asked mid : List FileEvent} {sources : List (NamedSource Seen)}
-    → AsksForTask command rows task → map (λ name. name.now) names ≡ files_of command rows → OpensAll (map (λ name. name.now) names) asked mid sources
+    → GoTogether command rows → AsksForTask command rows task → map (λ name. name.now) names ≡ files_of command rows → OpensAll (map (λ name. name.now) names) asked mid sources
     → HasFilesFor task (seen_of (λ seen. seen) sources)
-has_opened command rows task names {sources = sources} asks named opens =
+has_opened command rows task names {sources = sources} together asks named opens =
     let many = length-map names (λ (name : Bor Text). name.now) in
     as_named task names sources opens.named
-    (as_many task (map (λ (name : Bor Text). name.now) names) names many (has_files rows command task _ asks named))
+    (as_many task (map (λ (name : Bor Text). name.now) names) names many (has_files rows command task _ together asks named))
 
 module _ (task : Task) (old new : Stage) where
   -- Nothing was written.
@@ -180,6 +239,7 @@ module _ (task : Task) (old new : Stage) where
   undone TooLarge other same why = (same, why)
   undone (BrokenTable place) other same why = (same, why)
   undone (ShortTable place) other same why = (same, why)
+  undone (Unpaired number) other same why = (same, why)
 
   -- The answer about the tally was written, or a beginning of it, or nothing.
   pub answered : (table : TableSeen) (outcome : Result Told ToolFault) → IsTallyFor old.given new.given task table
@@ -201,6 +261,7 @@ module _ (task : Task) (old new : Stage) where
   answered table (Err TooLarge) is h = (h.0, inr (table, is, h.1))
   answered table (Err (BrokenTable place)) is h = (h.0, inr (table, is, h.1))
   answered table (Err (ShortTable place)) is h = (h.0, inr (table, is, h.1))
+  answered table (Err (Unpaired number)) is h = (h.0, inr (table, is, h.1))
 
   -- So it is of the report on what was counted.
   pub reported : (settings : Settings) → ((table : TableSeen) → IsAnswer task table (report_text (report_of settings) table))
@@ -273,12 +334,17 @@ module _ (command : Verb) (rows : List Row) where
     unasked TooLarge refused = absurd refused
     unasked (BrokenTable place) refused = absurd refused
     unasked (ShortTable place) refused = absurd refused
+    unasked (Unpaired number) refused = absurd refused
 
-  told_so : (name : Text) (asked : List FileEvent) (fault : ToolFault) → first_refused command rows ≡ None → LacksFile (files_of command rows) (output_of rows) name asked
+  -- a file is lacking, for one of the two outputs or for another use
+  abbrev Lacking : Text → List FileEvent → Type 0
+  Lacking name asked = LacksFile (files_of command rows) (output_of rows) name asked ⊎ LacksSecondFile command rows name asked
+
+  told_so : (name : Text) (asked : List FileEvent) (fault : ToolFault) → first_refused command rows ≡ None → Lacking name asked
       → TellsName name fault → IsRefused command rows asked fault
-  told_so name asked (OpenFailed told) lawful lacks tells =
-      (lawful, subst (λ v. LacksFile (files_of command rows) (output_of rows) v asked) (sym tells) lacks)
-  told_so name asked Memory lawful lacks tells = inr (inl (name, lacks))
+  told_so name asked (OpenFailed told) lawful lacks tells = (lawful, subst (λ v. Lacking v asked) (sym tells) lacks)
+  told_so name asked Memory lawful (inl lacks) tells = inr (inl (name, lacks))
+  told_so name asked Memory lawful (inr lacks) tells = inr (inr (inr (inl (name, lacks))))
   told_so name asked (Fastx number fault) lawful lacks tells = absurd tells
   told_so name asked BadHeader lawful lacks tells = absurd tells
   told_so name asked (BadRow line) lawful lacks tells = absurd tells
@@ -293,14 +359,27 @@ module _ (command : Verb) (rows : List Row) where
   told_so name asked TooLarge lawful lacks tells = absurd tells
   told_so name asked (BrokenTable place) lawful lacks tells = absurd tells
   told_so name asked (ShortTable place) lawful lacks tells = absurd tells
+  told_so name asked (Unpaired number) lawful lacks tells = absurd tells
 
   -- There is no file for a text that is to go to the one of this name.
   no_output : {name : Text} (tried : List FileEvent) (fault : ToolFault) → output_of rows ≡ Some name → first_refused command rows ≡ None
       → HasNoOutput name tried fault → IsRefused command rows (tried_alone (files_of command rows) tried) fault
   no_output {name} tried fault named lawful (inl tells) =
-      told_so name (tried_alone (files_of command rows) tried) fault lawful (inr (named, (tried, tells.1, refl))) tells.0
+      told_so name (tried_alone (files_of command rows) tried) fault lawful (inl (inr (named, (tried, tells.1, refl)))) tells.0
   no_output {name} tried fault named lawful (inr lacks) =
-      subst (λ fault. IsRefused command rows (tried_alone (files_of command rows) tried) fault) (sym lacks.0) (inr (inr (name, named, (tried, lacks.1, refl))))
+      subst (λ fault. IsRefused command rows (tried_alone (files_of command rows) tried) fault) (sym lacks.0) (inr (inr (inl (name, named, (tried, lacks.1, refl)))))
+
+  -- There are no files for two texts that are to go to these.
+  not_both : {name other : Text} (tried : List FileEvent) (fault : ToolFault) → output_of rows ≡ Some name → second_of command rows ≡ Some other → first_refused command rows ≡ None
+      → HasNotBoth name other tried fault → IsRefused command rows (tried_alone (files_of command rows) tried) fault
+  not_both {name} {other} tried fault named second lawful (inl first) = no_output tried fault named lawful first
+  not_both {name} {other} tried fault named second lawful (inr (file, path, opening, none, closing, opens, why, gives, all)) = pick why where
+    pick : HasNoOutput other none fault → IsRefused command rows (tried_alone (files_of command rows) tried) fault
+    pick (inl tells) =
+        told_so other (tried_alone (files_of command rows) tried) fault lawful (inr (second, (name, named, (tried, (file, path, opening, none, closing, opens, tells.1, gives, all), refl)))) tells.0
+    pick (inr lacks) =
+        subst (λ fault. IsRefused command rows (tried_alone (files_of command rows) tried) fault) (sym lacks.0)
+        (inr (inr (inr (inr (other, second, (name, named, (tried, (file, path, opening, none, closing, opens, lacks.1, gives, all), refl)))))))
 
   -- A file that is to be read can't be opened.
   pub file_left : {old : Surroundings} {log : List FileEvent} {outcome : Result Told ToolFault} (fault : ToolFault) → outcome ≡ Err fault
@@ -313,7 +392,7 @@ module _ (command : Verb) (rows : List Row) where
     unwritten = refl;
     asked = fails.1;
     log = fails.3;
-    refused = told_so fails.0 fails.1 fault lawful (inl fails.2) fails.4;
+    refused = told_so fails.0 fails.1 fault lawful (inl (inl fails.2)) fails.4;
   })
   file_left {old} {log} fault is lawful (inr fails) = inr (record {
     fault = fault;
@@ -354,17 +433,17 @@ module _ (command : Verb) (rows : List Row) where
     })
 
     -- The file that is named for the output has it.
-    pub to_file : {name : Text} {input : Seen} {log : List FileEvent} → output_of rows ≡ Some name
+    to_file : {name : Text} {input : Seen} {log : List FileEvent} → output_of rows ≡ Some name → second_of command rows ≡ None
         → DoesTaskInto name sources task old.input input mid log outcome
         → EndsSo command rows old (record { input = input; output = old.output; asked = log }) outcome
-    to_file {name} {input} {log} named does =
+    to_file {name} {input} {log} named second does =
         inl (record {
           task = task;
           asks = asks;
           files = does.files;
           opened = opened_files opens does.files does.are;
           input = does.input_kept;
-          done = rw named (
+          done = rw (named, second) (
             refl,
             (
               does.there,
@@ -374,11 +453,33 @@ module _ (command : Verb) (rows : List Row) where
           );
         })
 
-    -- There is no file for its text.
-    pub output_left : {name : Text} {input : Seen} {log : List FileEvent} → output_of rows ≡ Some name → first_refused command rows ≡ None
-        → LacksOutput name sources old.input input mid log outcome
+    -- The two files that are named for the outputs have it.
+    to_files : {name other : Text} {input : Seen} {log : List FileEvent} → output_of rows ≡ Some name → second_of command rows ≡ Some other
+        → DoesTaskApart name other sources task old.input input mid log outcome
         → EndsSo command rows old (record { input = input; output = old.output; asked = log }) outcome
-    output_left {name} {input} {log} named lawful lacks =
+    to_files {name} {other} {input} {log} named second does =
+        inl (record {
+          task = task;
+          asks = asks;
+          files = does.files;
+          opened = opened_files opens does.files does.are;
+          input = does.input_kept;
+          done = rw (named, second) (
+            refl,
+            (
+              does.there,
+              does.log ∙ ap (λ v. v ++ does.there) (opening_log opens does.files does.are),
+              does.writes,
+            ),
+          );
+        })
+
+    -- There is no file for its text, or there are none for its two texts.
+    output_left : {Lacks : List FileEvent → ToolFault → Type 0} {input : Seen} {log : List FileEvent}
+        → ((tried : List FileEvent) (fault : ToolFault) → Lacks tried fault → IsRefused command rows (tried_alone (files_of command rows) tried) fault)
+        → LacksOutput Lacks sources old.input input mid log outcome
+        → EndsSo command rows old (record { input = input; output = old.output; asked = log }) outcome
+    output_left {Lacks} {input} {log} refuses lacks =
         let names = files_of command rows in
         let back : given_back sources ≡ unread names = unread_back sources opens.fresh ∙ ap unread opens.named in
         inr (record {
@@ -390,32 +491,44 @@ module _ (command : Verb) (rows : List Row) where
           log = lacks.log ∙ ap₂ (λ v w. v ++ lacks.tried ++ w) opens.log back
               ∙ ap (λ v. v ++ unread names) (append_assoc old.asked (map opened names) lacks.tried)
               ∙ append_assoc old.asked (map opened names ++ lacks.tried) (unread names);
-          refused = no_output lacks.tried lacks.fault named lawful lacks.why;
+          refused = refuses lacks.tried lacks.fault lacks.why;
         })
 
     -- The file that is named for the output has it, or can't be created.
-    pub into_ends : {name : Text} {input : Seen} {log : List FileEvent} → output_of rows ≡ Some name → first_refused command rows ≡ None
-        → DoesTaskInto name sources task old.input input mid log outcome ⊎ LacksOutput name sources old.input input mid log outcome
+    into_ends : {name : Text} {input : Seen} {log : List FileEvent} → output_of rows ≡ Some name → second_of command rows ≡ None → first_refused command rows ≡ None
+        → DoesTaskInto name sources task old.input input mid log outcome
+        ⊎ LacksOutput (λ tried fault. HasNoOutput name tried fault) sources old.input input mid log outcome
         → EndsSo command rows old (record { input = input; output = old.output; asked = log }) outcome
-    into_ends named lawful (inl does) = to_file named does
-    into_ends named lawful (inr lacks) = output_left named lawful lacks
+    into_ends named second lawful (inl does) = to_file named second does
+    into_ends named second lawful (inr lacks) = output_left (λ tried fault why. no_output tried fault named lawful why) lacks
 
-    -- The output, or the file that is named for it, has the answer.
-    done_to : {new : Surroundings} (output : Option Text) → output_of rows ≡ output → first_refused command rows ≡ None
-        → DoesTaskTo output sources task (record { input = old.input; output = old.output; asked = mid }) new outcome
+    -- The two files that are named for the outputs have it, or can't be created.
+    apart_ends : {name other : Text} {input : Seen} {log : List FileEvent} → output_of rows ≡ Some name → second_of command rows ≡ Some other → first_refused command rows ≡ None
+        → DoesTaskApart name other sources task old.input input mid log outcome
+        ⊎ LacksOutput (λ tried fault. HasNotBoth name other tried fault) sources old.input input mid log outcome
+        → EndsSo command rows old (record { input = input; output = old.output; asked = log }) outcome
+    apart_ends named second lawful (inl does) = to_files named second does
+    apart_ends named second lawful (inr lacks) = output_left (λ tried fault why. not_both tried fault named second lawful why) lacks
+
+    -- The output, or the files that are named for it, have the answer.
+    done_to : {new : Surroundings} (output second : Option Text) → output_of rows ≡ output → second_of command rows ≡ second → first_refused command rows ≡ None
+        → DoesTaskTo output second sources task (record { input = old.input; output = old.output; asked = mid }) new outcome
         → EndsSo command rows old new outcome
-    done_to None named lawful does = to_output named does
-    done_to {new} (Some name) named lawful does =
+    done_to None second named more lawful does = to_output named does
+    done_to {new} (Some name) None named more lawful does =
         subst (λ v. EndsSo command rows old (record { input = new.input; output = v; asked = new.asked }) outcome) (sym does.0)
-        (into_ends named lawful does.1)
+        (into_ends named more lawful does.1)
+    done_to {new} (Some name) (Some other) named more lawful does =
+        subst (λ v. EndsSo command rows old (record { input = new.input; output = v; asked = new.asked }) outcome) (sym does.0)
+        (apart_ends named more lawful does.1)
 
   -- The task of a command was done, or not all its files could be opened.
-  pub command_ends : {old new : Surroundings} (task : Task) {names : List Text} {output : Option Text} {outcome : Result Told ToolFault}
-      → AsksForTask command rows task → first_refused command rows ≡ None → names ≡ files_of command rows → output_of rows ≡ output
-      → OpensAndDoes names output task old new outcome → EndsSo command rows old new outcome
-  command_ends {old} {new} task {names} {output} {outcome} asks lawful named same (inl does) =
-      done_to task asks (subst (λ v. OpensAll v old.asked does.0 does.1) named does.2) output same lawful does.3
-  command_ends {old} {new} task {names} {output} {outcome} asks lawful named same (inr fails) =
+  pub command_ends : {old new : Surroundings} (task : Task) {names : List Text} {output second : Option Text} {outcome : Result Told ToolFault}
+      → AsksForTask command rows task → first_refused command rows ≡ None → names ≡ files_of command rows → output_of rows ≡ output → second_of command rows ≡ second
+      → OpensAndDoes names output second task old new outcome → EndsSo command rows old new outcome
+  command_ends {old} {new} task {names} {output} {second} {outcome} asks lawful named same more (inl does) =
+      done_to task asks (subst (λ v. OpensAll v old.asked does.0 does.1) named does.2) output second same more lawful does.3
+  command_ends {old} {new} task {names} {output} {second} {outcome} asks lawful named same more (inr fails) =
       let left = file_left fails.0 fails.1 lawful (subst (λ v. FailsToOpen v old.asked new.asked fails.0) named fails.2) in
       subst (λ v. EndsSo command rows old (record { input = v; output = new.output; asked = new.asked }) outcome) (sym fails.3)
       (subst (λ v. EndsSo command rows old (record { input = old.input; output = v; asked = new.asked }) outcome) (sym fails.4) left)
@@ -459,11 +572,47 @@ done_into {sources} {task} {input} {input_after} {asked} {mid} {back} {asked_aft
           ∙ append_assoc asked (opening ++ given) closing;
     }
 
--- There is no file for its text.
-pub not_into : {sources : List (NamedSource Seen)} {input : Seen} {asked mid asked_after tried : List FileEvent} {name : Text} (fault : ToolFault)
-    → mid ≡ asked ++ tried → HasNoOutput name tried fault → asked_after ≡ mid ++ given_back sources
-    → LacksOutput name sources input input asked asked_after (Err fault)
-not_into {sources} {input} {asked} {mid} {asked_after} {tried} fault opens why back = record {
+-- A task was done, and its two texts went to the files of these names.
+pub done_apart : {sources later : List (NamedSource Seen)} {task : Task} {input : Seen} {asked mid back asked_after : List FileEvent} (files : List FileRead) (opening closing : List FileEvent)
+    {file other : Text} (name : Text) (path : Option Text) (second : Text) (second_path : Option Text) (from to : Sides Written) (work : Result Told ToolFault) {outcome : Result Told ToolFault} → PairedTo sources later files
+    → mid ≡ asked ++ opening → OpensBoth file other name path second second_path opening → from.first.history ≡ no_history → from.second.history ≡ no_history
+    → DoesApart task (given_of task input (seen_of (λ seen. seen) sources)) (given_of task input (seen_of (λ seen. seen) later)) from to work
+    → back ≡ mid ++ given_back later → asked_after ≡ back ++ closing → ClosesBoth (both (target name path to.first.history) (target second second_path to.second.history)) work outcome closing
+    → DoesTaskApart file other sources task input input asked asked_after outcome
+done_apart {sources} {later} {task} {input} {asked} {mid} {back} {asked_after} files opening closing name path second second_path from to work {outcome}
+    paired opens goes first_fresh second_fresh done gives closes closed =
+    let given = returned files in
+    let log : back ≡ mid ++ given = gives ∙ ap (λ v. mid ++ v) (sym paired.log) in
+    record {
+      files = files;
+      are = paired.are;
+      input_kept = same_input input _;
+      there = opening ++ given ++ closing;
+      writes = record {
+        first = record { name = name; before = from.first; after = to.first };
+        second = record { name = second; before = from.second; after = to.second };
+        first_fresh = first_fresh;
+        second_fresh = second_fresh;
+        path = path;
+        second_path = second_path;
+        opening = opening;
+        opened = goes;
+        work = work;
+        done = subst (λ v. DoesApart task (given_of task input v) (given_of task input (map (λ file. file.after) files)) from to work) (sym paired.are.before)
+            (subst (λ v. DoesApart task (given_of task input (seen_of (λ seen. seen) sources)) (given_of task input v) from to work) (sym paired.after) done);
+        closing = closing;
+        closed = closed;
+        log = refl;
+      };
+      log = closes ∙ ap (λ v. v ++ closing) (log ∙ ap (λ v. v ++ given) opens ∙ append_assoc asked opening given)
+          ∙ append_assoc asked (opening ++ given) closing;
+    }
+
+-- There is no file for its text, or there are none for its two texts.
+pub not_into : {Lacks : List FileEvent → ToolFault → Type 0} {sources : List (NamedSource Seen)} {input : Seen} {asked mid asked_after : List FileEvent} (tried : List FileEvent) (fault : ToolFault)
+    → mid ≡ asked ++ tried → Lacks tried fault → asked_after ≡ mid ++ given_back sources
+    → LacksOutput Lacks sources input input asked asked_after (Err fault)
+not_into {Lacks} {sources} {input} {asked} {mid} {asked_after} tried fault opens why back = record {
   fault = fault;
   is = refl;
   unread = refl;

@@ -9,6 +9,7 @@ pub mod GivenLemmas
 pub mod InputsLemmas
 pub mod MergedReportsLemmas
 pub mod OutputLemmas
+pub mod PairSelectionsLemmas
 pub mod PlaceLemmas
 pub mod ReadCountLemmas
 pub mod ReportsLemmas

@@ -4,8 +4,9 @@ use Rattle.std.specs.Prelude.{false, IfErr, IfOk}
 use Rattle.clap.specs.Words.{Text}
 use Rattle.kc_io.specs.History.{no_history}
 use Rattle.kc_tool.specs.FileEvents.{FileEvent, created, followed, not_made, wrote}
-use Rattle.kc_tool.specs.Files.{FailsBeside, HasNoOutput, TellsName}
-use Rattle.kc_tool.specs.Outputs.{MakesBeside, OpensOutput, beside, is_of_system, looks_at, most_tries, taken_beside}
+use Rattle.kc_tool.specs.Files.{FailsBeside, HasNoOutput, HasNotBoth, TellsName}
+use Rattle.kc_tool.specs.Outputs.{Discards, MakesBeside, OpensOutput}
+use Rattle.kc_tool.specs.Outputs.{beside, is_of_system, looks_at, most_tries, taken_beside}
 use Rattle.kc_tool.specs.declared.files.NotMade.TheVariants as why
 use Rattle.kc_tool.specs.declared.tool_faults.ToolFault.{ToolFault}
 
@@ -63,3 +64,31 @@ module _ (old : List FileEvent) (file path : Text) {opened closed led : List Fil
     lacks : FailsBeside file path fails.0 fault → HasNoOutput file (looks_at file path ++ fails.0) fault
     lacks (inl none) = inl (none.0, inr (inr (path, fails.0, none.1, refl)))
     lacks (inr short) = inr (short.0, inr (path, fails.0, short.1, refl))
+
+-- ---- two texts
+
+-- What was asked of files between two times is such.
+abbrev pub HasAsked : (List FileEvent → Type 0) → List FileEvent → List FileEvent → Type 0
+HasAsked Is old new = (asked : List FileEvent) × (new ≡ old ++ asked) × Is asked
+
+-- There is no file for the first text.
+pub first_lacking : {A : Type 0} (old : List FileEvent) {new : List FileEvent} (first second : Text) {told fault : ToolFault} (answer : Result A ToolFault) → answer ≡ Err told
+    → told ≡ fault → HasAsked (λ tried. HasNoOutput first tried fault) old new
+    → IfErr answer (λ fault. HasAsked (λ tried. HasNotBoth first second tried fault) old new)
+first_lacking old {new} first second answer is same lacks =
+    subst (λ v. IfErr v (λ fault. HasAsked (λ tried. HasNotBoth first second tried fault) old new)) (sym (is ∙ ap Err same))
+    (lacks.0, lacks.1, inl lacks.2)
+
+-- There is no file for the second text, and that for the first one is given up.
+pub no_second : (old : List FileEvent) {opened tried closed new : List FileEvent} (first second name : Text) (path : Option Text) (fault : ToolFault)
+    → HasAsked (OpensOutput first name path) old opened → HasAsked (λ none. HasNoOutput second none fault) opened tried
+    → closed ≡ tried ++ wrote name no_history ∷ [] → HasAsked (Discards name path) closed new
+    → HasAsked (λ tried. HasNotBoth first second tried fault) old new
+no_second old {opened} {tried} {closed} {new} first second name path fault opens none closes discards =
+    let end = wrote name no_history ∷ discards.0 in
+    let before : tried ≡ old ++ (opens.0 ++ none.0) = none.1 ∙ ap (λ v. v ++ none.0) opens.1 ∙ append_assoc old opens.0 none.0 in (
+      opens.0 ++ none.0 ++ end,
+      discards.1 ∙ ap (λ v. v ++ discards.0) closes ∙ append_assoc tried (wrote name no_history ∷ []) discards.0
+          ∙ ap (λ v. v ++ end) before ∙ append_assoc old (opens.0 ++ none.0) end,
+      inr (name, path, opens.0, none.0, end, opens.2, none.2, (discards.0, discards.2, refl), refl),
+    )

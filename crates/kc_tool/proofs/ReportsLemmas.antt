@@ -10,7 +10,7 @@ use Rattle.kc_command.specs.Settings.{Settings, rule_of}
 use Rattle.kc_tool.specs.declared.tool_faults.ToolFault.{ToolFault}
 use Rattle.kc_tool.specs.declared.tool_faults.ToolFault.TheVariants.{Fastx, BadHeader, BadRow, BadEnd, TableTooLong}
 use Rattle.kc_tool.specs.declared.tool_faults.ToolFault.TheVariants.{TableRead, Memory, BadOption, BadWord, Write, Run}
-use Rattle.kc_tool.specs.declared.tool_faults.ToolFault.TheVariants.{OpenFailed, Unlike, TooLarge, BrokenTable, ShortTable}
+use Rattle.kc_tool.specs.declared.tool_faults.ToolFault.TheVariants.{OpenFailed, Unlike, TooLarge, BrokenTable, ShortTable, Unpaired}
 use Rattle.kc_tool.specs.declared.told.CountedWords.{CountedWords}
 use Rattle.kc_tool.proofs.SourcesLemmas.{gave_list, not_counted}
 
@@ -33,6 +33,7 @@ text_fault A text old new Unlike h = absurd h
 text_fault A text old new TooLarge h = absurd h
 text_fault A text old new (BrokenTable place) h = absurd h
 text_fault A text old new (ShortTable place) h = absurd h
+text_fault A text old new (Unpaired number) h = absurd h
 
 -- So it is whatever is answered of a text that is written.
 pub still_fault : (A B : Type 0) (text : List ℕ) (old new : Written) (fault : ToolFault) → WritesText {A = A} text old new (Err fault)

@@ -24,7 +24,7 @@ use Rattle.kc_select.specs.Texts.{text_of_selected, selected_text}
 use Rattle.kc_tool.specs.GivenSources.{ReadsAt}
 use Rattle.kc_tool.specs.Selections.{all_records, GaveRecords, SelectsFrom, SelectsNext, StopsAt, task_within}
 use Rattle.kc_tool.specs.declared.tool_faults.ToolFault.{ToolFault}
-use Rattle.kc_tool.specs.declared.tool_faults.ToolFault.TheVariants.{Fastx, BadHeader, BadRow, BadEnd, TableTooLong, TableRead, Memory, BadOption, BadWord, Write, Run, OpenFailed, Unlike, TooLarge, BrokenTable, ShortTable}
+use Rattle.kc_tool.specs.declared.tool_faults.ToolFault.TheVariants.{Fastx, BadHeader, BadRow, BadEnd, TableTooLong, TableRead, Memory, BadOption, BadWord, Write, Run, OpenFailed, Unlike, TooLarge, BrokenTable, ShortTable, Unpaired}
 
 -- ---- the text of several lists of records
 
@@ -257,6 +257,7 @@ module _ {rule : SelectionRule} {tally : TallySeen} {old new : List Seen} {befor
   selected_no_more TooLarge h = absurd h
   selected_no_more (BrokenTable place) h = absurd h
   selected_no_more (ShortTable place) h = absurd h
+  selected_no_more (Unpaired number) h = absurd h
 
 -- The selected reads of all sources were written.
 pub selected_all : {rule : SelectionRule} {tally : TallySeen} {old new : List Seen} {before after : Written}

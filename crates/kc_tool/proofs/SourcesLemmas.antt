@@ -41,7 +41,7 @@ use Rattle.kc_tool.proofs.ReadCountLemmas.{read_count-within}
 use Rattle.kc_tool.proofs.TalliesLemmas.{few_batches, few_enough, small_cutting, small_enough}
 use Rattle.kc_tool.specs.Tallies.{Given, given, kept_to, origin_of, pieces_of, reader_lacks_memory}
 use Rattle.kc_tool.specs.declared.tool_faults.ToolFault.{ToolFault}
-use Rattle.kc_tool.specs.declared.tool_faults.ToolFault.TheVariants.{Fastx, BadHeader, BadRow, BadEnd, TableTooLong, TableRead, Memory, BadOption, BadWord, Write, Run, OpenFailed, Unlike, TooLarge, BrokenTable, ShortTable}
+use Rattle.kc_tool.specs.declared.tool_faults.ToolFault.TheVariants.{Fastx, BadHeader, BadRow, BadEnd, TableTooLong, TableRead, Memory, BadOption, BadWord, Write, Run, OpenFailed, Unlike, TooLarge, BrokenTable, ShortTable, Unpaired}
 
 -- A list changes neither the length of the words nor the pieces.
 pub k-kept : (list : Option (List ℕ)) (rule : CountingRule) → (kept_to list rule).k ≡ rule.k
@@ -263,6 +263,7 @@ module _ {S : Type 0} (seen : S → Seen) (input after : Seen) (empty : input.le
   refused_without files later none same unfailed still settings TooLarge other h = absurd h
   refused_without files later none same unfailed still settings (BrokenTable place) other h = absurd h
   refused_without files later none same unfailed still settings (ShortTable place) other h = absurd h
+  refused_without files later none same unfailed still settings (Unpaired number) other h = absurd h
 
   pub refused_alone : (files later : List (NamedSource S)) → (files ≡ [] → ⊥) → names_of later ≡ names_of files
       → (settings : Settings) (fault : ToolFault)
@@ -305,6 +306,7 @@ module _ (list : Option (List ℕ)) (before after : Option Seen) (old new : List
   sources_refused TooLarge h = inr (record { list = list; listed = listed; refused = h })
   sources_refused (BrokenTable place) h = inr (record { list = list; listed = listed; refused = h })
   sources_refused (ShortTable place) h = inr (record { list = list; listed = listed; refused = h })
+  sources_refused (Unpaired number) h = inr (record { list = list; listed = listed; refused = h })
 
 -- The list has no reads.
 pub list_refused : (before after : Seen) (sources : List Seen) (settings : Settings) (fault : ToolFault)
@@ -326,6 +328,7 @@ list_refused before after sources settings Unlike h = absurd h
 list_refused before after sources settings TooLarge h = absurd h
 list_refused before after sources settings (BrokenTable place) h = absurd h
 list_refused before after sources settings (ShortTable place) h = absurd h
+list_refused before after sources settings (Unpaired number) h = absurd h
 
 -- The same, where the list was read for good.
 pub list_left : (source : Option Seen) (sources : List Seen) (settings : Settings) (fault : ToolFault) → ListFailsIn source fault

@@ -1,6 +1,6 @@
 -- How the program ends, for each command line: source, the README ("The exit status") and our formats page.
 use Rattle.std.specs.Prelude.{◌≡◌, ◌≢◌, ◌⊎◌, ℕ, Bool, true, List, [], ◌++◌, Some, Result, Ok, Err, codes}
-use Rattle.std.specs.Prelude.{string_bytes}
+use Rattle.std.specs.Prelude.{string_bytes, ⊤}
 use Rattle.clap.specs.Faults.{fault_of}
 use Rattle.clap.specs.Kinds.{IsAmong}
 use Rattle.clap.specs.Words.{Row, Text, kind_of, one_of, subcommand_of, subcommand_rows_of}
@@ -9,14 +9,16 @@ use Rattle.clap.specs.declared.error.Error.{Error}
 use Rattle.clap.specs.declared.error.kind.ErrorKind.{ErrorKind}
 use Rattle.clap.specs.declared.error.kind.ErrorKind.TheVariants.{DisplayHelp, DisplayVersion, OutOfMemory}
 use Rattle.kc_io.specs.Sinks.{Written, HasWritten, HasBegun}
-use Rattle.kc_command.specs.Arguments.{IsFlag}
+use Rattle.kc_command.specs.Arguments.{IsFlag, pairs_refusal}
 use Rattle.kc_command.specs.Command.{kcount_app}
+use Rattle.kc_command.specs.declared.pair_options.PairsRefusal.{PairsRefusal}
 use Rattle.kc_tool.specs.FaultLines.{fault_line}
-use Rattle.kc_tool.specs.Commands.{EndsSo, Surroundings, name_of}
+use Rattle.kc_tool.specs.Commands.{EndsSo, GoTogether, Surroundings, name_of}
 use Rattle.kc_tool.specs.Told.{IsClosing, asked_line}
 use Rattle.kc_tool.specs.declared.told.Told.{Told}
 use Rattle.kc_tool.specs.declared.told.Told.TheVariants.{Nothing}
 use Rattle.kc_tool.specs.declared.commands.Verb.{Verb}
+use Rattle.kc_tool.specs.declared.commands.Verb.TheVariants.{Select}
 use Rattle.kc_tool.specs.declared.tool_faults.ToolFault.{ToolFault}
 use Rattle.kc_tool.specs.declared.tool_faults.ToolFault.TheVariants.{Memory, BadOption, Write}
 use Rattle.kc_tool.specs.declared.command_line.Ending.{Ending}
@@ -34,8 +36,8 @@ abbrev pub AskForHelp : List Text → Type 0
 AskForHelp arguments =
     IsAmong DisplayHelp (fault_of kcount_app arguments) ⊎ IsAmong DisplayVersion (fault_of kcount_app arguments)
 
--- the arguments are no command line of kcount
-pub record AreRefused (arguments : List Text) : Type 0 where
+-- `clap` takes the arguments for no command line of kcount
+pub record AreNoCommandLine (arguments : List Text) : Type 0 where
   pub reason : ErrorKind
   pub among : IsAmong reason (fault_of kcount_app arguments)
   pub no_help : reason ≢ DisplayHelp
@@ -46,6 +48,17 @@ pub record AskFor (arguments : List Text) (command : Verb) (options : List Row) 
   pub accepted : fault_of kcount_app arguments ≡ []
   pub named : subcommand_of kcount_app arguments ≡ Some (name_of command, options)
 
+-- the arguments ask for a selection, whose options don't go together, for this reason
+pub record AreApart (arguments : List Text) : Type 0 where
+  pub options : List Row
+  pub asked : AskFor arguments Select options
+  pub reason : PairsRefusal
+  pub is : pairs_refusal options ≡ Some reason
+
+-- the arguments are no command line of kcount
+abbrev pub AreRefused : List Text → Type 0
+AreRefused arguments = AreNoCommandLine arguments ⊎ AreApart arguments
+
 -- `clap` takes the arguments, for a command with these options
 pub record AreTaken (arguments : List Text) (matches : ArgMatches) : Type 0 where
   pub command : Verb
@@ -53,10 +66,10 @@ pub record AreTaken (arguments : List Text) (matches : ArgMatches) : Type 0 wher
   pub asked : AskFor arguments command options
   pub entered : subcommand_rows_of matches ≡ Some (name_of command, options)
 
--- the arguments ask for a command, and this is what comes of it
+-- the arguments ask for a command with options that go together, and this is what comes of it
 abbrev pub DoesCommand : List Text → Surroundings → Surroundings → Result Told ToolFault → Type 0
 DoesCommand arguments old new outcome = (command : Verb) × (options : List Row)
-    × AskFor arguments command options × EndsSo command options old new outcome
+    × AskFor arguments command options × GoTogether command options × EndsSo command options old new outcome
 
 -- something happens to the output alone: the input is as it was, and nothing was asked of files
 pub record ToOutputAlone (old new : Surroundings) (Happens : Written → Written → Type 0) : Type 0 where
@@ -96,6 +109,11 @@ ShowsSo error old new (Err (Fault Memory)) = new ≡ old
 ShowsSo error old new (Err (Fault fault)) = ⊥
 ShowsSo error old new (Err (Refused text)) = (new ≡ old) × (kind_of error ≢ OutOfMemory)
     × (kind_of error ≢ DisplayHelp) × (kind_of error ≢ DisplayVersion)
+
+-- options that don't go together refuse the arguments, unless memory is refused
+abbrev pub RefusesSo : Ending → Type 0
+RefusesSo (Refused text) = ⊤
+RefusesSo (Fault fault) = fault ≡ Memory
 
 -- what is done with the arguments: the command or the help; or there was a fault; or they are refused, and nothing was
 -- read, written or asked of files

@@ -15,18 +15,24 @@ use Rattle.kc_report.specs.TableReading.{GivesTable, RefusesTable}
 use Rattle.kc_report.specs.Merging.{Merges}
 use Rattle.kc_command.specs.Arguments.{AsksFor, AsksForDump, first_bad, first_bad_of_dump, first_bad_of_histo, high_of}
 use Rattle.kc_command.specs.Arguments.{first_table_of, only_of, second_table_of, AsksForSelection, IsFlag}
-use Rattle.kc_command.specs.Arguments.{AsksForProfile, first_bad_of_profile, first_bad_of_select}
+use Rattle.kc_command.specs.Arguments.{AsksForPairs, AsksForProfile, first_bad_of_profile, first_bad_of_select}
+use Rattle.kc_command.specs.Arguments.{pairs_refusal}
 use Rattle.kc_select.specs.Solid.{SelectionRule}
+use Rattle.kc_select.specs.SelectingPairs.{SelectsApart, SelectsInterleaved}
 use Rattle.kc_select.specs.declared.selection_counts.SelectionCounts.{SelectionCounts}
+use Rattle.kc_select.specs.declared.sides.Sides.{Sides}
+use Rattle.kc_tool.specs.PairSelections.{Selecting, SelectsPairsFrom, both, pairs_task}
 use Rattle.kc_tool.specs.Selections.{SelectsFrom}
 use Rattle.kc_tool.specs.Told.{counted_of, counted_with}
 use Rattle.kc_command.specs.declared.option_name.OptionName.{OptionName}
+use Rattle.kc_command.specs.declared.pair_options.PairsRefusal.{PairsRefusal}
 use Rattle.kc_command.specs.declared.settings.Print.TheVariants as print
 use Rattle.kc_tool.specs.Faults.{report_fault, table_fault}
 use Rattle.kc_tool.specs.FileEvents.{FileEvent}
-use Rattle.kc_tool.specs.Files.{AreOf, AreOpened, FileRead, FileWritten, HasNoOutput, LacksFile, LacksRoom}
-use Rattle.kc_tool.specs.Files.{files_named, given_back, openings, output_of, returned, words_asked}
-use Rattle.kc_tool.specs.Outputs.{ClosesOutput, OpensOutput}
+use Rattle.kc_tool.specs.Files.{AreOf, AreOpened, FileRead, FileWritten, LacksFile, LacksRoom, LacksSecond}
+use Rattle.kc_tool.specs.Files.{files_named, given_back, openings, output2_of, output_of, returned, words_asked}
+use Rattle.kc_tool.specs.Outputs.{ClosesBoth, ClosesOutput, LacksRoomForOutput, OpensBoth, OpensNoOutput}
+use Rattle.kc_tool.specs.Outputs.{OpensOutput, target}
 use Rattle.kc_tool.specs.declared.named_sources.NamedSource.{NamedSource}
 use Rattle.kc_tool.specs.Reports.{IsWritable, report_of, report_text}
 use Rattle.kc_tally.specs.Tally.{TallySeen}
@@ -39,6 +45,8 @@ use Rattle.kc_tool.specs.declared.told.Told.{Told}
 use Rattle.kc_tool.specs.declared.told.Told.TheVariants as says
 use Rattle.kc_tool.specs.declared.commands.Task.{Task}
 use Rattle.kc_tool.specs.declared.commands.Task.TheVariants.{Count, CountListed, Report, Query, Merge, Select}
+use Rattle.kc_tool.specs.declared.commands.Task.TheVariants.{SelectPairs}
+use Rattle.kc_tool.specs.declared.paired_sources.Pairing.{Pairing}
 use Rattle.kc_tool.specs.declared.commands.Verb.{Verb}
 use Rattle.kc_tool.specs.declared.commands.Verb.TheVariants as verb
 
@@ -112,6 +120,7 @@ sources_from input (file ∷ files) = file ∷ files
 abbrev pub own_of : Task → ℕ
 own_of (CountListed settings) = 1
 own_of (Select rule tells) = 1
+own_of (SelectPairs pairing) = 1
 own_of task = 0
 
 -- of the files of a task the first is its list, or its table, where it has one beside its sources, and the others are
@@ -119,6 +128,7 @@ own_of task = 0
 abbrev pub sources_in : Task → List Seen → List Seen
 sources_in (CountListed settings) files = drop 1 files
 sources_in (Select rule tells) files = drop 1 files
+sources_in (SelectPairs pairing) files = drop 1 files
 sources_in task files = files
 
 -- what a count with a list is given, or a selection: the first file is the list, or the table
@@ -130,6 +140,7 @@ given_listed input (list ∷ files) = given (Some list) (sources_from input file
 abbrev pub given_of : Task → Seen → List Seen → Given
 given_of (CountListed settings) input files = given_listed input files
 given_of (Select rule tells) input files = given_listed input files
+given_of (SelectPairs pairing) input files = given_listed input files
 given_of task input files = given None (sources_from input files)
 
 -- where there are files, the given input is as it was
@@ -143,7 +154,7 @@ HasWritableReport (Report report) = IsWritable report
 HasWritableReport task = ⊤
 
 -- a task has files: a list where it is to have one, a table for a selection, at most one source where it is about a
--- table, and two tables for their sum
+-- table, two tables for their sum, and a table and two sources for pairs
 abbrev pub HasFilesFor : {X : Type 0} → Task → List X → Type 0
 HasFilesFor (Count settings) files = ⊤
 HasFilesFor (CountListed settings) files = 1 ≤ length files
@@ -151,6 +162,7 @@ HasFilesFor (Report report) files = length files ≤ 1
 HasFilesFor (Query words) files = length files ≤ 1
 HasFilesFor Merge files = length files ≡ 2
 HasFilesFor (Select rule tells) files = 1 ≤ length files
+HasFilesFor (SelectPairs pairing) files = length files ≡ 3
 
 -- the tally that a task is about, and its origin where that is told: of the reads that were given, of the table that
 -- its source told, or of the two that were told together
@@ -161,6 +173,7 @@ IsTallyFor old new (Report report) table = TellOneTable old.sources new.sources 
 IsTallyFor old new (Query words) table = TellOneTable old.sources new.sources table
 IsTallyFor old new Merge table = TellSum old.sources new.sources table
 IsTallyFor old new (Select rule tells) table = ⊥
+IsTallyFor old new (SelectPairs pairing) table = ⊥
 
 -- why there is no tally for a task; of want of memory outside the readers of reads nothing is said
 abbrev pub HasNoTallyFor : Given → Given → Task → ToolFault → Type 0
@@ -170,6 +183,7 @@ HasNoTallyFor old new (Report report) fault = TellNoTable old.sources new.source
 HasNoTallyFor old new (Query words) fault = TellNoTable old.sources new.sources fault
 HasNoTallyFor old new Merge fault = TellNoSum old.sources new.sources fault
 HasNoTallyFor old new (Select rule tells) fault = ⊥
+HasNoTallyFor old new (SelectPairs pairing) fault = ⊥
 
 -- the text is what a task writes about a tally
 abbrev pub IsAnswer : Task → TableSeen → List ℕ → Type 0
@@ -180,6 +194,7 @@ IsAnswer (Query words) table text = All (IsAskable table.0.k) (map string_bytes 
     × (text ≡ query_text table.0 (map string_bytes words.items))
 IsAnswer Merge table text = text ≡ table_text table.0 table.1
 IsAnswer (Select rule tells) table text = ⊥
+IsAnswer (SelectPairs pairing) table text = ⊥
 
 -- why a task has no answer about a tally; of want of memory for a report nothing is said
 abbrev pub HasNoAnswer : Task → TableSeen → ToolFault → Type 0
@@ -246,6 +261,39 @@ SelectsBy rule tells old new outcome =
     ⊎ ((fault : ToolFault) × (outcome ≡ Err fault) × TellsNoTableOf old.given.list new.given.list fault
     × (new.given.sources ≡ old.given.sources) × (new.output ≡ old.output))
 
+-- what a selection of pairs does: the source of its table told one, and by it the pairs of two sources were selected
+-- so; or it told none, and nothing else was read, and what is written to is `Kept`
+abbrev pub SelectsPairsBy : Selecting → Type 0 → Pairing → Given → Given → Result SelectionCounts ToolFault → Type 0
+SelectsPairsBy Selects Kept pairing old new outcome =
+    ((table : TableSeen) × TellsTableOf old.list new.list table
+    × SelectsPairsFrom Selects Kept (pairs_task table.0 pairing.selection pairing.asked) old.sources new.sources
+    outcome)
+    ⊎ ((fault : ToolFault) × (outcome ≡ Err fault) × TellsNoTableOf old.list new.list fault
+    × (new.sources ≡ old.sources) × Kept)
+
+-- so it does, and this is said of it
+abbrev pub TellsOfPairs : Pairing → (Result SelectionCounts ToolFault → Type 0) → Result Told ToolFault → Type 0
+TellsOfPairs pairing Selects outcome = (selected : Result SelectionCounts ToolFault) × Selects selected
+    × (outcome ≡ told_of pairing.selection pairing.tells selected)
+
+-- the reads of each pair were written one behind the other
+abbrev pub SelectsPairsInto : Pairing → Stage → Stage → Result Told ToolFault → Type 0
+SelectsPairsInto pairing old new outcome = TellsOfPairs pairing (λ selected. SelectsPairsBy
+    (λ task before after answer. SelectsInterleaved task before after old.output new.output answer)
+    (new.output ≡ old.output) pairing old.given new.given selected) outcome
+
+-- the first reads of pairs were written to one output, and the second ones to another; no other task writes to two
+abbrev pub DoesApart : Task → Given → Given → Sides Written → Sides Written → Result Told ToolFault → Type 0
+DoesApart (SelectPairs pairing) old new from to outcome = TellsOfPairs pairing (λ selected. SelectsPairsBy
+    (λ task before after answer. SelectsApart task before after from to answer) (to ≡ from) pairing old new selected)
+    outcome
+DoesApart task old new from to outcome = ⊥
+
+-- a task that writes to two outputs where two are named
+abbrev pub WritesTwo : Task → Type 0
+WritesTwo (SelectPairs pairing) = ⊤
+WritesTwo task = ⊥
+
 -- what a task does about a tally: its text was written; or a beginning of it, where writing failed; or nothing
 abbrev pub DoesByTally : Task → Stage → Stage → Result Told ToolFault → Type 0
 DoesByTally task old new (Ok told) =
@@ -254,9 +302,15 @@ DoesByTally task old new (Err Write) = (text : List ℕ) × (told : Told)
     × IsTextFor old.given new.given task text told × HasBegun old.output new.output text
 DoesByTally task old new (Err fault) = (new.output ≡ old.output) × HasFaultFor old.given new.given task fault
 
+-- a task that takes its sources one after the other
+abbrev pub TakesSources : Task → Type 0
+TakesSources (SelectPairs pairing) = ⊥
+TakesSources task = ⊤
+
 -- what a task does, and what there is to say of it
 abbrev pub Does : Task → Stage → Stage → Result Told ToolFault → Type 0
 Does (Select rule tells) old new outcome = SelectsBy rule tells old new outcome
+Does (SelectPairs pairing) old new outcome = SelectsPairsInto pairing old new outcome
 Does task old new outcome = DoesByTally task old new outcome
 
 -- the name of a command
@@ -292,7 +346,10 @@ AsksForTask verb.Histo rows (Report report) = (report.print ≡ print.Histo) × 
 AsksForTask verb.Stats rows (Report report) = report.print ≡ print.Stats
 AsksForTask verb.Query rows (Query words) = map string_bytes words.items ≡ words_asked rows
 AsksForTask verb.Merge rows Merge = ⊤
-AsksForTask verb.Select rows (Select rule tells) = AsksForSelection rows rule × IsFlag rows (codes "stats") tells
+AsksForTask verb.Select rows (Select rule tells) =
+    AsksForSelection rows rule × IsFlag rows (codes "stats") tells × AsksForPairs rows None
+AsksForTask verb.Select rows (SelectPairs pairing) = AsksForSelection rows pairing.selection
+    × IsFlag rows (codes "stats") pairing.tells × AsksForPairs rows (Some pairing.asked)
 AsksForTask verb.Profile rows (Select rule tells) = AsksForProfile rows rule × (tells ≡ false)
 AsksForTask verb rows task = ⊥
 
@@ -304,6 +361,16 @@ first_refused verb.Histo rows = first_bad_of_histo rows
 first_refused verb.Select rows = first_bad_of_select rows
 first_refused verb.Profile rows = first_bad_of_profile rows
 first_refused verb rows = None
+
+-- the options of a command go together
+abbrev pub GoTogether : Verb → List Row → Type 0
+GoTogether verb.Select rows = pairs_refusal rows ≡ None
+GoTogether command rows = ⊤
+
+-- they don't, for this reason
+abbrev pub AreNotTogether : Verb → List Row → PairsRefusal → Type 0
+AreNotTogether verb.Select rows why = pairs_refusal rows ≡ Some why
+AreNotTogether command rows why = ⊥
 
 -- the list of a count in front of its files, where one is named
 abbrev pub behind_list : Option Text → List Text → List Text
@@ -323,6 +390,11 @@ files_of verb.Select rows = behind_table rows
 files_of verb.Profile rows = behind_table rows
 files_of verb.Merge rows = unwrap_or (first_table_of rows) [] ∷ unwrap_or (second_table_of rows) [] ∷ []
 files_of verb rows = take 1 (files_named rows)
+
+-- the second output of a command, which a selection alone can have
+abbrev pub second_of : Verb → List Row → Option Text
+second_of verb.Select rows = output2_of rows
+second_of command rows = None
 
 -- what a command has: the given input, the given output, and what was asked of the files so far
 pub record Surroundings : Type 0 where
@@ -355,27 +427,63 @@ pub record DoesTaskInto (name : Text) (sources : List (NamedSource Seen)) (task 
   pub writes : WritesTo name task input input_after files there outcome
   pub log : asked_after ≡ asked ++ there
 
--- there is no file for a text that is to go to the one of this name, which is told, and the sources are given back as
--- they were
-pub record LacksOutput (name : Text) (sources : List (NamedSource Seen)) (input input_after : Seen)
-    (asked asked_after : List FileEvent) (outcome : Result Told ToolFault) : Type 0 where
+-- a task that writes to two outputs is done with these files, and its texts go to the files of these names. Both files
+-- that are written to are opened before anything is read, and both are closed when the sources are
+pub record WritesApart (name other : Text) (task : Task) (input input_after : Seen) (files : List FileRead)
+    (asked : List FileEvent) (outcome : Result Told ToolFault) : Type 0 where
+  pub first : FileWritten
+  pub second : FileWritten
+  pub first_fresh : first.before.history ≡ no_history
+  pub second_fresh : second.before.history ≡ no_history
+  pub path : Option Text
+  pub second_path : Option Text
+  pub opening : List FileEvent
+  pub opened : OpensBoth name other first.name path second.name second_path opening
+  pub work : Result Told ToolFault
+  pub done : DoesApart task (given_of task input (map (λ file. file.before) files))
+      (given_of task input_after (map (λ file. file.after) files)) (both first.before second.before)
+      (both first.after second.after) work
+  pub closing : List FileEvent
+  pub closed : ClosesBoth (both (target first.name path first.after.history)
+      (target second.name second_path second.after.history)) work outcome closing
+  pub log : asked ≡ opening ++ returned files ++ closing
+
+-- it is done with sources that were opened
+pub record DoesTaskApart (name other : Text) (sources : List (NamedSource Seen)) (task : Task)
+    (input input_after : Seen) (asked asked_after : List FileEvent) (outcome : Result Told ToolFault) : Type 0 where
+  pub files : List FileRead
+  pub are : AreOf sources files
+  pub input_kept : KeepsInput (sources_in task (map (λ file. file.before) files)) input input_after
+  pub there : List FileEvent
+  pub writes : WritesApart name other task input input_after files there outcome
+  pub log : asked_after ≡ asked ++ there
+
+-- there is no file for a text, or there are none for two, and why is told; the sources are given back as they were
+pub record LacksOutput (Lacks : List FileEvent → ToolFault → Type 0) (sources : List (NamedSource Seen))
+    (input input_after : Seen) (asked asked_after : List FileEvent) (outcome : Result Told ToolFault) : Type 0 where
   pub fault : ToolFault
   pub is : outcome ≡ Err fault
   pub unread : input_after ≡ input
   pub tried : List FileEvent
-  pub why : HasNoOutput name tried fault
+  pub why : Lacks tried fault
   pub log : asked_after ≡ asked ++ tried ++ given_back sources
 
+-- its texts go to files, so, and the given output is as it was
+abbrev pub IntoFiles : Surroundings → Surroundings → List FileRead → (List FileEvent → Type 0) → Type 0
+IntoFiles old new files Writes = (new.output ≡ old.output)
+    × ((there : List FileEvent) × (new.asked ≡ old.asked ++ openings files ++ there) × Writes there)
+
 -- a task is done with these files, which were opened for it, or with the given input where there are none. It writes to
--- the given output; or, where a file is named for the output, its text goes to that, and the given output is as it was.
--- That is all that is asked of files
-abbrev pub DoesWith : Option Text → Task → Surroundings → Surroundings → List FileRead → Result Told ToolFault
-    → Type 0
-DoesWith None task old new files outcome = (new.asked ≡ old.asked ++ openings files ++ returned files)
+-- the given output; or, where a file is named for the output, its text goes to that, and where a second one is, its two
+-- texts go to both. That is all that is asked of files
+abbrev pub DoesWith : Option Text → Option Text → Task → Surroundings → Surroundings → List FileRead
+    → Result Told ToolFault → Type 0
+DoesWith None second task old new files outcome = (new.asked ≡ old.asked ++ openings files ++ returned files)
     × Does task (stage_before task old.input files old.output) (stage_after task new.input files new.output) outcome
-DoesWith (Some name) task old new files outcome = (new.output ≡ old.output)
-    × ((there : List FileEvent) × (new.asked ≡ old.asked ++ openings files ++ there)
-    × WritesTo name task old.input new.input files there outcome)
+DoesWith (Some name) None task old new files outcome = IntoFiles old new files
+    (λ there. WritesTo name task old.input new.input files there outcome)
+DoesWith (Some name) (Some other) task old new files outcome = IntoFiles old new files
+    (λ there. WritesApart name other task old.input new.input files there outcome)
 
 -- a command comes to its task, with its files, and this is the outcome
 pub record ComesToTask (command : Verb) (rows : List Row) (old new : Surroundings)
@@ -385,7 +493,17 @@ pub record ComesToTask (command : Verb) (rows : List Row) (old new : Surrounding
   pub files : List FileRead
   pub opened : AreOpened (files_of command rows) files
   pub input : KeepsInput (sources_in task (map (λ file. file.before) files)) old.input new.input
-  pub done : DoesWith (output_of rows) task old new files outcome
+  pub done : DoesWith (output_of rows) (second_of command rows) task old new files outcome
+
+-- there is no file for the text that is to go to the second output, which has this name
+abbrev pub LacksSecondFile : Verb → List Row → Text → List FileEvent → Type 0
+LacksSecondFile command rows name asked = (second_of command rows ≡ Some name)
+    × LacksSecond (files_of command rows) (output_of rows) (λ none. OpensNoOutput name none) asked
+
+-- memory was refused while a file for it was sought
+abbrev pub LacksSecondRoom : Verb → List Row → List FileEvent → Type 0
+LacksSecondRoom command rows asked = (name : Text) × (second_of command rows ≡ Some name)
+    × LacksSecond (files_of command rows) (output_of rows) (λ none. LacksRoomForOutput name none) asked
 
 -- an option is refused, or there was no memory for what the options say
 abbrev pub IsRefusedOption : Verb → List Row → ToolFault → Type 0
@@ -398,10 +516,13 @@ IsRefusedOption command rows fault = ⊥
 abbrev pub IsRefused : Verb → List Row → List FileEvent → ToolFault → Type 0
 IsRefused command rows asked (BadOption name) = (first_refused command rows ≡ Some name) × (asked ≡ [])
 IsRefused command rows asked (OpenFailed name) = (first_refused command rows ≡ None)
-    × LacksFile (files_of command rows) (output_of rows) (string_bytes name) asked
+    × (LacksFile (files_of command rows) (output_of rows) (string_bytes name) asked
+    ⊎ LacksSecondFile command rows (string_bytes name) asked)
 IsRefused command rows asked Memory = (asked ≡ [])
     ⊎ ((name : Text) × LacksFile (files_of command rows) (output_of rows) name asked)
     ⊎ LacksRoom (files_of command rows) (output_of rows) asked
+    ⊎ ((name : Text) × LacksSecondFile command rows name asked)
+    ⊎ LacksSecondRoom command rows asked
 IsRefused command rows asked fault = ⊥
 
 -- a command does not come to its task: nothing was read, and nothing written

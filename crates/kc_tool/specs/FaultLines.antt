@@ -21,6 +21,7 @@ use Rattle.kc_tool.specs.declared.tool_faults.ToolFault.TheVariants.{
   TooLarge,
   BrokenTable,
   ShortTable,
+  Unpaired,
 }
 use Rattle.kc_run.specs.declared.run_fault.RunFault.{RunFault}
 use Rattle.kc_run.specs.declared.run_fault.RunFault.TheVariants as run
@@ -71,6 +72,7 @@ fault_front Unlike = codes "61: tables do not match"
 fault_front TooLarge = codes "62: sums too large"
 fault_front (BrokenTable table) = in_source (codes "71: broken gzip") table
 fault_front (ShortTable table) = in_source (codes "72: gzip cut short") table
+fault_front (Unpaired number) = codes "81: reads are no pair, record " ++ decimal number
 
 -- the name of the file that a refusal names at its end
 abbrev pub fault_name : ToolFault → List ℕ

@@ -7,7 +7,7 @@ use Rattle.kc_io.specs.Sinks.{Written}
 use Rattle.kc_io.specs.Sources.{Seen}
 use Rattle.kc_tool.specs.FileEvents.{FileEvent, not_opened, opened, read}
 use Rattle.kc_tool.specs.NamedSources.{names_of, seen_of}
-use Rattle.kc_tool.specs.Outputs.{LacksRoomForOutput, MakesNoneBeside, OpensNoOutput, StopsBeside}
+use Rattle.kc_tool.specs.Outputs.{LacksRoomForOutput, MakesNoneBeside, OpensNoOutput, OpensNoSecond, StopsBeside}
 use Rattle.kc_tool.specs.declared.named_sources.NamedSource.{NamedSource}
 use Rattle.kc_tool.specs.declared.tool_faults.ToolFault.{ToolFault}
 use Rattle.kc_tool.specs.declared.tool_faults.ToolFault.TheVariants.{Memory, OpenFailed}
@@ -19,6 +19,10 @@ files_named rows = unwrap_or (all_of (codes "file") rows) []
 -- the file that is written, where `--output` names one
 abbrev pub output_of : List Row → Option Text
 output_of rows = first_of (codes "output") rows
+
+-- the file of the second reads of pairs, where `--output2` names one
+abbrev pub output2_of : List Row → Option Text
+output2_of rows = first_of (codes "output2") rows
 
 -- the asked words, in order
 abbrev pub words_asked : List Row → List Text
@@ -84,6 +88,11 @@ abbrev pub LacksRoom : List Text → Option Text → List FileEvent → Type 0
 LacksRoom names output asked = (name : Text) × (output ≡ Some name)
     × ((tried : List FileEvent) × LacksRoomForOutput name tried × (asked ≡ tried_alone names tried))
 
+-- there is a file for the text that is to go to the first output, and none, so, for that which is to go to the second
+abbrev pub LacksSecond : List Text → Option Text → (List FileEvent → Type 0) → List FileEvent → Type 0
+LacksSecond names output OpensNone asked = (first : Text) × (output ≡ Some first)
+    × ((tried : List FileEvent) × OpensNoSecond first OpensNone tried × (asked ≡ tried_alone names tried))
+
 -- how it is told that a file of this name is not opened or created; or memory was refused for the telling
 abbrev pub TellsName : Text → ToolFault → Type 0
 TellsName name (OpenFailed told) = string_bytes told ≡ name
@@ -99,6 +108,11 @@ FailsBeside name path asked fault = (TellsName name fault × MakesNoneBeside pat
 abbrev pub HasNoOutput : Text → List FileEvent → ToolFault → Type 0
 HasNoOutput name tried fault = (TellsName name fault × OpensNoOutput name tried)
     ⊎ ((fault ≡ Memory) × LacksRoomForOutput name tried)
+
+-- why there are no files for two texts that are to go to these, and what was tried before that was told
+abbrev pub HasNotBoth : Text → Text → List FileEvent → ToolFault → Type 0
+HasNotBoth first second tried fault =
+    HasNoOutput first tried fault ⊎ OpensNoSecond first (λ none. HasNoOutput second none fault) tried
 
 -- all files were opened, in order: these are their sources, of which nothing was asked yet
 pub record OpensAll (names : List Text) (old new : List FileEvent) (sources : List (NamedSource Seen)) : Type 0 where

@@ -10,6 +10,7 @@ pub mod GivenSources
 pub mod MergedReports
 pub mod NamedSources
 pub mod Outputs
+pub mod PairSelections
 pub mod Process
 pub mod Progress
 pub mod Reports

@@ -6,6 +6,7 @@ use Rattle.std.specs.Fs.{asks_append, asks_create, asks_create_new, asks_truncat
 use Rattle.std.specs.declared.fs.options.OpenOptions.{OpenOptions}
 use Rattle.clap.specs.Words.{Text}
 use Rattle.kc_io.specs.History.{History, no_history}
+use Rattle.kc_select.specs.declared.sides.Sides.{Sides}
 use Rattle.kc_tool.specs.FileEvents.{FileEvent, created, followed, made, not_created, not_followed, not_made}
 use Rattle.kc_tool.specs.FileEvents.{not_removed, not_renamed, reached, removed, renamed, wrote}
 use Rattle.kc_tool.specs.declared.files.NotMade.TheVariants as why
@@ -99,3 +100,76 @@ ClosesOutput name (Some path) history (Ok done) outcome asked =
     × (asked ≡ wrote name history ∷ not_renamed name path ∷ last ∷ [])))
 ClosesOutput name (Some path) history (Err fault) outcome asked = (outcome ≡ Err fault)
     × ((last : FileEvent) × Removes name last × (asked ≡ wrote name history ∷ last ∷ []))
+
+-- ---- two texts
+
+-- a new file that was to go to a path is removed; one that was named itself stays
+abbrev pub Discards : Text → Option Text → List FileEvent → Type 0
+Discards name None asked = asked ≡ []
+Discards name (Some path) asked = (last : FileEvent) × Removes name last × (asked ≡ last ∷ [])
+
+-- the file of a text is closed, when it has taken this, and a new one is removed
+abbrev pub GivesUp : Text → Option Text → History → List FileEvent → Type 0
+GivesUp name path history asked =
+    (last : List FileEvent) × Discards name path last × (asked ≡ wrote name history ∷ last)
+
+-- a new file is renamed to its path
+abbrev pub Places : Text → Option Text → List FileEvent → Type 0
+Places name None asked = asked ≡ []
+Places name (Some path) asked = asked ≡ renamed name path ∷ []
+
+-- it could not be, and is removed
+abbrev pub PlacesNot : Text → Option Text → List FileEvent → Type 0
+PlacesNot name None asked = ⊥
+PlacesNot name (Some path) asked =
+    (last : FileEvent) × Removes name last × (asked ≡ not_renamed name path ∷ last ∷ [])
+
+-- whether it was
+abbrev pub IsPlaced : Bool → Text → Option Text → List FileEvent → Type 0
+IsPlaced true name path asked = Places name path asked
+IsPlaced false name path asked = PlacesNot name path asked
+
+-- a file that a text was written to: its name, the path that it goes to, where there is one, and what it has taken
+pub record Target : Type 0 where
+  pub name : Text
+  pub path : Option Text
+  pub history : History
+
+abbrev pub target : Text → Option Text → History → Target
+target name path history = record { name = name; path = path; history = history }
+
+-- what is asked of two files one after the other
+abbrev pub AreAsked : (List FileEvent → Type 0) → (List FileEvent → Type 0) → List FileEvent → Type 0
+AreAsked First Second asked =
+    (one : List FileEvent) × (other : List FileEvent) × First one × Second other × (asked ≡ one ++ other)
+
+-- What is asked for two texts when both files were closed, and the work that wrote them ended so. After work that ended
+-- well both files are put in place, the first text in front. Where that fails, what is not in place is removed, and so
+-- is all after a fault
+abbrev pub PutsBoth : {T : Type 0} → Sides Target → Result T ToolFault → Result T ToolFault → List FileEvent → Type 0
+PutsBoth to (Ok done) outcome asked =
+    ((outcome ≡ Ok done) × AreAsked (Places to.first.name to.first.path) (Places to.second.name to.second.path) asked)
+    ⊎ ((outcome ≡ Err Write)
+    × AreAsked (PlacesNot to.first.name to.first.path) (Discards to.second.name to.second.path) asked)
+    ⊎ ((outcome ≡ Err Write)
+    × AreAsked (Places to.first.name to.first.path) (PlacesNot to.second.name to.second.path) asked)
+PutsBoth to (Err fault) outcome asked = (outcome ≡ Err fault)
+    × AreAsked (Discards to.first.name to.first.path) (Discards to.second.name to.second.path) asked
+
+-- What is asked of both files when the work has ended: both are closed before the first is put in place
+abbrev pub ClosesBoth : {T : Type 0} → Sides Target → Result T ToolFault → Result T ToolFault → List FileEvent
+    → Type 0
+ClosesBoth to work outcome asked = (last : List FileEvent) × PutsBoth to work outcome last
+    × (asked ≡ wrote to.first.name to.first.history ∷ wrote to.second.name to.second.history ∷ last)
+
+-- files were opened for two texts that are to go to these, the first one in front
+abbrev pub OpensBoth : Text → Text → Text → Option Text → Text → Option Text → List FileEvent → Type 0
+OpensBoth first second name path other other_path asked =
+    AreAsked (OpensOutput first name path) (OpensOutput second other other_path) asked
+
+-- A file was opened for a text that is to go to this one, and none, so, for a second text. What was opened is given up
+abbrev pub OpensNoSecond : Text → (List FileEvent → Type 0) → List FileEvent → Type 0
+OpensNoSecond first OpensNone asked = (name : Text) × (path : Option Text)
+    × (opening : List FileEvent) × (none : List FileEvent) × (closing : List FileEvent)
+    × OpensOutput first name path opening × OpensNone none × GivesUp name path no_history closing
+    × (asked ≡ opening ++ none ++ closing)

@@ -1,12 +1,13 @@
 //! The command line: what its arguments ask for is carried out, over streams that the caller keeps.
-ghost use Rattle.std.specs.Prelude.{◌≡◌, ◌≤◌, ◌⊎◌, ◌++◌, [], Bool, true, IfErr, IfOk, List, Some, codes, map};
+ghost use Rattle.std.specs.Prelude.{◌≡◌, ◌≤◌, ◌⊎◌, ◌++◌, [], Bool, true, IfErr, IfOk, List, MatchOption, Some};
+ghost use Rattle.std.specs.Prelude.{codes, map};
 ghost use Rattle.std.specs.Prelude.{string_bytes};
 ghost use Rattle.clap.specs.Words.{Text, found_of, one_of, rows_of};
 ghost use Rattle.kc_command.specs.Arguments.{IsFlag};
 ghost use Rattle.kc_io.specs.Sinks.{Writes};
 ghost use Rattle.kc_tool.specs.FaultLines.{fault_line};
-ghost use Rattle.kc_tool.specs.CommandLine.{CarriesOut, SaysText, ShowsSo, WantsMore, status_of, text_of};
-ghost use Rattle.kc_tool.specs.Commands.{Surroundings};
+ghost use Rattle.kc_tool.specs.CommandLine.{CarriesOut, RefusesSo, SaysText, ShowsSo, WantsMore, status_of, text_of};
+ghost use Rattle.kc_tool.specs.Commands.{AreNotTogether, GoTogether, Surroundings};
 ghost use Rattle.kc_tool.specs.Selections.{counts_line};
 ghost use Rattle.kc_tool.specs.Told.{IsClosing, asked_line};
 ghost use Rattle.kc_tool.specs.Process.{Ends, EndsSaying, EndsUnread, TellsUnread};
@@ -21,13 +22,13 @@ use crate::counts_line::write_counts;
 use crate::explanations::{Known, explanation};
 use crate::fault_lines::write_fault;
 use crate::files::NamedFiles;
-use crate::option_tips::with_tip;
+use crate::option_tips::{refusal_text, with_tip};
 use crate::told::{Told, asked_counts};
 use crate::tool_faults::ToolFault;
 use clap::ArgMatches;
 use clap::error::ErrorKind;
 use kc_command::command::command;
-use kc_command::has_flag;
+use kc_command::{PairsRefusal, has_flag, pairs_refusal};
 use kc_io::{Failed, Sink, Source, write_out};
 use kc_report::Block;
 use kc_select::SelectionCounts;
@@ -51,12 +52,12 @@ const NOT_TEXT: &[u8] = b"kcount: an argument is not UTF-8\n";
 /// are opened and created by their names. The progress of a count is reported to `progress`, and its end before the
 /// report or the line of a fault is written.
 ///
-/// Status 0: the output, or the file that the arguments name for it, has what the arguments ask for: a report, the
-/// answer to a query, selected reads, profiles, help or the version; and a selection's counts went to the errors,
-/// where they are asked for. Status 1: the line of a fault went to the errors, and the output is as it was, or has a
-/// beginning of the answer where writing failed, or what was selected before the fault. Status 2: the output is as it
-/// was, and why the arguments are refused went to the errors. The input is read where a command reads no file, and
-/// else it is as it was; and nothing is asked of files but what the command asks for.
+/// Status 0: the output, or the file that the arguments name for it, or the two, has what the arguments ask for: a
+/// report, the answer to a query, selected reads, profiles, help or the version; and a selection's counts went to the
+/// errors, where they are asked for. Status 1: the line of a fault went to the errors, and the output is as it was, or
+/// has a beginning of the answer where writing failed, or what was selected before the fault. Status 2: the output is
+/// as it was, and why the arguments are refused went to the errors. The input is read where a command reads no file,
+/// and else it is as it was; and nothing is asked of files but what the command asks for.
 ///
 /// The arguments are as std gives them. If one of them is not UTF-8, that refuses the command line: status 2, nothing
 /// was read or written, and a line about it went to the errors. If they can't be had otherwise, there was no memory
@@ -99,6 +100,9 @@ pub fn run<H: Threads + Wait + Sync, S: Files, R: Source, W: Sink, E: Sink, P: P
     let Some(verb) = verb_named(name) else {
         unreachable!()
     };
+    if let Some(refusal) = refusal_of(verb, matches) {
+        return tell_end(Err(refused(alloc, refusal)), b"", errors);
+    }
     let means = Means {
         rt,
         alloc,
@@ -108,6 +112,27 @@ pub fn run<H: Threads + Wait + Sync, S: Files, R: Source, W: Sink, E: Sink, P: P
     progress.ends();
     let said = said(&means, &ended, verb, matches, files);
     tell_end(ended.map_err(Ending::Fault), said.as_bytes(), errors)
+}
+
+// Why the options of a command don't go together, where they don't.
+fn refusal_of(verb: Verb, matches: &ArgMatches<'_>) -> Option<PairsRefusal>
+    ensures { MatchOption result (GoTogether verb (rows_of (found_of matches.now)))
+        (λ refusal. AreNotTogether verb (rows_of (found_of matches.now)) refusal) }
+{
+    match verb {
+        Verb::Select => pairs_refusal(matches),
+        _ => None,
+    }
+}
+
+// The end of a command line whose options don't go together.
+fn refused(alloc: Global, refusal: PairsRefusal) -> Ending
+    ensures { RefusesSo result }
+{
+    match refusal_text(alloc, refusal) {
+        Ok(text) => Ending::Refused(text),
+        Err(_) => Ending::Fault(ToolFault::Memory),
+    }
 }
 
 // What is printed beside the lines for programs.

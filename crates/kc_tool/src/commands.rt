@@ -1,41 +1,54 @@
 //! The commands: what a command is to do, the files that it reads, and what it writes.
 ghost use Rattle.std.specs.Prelude.{◌≡◌, ◌≤◌, ◌⊎◌, [], ◌∷◌, drop, length, map, string_bytes};
-ghost use Rattle.std.specs.Prelude.{unwrap_or};
+ghost use Rattle.std.specs.Prelude.{option_map, unwrap_or};
 ghost use Rattle.std.specs.Prelude.{IfErr, IfOk, None};
 ghost use Rattle.clap.specs.Words.{all_of, found_of, rows_of};
 ghost use Rattle.kc_tool.specs.GivenSources.{Keeps, KeepsFiles, listed_in, seen_in};
 ghost use Rattle.kc_tool.specs.NamedSources.{names_of, seen_of};
+ghost use Rattle.kc_io.specs.Sources.{Seen};
+ghost use Rattle.kc_select.specs.Pairs.{each};
 ghost use Rattle.kc_tool.specs.Commands.{
   AsksForTask,
   Does,
+  DoesApart,
   DoesByTally,
+  DoesTaskApart,
   DoesTaskInto,
   EndsSo,
+  GoTogether,
   HasFilesFor,
   HasWritableReport,
   IsRefusedOption,
   KeepsInput,
   LacksOutput,
   SelectsBy,
+  SelectsPairsInto,
+  TakesSources,
+  WritesTwo,
   files_of,
   first_refused,
+  given_listed,
   given_of,
   own_of,
+  second_of,
   sources_in,
   told_of,
   told_of_count,
   verb_named,
 };
+ghost use Rattle.kc_tool.specs.Files.{HasNoOutput, HasNotBoth};
 ghost use Rattle.kc_tool.specs.Reports.{IsWritable};
 ghost use Rattle.kc_tool.specs.Tallies.{given};
 
 use crate::count_progress::{Progress, Stage};
 use crate::counted_sources::Means;
-use crate::files::{FileSource, NamedFiles, open_files, size_of_all, take_sources};
+use crate::files::{FileSource, NamedFiles, open_files, size_behind, take_sources};
 use crate::given_options::{dump_options, high_of, options, profile_options, select_options};
 use crate::given_sources::GivenSources;
 use crate::named_sources::NamedSource;
-use crate::outputs::{close_output, open_output};
+use crate::outputs::{close_both, close_output, open_both, open_output};
+use crate::paired_sources::{Pairing, select_pairs};
+use crate::pairs_writers::{Apart, Interleaved};
 use crate::reports::{Crew, Report, report_given, write_report};
 use crate::selected_sources::select_given;
 use crate::task_tallies::{report_listed, sum_of, table_from, table_of};
@@ -43,10 +56,10 @@ use crate::told::{CountedWords, Told};
 use crate::tool_faults::ToolFault;
 use clap::ArgMatches;
 use kc_command::command::{COUNT, DUMP, HISTO, MERGE, PROFILE, QUERY, SELECT, STATS};
-use kc_command::{Options, Print, has_flag, text_of};
+use kc_command::{Options, Print, SelectOptions, has_flag, text_of};
 use kc_io::{Sink, Source};
 use kc_report::{Dump, query, write_table};
-use kc_select::{Selection, SelectionCounts};
+use kc_select::{Selection, SelectionCounts, Sides};
 use std::alloc::{AllocError, Global};
 use std::rt::Files;
 use std::sync::Wait;
@@ -109,12 +122,14 @@ pub(crate) enum Task {
     /// To read a table, which is the first file, and write the reads of the others that it selects, or their profiles,
     /// and whether to print what was counted of the reads.
     Select(Selection, bool),
+    /// To read a table, which is the first file, and write the pairs of reads of the two others that it selects.
+    SelectPairs(Pairing),
 }
 
 /// Runs a command with its options: opens its files, takes the tally that it is about, and writes its answer. Files are
 /// opened in order before anything is read, the file for the output behind them, and at the end all are closed. A text
-/// takes the place of the file that is named for it once it is whole. The progress of a count is reported. It returns
-/// what there is to report of what was done.
+/// takes the place of the file that is named for it once it is whole, and two texts do so together. The progress of a
+/// count is reported. It returns what there is to report of what was done. Condition: the options go together.
 ///
 /// # Errors
 /// `BadOption` with the first option whose value is outside its limits, before any file is asked for. `OpenFailed` with
@@ -136,6 +151,7 @@ pub(crate) fn run_command<
     input: &mut R,
     output: &mut W,
 ) -> Result<Told, ToolFault>
+    requires { GoTogether verb (rows_of (found_of matches.now)) }
     ensures { EndsSo verb (rows_of (found_of matches.now))
         (record { input = R.seen input.old; output = W.seen output.old; asked = files.old })
         (record { input = R.seen input.new; output = W.seen output.new; asked = files.new }) result }
@@ -147,14 +163,33 @@ pub(crate) fn run_command<
     if sources.len() <= own_of(&task) {
         means.progress.input_is_read();
     }
-    means.progress.sources_have(size_of_all(&sources));
-    match text_of(matches, "output") {
-        None => {
-            let outcome = answer(means, &task, &mut sources, input, output);
-            take_sources(files, sources);
-            outcome
+    means
+        .progress
+        .sources_have(size_behind(&sources, own_of(&task)));
+    let Some(name) = text_of(matches, "output") else {
+        let outcome = answer(means, &task, &mut sources, input, output);
+        take_sources(files, sources);
+        return outcome;
+    };
+    match second_output(verb, matches) {
+        None => answer_into(means, &task, files, sources, input, name),
+        Some(other) => {
+            let names = Sides {
+                first: name,
+                second: other,
+            };
+            answer_apart(means, &task, files, sources, &names)
         }
-        Some(name) => answer_into(means, &task, files, sources, input, name),
+    }
+}
+
+// The second output of a command, which a selection alone can have.
+fn second_output<'a>(verb: Verb, matches: &ArgMatches<'a>) -> Option<&'a str>
+    ensures { option_map (λ name. name.now) result ≡ second_of verb (rows_of (found_of matches.now)) }
+{
+    match verb {
+        Verb::Select => text_of(matches, "output2"),
+        _ => None,
     }
 }
 
@@ -173,7 +208,8 @@ fn answer_into<H: Threads + Wait + Sync, S: Files, R: Source, P: Progress + Sync
     requires writable { HasWritableReport task.now }
     ensures { DoesTaskInto name.now sources.entry.items task.now (R.seen input.old) (R.seen input.new)
         files.old files.new result
-        ⊎ LacksOutput name.now sources.entry.items (R.seen input.old) (R.seen input.new) files.old files.new result }
+        ⊎ LacksOutput (λ tried fault. HasNoOutput name.now tried fault) sources.entry.items
+        (R.seen input.old) (R.seen input.new) files.old files.new result }
 {
     let mut sources = sources;
     let mut output = match open_output(means.alloc, files, name) {
@@ -190,15 +226,98 @@ fn answer_into<H: Threads + Wait + Sync, S: Files, R: Source, P: Progress + Sync
     close_output(files, output, work)
 }
 
+// Does a task that writes two texts with files that were opened, and gives the files back. The texts go to the files of
+// these names, both or none. Conditions: the task is such a one, and has such files as it is to have.
+fn answer_apart<H: Threads, S: Files, P: Progress>(
+    means: &Means<'_, H, P>,
+    task: &Task,
+    files: &mut NamedFiles<'_, S>,
+    sources: Vec<NamedSource<'_, FileSource<S::File>>>,
+    names: &Sides<&str>,
+) -> Result<Told, ToolFault>
+    requires two { WritesTwo task.now }
+    requires files { HasFilesFor task.now (seen_of (λ s. s) sources.items) }
+    ensures { (input : Seen) → DoesTaskApart names.now.first.now names.now.second.now sources.entry.items task.now
+        input input files.old files.new result
+        ⊎ LacksOutput (λ tried fault. HasNotBoth names.now.first.now names.now.second.now tried fault)
+        sources.entry.items input input files.old files.new result }
+{
+    let mut sources = sources;
+    let mut outputs = match open_both(means.alloc, files, names) {
+        Ok(outputs) => outputs,
+        Err(fault) => {
+            take_sources(files, sources);
+            return Err(fault);
+        }
+    };
+    means.progress.text_goes_to_file();
+    let work = write_apart(means, task, &mut sources, &mut outputs.sinks);
+    take_sources(files, sources);
+    close_both(files, outputs, work)
+}
+
+// Does a task that writes two texts, with its files, which keep their names. Conditions: the task is such a one, and
+// has such files as it is to have.
+fn write_apart<H: Threads, F: Source, W: Sink, P: Progress>(
+    means: &Means<'_, H, P>,
+    task: &Task,
+    files: &mut Vec<NamedSource<'_, F>>,
+    outputs: &mut Sides<W>,
+) -> Result<Told, ToolFault>
+    requires two { WritesTwo task.now }
+    requires files { HasFilesFor task.now (seen_of F.seen files.old.items) }
+    ensures done { (input : Seen) → DoesApart task.now (given_of task.now input (seen_of F.seen files.old.items))
+        (given_of task.now input (seen_of F.seen files.new.items)) (each W.seen outputs.old) (each W.seen outputs.new)
+        result }
+    ensures names { names_of files.new.items ≡ names_of files.old.items }
+{
+    let Task::SelectPairs(pairing) = task else {
+        unreachable!()
+    };
+    let selected = select_pairs(means, &Apart, pairing, files, outputs);
+    told_of(selected, pairing.selection, pairing.tells)
+}
+
 // Does a task with its files, which keep their names: it takes what the task is about, and writes its answer. How far a
 // count has come is told.
 fn answer<H: Threads + Wait + Sync, R: Source, F: Source, W: Sink, P: Progress + Sync>(
+    means: &Means<'_, H, P>,
+    task: &Task,
+    files: &mut Vec<NamedSource<'_, F>>,
+    input: &mut R,
+    output: &mut W,
+) -> Result<Told, ToolFault>
+    requires files { HasFilesFor task.now (seen_of F.seen files.old.items) }
+    requires writable { HasWritableReport task.now }
+    ensures done { Does task.now
+        (record {
+          given = given_of task.now (R.seen input.old) (seen_of F.seen files.old.items);
+          output = W.seen output.old;
+        })
+        (record {
+          given = given_of task.now (R.seen input.new) (seen_of F.seen files.new.items);
+          output = W.seen output.new;
+        })
+        result }
+    ensures input { KeepsInput (sources_in task.now (seen_of F.seen files.old.items)) (R.seen input.old)
+        (R.seen input.new) }
+    ensures names { names_of files.new.items ≡ names_of files.old.items }
+{
+    match task {
+        Task::SelectPairs(pairing) => pair_by_table(means, pairing, files, output),
+        _ => answer_of_sources(means, task, files, input, output),
+    }
+}
+
+// Does so where the task takes its sources one after the other. Condition: it does.
+fn answer_of_sources<H: Threads + Wait + Sync, R: Source, F: Source, W: Sink, P: Progress + Sync>(
     means: &Means<'_, H, P>,
     task: &Task,
     files: &mut [NamedSource<'_, F>],
     input: &mut R,
     output: &mut W,
 ) -> Result<Told, ToolFault>
+    requires sources { TakesSources task.now }
     requires files { HasFilesFor task.now (seen_of F.seen files.old) }
     requires writable { HasWritableReport task.now }
     ensures done { Does task.now
@@ -219,6 +338,7 @@ fn answer<H: Threads + Wait + Sync, R: Source, F: Source, W: Sink, P: Progress +
         Task::Select(selection, tells) => {
             select_by_table(means, *selection, *tells, &mut sources, output)
         }
+        Task::SelectPairs(_) => unreachable!(),
     }
 }
 
@@ -227,7 +347,7 @@ fn own_of(task: &Task) -> usize
     ensures { result ≡ own_of task.now }
 {
     match task {
-        Task::CountListed(_) | Task::Select(_, _) => 1,
+        Task::CountListed(_) | Task::Select(_, _) | Task::SelectPairs(_) => 1,
         _ => 0,
     }
 }
@@ -370,6 +490,25 @@ fn select_by_table<H: Threads, R: Source, F: Source, W: Sink, P: Progress>(
     told_of(selected, selection, tells)
 }
 
+// Reads the table of the first file, and writes the pairs of reads of the two others that it selects, the reads of each
+// pair one behind the other. Condition: there are three files.
+fn pair_by_table<H: Threads, F: Source, W: Sink, P: Progress>(
+    means: &Means<'_, H, P>,
+    pairing: &Pairing,
+    files: &mut Vec<NamedSource<'_, F>>,
+    output: &mut W,
+) -> Result<Told, ToolFault>
+    requires { length files.old.items ≡ 3 }
+    ensures done { (input : Seen) → SelectsPairsInto pairing.now
+        (record { given = given_listed input (seen_of F.seen files.old.items); output = W.seen output.old })
+        (record { given = given_listed input (seen_of F.seen files.new.items); output = W.seen output.new })
+        result }
+    ensures names { names_of files.new.items ≡ names_of files.old.items }
+{
+    let selected = select_pairs(means, &Interleaved, pairing, files, output);
+    told_of(selected, pairing.selection, pairing.tells)
+}
+
 // What is shown while a selection goes on.
 fn stage_of(selection: Selection) -> Stage {
     if selection.is_profiled() {
@@ -429,11 +568,27 @@ fn task_of(alloc: Global, verb: Verb, matches: &ArgMatches<'_>) -> Result<Task, 
             Ok(Task::Query(owned_texts(alloc, &words)?))
         }
         Verb::Merge => Ok(Task::Merge),
-        Verb::Select => {
-            let selection = select_options(matches)?;
-            Ok(Task::Select(selection, has_flag(matches, "stats")))
-        }
+        Verb::Select => selection_task(matches),
         Verb::Profile => Ok(Task::Select(profile_options(matches)?, false)),
+    }
+}
+
+// The task of a selection: what it asks for with these options.
+fn selection_task(matches: &ArgMatches<'_>) -> Result<Task, ToolFault>
+    ensures asked { IfOk result (AsksForTask Verb.Select (rows_of (found_of matches.now))) }
+    ensures writable { IfOk result HasWritableReport }
+    ensures lawful { IfOk result (λ task. first_refused Verb.Select (rows_of (found_of matches.now)) ≡ None) }
+    ensures refused { IfErr result (IsRefusedOption Verb.Select (rows_of (found_of matches.now))) }
+{
+    let SelectOptions { selection, pairs } = select_options(matches)?;
+    let tells = has_flag(matches, "stats");
+    match pairs {
+        None => Ok(Task::Select(selection, tells)),
+        Some(asked) => Ok(Task::SelectPairs(Pairing {
+            selection,
+            asked,
+            tells,
+        })),
     }
 }
 

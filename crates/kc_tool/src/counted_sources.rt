@@ -52,25 +52,20 @@ const LISTED_POSITIONS: u64 = 4_000_000;
 /// The seed of the hash that divides the words among the stripes. No report depends on it.
 const SEED: u64 = 1;
 
-/// The list of the words that occur in the reads of this source, under the rule of the count. How many bytes it gave is
-/// told.
+/// The list of the words that occur in the reads of this source, under the rule of the count.
 ///
 /// # Errors
 /// `Fastx` with the fault of the source, whose number is 0. `Memory` where a growth was refused behind the reading.
-pub(crate) fn read_list<R: Source, P: Progress>(
+pub(crate) fn read_list<R: Source>(
     alloc: Global,
     source: &mut R,
     rule: &Rule,
-    progress: &P,
 ) -> Result<Only, ToolFault>
     ensures list { IfOk result (GivesWords rule.now (R.seen source.old) (R.seen source.new)) }
     ensures fault { IfErr result (RefusesList (R.seen source.old) (R.seen source.new)) }
 {
     match read_all(alloc, source, MOST_BYTES) {
-        Ok((reads, count)) => {
-            progress.bytes_read(count);
-            Ok(Only::of(alloc, &reads, rule)?)
-        }
+        Ok((reads, _count)) => Ok(Only::of(alloc, &reads, rule)?),
         Err(fault) => Err(ToolFault::Fastx { source: 0, fault }),
     }
 }

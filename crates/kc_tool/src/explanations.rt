@@ -7,7 +7,7 @@ use crate::option_ranges::range_of;
 use crate::tool_faults::ToolFault;
 use clap::ArgMatches;
 use itoa::Buffer;
-use kc_command::{OptionName, text_of};
+use kc_command::{OptionName, has_flag, text_of};
 use kc_fastx::FastxFault;
 use kc_run::RunFault;
 use std::alloc::{AllocError, Global};
@@ -49,6 +49,7 @@ pub(crate) fn explanation(
         ToolFault::BadWord(number) => of_word(alloc, *number, known),
         ToolFault::OpenFailed(name) => of_file(alloc, name.as_str(), known),
         ToolFault::Unlike => of_unlike(alloc, known),
+        ToolFault::Unpaired(number) => of_pairs(alloc, *number, known),
         ToolFault::Write => of_output(alloc, known),
         _ => line(alloc, text_of_rest(fault), "", ""),
     }
@@ -134,6 +135,8 @@ fn table_name<'m>(known: &Known<'_, 'm>) -> &'m str {
 fn kind_of_last(name: &str, known: &Known<'_, '_>) -> FileKind {
     let look = if name == STANDARD_INPUT {
         &known.looks.input
+    } else if is_first_of_pairs(name, known) {
+        &known.looks.before
     } else {
         &known.looks.last
     };
@@ -142,6 +145,11 @@ fn kind_of_last(name: &str, known: &Known<'_, '_>) -> FileKind {
     } else {
         FileKind::Unknown
     }
+}
+
+// Whether this is the first of two files of pairs, and the second one, which is closed behind it, was read as well.
+fn is_first_of_pairs(name: &str, known: &Known<'_, '_>) -> bool {
+    known.looks.count > 2 && has_flag(known.matches, "pairs") && name == file_name(1, known.matches)
 }
 
 // The fault of a source of reads.
@@ -346,6 +354,9 @@ fn tip_of_name(name: &str, known: &Known<'_, '_>) -> &'static str {
     if text_of(known.matches, "output") == Some(name) {
         return "; the text goes to a new file in the folder of -o first";
     }
+    if text_of(known.matches, "output2") == Some(name) {
+        return "; the text goes to a new file in the folder of --output2 first";
+    }
     ""
 }
 
@@ -353,18 +364,34 @@ fn tip_of_name(name: &str, known: &Known<'_, '_>) -> &'static str {
 fn of_output(alloc: Global, known: &Known<'_, '_>) -> Result<String, AllocError> {
     if text_of(known.matches, "output").is_some() {
         let why = known.refusal.unwrap_or(Refusal::Other);
-        return line(
-            alloc,
-            "the text can't be written: ",
-            why.text(),
-            FILE_IS_KEPT,
-        );
+        let kept = match text_of(known.matches, "output2") {
+            None => FILE_IS_KEPT,
+            Some(_) => "",
+        };
+        return line(alloc, "the text can't be written: ", why.text(), kept);
     }
     let why = known.output_refusal.unwrap_or(Refusal::Other);
     line(alloc, "the output can't be written: ", why.text(), "")
 }
 
 const FILE_IS_KEPT: &str = "; a regular file of -o is as it was";
+
+// The records with this number are no pair.
+fn of_pairs(alloc: Global, number: u64, known: &Known<'_, '_>) -> Result<String, AllocError> {
+    let (first, second) = (file_name(1, known.matches), file_name(2, known.matches));
+    let mut text = String::from_str(alloc, first)?;
+    text.push_str(" and ")?;
+    text.push_str(second)?;
+    text.push_str(": the titles of record ")?;
+    let mut digits = Buffer::new();
+    text.push_str(digits.format(number))?;
+    text.push_str(UNPAIRED)?;
+    text.push_str(first)?;
+    line(alloc, text.as_str(), " -2 ", second)
+}
+
+const UNPAIRED: &str = " do not match, or one file has no such record; \
+     pair them first: seqkit pair -1 ";
 
 // Two tables don't match.
 fn of_unlike(alloc: Global, known: &Known<'_, '_>) -> Result<String, AllocError> {

@@ -87,6 +87,9 @@ fn push_front(line: &mut Block, fault: &ToolFault)
         ToolFault::TooLarge => line.push(b"62: sums too large"),
         ToolFault::BrokenTable(table) => push_source(line, b"71: broken gzip", *table),
         ToolFault::ShortTable(table) => push_source(line, b"72: gzip cut short", *table),
+        ToolFault::Unpaired(number) => {
+            push_numbered(line, b"81: reads are no pair, record ", *number);
+        }
     }
 }
 

@@ -408,6 +408,23 @@ impl<F: Write> NamedSink<F> {
             sink: FileSink { stream, heard },
         }
     }
+
+    /// The file of this name.
+    pub(crate) fn from_parts(name: String, sink: FileSink<F>) -> NamedSink<F>
+        ensures name { string_bytes result.name ≡ string_bytes name }
+        ensures sink { result.sink ≡ sink }
+    {
+        NamedSink { name, sink }
+    }
+
+    /// The name, and the file.
+    pub(crate) fn into_parts(self) -> (String, FileSink<F>)
+        ensures name { string_bytes result.0 ≡ string_bytes self.name }
+        ensures sink { result.1 ≡ self.sink }
+    {
+        let NamedSink { name, sink } = self;
+        (name, sink)
+    }
 }
 
 // How many bytes a file has, where it is a regular one.
@@ -418,10 +435,14 @@ fn size_of<H: Files>(file: &H::File) -> Option<u64> {
     }
 }
 
-/// How many bytes the files have together; None where one is no regular file, and where there is none.
-pub(crate) fn size_of_all<F: Read>(files: &[NamedSource<'_, FileSource<F>>]) -> Option<u64> {
+/// How many bytes the files behind the first `own` ones have together; None where one is no regular file, and where
+/// there is none.
+pub(crate) fn size_behind<F: Read>(
+    files: &[NamedSource<'_, FileSource<F>>],
+    own: usize,
+) -> Option<u64> {
     let mut all: Option<u64> = None;
-    for file in files {
+    for file in files.iter().skip(own) {
         let size = file.source.size?;
         all = Some(all.unwrap_or(0).saturating_add(size));
     }

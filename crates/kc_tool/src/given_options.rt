@@ -4,6 +4,7 @@ ghost use Rattle.clap.specs.Words.{found_of, rows_of};
 ghost use Rattle.kc_command.specs.Arguments.{
   AsksFor,
   AsksForDump,
+  AsksForPairs,
   AsksForProfile,
   AsksForSelection,
   first_bad,
@@ -17,7 +18,7 @@ ghost use Rattle.kc_command.specs.declared.option_name.OptionName.{OptionName};
 
 use crate::tool_faults::ToolFault;
 use clap::ArgMatches;
-use kc_command::Options;
+use kc_command::{Options, SelectOptions};
 use kc_report::Dump;
 use kc_select::Selection;
 use std::alloc::Global;
@@ -68,13 +69,14 @@ pub fn high_of(matches: &ArgMatches<'_>) -> Result<u64, ToolFault>
 /// What the options of `select` ask for. It takes no memory.
 ///
 /// # Errors
-/// `BadOption` with the first of `--min-count`, `--max-count`, `--min-share` and `--min-qual-char` whose value is
-/// outside its limits.
-pub fn select_options(matches: &ArgMatches<'_>) -> Result<Selection, ToolFault>
+/// `BadOption` with the first of `--min-count`, `--max-count`, `--min-share`, `--min-qual-char` and `--keep` whose
+/// value is outside its limits, whether it acts or not.
+pub fn select_options(matches: &ArgMatches<'_>) -> Result<SelectOptions, ToolFault>
     ensures first_bad { MatchResult result (λ s. first_bad_of_select (rows_of (found_of matches.now)) ≡ None)
         (λ fault. (name : OptionName) × (first_bad_of_select (rows_of (found_of matches.now)) ≡ Some name)
         × (fault ≡ ToolFault.BadOption name)) }
-    ensures asked { IfOk result (AsksForSelection (rows_of (found_of matches.now))) }
+    ensures asked { IfOk result (λ asked. AsksForSelection (rows_of (found_of matches.now)) asked.selection) }
+    ensures pairs { IfOk result (λ asked. AsksForPairs (rows_of (found_of matches.now)) asked.pairs) }
 {
     Ok(kc_command::select_options(matches)?)
 }

@@ -40,6 +40,8 @@ mod option_ranges;
 mod option_tips;
 mod output_sink;
 mod outputs;
+mod paired_sources;
+mod pairs_writers;
 mod process;
 pub mod report_laws;
 mod reported;

@@ -12,6 +12,7 @@ pub(crate) fn range_of(name: OptionName) -> &'static str {
         OptionName::MinShare => "a percentage, a whole number from 0 to 100",
         OptionName::MinQualChar =>
             "one character from ! to ~, ASCII 33 to 126, as 5 for a quality of 20",
+        OptionName::Keep => "both or any",
         OptionName::Stripes => "1, 2, 4, 8, 16, 32 or 64",
         OptionName::Batch => "a number from 1 to 2^36",
         OptionName::Print => "table, dump, histo or stats",

@@ -1,4 +1,6 @@
-//! Tips for options that Jellyfish has, and that are called otherwise here, or are not needed.
+//! Why options don't go together, and tips for options that Jellyfish has, and that are called otherwise here, or are
+//! not needed.
+use kc_command::PairsRefusal;
 use std::alloc::{AllocError, Global};
 
 /// The text of a refusal by `clap`, with a tip of our own where we know the option: in place of that of `clap`, which
@@ -57,6 +59,39 @@ fn tip_of(command: &str, argument: &str) -> Option<&'static str> {
         return Some("merge adds two tables at a time");
     }
     None
+}
+
+/// The text of a refusal of options that don't go together, in the form of those of `clap`.
+pub(crate) fn refusal_text(alloc: Global, refusal: PairsRefusal) -> Result<String, AllocError> {
+    let mut text = String::from_str(alloc, "error: ")?;
+    text.push_str(why_apart(refusal))?;
+    text.push_str(
+        "\n\nUsage: kcount select [OPTIONS] <TABLE> [FILE]...\n\n\
+         For more information, try '--help'.\n",
+    )?;
+    Ok(text)
+}
+
+// Why options don't go together.
+fn why_apart(refusal: PairsRefusal) -> &'static str {
+    match refusal {
+        PairsRefusal::KeepAlone => "the argument '--keep <WHICH>' cannot be used without '--pairs'",
+        PairsRefusal::Output2Alone => {
+            "the argument '--output2 <FILE>' cannot be used without '--pairs'"
+        }
+        PairsRefusal::NotTwoFiles => {
+            "the argument '--pairs' requires two files behind <TABLE>, FIRST and SECOND"
+        }
+        PairsRefusal::NoOutput => {
+            "the argument '--output2 <FILE>' cannot be used without '--output <FILE>'"
+        }
+        PairsRefusal::NoOutput2 => {
+            "with '--pairs' the argument '--output <FILE>' cannot be used without '--output2 <FILE>'"
+        }
+        PairsRefusal::OneOutput => {
+            "the arguments '--output <FILE>' and '--output2 <FILE>' cannot name the same file"
+        }
+    }
 }
 
 const LISTED: &str = "the files are named on the command line, and programs write into a pipe";

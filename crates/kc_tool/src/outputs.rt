@@ -1,14 +1,17 @@
 //! Where a command writes its text: to a new file beside the one that is named, which takes its place once the text is
 //! whole.
-ghost use Rattle.std.specs.Prelude.{◌≡◌, ◌≤◌, ◌++◌, List, Ok, Some, IfErr, IfOk, option_map, string_bytes};
+ghost use Rattle.std.specs.Prelude.{◌≡◌, ◌≤◌, ◌++◌, [], ◌∷◌, List, Ok, Some, IfErr, IfOk, option_map, string_bytes};
 ghost use Rattle.kc_io.specs.History.{no_history};
-ghost use Rattle.kc_tool.specs.FileEvents.{FileEvent};
-ghost use Rattle.kc_tool.specs.Files.{FailsBeside, HasNoOutput};
-ghost use Rattle.kc_tool.specs.Outputs.{ClosesOutput, MakesBeside, OpensOutput, beside, is_of_system};
+ghost use Rattle.kc_tool.specs.FileEvents.{FileEvent, wrote};
+ghost use Rattle.kc_tool.specs.Files.{FailsBeside, HasNoOutput, HasNotBoth};
+ghost use Rattle.kc_tool.specs.Outputs.{ClosesBoth, ClosesOutput, Discards, IsPlaced, MakesBeside, OpensBoth};
+ghost use Rattle.kc_tool.specs.Outputs.{OpensOutput, beside, is_of_system, target};
+ghost use Rattle.kc_tool.specs.PairSelections.{both};
 
-use crate::files::{NamedFiles, NamedSink, NotMade, open_failed};
+use crate::files::{FileSink, NamedFiles, NamedSink, NotMade, open_failed};
 use crate::tool_faults::ToolFault;
 use itoa::Buffer;
+use kc_select::Sides;
 use std::alloc::{AllocError, Global};
 use std::fs::Permissions;
 use std::io::Write;
@@ -119,6 +122,153 @@ pub(crate) fn close_output<H: Files, T: Drop>(
     };
     files.remove(name.as_str());
     Err(fault)
+}
+
+/// Where a text goes: a file that it is written to, and the path of that which the file is to become.
+#[derive(Drop)]
+pub(crate) struct Place {
+    /// The file's name.
+    pub name: String,
+    /// The path that the file is renamed to once the text is whole; None where it is the named file itself.
+    pub path: Option<String>,
+}
+
+/// The files that a command writes two texts to.
+#[derive(Drop)]
+pub(crate) struct TwoOutputs<F: Write> {
+    /// Where the texts go.
+    pub places: Sides<Place>,
+    /// The files.
+    pub sinks: Sides<FileSink<F>>,
+}
+
+/// Opens the files for two texts that are to go to the files of these names, the first one in front, each as
+/// `open_output` does. Where there is no file for the second one, that for the first one is given up.
+///
+/// # Errors
+/// Those of `open_output`.
+pub(crate) fn open_both<H: Files>(
+    alloc: Global,
+    files: &mut NamedFiles<'_, H>,
+    names: &Sides<&str>,
+) -> Result<TwoOutputs<H::File>, ToolFault>
+    ensures opened { IfOk result (λ outputs. (asked : List FileEvent) × (files.new ≡ files.old ++ asked)
+        × OpensBoth names.now.first.now names.now.second.now
+        (string_bytes outputs.places.first.name) (option_map string_bytes outputs.places.first.path)
+        (string_bytes outputs.places.second.name) (option_map string_bytes outputs.places.second.path) asked) }
+    ensures first_fresh { IfOk result (λ outputs. outputs.sinks.first.history ≡ no_history) }
+    ensures second_fresh { IfOk result (λ outputs. outputs.sinks.second.history ≡ no_history) }
+    ensures refused { IfErr result (λ fault. (asked : List FileEvent) × (files.new ≡ files.old ++ asked)
+        × HasNotBoth names.now.first.now names.now.second.now asked fault) }
+{
+    let (first, first_sink) = open_output(alloc, files, names.first)?.into_parts();
+    match open_output(alloc, files, names.second) {
+        Ok(output) => {
+            let (second, second_sink) = output.into_parts();
+            Ok(TwoOutputs {
+                places: Sides { first, second },
+                sinks: Sides {
+                    first: first_sink,
+                    second: second_sink,
+                },
+            })
+        }
+        Err(fault) => {
+            let first = close_place(files, first, first_sink);
+            discard(files, &first);
+            Err(fault)
+        }
+    }
+}
+
+impl<F: Write> Output<F> {
+    // Where the text goes, and the file.
+    fn into_parts(self) -> (Place, FileSink<F>)
+        ensures name { string_bytes result.0.name ≡ string_bytes self.file.name }
+        ensures path { option_map string_bytes result.0.path ≡ option_map string_bytes self.path }
+        ensures sink { result.1 ≡ self.file.sink }
+    {
+        let Output { file, path } = self;
+        let (name, sink) = file.into_parts();
+        (Place { name, path }, sink)
+    }
+}
+
+/// Closes the files of two texts, when the work that writes them has ended so, and then puts the first one in place,
+/// and the second one, where the work ended well. New files that are not put in place are removed.
+///
+/// # Errors
+/// The fault of the work. `Write` where a file can't be renamed: if it is the second one, the first one is in place.
+pub(crate) fn close_both<H: Files, T: Drop>(
+    files: &mut NamedFiles<'_, H>,
+    outputs: TwoOutputs<H::File>,
+    work: Result<T, ToolFault>,
+) -> Result<T, ToolFault>
+    ensures { (asked : List FileEvent) × (files.new ≡ files.old ++ asked)
+        × ClosesBoth (both (target (string_bytes outputs.places.first.name)
+        (option_map string_bytes outputs.places.first.path) outputs.sinks.first.history)
+        (target (string_bytes outputs.places.second.name)
+        (option_map string_bytes outputs.places.second.path) outputs.sinks.second.history)) work result asked }
+{
+    let TwoOutputs { places, sinks } = outputs;
+    let first = close_place(files, places.first, sinks.first);
+    let second = close_place(files, places.second, sinks.second);
+    let done = match work {
+        Ok(done) => done,
+        Err(fault) => {
+            discard(files, &first);
+            discard(files, &second);
+            return Err(fault);
+        }
+    };
+    if !put_in_place(files, &first) {
+        discard(files, &second);
+        return Err(ToolFault::Write);
+    }
+    if !put_in_place(files, &second) {
+        return Err(ToolFault::Write);
+    }
+    Ok(done)
+}
+
+// Closes the file of a text that goes there, and gives the place back.
+fn close_place<H: Files>(
+    files: &mut NamedFiles<'_, H>,
+    place: Place,
+    sink: FileSink<H::File>,
+) -> Place
+    ensures asked { files.new ≡ files.old ++ wrote (string_bytes place.name) sink.history ∷ [] }
+    ensures name { string_bytes result.name ≡ string_bytes place.name }
+    ensures path { option_map string_bytes result.path ≡ option_map string_bytes place.path }
+{
+    let Place { name, path } = place;
+    let name = files.take_sink(NamedSink::from_parts(name, sink));
+    Place { name, path }
+}
+
+// Removes a new file that is not to be put in place.
+fn discard<H: Files>(files: &mut NamedFiles<'_, H>, place: &Place)
+    ensures { (asked : List FileEvent) × (files.new ≡ files.old ++ asked)
+        × Discards (string_bytes place.now.name) (option_map string_bytes place.now.path) asked }
+{
+    if place.path.is_some() {
+        files.remove(place.name.as_str());
+    }
+}
+
+// Renames a new file to its path, and answers whether that was done. Where it can't be, it is removed.
+fn put_in_place<H: Files>(files: &mut NamedFiles<'_, H>, place: &Place) -> bool
+    ensures { (asked : List FileEvent) × (files.new ≡ files.old ++ asked)
+        × IsPlaced result (string_bytes place.now.name) (option_map string_bytes place.now.path) asked }
+{
+    let Some(path) = place.path.as_ref() else {
+        return true;
+    };
+    let done = files.rename(place.name.as_str(), path.as_str());
+    if !done {
+        files.remove(place.name.as_str());
+    }
+    done
 }
 
 // Whether a name is one of the system: a device, or what a process has open. The folder /dev/shm has plain files.

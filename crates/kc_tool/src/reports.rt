@@ -112,7 +112,7 @@ fn list_of<Q: Source + Drop>(
     let Some(mut source) = only else {
         return Ok(None);
     };
-    let list = read_list(alloc, &mut source, &options.rule(), &NoProgress)?;
+    let list = read_list(alloc, &mut source, &options.rule())?;
     Ok(Some(list))
 }
 

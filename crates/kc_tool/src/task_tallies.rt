@@ -58,7 +58,7 @@ pub(crate) fn report_listed<
 {
     let rule = options.rule();
     let files = &mut *sources.files;
-    let list = read_list(means.alloc, &mut files[0].source, &rule, means.progress)?;
+    let list = read_list(means.alloc, &mut files[0].source, &rule)?;
     report_given(means, options, Some(list), sources, writer)
 }
 

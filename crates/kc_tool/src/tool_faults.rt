@@ -67,6 +67,9 @@ pub enum ToolFault {
     /// The table of this place, numbered from 1, is gzip that is cut short.
     #[error("gzip cut short, source {0}")]
     ShortTable(u64),
+    /// The records with this number, from 1, are no pair: their titles differ, or one source has no such record.
+    #[error("reads are no pair, record {0}")]
+    Unpaired(u64),
 }
 
 impl From<AllocError> for ToolFault {

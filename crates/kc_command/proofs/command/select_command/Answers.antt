@@ -25,21 +25,33 @@ returns c =
               c.invert.ensures.own,
               c.invert.ensures.rule,
               (
-                c.stats.ensures.own,
-                c.stats.ensures.rule,
+                c.pairs.ensures.own,
+                c.pairs.ensures.rule,
                 (
-                  c.output.ensures.own,
-                  c.output.ensures.rule,
+                  c.keep.ensures.own,
+                  c.keep.ensures.rule,
                   (
-                    c.explain.ensures.own,
-                    c.explain.ensures.rule,
+                    c.stats.ensures.own,
+                    c.stats.ensures.rule,
                     (
-                      c.counted.ensures.own,
-                      c.counted.ensures.rule,
+                      c.output.ensures.own,
+                      c.output.ensures.rule,
                       (
-                        c.files.ensures.own,
-                        c.files.ensures.rule,
-                        tt,
+                        c.output2.ensures.own,
+                        c.output2.ensures.rule,
+                        (
+                          c.explain.ensures.own,
+                          c.explain.ensures.rule,
+                          (
+                            c.counted.ensures.own,
+                            c.counted.ensures.rule,
+                            (
+                              c.files.ensures.own,
+                              c.files.ensures.rule,
+                              tt,
+                            ),
+                          ),
+                        ),
                       ),
                     ),
                   ),

@@ -1,6 +1,6 @@
 use Rattle.std.proofs.Common.{refl}
 use Rattle.clap.proofs.OnLiterals.{clap_on_literals}
-use Rattle.kc_command.specs.Laws.{CountsBothStrands, CountsFiles, CountsListedWords, MergesTables, ProfilesRecords, ReadsTables, Refuses, SelectsReads}
+use Rattle.kc_command.specs.Laws.{CountsBothStrands, CountsFiles, CountsListedWords, MergesTables, ProfilesRecords, ReadsTables, Refuses, SelectsPairs, SelectsReads}
 use Rattle.kc_command.proofs.command_laws.command_lines.Goals as goal
 
 counts_both_strands : CountsBothStrands
@@ -102,6 +102,33 @@ selects_reads = record {
   second_of_two = refl;
 }
 
+selects_pairs : SelectsPairs
+unfolding clap_on_literals
+selects_pairs = record {
+  taken = refl;
+  good = refl;
+  pairs = refl;
+  any = refl;
+  output = refl;
+  output2 = refl;
+  files = refl;
+  together = refl;
+  usual = refl;
+  both = refl;
+  interleaved = refl;
+  no_pairs = refl;
+  reads = refl;
+  other_rule = refl;
+  keep_alone = refl;
+  output2_alone = refl;
+  no_output = refl;
+  no_output2 = refl;
+  one_output = refl;
+  no_file = refl;
+  one_file = refl;
+  three_files = refl;
+}
+
 profiles_records : ProfilesRecords
 unfolding clap_on_literals
 profiles_records = record {
@@ -157,3 +184,6 @@ returns-clause-selects c = selects_reads
 
 pub returns-clause-profiles : goal.returns-clause-profiles
 returns-clause-profiles c = profiles_records
+
+pub returns-clause-pairs : goal.returns-clause-pairs
+returns-clause-pairs c = selects_pairs

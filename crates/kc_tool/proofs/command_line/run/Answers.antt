@@ -1,5 +1,5 @@
 use Rattle.std.proofs.Common.{◌∙◌, [], inl, inr, map, refl, string_bytes, sym}
-use Rattle.kc_tool.proofs.CommandLineLemmas.{command_done, command_ended, may_explain, parse_ends, shown, still_closing, unsaid, verb_known}
+use Rattle.kc_tool.proofs.CommandLineLemmas.{are_apart, asked_for, command_done, command_ended, may_explain, parse_ends, refused_apart, shown, still_closing, unsaid, verb_known}
 use Rattle.kc_tool.proofs.command_line.run.Goals as goal
 
 pub returns-in_default-clause-texts : goal.returns-in_default-clause-texts
@@ -31,7 +31,8 @@ returns-clause-texts g c =
     let texts = map string_bytes c.deref.result.now in
     let parsed = parse_ends _ texts c.try_get_matches_from.result c.in-Ok-command.ensures c.try_get_matches_from.ensures.kinds c.try_get_matches_from.ensures.matches in
     let taken = rw c.in-Ok-try_get_matches_from.is at parsed.0 in
-    let done = command_done taken c.in-Some.ensures.name c.in-Some.ensures.rows c.in-Some-verb_named.ensures c.run_command-ended.ensures in
+    let asked = asked_for taken c.in-Some.ensures.name c.in-Some.ensures.rows c.in-Some-verb_named.ensures in
+    let done = command_done asked c.in_default-refusal_of.ensures c.run_command-ended.ensures in
     let said = rw (sym c.as_bytes.ensures) at c.said-said.ensures.asked in
     let closes = rw (sym c.as_bytes.ensures) at c.said-said.ensures.closing in
     let may = may_explain c.in-Ok-try_get_matches_from.matches _ _ taken c.in-Some.ensures.rows said in
@@ -42,4 +43,17 @@ returns-clause-texts g c =
       ends = c.tell_end-2.ensures.ends _ texts _ _ (command_ended c.run_command-ended.result c.map_err.result c.map_err.ensures.cases done)
           (still_closing _ texts c.in-Ok-try_get_matches_from.matches _ taken c.in-Some.ensures.rows _ c.run_command-ended.result
           c.map_err.result c.map_err.ensures.cases closes);
+    })
+
+pub returns-in-Some-refusal_of-clause-texts : goal.returns-in-Some-refusal_of-clause-texts
+returns-in-Some-refusal_of-clause-texts g c =
+    let texts = map string_bytes c.deref.result.now in
+    let parsed = parse_ends _ texts c.try_get_matches_from.result c.in-Ok-command.ensures c.try_get_matches_from.ensures.kinds c.try_get_matches_from.ensures.matches in
+    let taken = rw c.in-Ok-try_get_matches_from.is at parsed.0 in
+    let asked = asked_for taken c.in-Some.ensures.name c.in-Some.ensures.rows c.in-Some-verb_named.ensures in
+    rw (c.in-Ok.is, sym c.deref.ensures.value)
+    (record {
+      explained = [];
+      may = inl refl;
+      ends = c.tell_end-in-Some-refusal_of.ensures.ends _ texts _ _ (refused_apart _ c.refused.result (are_apart c.in-Some-refusal_of.refusal c.in-Some-verb_named.verb asked c.in-Some-refusal_of.ensures) c.refused.ensures) tt;
     })

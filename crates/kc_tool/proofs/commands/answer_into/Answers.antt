@@ -1,14 +1,13 @@
 use Rattle.std.proofs.Common.{inl, option_map, string_bytes}
-use Rattle.kc_tool.proofs.CommandsLemmas.{back_as_left, done_into, task_done}
-use Rattle.kc_tool.proofs.FilesLemmas.{lent_back, paired}
+use Rattle.kc_tool.proofs.CommandsLemmas.{done_into, task_done}
+use Rattle.kc_tool.proofs.FilesLemmas.{paired}
 use Rattle.kc_tool.proofs.commands.answer_into.Goals as goal
 
 pub returns : goal.returns
 returns g c =
-    let answer = rw c.deref_mut.ensures.value at c.answer-work.ensures in
-    let whole = lent_back c.answer-work.new.files c.args.sources.items c.args.sources.len answer.names c.args.sources.ok.0 in
-    let pairs = paired c.args.sources.items c.answer-work.new.files answer.names in
-    let done = task_done pairs.0 pairs.1 answer.input (back_as_left _ c.take_sources-2.ensures whole) answer.done in
+    let answer = c.answer-work.ensures in
+    let pairs = paired c.args.sources.items c.answer-work.new.files.items answer.names in
+    let done = task_done pairs.0 pairs.1 answer.input c.take_sources-2.ensures answer.done in
     let output = c.in-Ok.output in
     let opened = c.in-Ok.ensures.opened in
     let closed = c.close_output.ensures in

@@ -10,9 +10,6 @@ returns-in-Some-clause-asked c =
 pub returns-in-Stats-clause-asked : goal.returns-in-Stats-clause-asked
 returns-in-Stats-clause-asked c = rw c.in-Stats.is refl
 
-pub returns-in_ok-selection-in-Select-clause-asked : goal.returns-in_ok-selection-in-Select-clause-asked
-returns-in_ok-selection-in-Select-clause-asked c = rw c.in-Select.is (c.in_ok-selection-in-Select.ensures.asked, c.has_flag.ensures)
-
 pub returns-in_ok-profile_options-in-Profile-clause-asked : goal.returns-in_ok-profile_options-in-Profile-clause-asked
 returns-in_ok-profile_options-in-Profile-clause-asked c =
     rw c.in-Profile.is (c.in_ok-profile_options-in-Profile.ensures.asked, refl)

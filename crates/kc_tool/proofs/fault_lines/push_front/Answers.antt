@@ -42,3 +42,6 @@ returns-in-BrokenTable-clause-pushed c = rw c.in-BrokenTable.is c.push_source.en
 
 pub returns-in-ShortTable-clause-pushed : goal.returns-in-ShortTable-clause-pushed
 returns-in-ShortTable-clause-pushed c = rw c.in-ShortTable.is c.push_source-in-ShortTable.ensures.pushed
+
+pub returns-in-Unpaired-clause-pushed : goal.returns-in-Unpaired-clause-pushed
+returns-in-Unpaired-clause-pushed c = rw c.in-Unpaired.is c.push_numbered-in-Unpaired.ensures.pushed
