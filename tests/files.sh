@@ -118,6 +118,33 @@ wants 0 '' '' "$both" merge -o out two.kct out
 wants 0 '' '' $'>r1\nACGTA' "${select[@]}" -o out out one.fa
 before='old\n'
 
+# two outputs get both texts or neither
+pairs=("${select[@]}" --pairs -o out --output2 out2)
+wants_both() {
+    local second=$1 got
+    shift
+    printf 'old 2\n' > out2
+    wants "$@"
+    got=$(cat out2)
+    same "the file out2" "$second" "$got" "$@"
+    rm out2
+}
+wants_both $'>r1\nACGTA' 0 '' '' $'>r1\nACGTA' "${pairs[@]}" one.kct one.fa one.fa
+wants_both 'old 2' 1 '' 'kcount: 41: bad header' old "${pairs[@]}" one.fa one.fa one.fa
+wants_both 'old 2' 1 '' 'kcount: 2: bad base, source 1, line 2' old "${pairs[@]}" one.kct bad.fa one.fa
+wants_both 'old 2' 1 '' 'kcount: 2: bad base, source 2, line 2' old "${pairs[@]}" one.kct one.fa bad.fa
+wants_both 'old 2' 1 '' 'kcount: 81: reads are no pair, record 1' old "${pairs[@]}" one.kct one.fa two.fq
+wants_both 'old 2' 1 '' 'kcount: 54: cannot open missing' old "${pairs[@]}" missing one.fa one.fa
+wants_both 'old 2' 1 '' 'kcount: 54: cannot open missing' old "${pairs[@]}" one.kct one.fa missing
+# where there is no file for the second, the first is as it was, and where there is none for the first, so is the second
+wants_both 'old 2' 1 '' 'kcount: 54: cannot open no-such/out' old "${select[@]}" --pairs -o out --output2 no-such/out one.kct bad.fa one.fa
+wants_both 'old 2' 1 '' 'kcount: 54: cannot open no-such/out' old "${select[@]}" --pairs -o no-such/out --output2 out2 one.kct bad.fa one.fa
+if [ -c /dev/full ]; then
+    wants_both 'old 2' 1 '' 'kcount: 53: write failed' old "${select[@]}" --pairs -o out --output2 /dev/full one.kct one.fa one.fa
+    wants_both 'old 2' 1 '' 'kcount: 53: write failed' old "${select[@]}" --pairs -o /dev/full --output2 out2 one.kct one.fa one.fa
+fi
+wants_both 'old 2' 0 '' '' $'>r1\nACGTA' "${select[@]}" --pairs -o out --output2 /dev/null one.kct one.fa one.fa
+
 # a file that can't be opened is told, the first of several, before the file of the output is opened
 wants 1 '' 'kcount: 54: cannot open missing' old "${count[@]}" missing
 wants 1 '' 'kcount: 54: cannot open missing' old "${count[@]}" -o out one.fa missing lost bad.fa

@@ -1,10 +1,10 @@
 #!/bin/bash
 # Refuses each growth in turn, and looks at what is answered:
 #   tests/memory.sh
-# Each run of the program, a count over FASTA, over FASTQ and of listed k-mers, a merge and a selection, either does
-# without that growth and writes all that it should, or writes nothing (a selection the reads before), says on standard
-# error that there is no memory, and ends with status 1. Tickets, a growing table, a stripe and a gathering are asked the same by a test. It needs bin/kcount, the
-# crates of tests as built, and a C compiler.
+# Each run of the program, a count over FASTA, over FASTQ and of listed k-mers, a merge, a selection of reads and two of
+# pairs, either does without that growth and writes all that it should, or writes nothing (a selection the reads before),
+# says on standard error that there is no memory, and ends with status 1. Tickets, a growing table, a stripe and a
+# gathering are asked the same by a test. It needs bin/kcount, the crates of tests as built, and a C compiler.
 set -euo pipefail
 here=$(cd "$(dirname "$0")" && pwd)
 kcount=$here/../bin/kcount
@@ -62,6 +62,10 @@ refuse_growths 'a merge' $'KCT 2 3 c a 33 3\nAAA 4\nACG 2\nGTA 2\nEND 3 8\n' 46 
     merge "$work/first.kct" "$work/second.kct"
 refuse_growths 'a selection' $'@a\nACGTA\n+\nIIIII\n@b\nACGTN\n+\nII"II\n' '8 46' "$work/reads.fq" \
     select --min-share 60 "$work/first.kct"
+refuse_growths 'a selection of pairs' $'@a\nACGTA\n+\nIIIII\n@a\nACGTA\n+\nIIIII\n@b\nACGTN\n+\nII"II\n@b\nACGTN\n+\nII"II\n' '8 46' /dev/null \
+    select --pairs --min-share 60 "$work/first.kct" "$work/reads.fq" "$work/reads.fq"
+refuse_growths 'a selection of pairs into two files' '' '8 46' /dev/null \
+    select --pairs --min-share 60 -o "$work/first.out" --output2 "$work/second.out" "$work/first.kct" "$work/reads.fq" "$work/reads.fq"
 
 # one test of a crate, with its n-th growth refused
 refused_test() {

@@ -14,6 +14,7 @@ cd "$work/here"
 
 # Good reads, and files that are none.
 printf '>r1\nACGTA\n' > reads.fa
+printf '>r1\nACGTA\n>r2\nACG\n' > mates.fa
 printf '@r1\nACGTACGT\n+\nIIIIIIII\n' > reads.fq
 gzip -c reads.fq > reads.fq.gz
 printf '\x1f\x8b\x08\x04\x00\x00\x00\x00\x00\xff\x06\x00\x42\x43\x02\x00\x21\x00\x73\x72\xf4\x65\x64\x80\x02\x00\x7c\xb1\x74\xcc\x0c\x00\x00\x00' > reads.bam
@@ -152,6 +153,13 @@ explains 1 '61: tables do not match' 'three.kct and four.kct have k-mers of leng
 explains 1 '61: tables do not match' 'three.kct and both.kct were counted in different ways: with and without -C or --only, or with another --min-qual-char' merge three.kct both.kct
 explains 1 '52: bad word 1' 'ACGT is no k-mer of this table, whose k-mers have a length of 3 and are of A, C, G and T alone' query three.kct ACGT
 explains 1 '52: bad word 2' 'ACN is no k-mer of this table, whose k-mers have a length of 3 and are of A, C, G and T alone' query three.kct ACG ACN
+# reads that are no pairs
+unpaired='81: reads are no pair, record'
+explains 1 "$unpaired 1" "reads.fa and one.fa: the titles of record 1 do not match, or one file has no such record; pair them first: seqkit pair -1 reads.fa -2 one.fa" select --pairs three.kct reads.fa one.fa
+explains 1 "$unpaired 2" "mates.fa and reads.fa: the titles of record 2 do not match, or one file has no such record; pair them first: seqkit pair -1 mates.fa -2 reads.fa" select --pairs three.kct mates.fa reads.fa
+# each file of a pair is looked at
+explains 1 '1: bad start, source 1, line 1' 'reads.sam is SAM, or another text of columns: of SAM, count the output of samtools fastq reads.sam' select --pairs three.kct reads.sam reads.fa
+explains 1 '1: bad start, source 2, line 1' 'reads.sam is SAM, or another text of columns: of SAM, count the output of samtools fastq reads.sam' select --pairs three.kct reads.fa reads.sam
 
 # values of options
 bad='51: bad option'
@@ -173,6 +181,7 @@ explains 2 "$bad --high" '--high is 0, and has to be a number from 1 to 10000000
 explains 2 "$bad --min-count" '--min-count is x, and has to be a number from 0 to 2^62' select --min-count x three.kct reads.fq
 explains 2 "$bad --max-count" '--max-count is 1e6, and has to be a number from 0 to 2^62' select --max-count 1e6 three.kct reads.fq
 explains 2 "$bad --min-share" '--min-share is 0.8, and has to be a percentage, a whole number from 0 to 100' select --min-share 0.8 three.kct reads.fq
+explains 2 "$bad --keep" '--keep is one, and has to be both or any' select --pairs --keep one three.kct reads.fa reads.fa
 
 # files that can't be opened or written
 open='54: cannot open'
@@ -184,6 +193,8 @@ explains 1 "$open *.bam.fq" "*.bam.fq $missing; the shell replaces * only where 
 explains 1 "$open -" "- $missing; standard input is read where no file is named" "${count[@]}" -
 explains 1 "$open reads.fa/x" "reads.fa/x can't be opened: a part of its path is no folder" "${count[@]}" reads.fa/x
 explains 1 "$open none/x.kct" "none/x.kct $missing; the text goes to a new file in the folder of -o first" "${count[@]}" -o none/x.kct reads.fa
+explains 1 "$open none/x.fa" "none/x.fa $missing; the text goes to a new file in the folder of --output2 first" select --pairs -o x.fa --output2 none/x.fa three.kct reads.fa reads.fa
+rm x.fa
 explains 1 "$open folder" "folder can't be opened: it is a folder; the text goes to a new file in the folder of -o first" "${count[@]}" -o folder reads.fa
 # why the output can't be written
 ends() {
@@ -197,6 +208,7 @@ ends "the output can't be written: the program that reads it has ended" \
 if [ -c /dev/full ]; then
     full='the disk or the quota is full'
     explains 1 '53: write failed' "the text can't be written: $full; a regular file of -o is as it was" "${count[@]}" -o /dev/full reads.fa
+    explains 1 '53: write failed' "the text can't be written: $full" select --min-count 1 --pairs -o /dev/full --output2 /dev/null three.kct reads.fa reads.fa
     ends "the output can't be written: $full" "'$kcount' dump --explain three.kct > /dev/full"
 fi
 
@@ -235,6 +247,8 @@ closes '1 of 1 read kept' select --min-count 1 three.kct reads.fa
 closes '0 of 1 read kept' select three.kct reads.fa
 closes '1 of 2 reads kept' select --min-count 1 three.kct reads.fa reads.fq
 closes '1 of 1 read kept' select --min-count 1 three.kct
+closes '2 of 2 reads kept' select --min-count 1 --pairs three.kct reads.fa reads.fa
+closes '0 of 2 reads kept' select --pairs three.kct reads.fa reads.fa
 closes '' dump three.kct
 closes '' histo three.kct
 closes '' stats three.kct

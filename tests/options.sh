@@ -13,7 +13,7 @@ in_order() {
     sed -E "s/^(-[A-Za-z])[^-]*(--.*)/\1, \2/" | LC_ALL=C sort
 }
 of_help() {
-    "$kcount" "$1" --help | grep -oE '^ +(-[A-Za-z], )?--[a-z-]+' | sed 's/^ *//' | in_order
+    "$kcount" "$1" --help | grep -oE '^ +(-[A-Za-z], )?--[a-z0-9-]+' | sed 's/^ *//' | in_order
 }
 # The page has a section for each command, and one for the options that all of them have.
 of_man() {
@@ -21,7 +21,7 @@ of_man() {
     for section in "${1^^}" 'OPTIONS OF EACH COMMAND'; do
         awk -v section="$section" '/^\.SH / { inside = substr($0, 5) == section } inside && tag { print } { tag = $0 == ".TP" }' \
             "$share/kcount.1"
-    done | sed 's/\\-/-/g; s/\\fI[A-Za-z]*\\fR//g' | grep -oE '(-[A-Za-z] ", " )?--[a-z-]+' | grep -v -e --version | in_order
+    done | sed 's/\\-/-/g; s/\\fI[A-Za-z]*\\fR//g' | grep -oE '(-[A-Za-z] ", " )?--[a-z0-9-]+' | grep -v -e --version | in_order
 }
 of_bash() {
     # shellcheck disable=SC1091,SC2034
@@ -34,11 +34,11 @@ of_bash() {
 }
 of_zsh() {
     { sed -n "/^    $1=(/,/^    )/p" "$share/_kcount"; grep -x '    options=(.*)' "$share/_kcount"; } \
-        | grep -oE "\{-[A-Za-z],--[a-z-]+\}|^ +'--[a-z-]+" | tr -d "{}' " | in_order
+        | grep -oE "\{-[A-Za-z],--[a-z0-9-]+\}|^ +'--[a-z0-9-]+" | tr -d "{}' " | in_order
 }
 of_fish() {
     grep -E "^complete -c kcount (-n '__fish_seen_subcommand_from $1' |-s h )" "$share/kcount.fish" \
-        | grep -oE '(-s [A-Za-z] )?-l [a-z-]+' | sed -E 's/-s ([A-Za-z]) /-\1 /; s/-l /--/' | in_order
+        | grep -oE '(-s [A-Za-z] )?-l [a-z0-9-]+' | sed -E 's/-s ([A-Za-z]) /-\1 /; s/-l /--/' | in_order
 }
 commands() {
     "$kcount" --help | awk '/^Commands:/ { inside = 1; next } /^$/ { inside = 0 } inside { print $1 }' | LC_ALL=C sort

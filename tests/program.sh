@@ -125,6 +125,21 @@ refuses $'unexpected argument \'-C\' found\n\n  tip: to pass \'-C\' as a value, 
 refuses $'the following required arguments were not provided:\n  <TABLE>\n'"$usage_of_select" select
 refuses $'the following required arguments were not provided:\n  <TABLE>\n'"$usage_of_profile" profile
 refuses $'a value is required for \'--min-share <P>\' but none was supplied\n' select two.kct --min-share
+refuses $'a value is required for \'--keep <WHICH>\' but none was supplied\n' select two.kct --pairs a b --keep
+refuses $'a value is required for \'--output2 <FILE>\' but none was supplied\n' select two.kct --pairs a b -o c --output2
+# options that don't go together, whatever their values are, and whether the files are there or not
+usage_of_pairs=$'\n\nUsage: kcount select [OPTIONS] <TABLE> [FILE]...\n'
+refuses "the argument '--keep <WHICH>' cannot be used without '--pairs'$usage_of_pairs" select --keep any --output2 b two.kct
+refuses "the argument '--keep <WHICH>' cannot be used without '--pairs'$usage_of_pairs" select --keep one --min-count x missing
+refuses "the argument '--output2 <FILE>' cannot be used without '--pairs'$usage_of_pairs" select -o a --output2 b two.kct a b
+for files in '' 'a' 'a b c'; do
+    # shellcheck disable=SC2086
+    refuses "the argument '--pairs' requires two files behind <TABLE>, FIRST and SECOND$usage_of_pairs" select --pairs two.kct $files
+done
+refuses "the argument '--output2 <FILE>' cannot be used without '--output <FILE>'$usage_of_pairs" select --pairs --output2 b two.kct a b
+refuses "with '--pairs' the argument '--output <FILE>' cannot be used without '--output2 <FILE>'$usage_of_pairs" select --pairs -o a two.kct a b
+refuses "the arguments '--output <FILE>' and '--output2 <FILE>' cannot name the same file$usage_of_pairs" select --pairs -o a --output2 a two.kct a b
+refuses $'the argument \'--pairs\' cannot be used multiple times\n\nUsage: kcount select [OPTIONS] <TABLE> [FILE]...\n' select --pairs --pairs two.kct a b
 
 # The program hands on what it is given: each report goes to the output, and its input, all of it, and its arguments
 # arrive.
@@ -249,6 +264,7 @@ defaults high 10000 'high = 10000' 10000
 defaults min-count 2 '' 2 select
 defaults max-count 2^62 '' '\(2 \^ 62\)' select
 defaults min-share 100 '' 100 select
+defaults keep both '' 'asks\.All' select
 
 # Without an option the output is as with its default, and another value gives another output.
 usual() {
@@ -457,6 +473,80 @@ written_before '2: bad base, source 2, line 4' $'@p\nCGT\n+\nIII\n>r\nACG\n' '' 
 written_before '7: read failed, source 2' $'@p\nCGT\n+\nIII\n' '' reads.fq a-directory bad.fa
 wants 1 '' $'kcount: 2: bad base, source 1, line 4\n' '' kcount select -o out two.kct bad.fa
 same "the file out" '' out "a selection with a fault"
+# Pairs: both reads of the first pair are solid, one of the second, and none of the third. Those that are written are
+# written whole, interleaved or to two files, and both reads of each are counted.
+one_1=$'@a/1 x\nACG\n+\nIII\n' one_2=$'@a/2 y\nCGT\n+\nJJJ\n'
+two_1=$'@b/1\nAAA\n+\nIII\n' two_2=$'@b/2\nACG\n+\nJJJ\n'
+three_1=$'@c/1\nTTT\n+\nIII\n' three_2=$'@c/2\nAAA\n+\nJJJ\n'
+printf '%s' "$one_1$two_1$three_1" > first.fq
+printf '%s' "$one_2$two_2$three_2" > second.fq
+pairs() {
+    local first=$1 second=$2 interleaved=$3 counts=$4
+    shift 4
+    wants 0 "$interleaved" '' '>r' kcount select --pairs two.kct first.fq second.fq "$@"
+    wants 0 "$interleaved" "kcount: 6 reads, $counts kept, 6 k-mers, 3 solid"$'\n' '>r' kcount select --pairs --stats two.kct first.fq second.fq "$@"
+    wants 0 '' '' '>r' kcount select --pairs two.kct first.fq second.fq "$@" -o first.out --output2 second.out
+    same "the file first.out" "$first" first.out "pairs $*"
+    same "the file second.out" "$second" second.out "pairs $*"
+}
+pairs "$one_1" "$one_2" "$one_1$one_2" 2
+pairs "$one_1" "$one_2" "$one_1$one_2" 2 --keep both
+pairs "$one_1$two_1" "$one_2$two_2" "$one_1$one_2$two_1$two_2" 4 --keep any
+pairs "$two_1$three_1" "$two_2$three_2" "$two_1$two_2$three_1$three_2" 4 --invert
+pairs "$three_1" "$three_2" "$three_1$three_2" 2 --keep=any --invert
+pairs '' '' '' 0 --keep=any --invert --min-share 0
+# a file may be compressed, or of another format, and both may be named as the outputs
+gzip -c second.fq > second.fq.gz
+wants 0 "$one_1$one_2" '' '' kcount select --pairs two.kct first.fq second.fq.gz
+wants 0 $'>a\nACG\n@a/2 y\nCGT\n+\nJJJ\n' '' '' kcount select --pairs two.kct <(printf '>a\nACG\n') <(printf '%s' "$one_2")
+cp first.fq first.out
+cp second.fq second.out
+wants 0 '' '' '' kcount select --pairs -o first.out --output2 second.out two.kct first.out second.out
+same "the file first.out" "$one_1" first.out "pairs in place"
+same "the file second.out" "$one_2" second.out "pairs in place"
+# the names of mates: equal, or with the numbers of mates at their ends
+mates() {
+    local status=$1 errors=$2 first=$3 second=$4
+    printf '>%s\nACG\n' "$first" > first.fa
+    printf '>%s\nACG\n' "$second" > second.fa
+    [ "$status" != 0 ] || wants 0 $'>'"$first"$'\nACG\n>'"$second"$'\nACG\n' '' '' kcount select --pairs two.kct first.fa second.fa
+    [ "$status" = 0 ] || wants 1 '' "$errors" '' kcount select --pairs two.kct first.fa second.fa
+}
+unpaired=$'kcount: 81: reads are no pair, record '
+for names in 'a a' 'a/1 a/2' 'a.1 a.2' 'a.7 a.7'; do
+    mates 0 '' "${names% *}" "${names#* }"
+    mates 0 '' "${names% *} 1:N:0" "${names#* } 2:N:0"
+    mates 0 '' "${names% *}"$'\tx' "${names#* } y"
+done
+for names in 'a b' 'a/2 a/1' 'a/1 a/1' 'a A' 'a/1 b/2' 'a:1 a:2'; do mates 1 "$unpaired"$'1\n' "${names% *}" "${names#* }"; done
+# Records that are no pair, and a file that has more of them: the pairs before are written to the output, and files are
+# as they were. A fault of FIRST comes before one of SECOND, and either before this one, at the same record.
+unpairs() {
+    local output=$1 errors=$2 first=$3 second=$4
+    printf '%s' "$first" > first.fa
+    printf '%s' "$second" > second.fa
+    wants 1 "$output" "kcount: $errors"$'\n' '' kcount select --pairs two.kct first.fa second.fa
+    printf 'old 1\n' > first.out
+    printf 'old 2\n' > second.out
+    wants 1 '' "kcount: $errors"$'\n' '' kcount select --pairs -o first.out --output2 second.out two.kct first.fa second.fa
+    same "the file first.out" $'old 1\n' first.out "pairs with a fault"
+    same "the file second.out" $'old 2\n' second.out "pairs with a fault"
+}
+pair=$'>a\nACG\n'
+unpairs "$pair$pair" '81: reads are no pair, record 2' "$pair"$'>b\nACG\n' "$pair"$'>c\nACG\n'
+unpairs "$pair$pair" '81: reads are no pair, record 2' "$pair$pair" "$pair"
+unpairs "$pair$pair" '81: reads are no pair, record 2' "$pair" "$pair$pair"
+unpairs '' '81: reads are no pair, record 1' '' "$pair"
+unpairs '' '81: reads are no pair, record 1' "$pair" ''
+unpairs "$pair$pair" '2: bad base, source 1, line 4' "$pair"$'>b\nA@G\n' "$pair"$'>c\nA@G\n'
+unpairs "$pair$pair" '2: bad base, source 2, line 4' "$pair"$'>b\nACG\n' "$pair"$'>c\nA@G\n'
+unpairs "$pair$pair" '2: bad base, source 2, line 4' "$pair" "$pair"$'>c\nA@G\n'
+unpairs "$pair$pair" '81: reads are no pair, record 2' "$pair"$'>b\nACG\n>d\nA@G\n' "$pair"$'>c\nACG\n'
+wants 1 '' $'kcount: 7: read failed, source 1\n' '' kcount select --pairs two.kct a-directory a-directory
+wants 1 '' $'kcount: 7: read failed, source 2\n' '' kcount select --pairs two.kct first.fq a-directory
+wants 1 '' $'kcount: 54: cannot open missing\n' '' kcount select --pairs two.kct first.fq missing
+wants 2 '' $'kcount: 51: bad option --keep\n' '' kcount select --pairs --keep one two.kct first.fq missing
+wants 1 '' $'kcount: 53: write failed\n' '' into_a_full_device select --pairs two.kct first.fq second.fq
 # The counts along each record, in runs: positions from 0, an end that is not included, and no line over a letter that is
 # no base. In the table ACG and CGT occur twice, and GTA and TAC once.
 profiles() {
@@ -481,6 +571,26 @@ wants 1 $'q\t0\t1\t1\np\t0\t1\t2\n' $'kcount: 7: read failed, source 2\n' '' kco
 wants 1 '' $'kcount: 2: bad base, source 1, line 4\n' '' kcount profile -o out two.kct bad.fa
 same "the file out" '' out "a profile with a fault"
 fault 2 '51: bad option --min-qual-char' "$reads" kcount profile --min-qual-char= missing
+# A table of thousands of rows: a record of 20,000 bases by its first half, whose words are counted here.
+random_bases() {
+    awk 'BEGIN { for (x = 1; i < 20000; i++) { x = x * 16807 % 2147483647; printf "%s", substr("ACGT", int(x / 7) % 4 + 1, 1) } }'
+}
+profile_of_bases() {
+    awk -v k=7 '{
+        for (i = 1; i + k - 1 <= 10000; i++) count[substr($0, i, k)]++
+        for (i = 1; i + k - 1 <= length($0); i++) {
+            now = count[substr($0, i, k)] + 0
+            if (i > 1 && now != run) { print "r\t" start "\t" i - 1 "\t" run; start = i - 1 }
+            if (i == 1) start = 0
+            run = now
+        }
+        print "r\t" start "\t" i - 1 "\t" run
+    }'
+}
+bases=$(random_bases)
+wants 0 '' '' ">half"$'\n'"${bases:0:10000}" kcount count -m 7 -o many.kct
+wants 0 "$(profile_of_bases <<< "$bases")"$'\n' '' '>r'$'\n'"$bases" kcount profile many.kct
+wants 0 ">half"$'\n'"${bases:0:10000}"$'\n' '' ">half"$'\n'"${bases:0:10000}"$'\n'">r"$'\n'"$bases" kcount select --min-count 1 --min-share 100 many.kct
 # no option stands for several of its values
 fault 2 '51: bad option --min-count' "$reads" kcount select --min-share 101 --min-count x missing
 fault 2 '51: bad option --max-count' "$reads" kcount select --min-share 101 --max-count x missing

@@ -2,7 +2,7 @@
 use crate::count_assertions::assert_displayed;
 use kc_fastx::FastxFault;
 use kc_report::ReportFault;
-use kc_select::SelectFault;
+use kc_select::{PairFault, SelectFault, Side};
 use kc_table::TableFault;
 use std::alloc::AllocError;
 
@@ -36,6 +36,19 @@ const OF_SELECTIONS: &[(SelectFault, &str)] = &[
     (SelectFault::Write, "write failed"),
 ];
 
+const OF_PAIRS: &[(PairFault, &str)] = &[
+    (
+        PairFault::Reads(Side::First, FastxFault::BadBase(4)),
+        "bad base, line 4",
+    ),
+    (
+        PairFault::Reads(Side::Second, FastxFault::Read),
+        "read failed",
+    ),
+    (PairFault::Unpaired(12), "reads are no pair, record 12"),
+    (PairFault::Write, "write failed"),
+];
+
 #[test]
 fn faults_of_tables_reports_and_selections_are_displayed(
     rt: HostRuntime,
@@ -47,6 +60,9 @@ fn faults_of_tables_reports_and_selections_are_displayed(
         assert_displayed(&rt, fault, *text)?;
     }
     for (fault, text) in OF_SELECTIONS {
+        assert_displayed(&rt, fault, *text)?;
+    }
+    for (fault, text) in OF_PAIRS {
         assert_displayed(&rt, fault, *text)?;
     }
     Ok(())

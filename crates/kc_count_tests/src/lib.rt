@@ -1,6 +1,11 @@
-//! Tests of hashes, tables, tallies, reports and selected reads, by what these crates show to their callers.
+//! Tests of hashes, tables, tallies, reports, rules for several tables and selected reads, by what these crates show to
+//! their callers.
 #![tactic(auto)]
 
+#[cfg(test)]
+mod combined_counts;
+#[cfg(test)]
+mod combined_tables;
 #[cfg(test)]
 mod count_assertions;
 #[cfg(test)]
@@ -17,6 +22,8 @@ mod hashes;
 mod histograms_of_bins;
 #[cfg(test)]
 mod merged_tables;
+#[cfg(test)]
+mod pairs_of_reads;
 #[cfg(test)]
 mod refusing_streams;
 #[cfg(test)]

@@ -22,9 +22,9 @@ fn failure() -> io::Error {
 
 // A reader that gives one byte at a time, and fails once it was read so often.
 #[derive(Drop)]
-struct ByteByByte<'a> {
-    left: &'a [u8],
-    reads: usize,
+pub(crate) struct ByteByByte<'a> {
+    pub(crate) left: &'a [u8],
+    pub(crate) reads: usize,
 }
 
 impl Read for ByteByByte<'_> {
@@ -56,8 +56,8 @@ fn read_slowly(alloc: Global, text: &[u8], reads: usize, limit: u64) -> Result<T
 
 // A writer that has room for so many bytes, takes at most three at a time and then fails. Its vector has that room.
 #[derive(Drop)]
-struct Narrow {
-    bytes: Vec<u8>,
+pub(crate) struct Narrow {
+    pub(crate) bytes: Vec<u8>,
     room: usize,
     flushes: bool,
 }
@@ -117,7 +117,11 @@ const REPORTS: &[(Report, &[u8])] = &[
 ];
 
 // A narrow writer, if there is memory.
-fn narrow_writer(alloc: Global, room: usize, flushes: bool) -> Result<ToWrite<Narrow>, AllocError> {
+pub(crate) fn narrow_writer(
+    alloc: Global,
+    room: usize,
+    flushes: bool,
+) -> Result<ToWrite<Narrow>, AllocError> {
     let bytes = Vec::with_capacity(alloc, 100)?;
     Ok(ToWrite::new(Narrow {
         bytes,
@@ -357,7 +361,10 @@ fn broken_gzip_of_a_table(rt: HostRuntime) {
 }
 
 // The tally of a table text. Asserts that nothing but want of memory refuses it.
-fn read_if_memory<H: Abort + AllocGlobal>(rt: &H, text: &[u8]) -> Result<Tally, AllocError> {
+pub(crate) fn read_if_memory<H: Abort + AllocGlobal>(
+    rt: &H,
+    text: &[u8],
+) -> Result<Tally, AllocError> {
     match table_of(rt.alloc(), text) {
         Ok(tally) => Ok(tally),
         Err(fault) => {

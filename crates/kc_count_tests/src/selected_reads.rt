@@ -502,7 +502,7 @@ fn assert_profile<H: Abort + AllocGlobal>(
 }
 
 // A record of FASTA with this many bases.
-fn long_record(alloc: Global, count: usize) -> Result<Vec<u8>, AllocError> {
+pub(crate) fn long_record(alloc: Global, count: usize) -> Result<Vec<u8>, AllocError> {
     let mut text = Vec::new(alloc);
     text.extend_from_slice(b">long\n")?;
     for _ in 0..count {

@@ -459,6 +459,13 @@ fn lines_of_table_and_query_faults(rt: HostRuntime) -> Result<(), Fail> {
     assert_fault(&rt, ToolFault::TooLarge, line, text)?;
     let (line, text) = ("kcount: 52: bad word 20\n", "bad word 20");
     assert_fault(&rt, ToolFault::BadWord(20), line, text)?;
+    let line = "kcount: 81: reads are no pair, record 3\n";
+    assert_fault(
+        &rt,
+        ToolFault::Unpaired(3),
+        line,
+        "reads are no pair, record 3",
+    )?;
     let (line, text) = ("kcount: 46: no memory\n", "no memory");
     assert_fault(&rt, ToolFault::Memory, line, text)?;
     let (line, text) = ("kcount: 53: write failed\n", "write failed");
@@ -489,6 +496,7 @@ const OPTION_FAULTS: &[(OptionName, &str)] = &[
         "kcount: 51: bad option --upper-count\n",
     ),
     (OptionName::High, "kcount: 51: bad option --high\n"),
+    (OptionName::Keep, "kcount: 51: bad option --keep\n"),
 ];
 
 // Runs that were refused, their lines, and how they are displayed.
