@@ -40,8 +40,11 @@ export kcount work
 count_file() { "$kcount" count -m 21 -C -t "$1" --print histo -o "$work/file.histo" "$work/reads.fq.gz"; }
 count_pipe() { gzip -dc "$work/reads.fq.gz" | "$kcount" count -m 21 -C -t "$1" --print histo -o "$work/pipe.histo"; }
 for threads in 1 4; do
-    time_of "count$threads" rattle count_file $threads
-    time_of "count$threads" plain count_pipe $threads
+    # (by turns)
+    for _ in $(seq "$rounds"); do
+        rounds=1 time_of "count$threads" rattle count_file $threads
+        rounds=1 time_of "count$threads" plain count_pipe $threads
+    done
     cmp -s "$work/file.histo" "$work/pipe.histo" || fail "the histograms differ"
     row "count$threads" "count the compressed file, -t $threads; beside a pipe from \`gzip -dc\`" ms
 done

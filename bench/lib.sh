@@ -104,6 +104,51 @@ whole_command() {
     "$work/reads" "$1" "${COVERAGE:-20}" 100 "${ERRORS:-10}" 1 > "$reads"
 }
 
+# those of these tools that are installed, behind kcount
+with_peers() {
+    local peer
+    printf kcount
+    for peer in "$@"; do
+        ! command -v "$peer" > "$work/which" || printf ' %s' "$peer"
+    done
+}
+
+# prepared WHAT TOOL..: calls WHAT_TOOL of each tool, which is not measured.
+prepared() {
+    local what=$1 tool
+    shift
+    for tool in "$@"; do
+        "${what}_$tool" > "$work/$tool.log" 2>&1 || fail "$tool failed: $(tail -n 3 "$work/$tool.log")"
+    done
+}
+
+# in_rounds WHAT TOOL..: calls WHAT_TOOL of each tool, one after the other, as often as asked. They are functions of the script, which it
+# exports. What a call takes is a line "WALL PROCESSOR PEAK" of $work/WHAT.TOOL, in seconds and KB.
+in_rounds() {
+    local what=$1 tool
+    shift
+    for tool in "$@"; do rm -f "$work/$what.$tool"; done
+    for _ in $(seq "$rounds"); do
+        for tool in "$@"; do
+            /usr/bin/time -f '%e %U %S %M' -o "$work/time" bash -c "set -eo pipefail; ${what}_$tool" \
+                > "$work/$tool.log" 2>&1 || fail "$tool failed: $(tail -n 3 "$work/$tool.log")"
+            awk '{ print $1, $2 + $3, $4 }' "$work/time" >> "$work/$what.$tool"
+        done
+    done
+}
+
+# tool_row WHAT TOOL FIGURE TARGET: a line of the table: the least wall time of a tool with what that run took, and for another tool than
+# kcount the ratio of kcount's wall time to it, and the target.
+tool_row() {
+    local ours wall processor peak
+    ours=$(sort -n "$work/$1.kcount" | awk 'NR == 1 { print $1 }')
+    read -r wall processor peak <<< "$(sort -n "$work/$1.$2" | head -n 1)"
+    awk -v tool="$2" -v figure="$3" -v target="$4" -v ours="$ours" -v wall="$wall" -v processor="$processor" -v peak="$peak" 'BEGIN {
+        ratio = sprintf("%.2f", ours / wall)
+        if (tool == "kcount") ratio = target = ""
+        printf "| %s | %s | %.2f s | %.2f s | %.0f MB | %s | %s |\n", tool, figure, wall, processor, peak / 1024, ratio, target }'
+}
+
 # row KEY WHAT UNIT [COUNT]: a line of the table, by the least time of both programs, over COUNT items. The unit is ms, us or
 # ns, or MB of a number of KB. Where a side has no time of that key, nothing stands there.
 row() {

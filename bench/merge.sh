@@ -47,31 +47,23 @@ merge_kmc() {
 export kcount k work
 export -f merge_kcount merge_jellyfish merge_kmc
 
-tools=kcount
-for peer in ${PEERS:-jellyfish kmc}; do
-    ! command -v "$peer" > "$work/which" || tools="$tools $peer"
-done
+# shellcheck disable=SC2086
+tools=$(with_peers ${PEERS:-jellyfish kmc})
 for tool in $tools; do
     for part in first second; do
         "make_$tool" $part > "$work/$tool.log" 2>&1 || fail "$tool failed: $(tail -n 3 "$work/$tool.log")"
     done
-    rm -f "$work/merge.$tool"
 done
-for _ in $(seq "$rounds"); do
-    for tool in $tools; do
-        /usr/bin/time -f '%e %U %S %M' -o "$work/time" bash -c "set -eo pipefail; merge_$tool" \
-            > "$work/$tool.log" 2>&1 || fail "$tool failed: $(tail -n 3 "$work/$tool.log")"
-        awk '{ print $1, $2 + $3, $4 }' "$work/time" >> "$work/merge.$tool"
-    done
-done
+# shellcheck disable=SC2086
+in_rounds merge $tools
 
 both=$(($(wc -l < "$work/first.kct") + $(wc -l < "$work/second.kct") - 4))
 echo "| Tool | Wall | Processor | Peak | Bytes a row of both tables | kcount's wall to it | Aim |"
 echo "|---|---|---|---|---|---|---|"
 for tool in $tools; do
     read -r wall processor peak <<< "$(sort -n "$work/merge.$tool" | head -n 1)"
-    [ $tool != kcount ] || ours=$wall
-    awk -v tool=$tool -v wall="$wall" -v processor="$processor" -v peak="$peak" -v both="$both" -v ours="$ours" 'BEGIN {
+    [ "$tool" != kcount ] || ours=$wall
+    awk -v tool="$tool" -v wall="$wall" -v processor="$processor" -v peak="$peak" -v both="$both" -v ours="$ours" 'BEGIN {
         aim["kcount"] = "40 bytes"; aim["jellyfish"] = "0.3"; aim["kmc"] = "0.6"
         printf "| %s | %.2f s | %.2f s | %.0f MB | %.1f | %s | %s |\n",
             tool, wall, processor, peak / 1024, peak * 1024 / both,

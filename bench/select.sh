@@ -24,28 +24,14 @@ select_kmc() { kmc_tools -t1 filter "$work/table.kmc" -ci"$least" "$reads" -ci1.
 export kcount k reads work least
 export -f select_kcount select_kmc
 
-tools=kcount
-! command -v kmc > "$work/which" || tools="$tools kmc"
-for tool in $tools; do
-    "make_$tool" > "$work/$tool.log" 2>&1 || fail "$tool failed: $(tail -n 3 "$work/$tool.log")"
-    rm -f "$work/select.$tool"
-done
-for _ in $(seq "$rounds"); do
-    for tool in $tools; do
-        /usr/bin/time -f '%e %U %S %M' -o "$work/time" bash -c "set -e; select_$tool" \
-            > "$work/$tool.log" 2>&1 || fail "$tool failed: $(tail -n 3 "$work/$tool.log")"
-        awk '{ print $1, $2 + $3, $4 }' "$work/time" >> "$work/select.$tool"
-    done
-done
+tools=$(with_peers kmc)
+# shellcheck disable=SC2086
+{ prepared make $tools; in_rounds select $tools; }
 
-echo "| Tool | Reads kept | Wall | Processor | Peak | kcount's wall to it | Aim |"
+echo "| Tool | Reads kept | Wall | Processor | Peak | kcount's wall to it | Target |"
 echo "|---|---|---|---|---|---|---|"
 for tool in $tools; do
-    read -r wall processor peak <<< "$(sort -n "$work/select.$tool" | head -n 1)"
-    [ $tool != kcount ] || ours=$wall
-    awk -v tool=$tool -v kept="$(($(wc -l < "$work/$tool.fq") / 4))" -v wall="$wall" -v processor="$processor" -v peak="$peak" -v ours="$ours" 'BEGIN {
-        printf "| %s | %s | %.2f s | %.2f s | %.0f MB | %s | %s |\n",
-            tool, kept, wall, processor, peak / 1024, tool == "kcount" ? "" : sprintf("%.2f", ours / wall), tool == "kcount" ? "" : "1" }'
+    tool_row select "$tool" "$(($(wc -l < "$work/$tool.fq") / 4))" 1
 done
 [ ! -e "$work/kmc.fq" ] || cmp -s "$work/kmc.fq" "$work/kcount.fq" || fail "the selections of kcount and KMC differ"
 rm -rf "$work"/{kcount,kmc}.fq "$work"/table.* "$work"/select.* "$work/kmc.tmp"
