@@ -20,8 +20,8 @@ const STRIDE: usize = 1024;
 // There is a start for so many rows, or for up to twice as many.
 const ROWS_A_START: usize = 8;
 
-// So many places lie between a start and the row that is looked at first.
-const LEAP: usize = 8;
+// So many places lie between a place and the row that is looked at next.
+const LEAPS: [usize; 2] = [8, 4];
 
 // So many rows are compared with a word before it is searched in all rows by halving.
 const MOST_STEPS: usize = 64;
@@ -154,7 +154,9 @@ impl<'a> RowIndex<'a> {
         for i in 0..BLOCK {
             places[i] = self.start(words[i]);
         }
-        self.leap(words, &mut places);
+        for leap in LEAPS {
+            self.leap(words, &mut places, leap);
+        }
         places
     }
 
@@ -165,27 +167,27 @@ impl<'a> RowIndex<'a> {
         self.starts.get(prefix).copied().unwrap_or(0) as usize
     }
 
-    // Moves each place on where the row there is less than the word, too. Each loop waits for memory once a word and is
-    // short, so that the memory answers several words at once. Whether a row is less can't be predicted, so how far a
-    // place moves is computed.
+    // Moves each place on by a leap where the row there is less than the word, too. Each loop waits for memory once a
+    // word and is short, so that the memory answers several words at once. Whether a row is less can't be predicted, so
+    // how far a place moves is computed.
     #[inline(always)]
-    fn leap(&self, words: &[u64; BLOCK], places: &mut [usize; BLOCK]) {
+    fn leap(&self, words: &[u64; BLOCK], places: &mut [usize; BLOCK], leap: usize) {
         let mut ahead: [Rows<'a>; BLOCK] = from_fn(|i| self.walk_to(places[i].saturating_add(
-            LEAP,
+            leap,
         )));
-        pass_to(&mut ahead, places);
+        pass_to(&mut ahead, places, leap);
         for i in 0..BLOCK {
             let moves = is_less(&mut ahead[i], words[i]);
-            places[i] = places[i].saturating_add(LEAP * moves as usize);
+            places[i] = places[i].saturating_add(leap.saturating_mul(moves as usize));
         }
     }
 }
 
-// Passes the rows of each walk that are in front of the one that is so many places behind its place.
+// Passes the rows of each walk that are in front of the one a leap behind its place.
 #[inline(always)]
-fn pass_to(walks: &mut [Rows<'_>; BLOCK], places: &[usize; BLOCK]) {
+fn pass_to(walks: &mut [Rows<'_>; BLOCK], places: &[usize; BLOCK], leap: usize) {
     for i in 0..BLOCK {
-        let ahead = places[i].saturating_add(LEAP) % STRIDE;
+        let ahead = places[i].saturating_add(leap) % STRIDE;
         walks[i] = rows_behind(walks[i].ahead(), ahead);
     }
 }
