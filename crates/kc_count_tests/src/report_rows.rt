@@ -6,8 +6,8 @@ use crate::merged_tables::text_of;
 use kc_io::{FromBytes, ToVec};
 use kc_kmer::K;
 use kc_report::{
-    Dump, GREATEST_HIGH, Origin, ReportFault, TableReading, query, read_table, write_dump,
-    write_histo, write_stats, write_stats_of,
+    Dump, GREATEST_HIGH, Origin, ReportFault, TableReading, query, read_numbers, read_table,
+    write_dump, write_histo, write_stats, write_stats_of,
 };
 use kc_tally::{Row, Statistics, Tally};
 use std::alloc::{AllocError, Global};
@@ -118,6 +118,41 @@ fn histograms(rt: HostRuntime) -> Result<(), Fail> {
     Ok(())
 }
 
+// The table text of the worked tally.
+const TABLE_OF_THREE: &[u8] = b"KCT 1 2 s\nAC 2\nCG 1\nGT 70000\nEND 3 70003\n";
+
+// Asserts that the histogram of this table text up to this count is this text.
+fn assert_histogram_of_text<H: Abort + AllocGlobal>(
+    rt: &H,
+    table: &[u8],
+    high: u64,
+    want: &[u8],
+) -> Result<(), ReportFault> {
+    assert!(rt; high <= GREATEST_HIGH);
+    let numbers = read_numbers(rt.alloc(), &mut FromBytes::new(table), 100, high)?;
+    let mut sink = ToVec::new(Vec::new(rt.alloc()));
+    let outcome = numbers.write_histo(&mut sink);
+    assert_same(rt, high, &outcome, &Ok(()));
+    assert_items(rt, high, sink.as_slice(), want);
+    Ok(())
+}
+
+#[test]
+fn histograms_of_table_texts(rt: HostRuntime) -> Result<(), ReportFault> {
+    for (high, want) in HISTOGRAMS {
+        assert_histogram_of_text(&rt, TABLE_OF_THREE, *high, *want)?;
+    }
+    assert_histogram_of_text(&rt, b"KCT 1 2 s\nEND 0 0\n", 10, b"")
+}
+
+#[test]
+fn statistics_of_table_texts(rt: HostRuntime) -> Result<(), ReportFault> {
+    let mut source = FromBytes::new(TABLE_OF_THREE);
+    let numbers = read_numbers(rt.alloc(), &mut source, 100, 1)?;
+    assert_same(&rt, "statistics", numbers.statistics(), &STATISTICS);
+    Ok(())
+}
+
 // The tally of a table's text, which has at most 100 bytes.
 pub(crate) fn table_of(alloc: Global, text: &[u8]) -> Result<Tally, ReportFault> {
     let (tally, _) = read_table(alloc, &mut FromBytes::new(text), 100)?;
@@ -126,10 +161,12 @@ pub(crate) fn table_of(alloc: Global, text: &[u8]) -> Result<Tally, ReportFault>
 
 const TABLE: &[u8] = b"KCT 1 3 c\nACG 2\nGTA 1\nEND 2 3\n";
 
-// Asserts that reading a text of at most so many bytes as a table ends in this fault.
+// Asserts that reading a text of at most so many bytes as a table ends in this fault, with its rows and without.
 fn assert_refused<H: Abort + AllocGlobal>(rt: &H, text: &[u8], limit: u64, want: ReportFault) {
     assert!(rt; limit <= 100);
     let fault = read_table(rt.alloc(), &mut FromBytes::new(text), limit).err();
+    assert_same(rt, text.len(), &fault, &Some(want));
+    let fault = read_numbers(rt.alloc(), &mut FromBytes::new(text), limit, 1).err();
     assert_same(rt, text.len(), &fault, &Some(want));
 }
 

@@ -1,13 +1,13 @@
 -- How many words have a count, from the bins of a tally and row by row.
 use Rattle.std.proofs.Common.{◌≡◌, ℕ, zero, suc, ◌+◌, ◌-◌, ◌^◌, ◌<◌, ◌≤◌, ⊎_elim, cond, eqb, List, [], ◌∷◌, ◌++◌, length, get_or, set, take, drop}
-use Rattle.std.proofs.Common.{refl, sym, ap, ◌∙◌, arith, length-set, replicate, eq-eqb, ne_eqb, append-nil, append_assoc}
+use Rattle.std.proofs.Common.{refl, sym, ap, subst, ◌∙◌, arith, length-set, replicate, eq-eqb, ne_eqb, append-nil, append_assoc}
 use Rattle.std.specs.Prelude.{◌==◌, nat_lt, All, sum}
 use Rattle.std.proofs.lemmas.Bool.{cases_eq}
 use Rattle.std.proofs.lemmas.Bool.Decides.{nat_tests}
 use Rattle.std.proofs.Math.ListN.{drop_of_length-le}
 use Rattle.std.proofs.lemmas.List.{ext_get_or, get_or-take, length-take-le, get_or-set_same, get_or-set_other, get_or-replicate, length-replicate, length-append}
 use Rattle.std.proofs.lemmas.List.FromFn.{length-map-range_with_len, get_or-map-range_with_len, map-range_with_len_more}
-use Rattle.std.proofs.lemmas.List.Sums.{count_by-le-length, sum_by-append, sum_by-drop_more}
+use Rattle.std.proofs.lemmas.List.Sums.{count_by-le-length, sum_by-append, sum_by_push, sum_by-drop_more}
 use Rattle.kc_lemmas.proofs.Sums.{count_by-same, count_by-all, sum_by-plus, sum_by-same}
 use Rattle.kc_tally.specs.declared.row.Row.{Row}
 use Rattle.kc_tally.specs.Histogram.{last_bin, bin_of, bin_count, bins_of, counts_of}
@@ -52,10 +52,10 @@ words_by_count-zeros high words zeros =
 pub words_with_count-most : (rows : List Row) (count : ℕ) → words_with_count rows count ≤ length rows
 words_with_count-most rows count = count_by-le-length (λ row. row.count == count) rows
 
-one_with : Row → ℕ → ℕ
+unfoldable pub one_with : Row → ℕ → ℕ
 one_with row count = cond (eqb row.count count) 1 0
 
-with_count-push : (rows : List Row) (row : Row) (count : ℕ)
+pub with_count-push : (rows : List Row) (row : Row) (count : ℕ)
     → words_with_count (rows ++ row ∷ []) count ≡ words_with_count rows count + one_with row count
 unfolding one_with
 with_count-push rows row count =
@@ -76,7 +76,7 @@ same_else rows row count ne =
     omega (arith, sum)
 
 -- one row more, which has one of the counts
-words_by_count-row : (high : ℕ) (rows : List Row) (row : Row) → 1 ≤ row.count → row.count ≤ high
+pub words_by_count-row : (high : ℕ) (rows : List Row) (row : Row) → 1 ≤ row.count → row.count ≤ high
     → let old = words_by_count high rows in
     set old (row.count - 1) (get_or old (row.count - 1) 0 + 1) ≡ words_by_count high (rows ++ row ∷ [])
 words_by_count-row high rows row some most =
@@ -94,7 +94,7 @@ words_by_count-row high rows row some most =
     (cases_eq (count - 1) k))
 
 -- or a greater one
-words_by_count-past : (high : ℕ) (rows : List Row) (row : Row) → high < row.count → words_by_count high rows ≡ words_by_count high (rows ++ row ∷ [])
+pub words_by_count-past : (high : ℕ) (rows : List Row) (row : Row) → high < row.count → words_by_count high rows ≡ words_by_count high (rows ++ row ∷ [])
 words_by_count-past high rows row past =
     from_each high (rows ++ row ∷ []) (words_by_count high rows) (length-words_by_count high rows) (λ k l.
     get_or-words_by_count high rows k l ∙ sym (same_else rows row (k + 1) (λ e. omega (arith, e, l, past))))
@@ -154,10 +154,21 @@ words_above-split rows i =
     let above = λ (row : Row). cond (nat_lt (i + 1) row.count) 1 0 in
     sum_by-same (λ row. cond (nat_lt i row.count) 1 0) (λ row. here row + above row) rows (λ k d below. one_of_both i _) ∙ sum_by-plus here above rows
 
--- what stands at a place of the words by their counts
-pub words_at : (words : List ℕ) (rows : List Row) (i : ℕ) → words ≡ words_by_count (length words) rows → i < length words
-    → get_or words i 0 ≡ words_with_count rows (i + 1)
-words_at words rows i e below = ap (λ v. get_or v i 0) e ∙ get_or-words_by_count (length words) rows i below
+sum-none : (rows : List Row) → sum (words_by_count 0 rows) ≡ 0
+unfolding words_by_count
+sum-none rows = refl
+
+-- the words with counts up to one, and those with greater ones
+pub words-and-above : (high : ℕ) (rows : List Row) → All (λ row. 1 ≤ row.count) rows
+    → sum (words_by_count high rows) + words_above rows high ≡ length rows
+words-and-above zero rows present = omega (arith, sum-none rows, words_above-all rows present)
+words-and-above (suc n) rows present =
+    let before = words-and-above n rows present in
+    let more : sum (words_by_count (n + 1) rows) ≡ sum (words_by_count n rows) + words_with_count rows (n + 1) =
+    ap sum (words_by_count-more n rows) ∙ sum_by_push (λ (x : ℕ). x) (words_by_count n rows) (words_with_count rows (n + 1)) in
+    let split = words_above-split rows n in
+    let next : n + 1 ≡ suc n = omega arith in
+    subst (λ m. sum (words_by_count m rows) + words_above rows m ≡ length rows) next (omega (arith, before, more, split))
 
 -- ---- from the bins of a tally
 

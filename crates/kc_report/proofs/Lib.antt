@@ -17,5 +17,7 @@ pub mod UsedLemmas
 pub mod TableReadingLemmas
 pub mod RowByRowLemmas
 pub mod QueryLemmas
+pub mod AskedLemmas
 pub mod HistoLemmas
+pub mod NumbersLemmas
 pub mod MergingLemmas

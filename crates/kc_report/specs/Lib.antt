@@ -9,6 +9,8 @@ pub mod TableRows
 pub mod RowByRow
 pub mod RowsWritten
 pub mod Querying
+pub mod AskedWords
 pub mod Histo
 pub mod Statistics
+pub mod Numbers
 pub mod Merging

@@ -5,7 +5,7 @@ ghost use Rattle.kc_io.specs.Sinks.{Writes, HasBegun, Drains};
 ghost use Rattle.kc_tally.specs.declared.row.Row.{Row};
 ghost use Rattle.kc_tally.specs.Histogram.{last_bin, bins_of, counts_of};
 ghost use Rattle.kc_report.specs.declared.report_faults.ReportFault.TheVariants.{Write};
-ghost use Rattle.kc_report.specs.Histo.{histo_text, lines_from, words_by_count, words_above, count_line};
+ghost use Rattle.kc_report.specs.Histo.{histo_text, lines_from, words_by_count, count_line};
 ghost use Rattle.kc_report.specs.Histo.{WritesUnlessMemory};
 
 use crate::report_faults::ReportFault;
@@ -33,13 +33,12 @@ pub fn write_histo<W: Sink>(
     requires most { high ≤ GREATEST_HIGH }
     ensures { WritesUnlessMemory (W.seen writer.old) (W.seen writer.new) result (histo_text high tally.now.rows) }
 {
-    // for the proof: what is known of the number of rows
-    let _rows = tally.row_count();
+    let rows = tally.row_count();
     if high < LAST_BIN {
         return write_histo_of_bins(writer, tally.histogram(), high);
     }
     let words = words_of_rows(alloc, tally, high)?;
-    let above = words_above(tally, &words);
+    let above = rows - sum_of(&words);
     Ok(histo_by_blocks(writer, &words, above)?)
 }
 
@@ -69,7 +68,7 @@ pub fn write_histo_of_bins<W: Sink>(
 const LAST_BIN: u64 = 10_001;
 
 // The sum of these numbers. Condition: it fits.
-fn sum_of(numbers: &[u64]) -> u64
+pub(crate) fn sum_of(numbers: &[u64]) -> u64
     requires { sum numbers.now < 2 ^ 64 }
     ensures { result ≡ sum numbers.now }
 {
@@ -103,21 +102,13 @@ fn count_rows(words: &mut [u64], tally: &Tally)
     }
 }
 
-// How many words have a greater count than there are places for.
-fn words_above(tally: &Tally, words: &[u64]) -> u64
-    requires { words.now ≡ words_by_count (length words.now) tally.now.rows }
-    ensures { result ≡ words_above tally.now.rows (length words.now) }
-{
-    let mut above = tally.row_count();
-    for i in 0..words.len() {
-        above -= words[i];
-    }
-    above
-}
-
 // Writes the lines of the counts from 1 on, of which so many words have each, and that of all greater counts, a block
 // at a time.
-fn histo_by_blocks<W: Sink>(writer: &mut W, words: &[u64], above: u64) -> Result<(), Failed>
+pub(crate) fn histo_by_blocks<W: Sink>(
+    writer: &mut W,
+    words: &[u64],
+    above: u64,
+) -> Result<(), Failed>
     requires { length words.now < 2 ^ 63 }
     ensures { Writes (W.seen writer.old) (W.seen writer.new) result (lines_from 1 words.now above) }
 {

@@ -4,8 +4,8 @@
 //! many words have which count; `write_stats` four numbers about all of them. Each is a function of the rows of the
 //! `Tally`. `write_table` writes the table text, from which `read_table` makes the same tally again, and `query` the
 //! counts of asked words; `table_laws` says what holds of table texts. `TableReading` gives the rows of a table text
-//! one by one, and keeps none of them. A table text that is read may be gzip. `merge` puts two tables together, and
-//! `merging_laws` says what holds of that. The `Block` of `kc_io` gathers the bytes of a text, so that the writer gets
+//! one by one, and keeps none of them; `read_numbers` gives what a histogram and statistics need of them. A table text
+//! that is read may be gzip. `merge` puts two tables together, and `merging_laws` says what holds of that. The `Block` of `kc_io` gathers the bytes of a text, so that the writer gets
 //! blocks of 64 KB.
 //!
 //! `write_dump_in_parallel` and `write_table_in_parallel` write the same texts, which several threads make: each that
@@ -19,6 +19,7 @@
 //! ```
 #![tactic(auto)]
 
+mod asked_words;
 mod dump;
 mod fields;
 mod header;
@@ -35,6 +36,7 @@ mod table;
 mod table_header;
 pub mod table_laws;
 mod table_lines;
+mod table_numbers;
 mod table_reader;
 mod table_reading;
 mod table_rows;
@@ -46,10 +48,11 @@ pub use header::Header;
 pub use histogram_text::{GREATEST_HIGH, write_histo, write_histo_of_bins};
 pub use kc_io::{BLOCK_SIZE, Block, NUMBER_SIZE};
 pub use origin::Origin;
-pub use queries::query;
+pub use queries::{query, read_asked};
 pub use report_faults::ReportFault;
 pub use statistics::{write_stats, write_stats_of};
 pub use table::{write_table, write_table_in_parallel};
+pub use table_numbers::{TableNumbers, read_numbers};
 pub use table_reader::read_table;
 pub use table_reading::TableReading;
 pub use table_sum::merge;

@@ -1,14 +1,19 @@
 //! Queries: the counts of asked words.
-ghost use Rattle.std.specs.Prelude.{◌≡◌, ◌+◌, ◌≤◌, ◌<◌, ◌^◌, ◌++◌, length, map, All, MatchOption, string_bytes};
+ghost use Rattle.std.specs.Prelude.{◌≡◌, ◌+◌, ◌≤◌, ◌<◌, ◌^◌, ◌++◌, length, map, All, IfErr, IfOk, MatchOption, string_bytes};
 ghost use Rattle.kc_io.specs.Sinks.{Writes};
 ghost use Rattle.kc_kmer.specs.Word.{text, form};
+ghost use Rattle.kc_report.specs.AskedWords.{GivesCountsOf};
+ghost use Rattle.kc_report.specs.TableReading.{RefusesTable};
 ghost use Rattle.kc_report.specs.Querying.{IsAskable, IsFirstBadWord, query_line, query_text, Answers};
 
+use crate::asked_words::AskedWords;
 use crate::dump::{ROW_SIZE, push_columns};
 use crate::report_faults::ReportFault;
-use kc_io::{BLOCK_SIZE, Block, Failed, Sink, write_out};
+use crate::table_reading::TableReading;
+use kc_io::{BLOCK_SIZE, Block, Failed, Sink, Source, write_out};
 use kc_kmer::{K, Word, canonical, pack};
-use kc_tally::{Row, Tally};
+use kc_tally::{GrowingRows, Row, Tally};
+use std::alloc::Global;
 
 /// Writes the counts of the asked words, a line `WORD COUNT` for each, in the order asked: the word in upper case, in
 /// its canonical form where both strands were counted, and 0 where it does not occur. It takes no memory.
@@ -75,10 +80,37 @@ fn push_answer(block: &mut Block, tally: &Tally, asked: &[u8])
 }
 
 // The form under which a word counts.
-fn counted_form(word: Word, k: K, both: bool) -> Word
+pub(crate) fn counted_form(word: Word, k: K, both: bool) -> Word
     requires { word.0 < 4 ^ k }
     ensures below { result.0 < 4 ^ k }
     ensures formed { text k result.0 ≡ form both (text k word.0) }
 {
     if both { canonical(word, k) } else { word }
+}
+
+/// Takes all bytes of the source, and answers of the tally whose table text they are the rows of those of the asked
+/// words that are k bases. It keeps these rows, the words, of the text one block and one line, and what the
+/// decompression of gzip keeps. `query` answers by it as by the whole tally.
+///
+/// # Errors
+/// Those of `read_table`.
+pub fn read_asked<R: Source>(
+    alloc: Global,
+    reader: &mut R,
+    limit: u64,
+    words: &[String],
+) -> Result<Tally, ReportFault>
+    ensures counts { IfOk result (GivesCountsOf (R.seen reader.old) (R.seen reader.new) limit
+        (map string_bytes words.now)) }
+    ensures fault { IfErr result (RefusesTable (R.seen reader.old) (R.seen reader.new) limit) }
+{
+    let mut reading = TableReading::open(alloc, reader, limit)?;
+    let mut asked = AskedWords::of(alloc, words, reading.k(), reading.both())?;
+    let mut rows = GrowingRows::new(alloc);
+    'rows: while let Some(row) = reading.next_row(reader)? {
+        if asked.has(row.word) {
+            rows.push(row)?;
+        }
+    }
+    Ok(rows.into_tally(reading.k(), reading.both())?)
 }
