@@ -52,6 +52,20 @@ with_count statistics count = record {
   greatest = max statistics.greatest count;
 }
 
+pub with_one : (statistics : Statistics) (count : ℕ) {one greatest : ℕ} → one ≡ cond (eqb count 1) 1 0 → greatest ≡ max statistics.greatest count
+    → ◌≡◌ {A = Statistics} (record {
+      unique = statistics.unique + one;
+      distinct = statistics.distinct + 1;
+      total = statistics.total + count;
+      greatest = greatest;
+    }) (with_count statistics count)
+with_one statistics count one greatest = λ i. record {
+  unique = statistics.unique + one i;
+  distinct = statistics.distinct + 1;
+  total = statistics.total + count;
+  greatest = greatest i;
+}
+
 pub statistics_more : (rows : List Row) (row : Row) (statistics : Statistics) → statistics ≡ statistics_of rows
     → with_count statistics row.count ≡ statistics_of (rows ++ row ∷ [])
 unfolding one_with

@@ -4,8 +4,9 @@
 //! many words have which count; `write_stats` four numbers about all of them. Each is a function of the rows of the
 //! `Tally`. `write_table` writes the table text, from which `read_table` makes the same tally again, and `query` the
 //! counts of asked words; `table_laws` says what holds of table texts. `TableReading` gives the rows of a table text
-//! one by one, and keeps none of them; `read_numbers` gives what a histogram and statistics need of them. A table text
-//! that is read may be gzip. `merge` puts two tables together, and `merging_laws` says what holds of that. The `Block` of `kc_io` gathers the bytes of a text, so that the writer gets
+//! one by one, and keeps none of them; `read_numbers` keeps what a histogram and statistics need of them, and
+//! `read_asked` those of asked words. A table text that is read may be gzip. `merge` puts two tables together, and
+//! `merging_laws` says what holds of that. The `Block` of `kc_io` gathers the bytes of a text, so that the writer gets
 //! blocks of 64 KB.
 //!
 //! `write_dump_in_parallel` and `write_table_in_parallel` write the same texts, which several threads make: each that

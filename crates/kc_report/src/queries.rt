@@ -1,5 +1,6 @@
 //! Queries: the counts of asked words.
-ghost use Rattle.std.specs.Prelude.{◌≡◌, ◌+◌, ◌≤◌, ◌<◌, ◌^◌, ◌++◌, length, map, All, IfErr, IfOk, MatchOption, string_bytes};
+ghost use Rattle.std.specs.Prelude.{◌≡◌, ◌+◌, ◌≤◌, ◌<◌, ◌^◌, ◌++◌, length, map, All, IfErr, IfOk, MatchOption};
+ghost use Rattle.std.specs.Prelude.{string_bytes};
 ghost use Rattle.kc_io.specs.Sinks.{Writes};
 ghost use Rattle.kc_kmer.specs.Word.{text, form};
 ghost use Rattle.kc_report.specs.AskedWords.{GivesCountsOf};

@@ -3,7 +3,7 @@ use Rattle.std.proofs.lemmas.Bool.{cases_Bool}
 use Rattle.std.proofs.lemmas.List.{get_or_read}
 use Rattle.kc_tally.specs.declared.tally_statistics.Statistics.{Statistics}
 use Rattle.kc_report.specs.Numbers.{IsCountOf, NumbersSeen}
-use Rattle.kc_report.proofs.NumbersLemmas.{counts_inside, counts_past, distinct_few, one_most, place_fits, unique_few, with_count}
+use Rattle.kc_report.proofs.NumbersLemmas.{counts_inside, counts_past, distinct_few, one_most, place_fits, unique_few, with_one}
 use Rattle.kc_report.proofs.table_numbers.TableNumbers.count.Goals as goal
 
 pub overflow_add-statistics : goal.overflow_add-statistics
@@ -37,12 +37,7 @@ invariant_of-self c =
     let small = subst (λ (n : NumbersSeen). n.statistics.total + c.args.row.count ≤ 2 ^ 62) (sym c.self.view_is) c.requires.small in
     (high, rows ++ c.args.row ∷ [], counts_inside _ _ (record { is = is; some = c.requires.present; small = small })
     (omega (arith, within)) (ap (λ n. set items i (n + 1)) read)
-    (λ j. record {
-      unique = c.self.inside.statistics.unique + one j;
-      distinct = c.self.inside.statistics.distinct + 1;
-      total = c.self.inside.statistics.total + c.args.row.count;
-      greatest = c.max-statistics.ensures j;
-    }))
+    (with_one c.self.inside.statistics c.args.row.count one c.max-statistics.ensures))
 
 pub invariant_of-self-else-count-len : goal.invariant_of-self-else-count-len
 invariant_of-self-else-count-len c =
@@ -52,12 +47,7 @@ invariant_of-self-else-count-len c =
     let small = subst (λ (n : NumbersSeen). n.statistics.total + c.args.row.count ≤ 2 ^ 62) (sym c.self.view_is) c.requires.small in
     (high, rows ++ c.args.row ∷ [], counts_past _ (record { is = is; some = c.requires.present; small = small })
     (omega (arith, c.if-count-len.false, c.len.ensures))
-    (λ j. record {
-      unique = c.self.inside.statistics.unique + one j;
-      distinct = c.self.inside.statistics.distinct + 1;
-      total = c.self.inside.statistics.total + c.args.row.count;
-      greatest = c.max-statistics.ensures j;
-    }))
+    (with_one c.self.inside.statistics c.args.row.count one c.max-statistics.ensures))
 
 pub returns-then-count-len : goal.returns-then-count-len
 returns-then-count-len c high rows counted =
@@ -71,12 +61,7 @@ returns-then-count-len c high rows counted =
     let small = subst (λ (n : NumbersSeen). n.statistics.total + c.args.row.count ≤ 2 ^ 62) (sym c.self.view_is) c.requires.small in
     counts_inside _ _ (record { is = is; some = c.requires.present; small = small })
     (omega (arith, within)) (ap (λ n. set items i (n + 1)) read)
-    (λ j. record {
-      unique = c.self.inside.statistics.unique + one j;
-      distinct = c.self.inside.statistics.distinct + 1;
-      total = c.self.inside.statistics.total + c.args.row.count;
-      greatest = c.max-statistics.ensures j;
-    })
+    (with_one c.self.inside.statistics c.args.row.count one c.max-statistics.ensures)
 
 pub returns-else-count-len : goal.returns-else-count-len
 returns-else-count-len c high rows counted =
@@ -86,9 +71,4 @@ returns-else-count-len c high rows counted =
     let small = subst (λ (n : NumbersSeen). n.statistics.total + c.args.row.count ≤ 2 ^ 62) (sym c.self.view_is) c.requires.small in
     counts_past _ (record { is = is; some = c.requires.present; small = small })
     (omega (arith, c.if-count-len.false, c.len.ensures))
-    (λ j. record {
-      unique = c.self.inside.statistics.unique + one j;
-      distinct = c.self.inside.statistics.distinct + 1;
-      total = c.self.inside.statistics.total + c.args.row.count;
-      greatest = c.max-statistics.ensures j;
-    })
+    (with_one c.self.inside.statistics c.args.row.count one c.max-statistics.ensures)
