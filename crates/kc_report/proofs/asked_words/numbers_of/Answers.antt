@@ -19,16 +19,16 @@ loop-word-preserved c =
     let at : get_or (map string_bytes words) i [] ≡ c.as_bytes.result.now =
     word_of string_bytes words i item item c.loop-word-test.true (sym c.word-item.is) ∙ sym c.as_bytes.ensures.value in
     elim c.match-pack.branch [
-      in-Some+in_ok-push w ↦
-        let n = w.counted_form.result.0 in
-        let is : n ≡ asked_number c.args.both c.as_bytes.result.now =
-        sym (number-text c.args.k n w.counted_form.ensures.below)
-        ∙ ap number (w.counted_form.ensures.formed ∙ ap (form c.args.both) w.in-Some.ensures.spelled) in
-        rw (w.numbers-is, w.in_ok-push.ensures.items)
-        (numbered_more n c.as_bytes.result.now c.loop-word.invariant within at (w.in-Some.ensures.found.0 refl) is)
-    | in_default w ↦
-        rw w.numbers-is
-        (numbered_without c.as_bytes.result.now c.loop-word.invariant at (λ askable. never (w.in_default.ensures.found.1 askable)))
+      | in-Some+in_ok-push w ↦
+          let n = w.counted_form.result.0 in
+          let is : n ≡ asked_number c.args.both c.as_bytes.result.now =
+          sym (number-text c.args.k n w.counted_form.ensures.below)
+          ∙ ap number (w.counted_form.ensures.formed ∙ ap (form c.args.both) w.in-Some.ensures.spelled) in
+          rw (w.numbers-is, w.in_ok-push.ensures.items)
+          (numbered_more n c.as_bytes.result.now c.loop-word.invariant within at (w.in-Some.ensures.found.0 refl) is)
+      | in_default w ↦
+          rw w.numbers-is
+          (numbered_without c.as_bytes.result.now c.loop-word.invariant at (λ askable. never (w.in_default.ensures.found.1 askable)))
     ]
 
 pub returns : goal.returns

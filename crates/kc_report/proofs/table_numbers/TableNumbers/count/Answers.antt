@@ -34,20 +34,26 @@ invariant_of-self c =
     let items = c.self.inside.words.items in
     let within : i < length items = omega (arith, c.if-count-len.true, c.len.ensures, c.requires.present) in
     let read = get_or_read items i c.index_mut.result.now within c.index_mut.ensures.value 0 in
-    let small = subst (λ (n : NumbersSeen). n.statistics.total + c.args.row.count ≤ 2 ^ 62) (sym c.self.view_is) c.requires.small in
-    (high, rows ++ c.args.row ∷ [], counts_inside _ _ (record { is = is; some = c.requires.present; small = small })
-    (omega (arith, within)) (ap (λ n. set items i (n + 1)) read)
-    (with_one c.self.inside.statistics c.args.row.count one c.max-statistics.ensures))
+    let small = subst (λ (n : NumbersSeen). n.statistics.total + c.args.row.count ≤ 2 ^ 62) (sym c.self.view_is) c.requires.small in (
+      high,
+      rows ++ c.args.row ∷ [],
+      counts_inside _ _ (record { is = is; some = c.requires.present; small = small })
+          (omega (arith, within)) (ap (λ n. set items i (n + 1)) read)
+          (with_one c.self.inside.statistics c.args.row.count one c.max-statistics.ensures),
+    )
 
 pub invariant_of-self-else-count-len : goal.invariant_of-self-else-count-len
 invariant_of-self-else-count-len c =
     let one : c.from.result ≡ cond (eqb c.args.row.count 1) 1 0 =
     ⊎_elim (λ t. rw t (rw t at c.from.ensures)) (λ f. rw f (rw f at c.from.ensures)) (cases_Bool (eqb c.args.row.count 1)) in
     let (high, rows, is) = c.self.invariant in
-    let small = subst (λ (n : NumbersSeen). n.statistics.total + c.args.row.count ≤ 2 ^ 62) (sym c.self.view_is) c.requires.small in
-    (high, rows ++ c.args.row ∷ [], counts_past _ (record { is = is; some = c.requires.present; small = small })
-    (omega (arith, c.if-count-len.false, c.len.ensures))
-    (with_one c.self.inside.statistics c.args.row.count one c.max-statistics.ensures))
+    let small = subst (λ (n : NumbersSeen). n.statistics.total + c.args.row.count ≤ 2 ^ 62) (sym c.self.view_is) c.requires.small in (
+      high,
+      rows ++ c.args.row ∷ [],
+      counts_past _ (record { is = is; some = c.requires.present; small = small })
+          (omega (arith, c.if-count-len.false, c.len.ensures))
+          (with_one c.self.inside.statistics c.args.row.count one c.max-statistics.ensures),
+    )
 
 pub returns-then-count-len : goal.returns-then-count-len
 returns-then-count-len c high rows counted =
