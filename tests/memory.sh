@@ -1,8 +1,8 @@
 #!/bin/bash
 # Refuses each growth in turn, and looks at what is answered:
 #   tests/memory.sh
-# Each run of the program, a count over FASTA, over FASTQ and of listed k-mers, a merge, a selection of reads and two of
-# pairs, either does without that growth and writes all that it should, or writes nothing (a selection the reads before),
+# Each run of the program, a count over FASTA, over FASTQ and of listed k-mers, a merge, a histogram, statistics and a
+# query of a table, a selection of reads and two of pairs, either does without that growth and writes all that it should, or writes nothing (a selection the reads before),
 # says on standard error that there is no memory, and ends with status 1. Tickets, a growing table, a stripe and a
 # gathering are asked the same by a test. It needs bin/kcount, the crates of tests as built, and a C compiler.
 set -euo pipefail
@@ -60,12 +60,40 @@ refuse_growths 'a count of FASTQ' $'ACG 2\nGTA 1\n' '8 34 46' "$work/reads.fq" "
 refuse_growths 'a count of listed k-mers' $'ACG 2\n' '8 34 46' "$work/reads.fq" "${count[@]}" --only "$work/list.fa"
 refuse_growths 'a merge' $'KCT 2 3 c a 33 3\nAAA 4\nACG 2\nGTA 2\nEND 3 8\n' 46 /dev/null \
     merge "$work/first.kct" "$work/second.kct"
+refuse_growths 'a histogram of a table' $'1 1\n2 1\n' 46 /dev/null histo "$work/first.kct"
+refuse_growths 'statistics of a table' $'Unique:    1\nDistinct:  2\nTotal:     3\nMax_count: 2\n' 46 /dev/null \
+    stats "$work/first.kct"
+refuse_growths 'a query' $'ACG 2\nAAA 0\n' 46 /dev/null query "$work/first.kct" cgt AAA
 refuse_growths 'a selection' $'@a\nACGTA\n+\nIIIII\n@b\nACGTN\n+\nII"II\n' '8 46' "$work/reads.fq" \
     select --min-share 60 "$work/first.kct"
 refuse_growths 'a selection of pairs' $'@a\nACGTA\n+\nIIIII\n@a\nACGTA\n+\nIIIII\n@b\nACGTN\n+\nII"II\n@b\nACGTN\n+\nII"II\n' '8 46' /dev/null \
     select --pairs --min-share 60 "$work/first.kct" "$work/reads.fq" "$work/reads.fq"
 refuse_growths 'a selection of pairs into two files' '' '8 46' /dev/null \
     select --pairs --min-share 60 -o "$work/first.out" --output2 "$work/second.out" "$work/first.kct" "$work/reads.fq" "$work/reads.fq"
+
+# A table of a million rows takes a histogram, statistics and a query no more address space than one of two rows does,
+# but for 1 MB.
+{
+    echo 'KCT 1 10 s'
+    printf '%s 1\n' {A,C,G,T}{A,C,G,T}{A,C,G,T}{A,C,G,T}{A,C,G,T}{A,C,G,T}{A,C,G,T}{A,C,G,T}{A,C,G,T}{A,C,G,T}
+    echo 'END 1048576 1048576'
+} > "$work/million.kct"
+printf 'KCT 1 10 s\nAAAAAAAAAA 1\nTTTTTTTTTT 1\nEND 2 2\n' > "$work/two.kct"
+# the least address space in MB in which a command of a table succeeds
+least_space() {
+    local mb
+    for mb in $(seq 1 200); do
+        ! (ulimit -v $((mb * 1024)) && exec "$kcount" "$@") > "$work/got" 2>&1 || break
+    done
+    echo "$mb"
+}
+for asked in histo stats 'query TTTTTTTTTT'; do
+    read -ra command <<< "$asked"
+    few=$(least_space "${command[0]}" "$work/two.kct" "${command[@]:1}")
+    many=$(least_space "${command[0]}" "$work/million.kct" "${command[@]:1}")
+    [ "$few" -lt 200 ] && [ "$many" -le $((few + 1)) ] || { echo "memory: $asked of a million rows takes $many MB, and $few of two"; exit 1; }
+done
+echo "memory: a histogram, statistics and a query of a million rows take no more than of two"
 
 # one test of a crate, with its n-th growth refused
 refused_test() {

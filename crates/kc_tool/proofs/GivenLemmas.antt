@@ -6,9 +6,13 @@ use Rattle.std.proofs.Math.Seq.{map-set_same}
 use Rattle.std.proofs.lemmas.List.{drop-set-add, drop_all, get_or-drop, get_or-map, length-drop, length-map, length-set, map-set, take-set-le}
 use Rattle.kc_io.specs.Sources.{Seen}
 use Rattle.kc_report.specs.Merging.{Merges}
+use Rattle.kc_report.specs.AskedWords.{GivesCountsOf}
+use Rattle.kc_report.specs.Numbers.{GivesNumbers, NumbersSeen}
 use Rattle.kc_report.specs.Table.{MaySay}
 use Rattle.kc_report.specs.TableReading.{GivesTable}
-use Rattle.kc_tool.specs.Commands.{KeepsInput, given_listed, MergesNot, TellNoSum, TellNoTable, TellOneTable, TellSum, TellsOrNot, most_table_bytes, sources_from}
+use Rattle.kc_tally.specs.Tally.{TallySeen}
+use Rattle.kc_tool.specs.Commands.{KeepsInput, given_listed, MergesNot, TellNoSum, TellNoTable, TellOneTable, TellOneTableOf, TellSum, TellsOrNot}
+use Rattle.kc_tool.specs.Commands.{TellCountsOf, TellsCountsOrNot, TellsNumbersOrNot, most_table_bytes, sources_from}
 use Rattle.kc_tool.specs.GivenSources.{Keeps, KeepsFiles, ReadsAt, files_in, listed_in, seen_in}
 use Rattle.kc_tool.specs.NamedSources.{names_of, seen_of}
 use Rattle.kc_tool.specs.Tallies.{Given, TableSeen, given}
@@ -241,6 +245,30 @@ one_table (a ∷ []) new (Ok table) one at =
     (subst (λ v. TellOneTable (a ∷ []) v table) (sym at.are) gives, at.reads.1, tt)
 one_table (a ∷ []) new (Err fault) one at =
     (tt, tt, subst (λ v. TellNoTable (a ∷ []) v fault) (sym at.are) (subst (λ v. TellsOrNot 1 v at.later (Err fault)) (sym at.was) at.reads))
+
+-- so it is of the numbers of a table
+pub one_numbers : (high : ℕ) (old new : List Seen) (outcome : Result NumbersSeen ToolFault) → length old ≡ 1
+    → ReadsAt 0 old new (λ before after. TellsNumbersOrNot high before after outcome)
+    → IfOk outcome (TellOneTableOf high old new) × IfErr outcome (TellNoTable old new)
+one_numbers high [] new outcome one at = absurd (omega (arith, one))
+one_numbers high (a ∷ b ∷ old) new outcome one at = absurd (omega (arith, one))
+one_numbers high (a ∷ []) new (Ok numbers) one at =
+    let gives = subst (λ v. GivesNumbers v at.later most_table_bytes high numbers) (sym at.was) at.reads in
+    ((gives.0, subst (λ v. TellOneTable (a ∷ []) v gives.0) (sym at.are) gives.1, gives.2), tt)
+one_numbers high (a ∷ []) new (Err fault) one at =
+    (tt, subst (λ v. TellNoTable (a ∷ []) v fault) (sym at.are) (subst (λ v. TellsNumbersOrNot high v at.later (Err fault)) (sym at.was) at.reads))
+
+-- and of the rows of asked words
+pub one_asked : (words : List (List ℕ)) (old new : List Seen) (outcome : Result TallySeen ToolFault) → length old ≡ 1
+    → ReadsAt 0 old new (λ before after. TellsCountsOrNot words before after outcome)
+    → IfOk outcome (TellCountsOf words old new) × IfErr outcome (TellNoTable old new)
+one_asked words [] new outcome one at = absurd (omega (arith, one))
+one_asked words (a ∷ b ∷ old) new outcome one at = absurd (omega (arith, one))
+one_asked words (a ∷ []) new (Ok few) one at =
+    let gives = subst (λ v. GivesCountsOf v at.later most_table_bytes words few) (sym at.was) at.reads in
+    ((gives.0, subst (λ v. TellOneTable (a ∷ []) v gives.0) (sym at.are) gives.1, gives.2), tt)
+one_asked words (a ∷ []) new (Err fault) one at =
+    (tt, subst (λ v. TellNoTable (a ∷ []) v fault) (sym at.are) (subst (λ v. TellsCountsOrNot words v at.later (Err fault)) (sym at.was) at.reads))
 
 -- The tables of two sources.
 pub first_untold : (old new : List Seen) (fault : ToolFault) → length old ≡ 2

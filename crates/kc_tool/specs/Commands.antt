@@ -9,6 +9,8 @@ use Rattle.kc_io.specs.History.{no_history}
 use Rattle.kc_io.specs.Sinks.{Written, HasWritten, HasBegun}
 use Rattle.kc_io.specs.Sources.{Seen}
 use Rattle.kc_report.specs.declared.report_faults.ReportFault.{ReportFault}
+use Rattle.kc_report.specs.AskedWords.{GivesCountsOf, HasCountsOf}
+use Rattle.kc_report.specs.Numbers.{GivesNumbers, IsCountOf, NumbersSeen}
 use Rattle.kc_report.specs.Querying.{IsAskable, IsFirstBadWord, query_text}
 use Rattle.kc_report.specs.Table.{MaySay, table_text}
 use Rattle.kc_report.specs.TableReading.{GivesTable, RefusesTable}
@@ -68,6 +70,26 @@ TellsNoTable place old new fault =
 abbrev pub TellNoTable : List Seen → List Seen → ToolFault → Type 0
 TellNoTable (old ∷ []) (new ∷ []) fault = TellsNoTable 1 old new fault
 TellNoTable old new fault = ⊥
+
+-- it gave one of these numbers, or none
+abbrev pub TellsNumbersOrNot : ℕ → Seen → Seen → Result NumbersSeen ToolFault → Type 0
+TellsNumbersOrNot high old new (Ok numbers) = GivesNumbers old new most_table_bytes high numbers
+TellsNumbersOrNot high old new (Err fault) = TellsNoTable 1 old new fault
+
+-- the one source of a task gave a table of these numbers
+abbrev pub TellOneTableOf : ℕ → List Seen → List Seen → NumbersSeen → Type 0
+TellOneTableOf high old new numbers =
+    (table : TableSeen) × TellOneTable old new table × IsCountOf high table.0.rows numbers
+
+-- it gave one of which these are the rows of the asked words, or none
+abbrev pub TellsCountsOrNot : List (List ℕ) → Seen → Seen → Result TallySeen ToolFault → Type 0
+TellsCountsOrNot words old new (Ok few) = GivesCountsOf old new most_table_bytes words few
+TellsCountsOrNot words old new (Err fault) = TellsNoTable 1 old new fault
+
+-- the one source of a task gave a table of which these are the rows of the asked words
+abbrev pub TellCountsOf : List (List ℕ) → List Seen → List Seen → TallySeen → Type 0
+TellCountsOf words old new few =
+    (table : TableSeen) × TellOneTable old new table × HasCountsOf table.0 words few
 
 -- it gave this one, whose origin a header can say, or none
 abbrev pub TellsOrNot : ℕ → Seen → Seen → Result TableSeen ToolFault → Type 0

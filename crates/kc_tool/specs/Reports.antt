@@ -1,5 +1,5 @@
 -- Reports on a tally, and what counting the words of sources writes: source, our formats page ("Reports").
-use Rattle.std.specs.Prelude.{◌≡◌, ◌≤◌, ◌⊎◌, ℕ, List, Option, Some, None, Result, Ok, Err, IfOk}
+use Rattle.std.specs.Prelude.{◌≡◌, ◌≤◌, ◌⊎◌, ℕ, List, Option, Some, None, Result, Ok, Err, IfOk, ⊤}
 use Rattle.kc_io.specs.Sinks.{Written, HasWritten, HasBegun}
 use Rattle.kc_io.specs.Sources.{Seen}
 use Rattle.kc_tool.specs.Tallies.{Counts, Given, IsRefusedCountOf, RefusesCount, RefusesSources, TableSeen}
@@ -29,6 +29,12 @@ printed_text print.Stats dump high table = statistics_text table.0.rows
 -- the text of a report on a tally; a table says what it was counted from too
 abbrev pub report_text : Report → TableSeen → List ℕ
 report_text report table = printed_text report.print report.dump report.high table
+
+-- a histogram and statistics, which list no rows
+abbrev pub ListsNoRows : Print → Type 0
+ListsNoRows print.Histo = ⊤
+ListsNoRows print.Stats = ⊤
+ListsNoRows print = ⊥
 
 -- a histogram has lines of their own for the counts from 1 to 10,000,000 at most, and for 1 at least
 abbrev pub IsWritable : Report → Type 0

@@ -49,9 +49,9 @@ use crate::named_sources::NamedSource;
 use crate::outputs::{close_both, close_output, open_both, open_output};
 use crate::paired_sources::{Pairing, select_pairs};
 use crate::pairs_writers::{Apart, Interleaved};
-use crate::reports::{Crew, Report, report_given, write_report};
+use crate::reports::{Crew, Report, report_given, write_numbers, write_report};
 use crate::selected_sources::select_given;
-use crate::task_tallies::{report_listed, sum_of, table_from, table_of};
+use crate::task_tallies::{asked_of, numbers_of, report_listed, sum_of, table_from, table_of};
 use crate::told::{CountedWords, Told};
 use crate::tool_faults::ToolFault;
 use clap::ArgMatches;
@@ -397,7 +397,7 @@ fn counted(counted: Result<CountedWords, ToolFault>) -> Result<Told, ToolFault>
     }
 }
 
-// Reads the table of the one source, and writes a report on it.
+// Reads the table of the one source, and writes a report on it. Of a histogram and of statistics no rows are kept.
 fn report_table<H: Threads + Sync, R: Source, F: Source, W: Sink, P: Progress>(
     means: &Means<'_, H, P>,
     report: Report,
@@ -413,6 +413,12 @@ fn report_table<H: Threads + Sync, R: Source, F: Source, W: Sink, P: Progress>(
     ensures kept { Keeps R.seen F.seen sources.old sources.new }
 {
     means.progress.begins(Stage::Tables);
+    if report.lists_no_rows() {
+        let numbers = numbers_of(means.alloc, sources, report.high)?;
+        means.progress.begins(Stage::Text);
+        write_numbers(output, &numbers, report)?;
+        return Ok(Told::Nothing);
+    }
     let (tally, origin) = table_of(means.alloc, sources)?;
     means.progress.begins(Stage::Text);
     let crew = Crew {
@@ -423,7 +429,7 @@ fn report_table<H: Threads + Sync, R: Source, F: Source, W: Sink, P: Progress>(
     Ok(Told::Nothing)
 }
 
-// Reads the table of the one source, and writes the counts of these words.
+// Reads the table of the one source, and writes the counts of these words. No rows of others are kept.
 fn query_table<H: Threads, R: Source, F: Source, W: Sink, P: Progress>(
     means: &Means<'_, H, P>,
     words: &Vec<String>,
@@ -438,9 +444,9 @@ fn query_table<H: Threads, R: Source, F: Source, W: Sink, P: Progress>(
     ensures kept { Keeps R.seen F.seen sources.old sources.new }
 {
     means.progress.begins(Stage::Tables);
-    let (tally, _origin) = table_of(means.alloc, sources)?;
+    let few = asked_of(means.alloc, sources, words)?;
     means.progress.begins(Stage::Text);
-    query(output, &tally, words)?;
+    query(output, &few, words)?;
     Ok(Told::Nothing)
 }
 

@@ -1,5 +1,5 @@
 //! What is taken from the files of a task: the reads behind a list, a table, or two tables together.
-ghost use Rattle.std.specs.Prelude.{◌≡◌, ◌≤◌, IfErr, IfOk, Ok, drop, length};
+ghost use Rattle.std.specs.Prelude.{◌≡◌, ◌≤◌, IfErr, IfOk, Ok, drop, length, map, string_bytes};
 ghost use Rattle.kc_report.specs.Table.{MaySay};
 ghost use Rattle.kc_report.specs.Merging.{Merges};
 ghost use Rattle.kc_report.specs.TableReading.{GivesTable};
@@ -7,9 +7,11 @@ ghost use Rattle.kc_tool.specs.GivenSources.{Keeps, KeepsFiles, listed_in, seen_
 ghost use Rattle.kc_tool.specs.Reports.{ReportsCount};
 ghost use Rattle.kc_tool.specs.Commands.{
   MergesNot,
+  TellCountsOf,
   TellNoSum,
   TellNoTable,
   TellOneTable,
+  TellOneTableOf,
   TellSum,
   TellsNoTable,
   most_table_bytes,
@@ -23,7 +25,7 @@ use crate::told::CountedWords;
 use crate::tool_faults::{ToolFault, table_fault};
 use kc_command::Options;
 use kc_io::{Sink, Source};
-use kc_report::{Origin, merge, read_table};
+use kc_report::{Origin, TableNumbers, merge, read_asked, read_numbers, read_table};
 use kc_tally::Tally;
 use std::alloc::Global;
 use std::sync::Wait;
@@ -124,6 +126,99 @@ pub(crate) fn table_of<R: Source, F: Source>(
     ensures kept { Keeps R.seen F.seen sources.old sources.new }
 {
     sources.read(0, &TableReader { alloc, place: 1 }, &mut ())
+}
+
+/// The numbers of the table of the one source, which has a place for each count up to this one. No rows are kept.
+/// Conditions: there is one source, and the count is at most 10,000,000.
+///
+/// # Errors
+/// The fault of the table.
+pub(crate) fn numbers_of<R: Source, F: Source>(
+    alloc: Global,
+    sources: &mut GivenSources<'_, '_, '_, R, F>,
+    high: u64,
+) -> Result<TableNumbers, ToolFault>
+    requires one { length (seen_in R.seen F.seen sources.old) ≡ 1 }
+    requires most { high ≤ 10000000 }
+    ensures numbers { IfOk result (TellOneTableOf high (seen_in R.seen F.seen sources.old)
+        (seen_in R.seen F.seen sources.new)) }
+    ensures fault { IfErr result (TellNoTable (seen_in R.seen F.seen sources.old) (seen_in R.seen F.seen sources.new)) }
+    ensures kept { Keeps R.seen F.seen sources.old sources.new }
+{
+    sources.read(0, &NumbersReader { alloc, high }, &mut ())
+}
+
+// Reads the numbers of the table of one source up to this count, with this memory.
+#[derive(Drop)]
+struct NumbersReader {
+    alloc: Global,
+    high: u64,
+}
+
+impl ReadsSource<()> for NumbersReader {
+    type Gives = TableNumbers;
+
+    ghost use Rattle.std.specs.Prelude.{◌≤◌};
+    ghost use Rattle.kc_tool.specs.Commands.{TellsNumbersOrNot};
+
+    ghost can_read = { λ reader state. reader.high ≤ 10000000 };
+
+    ghost reads = { λ reader old new state after result. TellsNumbersOrNot reader.high old new result };
+
+    fn read_source<R: Source>(
+        &self,
+        source: &mut R,
+        _state: &mut (),
+    ) -> Result<TableNumbers, ToolFault> {
+        match read_numbers(self.alloc, source, MOST_TABLE_BYTES, self.high) {
+            Ok(numbers) => Ok(numbers),
+            Err(why) => Err(table_fault(1, why)),
+        }
+    }
+}
+
+/// The rows of these words in the table of the one source. No other rows are kept. Condition: there is one source.
+///
+/// # Errors
+/// The fault of the table.
+pub(crate) fn asked_of<R: Source, F: Source>(
+    alloc: Global,
+    sources: &mut GivenSources<'_, '_, '_, R, F>,
+    words: &[String],
+) -> Result<Tally, ToolFault>
+    requires { length (seen_in R.seen F.seen sources.old) ≡ 1 }
+    ensures counts { IfOk result (TellCountsOf (map string_bytes words.now) (seen_in R.seen F.seen sources.old)
+        (seen_in R.seen F.seen sources.new)) }
+    ensures fault { IfErr result (TellNoTable (seen_in R.seen F.seen sources.old) (seen_in R.seen F.seen sources.new)) }
+    ensures kept { Keeps R.seen F.seen sources.old sources.new }
+{
+    sources.read(0, &AskedReader { alloc, words }, &mut ())
+}
+
+// Reads the rows of these words in the table of one source, with this memory.
+#[derive(Drop)]
+struct AskedReader<'a> {
+    alloc: Global,
+    words: &'a [String],
+}
+
+impl ReadsSource<()> for AskedReader<'_> {
+    type Gives = Tally;
+
+    ghost use Rattle.std.specs.Prelude.{⊤, map, string_bytes};
+    ghost use Rattle.kc_tool.specs.Commands.{TellsCountsOrNot};
+
+    ghost can_read = { λ reader state. ⊤ };
+
+    ghost reads = { λ reader old new state after result.
+        TellsCountsOrNot (map string_bytes reader.words.now) old new result };
+
+    fn read_source<R: Source>(&self, source: &mut R, _state: &mut ()) -> Result<Tally, ToolFault> {
+        match read_asked(self.alloc, source, MOST_TABLE_BYTES, self.words) {
+            Ok(few) => Ok(few),
+            Err(why) => Err(table_fault(1, why)),
+        }
+    }
 }
 
 // Reads the table of one source, with this memory. It is the table of this place, from 1.

@@ -1,10 +1,11 @@
-use Rattle.std.proofs.Common.{rules, Err, Global, List, None, Ok, String, Vec, map, refl, subst}
+use Rattle.std.proofs.Common.{Err, Global, List, None, Ok, String, Vec, map, refl, subst}
 use Rattle.std.specs.Prelude.{string_bytes}
 use Rattle.std.proofs.lemmas.Result.{err_from_is_err_and}
 use Rattle.kc_io.specs.Sinks.{Written}
 use Rattle.kc_report.specs.Querying.{query_text, Answers as Queried}
 use Rattle.kc_report.specs.declared.report_faults.ReportFault.{ReportFault}
 use Rattle.kc_report.specs.declared.report_faults.ReportFault.TheVariants as report
+use Rattle.kc_report.proofs.AskedLemmas.{answers_alike}
 use Rattle.kc_tool.specs.Faults.{report_fault}
 use Rattle.kc_tool.specs.Commands.{Answers}
 use Rattle.kc_tool.specs.GivenSources.{seen_in}
@@ -33,24 +34,32 @@ unanswered words table old new report.ShortGzip h = absurd h
 pub returns-clause-done : goal.returns-clause-done
 returns-clause-done g c =
     let before = given None (seen_in g.R.Source.seen g.F.Source.seen c.args.sources.now) in
-    let after = given None (seen_in g.R.Source.seen g.F.Source.seen c.table_of.new.sources) in
+    let after = given None (seen_in g.R.Source.seen g.F.Source.seen c.asked_of.new.sources) in
     let old = g.W.Sink.seen c.args.output.now in
     let new = g.W.Sink.seen c.query.new.writer in
-    let answers : Answers (Query c.args.words.now) (c.in_ok-tally.tally, c.in_ok-tally._origin) old new (Ok Nothing) = search rules in
-    answered (Query c.args.words.now) (record { given = before; output = old }) (record { given = after; output = new })
-    (c.in_ok-tally.tally, c.in_ok-tally._origin) (Ok Nothing) c.in_ok-tally.ensures.table answers
+    let words = c.args.words.now in
+    let (table, gave, has) = rw c.deref.ensures.value at c.in_ok-few.ensures.counts in
+    let done : Unit {0} = tt in
+    let queried = subst (λ (v : List (String Global)). Queried {A = Unit {0}} old new c.in_ok-few.few (map string_bytes v) (Ok done))
+    c.deref-2.ensures.value c.in_ok-query.ensures in
+    let alike = answers_alike {A = Unit {0}} old new table.0 c.in_ok-few.few (map string_bytes words.items) (Ok done) has queried in
+    let answers : Answers (Query words) table old new (Ok Nothing) =
+    (query_text table.0 (map string_bytes words.items), (alike.0, refl), alike.1, refl) in
+    answered (Query words) (record { given = before; output = old }) (record { given = after; output = new }) table (Ok Nothing) gave answers
 
 pub returns-in_err-query-clause-done : goal.returns-in_err-query-clause-done
 returns-in_err-query-clause-done g c =
     let before = given None (seen_in g.R.Source.seen g.F.Source.seen c.args.sources.now) in
-    let after = given None (seen_in g.R.Source.seen g.F.Source.seen c.table_of.new.sources) in
+    let after = given None (seen_in g.R.Source.seen g.F.Source.seen c.asked_of.new.sources) in
     let old = g.W.Sink.seen c.args.output.now in
     let new = g.W.Sink.seen c.query.new.writer in
+    let words = c.args.words.now in
     let again = c.from_residual-in_err-query in
     let p = err_from_is_err_and again.result again.ensures.1 in
     let why = c.in_err-query.field-0.0 in
-    let refused = subst (λ (v : List (String Global)). Queried {A = Unit {0}} old new c.in_ok-tally.tally (map string_bytes v) (Err why))
-    c.deref.ensures.value c.in_err-query.ensures in
-    let table : TableSeen = (c.in_ok-tally.tally, c.in_ok-tally._origin) in
-    rw (p.1, p.2) (answered (Query c.args.words.now) (record { given = before; output = old }) (record { given = after; output = new })
-    table (Err (report_fault why)) c.in_ok-tally.ensures.table (unanswered c.args.words.now table old new why refused))
+    let (table, gave, has) = rw c.deref.ensures.value at c.in_ok-few.ensures.counts in
+    let queried = subst (λ (v : List (String Global)). Queried {A = Unit {0}} old new c.in_ok-few.few (map string_bytes v) (Err why))
+    c.deref-2.ensures.value c.in_err-query.ensures in
+    let alike = answers_alike {A = Unit {0}} old new table.0 c.in_ok-few.few (map string_bytes words.items) (Err why) has queried in
+    rw (p.1, p.2) (answered (Query words) (record { given = before; output = old }) (record { given = after; output = new })
+    table (Err (report_fault why)) gave (unanswered words table old new why alike))
