@@ -591,6 +591,13 @@ bases=$(random_bases)
 wants 0 '' '' ">half"$'\n'"${bases:0:10000}" kcount count -m 7 -o many.kct
 wants 0 "$(profile_of_bases <<< "$bases")"$'\n' '' '>r'$'\n'"$bases" kcount profile many.kct
 wants 0 ">half"$'\n'"${bases:0:10000}"$'\n' '' ">half"$'\n'"${bases:0:10000}"$'\n'">r"$'\n'"$bases" kcount select --min-count 1 --min-share 100 many.kct
+# Along the reads of the examples, position by position, the counts are those of Jellyfish: this is the check sum of the
+# 20,640 that `jellyfish query -s` (2.3.0) prints with its table of the same reads.
+counts_along() {
+    "$program" profile along.kct "$1" | awk '{ for (i = $2; i < $3; i++) print $4 }' | cksum
+}
+wants 0 '' '' '' kcount count -m 15 -C -o along.kct "$here/../examples/shotgun.fq"
+wants 0 $'1442221981 60255\n' '' '' counts_along "$here/../examples/shotgun.fq"
 # no option stands for several of its values
 fault 2 '51: bad option --min-count' "$reads" kcount select --min-share 101 --min-count x missing
 fault 2 '51: bad option --max-count' "$reads" kcount select --min-share 101 --max-count x missing
