@@ -2,9 +2,10 @@
 # Refuses each growth in turn, and looks at what is answered:
 #   tests/memory.sh
 # Each run of the program, a count over FASTA, over FASTQ and of listed k-mers, a merge, a histogram, statistics and a
-# query of a table, a selection of reads and two of pairs, either does without that growth and writes all that it should, or writes nothing (a selection the reads before),
-# says on standard error that there is no memory, and ends with status 1. Tickets, a growing table, a stripe and a
-# gathering are asked the same by a test. It needs bin/kcount, the crates of tests as built, and a C compiler.
+# query of a table, a selection of reads and two of pairs, either does without that growth and writes all that it should,
+# or writes nothing (a selection the reads before), says on standard error that there is no memory, and ends with status
+# 1. Tickets, a growing table, a stripe and a gathering are asked the same by a test. It needs bin/kcount, the crates of
+# tests as built, and a C compiler.
 set -euo pipefail
 here=$(cd "$(dirname "$0")" && pwd)
 kcount=$here/../bin/kcount
